@@ -1,0 +1,5 @@
+mod Filled
+mod Kept
+pub mod Moments
+pub mod Splice
+mod Walks
