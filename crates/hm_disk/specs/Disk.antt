@@ -5,7 +5,7 @@ use Rattle.std.specs.Prelude.{◌≡◌, ◌⊎◌, ℕ, ◌+◌, ◌-◌, ◌^�
 abbrev pub written : ℕ → List ℕ → List ℕ → List ℕ
 written at bytes old = take at old ++ bytes ++ drop (at + length bytes) old
 
--- after some part of a write of n bytes: any bytes in its range and past the old end, the old ones elsewhere
+-- after some part of a write of n bytes: any bytes in its range, the old ones elsewhere, and a size between the old one and the new
 pub record Torn (at n : ℕ) (old new : List ℕ) : Type 0 where
   pub before : take at new ≡ take at old
   pub after : drop (at + n) new ≡ drop (at + n) old

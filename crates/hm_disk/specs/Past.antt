@@ -14,7 +14,7 @@ Reaches (inl (inl write) ∷ earlier) c = (d : List ℕ) × Reaches earlier d ×
 Reaches (inl (inr size) ∷ earlier) c = (d : List ℕ) × Reaches earlier d × Cut size d c
 Reaches (inr content ∷ earlier) c = c ≡ content
 
--- what a stop may have left behind these events or the first of them, from the t-th on
+-- what a stop may have left at some moment from the t-th on; a moment is a number of events, the first of them the setting up
 abbrev pub ReachesSince : List Event → ℕ → List ℕ → Type 0
 ReachesSince [] t c = ⊥
 ReachesSince (e ∷ earlier) t c = Reaches (e ∷ earlier) c ⊎ ((t ≤ length earlier) × ReachesSince earlier t c)

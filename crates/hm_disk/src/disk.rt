@@ -10,7 +10,8 @@ use hm_ports::Failed;
 /// gives.
 ///
 /// A call that fails may have done any part of its work, and is counted. Where a kind of disk
-/// doesn't tell its content, nothing is said of `seen` but that some calls leave it.
+/// doesn't tell its content, nothing is said of `seen` but that some calls leave it, and it may have
+/// no image.
 pub trait Disk: Drop {
     /// The type of the disk's setting, `()` where it has none.
     type Setting;

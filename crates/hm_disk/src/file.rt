@@ -30,7 +30,7 @@ impl Model for FileDisk {
 
 impl FileDisk {
     /// Opens a file for reading and writing, and creates it where there is none. Its folder is synced
-    /// too, so that a stop of the machine leaves the new file in it.
+    /// too, so that a stop of the machine leaves the new file in it, and where that fails so does this.
     pub fn writable<R: Files<File = File>>(rt: &R, path: &str) -> Result<FileDisk, Failed>
         ensures { IfOk result (λ d. d ≡ record { faults = 0; changes = 0 }) }
     {
