@@ -1,0 +1,10 @@
+pub mod Adding
+pub mod Ends
+pub mod Judging
+pub mod Listed
+pub mod Opening
+pub mod Sizes
+pub mod Spelling
+pub mod Stages
+pub mod Ways
+pub mod Exact

@@ -1,0 +1,5 @@
+use Rattle.hm_log.proofs.Ends.{one_list}
+use Rattle.hm_log.proofs.laws.one_reading.Goals as goal
+
+pub returns : goal.returns
+returns c = one_list

@@ -1,0 +1,50 @@
+//! The frames that were read from a log.
+ghost use Rattle.std.specs.Prelude.{◌≡◌, ◌<◌, [], length, map, slice_get};
+
+use std::alloc::Global;
+use std::marker::Model;
+
+/// The frames of a log, numbered from 0.
+#[derive(Drop)]
+pub struct Frames {
+    all: Vec<Vec<u8>>,
+}
+
+impl Model for Frames {
+    ghost use Rattle.std.specs.Prelude.{List, ℕ, map};
+
+    ghost Value = { List (List ℕ) };
+
+    ghost view = { λ a. map (λ frame. frame.items) a.all.items };
+}
+
+impl Frames {
+    /// How many there are.
+    pub fn count(&self) -> u64
+        ensures { result ≡ length self.now }
+    {
+        self.all.len() as u64
+    }
+
+    /// The frame with this number.
+    pub fn frame(&self, number: u64) -> &[u8]
+        requires { number < length self.now }
+        ensures { slice_get self.now number ≡ Some result.now }
+    {
+        &self.all[number as usize]
+    }
+
+    pub(crate) fn none(alloc: Global) -> Frames
+        ensures { result ≡ [] }
+    {
+        Frames {
+            all: Vec::new(alloc),
+        }
+    }
+
+    pub(crate) fn of(all: Vec<Vec<u8>>) -> Frames
+        ensures { result ≡ map (λ frame. frame.items) all.items }
+    {
+        Frames { all }
+    }
+}

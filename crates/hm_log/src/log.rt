@@ -1,0 +1,254 @@
+//! The log itself.
+ghost use Rattle.std.specs.Prelude.{◌≡◌, ◌≢◌, ◌⊎◌, ◌+◌, ◌^◌, ◌≤◌, ◌<◌, ◌++◌, ◌∷◌, [], List, ℕ, length, take, vec_len, vec_capacity, false, true, All, IfOk, IfErr, OnOk, OnErr, MatchResult, IsErrOf};
+ghost use Rattle.hm_ports.specs.Faults.{Rose};
+ghost use Rattle.hm_disk.specs.Disk.{Only, Rises, LeavesOnly, Settles};
+ghost use Rattle.hm_log.specs.Format.{laid, log_of, size_with, IsFrame, IsWhole, Reads, HoldsFrames, BeforeOrAfter, IsNotALog, IsBadFrame};
+ghost use Rattle.hm_log.specs.Opening.{IsMaking, Reopens, IsUntouched};
+ghost use Rattle.hm_log.specs.declared.why.OpenWhy.TheVariants.{Fault, NotALog, BadFrame, Memory};
+
+use crate::device::{fetch, settle};
+use crate::open::prepare;
+use crate::read::read_frames;
+use crate::{Frames, OpenWhy};
+use hm_disk::Disk;
+use hm_ports::Failed;
+use std::alloc::Global;
+use std::marker::Model;
+
+/// A log of frames on a disk. A frame has 1 to 65,536 bytes.
+#[derive(Drop)]
+pub struct Log<D: Disk> {
+    disk: D,
+    gate: u64,
+    count: u64,
+    stalled: bool,
+    buffer: Vec<u8>,
+}
+
+impl<D: Disk> Model for Log<D> {
+    ghost use Rattle.std.specs.Prelude.{◌+◌, vec_capacity};
+    ghost use Rattle.hm_log.specs.Format.{frames_of};
+    ghost use Rattle.hm_log.specs.View.{LogView, IsSound};
+
+    ghost Value = { LogView D };
+
+    ghost view = { λ a. record { disk = a.disk; frames = frames_of (D.seen a.disk); bytes = a.gate + 1; stalled = a.stalled } };
+
+    ghost invariant = { λ a. IsSound D.tells (D.seen a.disk) (D.image a.disk) a.gate a.count a.stalled (vec_capacity a.buffer) };
+}
+
+impl<D: Disk> Log<D> {
+    /// Opens the log on a disk, and gives the frames that it held. It begins with a sync, and cuts what
+    /// stands behind the frames. A disk of size 0 becomes a log with no frame.
+    ///
+    /// `NotALog` and `BadFrame` say that the disk holds no log, and where. `Fault` says that the disk
+    /// failed. An error gives the disk back.
+    pub fn open(alloc: Global, disk: D) -> Result<(Log<D>, Frames), (D, OpenWhy)>
+        // What it gives.
+        ensures reads { D.tells → IfOk result (λ r. HoldsFrames (D.seen disk) r.1) }
+        ensures each { IfOk result (λ r. All IsFrame r.1) }
+        ensures frames { D.tells → IfOk result (λ r. r.0.frames ≡ r.1) }
+        ensures bytes { IfOk result (λ r. r.0.bytes ≡ size_with r.1) }
+        ensures small { IfOk result (λ r. r.0.bytes < 2 ^ 63) }
+        ensures live { IfOk result (λ r. r.0.stalled ≡ false) }
+
+        // What the disk reads as, now and behind each stop.
+        ensures on_disk { D.tells → IfOk result (λ r. Reads (D.seen r.0.disk) r.1) }
+        ensures size { D.tells → IfOk result (λ r. length (D.seen r.0.disk) ≡ r.0.bytes) }
+        ensures cut { D.tells → 1 ≤ length (D.seen disk) →
+            IfOk result (λ r. D.seen r.0.disk ≡ take r.0.bytes (D.seen disk)) }
+        ensures made { D.tells → length (D.seen disk) ≡ 0 → IfOk result (λ r. D.seen r.0.disk ≡ log_of []) }
+        ensures durable { D.tells → IfOk result (λ r. (c : List ℕ) → D.image r.0.disk c → Reads c r.1) }
+        ensures any_moment { D.tells → MatchResult result
+            (λ r. Settles D.moment D.left_since disk r.0.disk
+            (λ c. D.image disk c ⊎ IsMaking (D.seen disk) c) (λ c. Reads c r.1))
+            (λ e. LeavesOnly D.moment D.left_since disk e.0
+            (λ c. D.image disk c ⊎ Reopens (D.seen disk) c)) }
+
+        // When which error comes, and what it leaves.
+        ensures exact { D.tells → (frames : List (List ℕ)) → HoldsFrames (D.seen disk) frames →
+            MatchResult result (λ r. r.1 ≡ frames) (λ e. (e.1 ≡ Fault) ⊎ (e.1 ≡ Memory)) }
+        ensures not_a_log { D.tells → (place : ℕ) →
+            IfErr result (λ e. e.1 ≡ NotALog place → IsNotALog (D.seen disk) place) }
+        ensures bad_frame { D.tells → (place : ℕ) →
+            IfErr result (λ e. e.1 ≡ BadFrame place → IsBadFrame (D.seen disk) place) }
+        ensures fault { IfErr result (λ e. e.1 ≡ Fault → Rose (D.faults disk) (D.faults e.0)) }
+        ensures untouched { IfErr result (λ e. e.1 ≢ Fault → IsUntouched D.seen D.image D.changes disk e.0) }
+        ensures left { D.tells →
+            IfErr result (λ e. (D.seen e.0 ≡ D.seen disk) ⊎ Reopens (D.seen disk) (D.seen e.0)) }
+
+        // The disk's counts and its setting.
+        ensures faults { MatchResult result
+            (λ r. D.faults disk ≤ D.faults r.0.disk)
+            (λ e. D.faults disk ≤ D.faults e.0) }
+        ensures changes { MatchResult result
+            (λ r. (D.changes disk ≤ D.changes r.0.disk) × (D.changes r.0.disk ≤ D.changes disk + 1))
+            (λ e. (D.changes disk ≤ D.changes e.0) × (D.changes e.0 ≤ D.changes disk + 1)) }
+        ensures setting { MatchResult result
+            (λ r. D.setting r.0.disk ≡ D.setting disk)
+            (λ e. D.setting e.0 ≡ D.setting disk) }
+    {
+        let mut disk = disk;
+        let Ok(buffer) = Vec::with_capacity(alloc, 65_541) else {
+            return Err((disk, OpenWhy::Memory));
+        };
+        match prepare(alloc, &mut disk) {
+            Ok((frames, gate)) => {
+                let log = Log {
+                    disk,
+                    gate,
+                    count: frames.count(),
+                    stalled: false,
+                    buffer,
+                };
+                Ok((log, frames))
+            }
+            Err(why) => Err((disk, why)),
+        }
+    }
+
+    /// Judges a disk as `open` does, and gives the frames that it holds. It only reads. A disk of size 0
+    /// holds none.
+    pub fn scan(alloc: Global, disk: &mut D) -> Result<Frames, OpenWhy>
+        ensures reads { D.tells → IfOk result (HoldsFrames (D.seen disk.old)) }
+        ensures each { IfOk result (All IsFrame) }
+        ensures not_a_log { D.tells → (place : ℕ) →
+            IsErrOf result (NotALog place) → IsNotALog (D.seen disk.old) place }
+        ensures bad_frame { D.tells → (place : ℕ) →
+            IsErrOf result (BadFrame place) → IsBadFrame (D.seen disk.old) place }
+        ensures fault { IsErrOf result Fault → Rose (D.faults disk.old) (D.faults disk.new) }
+        ensures untouched { IsUntouched D.seen D.image D.changes disk.old disk.new }
+        ensures any_moment { LeavesOnly D.moment D.left_since disk.old disk.new (D.image disk.old) }
+        ensures faults { D.faults disk.old ≤ D.faults disk.new }
+        ensures setting { D.setting disk.new ≡ D.setting disk.old }
+    {
+        let bytes = fetch(alloc, disk)?;
+        if bytes.is_empty() {
+            return Ok(Frames::none(alloc));
+        }
+        let (frames, _gate) = read_frames(alloc, &bytes)?;
+        Ok(frames)
+    }
+
+    /// Adds a frame, and gives its number. At `Ok` it is on the disk. After an error the log is stalled:
+    /// whether the disk holds the frame is known only when it is opened anew.
+    pub fn append(&mut self, frame: &[u8]) -> Result<u64, Failed>
+        requires live { self.old.stalled ≡ false }
+        requires size { IsFrame frame.now }
+        requires room { self.old.bytes + length frame.now + 5 < 2 ^ 64 }
+
+        // What it adds.
+        ensures number { D.tells → IfOk result (λ n. n ≡ length self.old.frames) }
+        ensures added { D.tells → OnOk result (self.new.frames ≡ self.old.frames ++ frame.now ∷ []) }
+        ensures bytes { OnOk result (self.new.bytes ≡ self.old.bytes + length frame.now + 5) }
+        ensures live_on { OnOk result (self.new.stalled ≡ false) }
+
+        // What the disk reads as, now and behind each stop.
+        ensures written { D.tells → OnOk result (D.seen self.new.disk ≡ log_of self.new.frames) }
+        ensures on_disk { D.tells → BeforeOrAfter self.old.frames frame.now (D.seen self.new.disk) }
+        ensures durable { D.tells →
+            OnOk result ((c : List ℕ) → D.image self.new.disk c → Reads c self.new.frames) }
+        ensures any_moment { D.tells → LeavesOnly D.moment D.left_since self.old.disk self.new.disk
+            (BeforeOrAfter self.old.frames frame.now) }
+
+        // When it fails, and what that leaves.
+        ensures fault { OnErr result (Rose (D.faults self.old.disk) (D.faults self.new.disk)) }
+        ensures stalled { OnErr result (self.new.stalled ≡ true) }
+
+        // The disk's counts and its setting.
+        ensures faults { D.faults self.old.disk ≤ D.faults self.new.disk }
+        ensures changes { OnOk result (Rises 2 (D.changes self.old.disk) (D.changes self.new.disk)) }
+        ensures fewer { (D.changes self.old.disk ≤ D.changes self.new.disk)
+            × (D.changes self.new.disk ≤ D.changes self.old.disk + 2) }
+        ensures setting { D.setting self.new.disk ≡ D.setting self.old.disk }
+    {
+        lay(&mut self.buffer, frame);
+        self.stalled = true;
+        add(&mut self.disk, self.gate, &self.buffer)?;
+        let number = self.count;
+        self.gate += frame.len() as u64 + 5;
+        self.count += 1;
+        self.stalled = false;
+        Ok(number)
+    }
+
+    /// The size of the log on the disk.
+    pub fn bytes(&self) -> u64
+        ensures { result ≡ self.now.bytes }
+    {
+        self.gate + 1
+    }
+
+    /// Whether a call of `append` has failed.
+    pub fn stalled(&self) -> bool
+        ensures { result ≡ self.now.stalled }
+    {
+        self.stalled
+    }
+
+    /// Gives the disk back, which reads as the log's frames.
+    pub fn into_disk(self) -> D
+        ensures disk { result ≡ self.disk }
+        ensures reads { D.tells → Reads (D.seen result) self.frames }
+        ensures durable { D.tells → self.stalled ≡ false →
+            (c : List ℕ) → D.image result c → Reads c self.frames }
+    {
+        let Log {
+            disk,
+            gate: _,
+            count: _,
+            stalled: _,
+            buffer: _,
+        } = self;
+        disk
+    }
+}
+
+// Writes a frame, in the buffer, behind the closed gate, and opens the gate once it is on the disk.
+fn add<D: Disk>(disk: &mut D, gate: u64, bytes: &[u8]) -> Result<(), Failed>
+    requires place { D.tells → length (D.seen disk.old) ≡ gate + 1 }
+    requires room { gate + 1 < 2 ^ 64 }
+    requires some { 0 < length bytes.now }
+    requires only { Only (D.seen disk.old) (D.image disk.old) }
+    ensures added { D.tells → (frames : List (List ℕ)) (frame : List ℕ) →
+        IsWhole (D.seen disk.old) gate frames → IsFrame frame → bytes.now ≡ laid frame ++ 45 ∷ [] →
+        OnOk result ((D.seen disk.new ≡ log_of (frames ++ frame ∷ []))
+        × IsWhole (D.seen disk.new) (gate + 5 + length frame) (frames ++ frame ∷ [])) }
+    ensures durable { OnOk result (Only (D.seen disk.new) (D.image disk.new)) }
+    ensures any_moment { D.tells → (frames : List (List ℕ)) (frame : List ℕ) →
+        IsWhole (D.seen disk.old) gate frames → IsFrame frame → bytes.now ≡ laid frame ++ 45 ∷ [] →
+        LeavesOnly D.moment D.left_since disk.old disk.new (BeforeOrAfter frames frame) }
+    ensures fault { OnErr result (Rose (D.faults disk.old) (D.faults disk.new)) }
+    ensures faults { D.faults disk.old ≤ D.faults disk.new }
+    ensures changes { OnOk result (Rises 2 (D.changes disk.old) (D.changes disk.new)) }
+    ensures fewer { (D.changes disk.old ≤ D.changes disk.new)
+        × (D.changes disk.new ≤ D.changes disk.old + 2) }
+    ensures setting { D.setting disk.new ≡ D.setting disk.old }
+{
+    settle(disk, gate + 1, bytes)?;
+    settle(disk, gate, b"+")
+}
+
+// Writes the length, the frame and a closed gate to the buffer.
+fn lay(buffer: &mut Vec<u8>, frame: &[u8])
+    requires size { IsFrame frame.now }
+    requires room { 65541 ≤ vec_capacity buffer.old }
+    ensures capacity { vec_capacity buffer.old ≤ vec_capacity buffer.new }
+    ensures laid { buffer.new.items ≡ laid frame.now ++ 45 ∷ [] }
+{
+    buffer.clear();
+    put(buffer, &(frame.len() as u32).to_le_bytes());
+    put(buffer, frame);
+    put(buffer, b"-");
+}
+
+// Appends within the spare room.
+fn put(out: &mut Vec<u8>, bytes: &[u8])
+    requires { vec_len out.old + length bytes.now ≤ vec_capacity out.old }
+    ensures capacity { vec_capacity out.old ≤ vec_capacity out.new }
+    ensures items { out.new.items ≡ out.old.items ++ bytes.now }
+{
+    if out.extend_from_slice(bytes).is_err() {
+        unreachable!()
+    }
+}
