@@ -1,0 +1,10 @@
+pub mod Ascii
+pub mod Decimals
+pub mod Names
+pub mod Cuts
+pub mod NonceLaws
+pub mod Orders
+pub mod Ranges
+pub mod Keys
+pub mod TextLaws
+pub mod KeyLaws

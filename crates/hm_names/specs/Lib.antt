@@ -1,0 +1,14 @@
+pub mod Decimal
+pub mod Cuts
+pub mod Reading
+pub mod Names
+pub mod Nonces
+pub mod Tables
+pub mod Region
+pub mod Regions
+pub mod Server
+pub mod Servers
+pub mod Keys
+pub mod KeyLength
+pub mod Ranges
+pub mod Order
