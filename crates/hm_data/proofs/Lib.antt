@@ -1,0 +1,2 @@
+pub mod ActNumbers
+pub mod KeyOrder
