@@ -1,12 +1,11 @@
 -- What a row key is printed as is read as the key.
-use Rattle.std.proofs.Common.{◌≡◌, ℕ, zero, suc, ◌+◌, ◌-◌, ◌*◌, ◌/◌, ◌%◌, ◌<◌, ◌≤◌, ◌==◌, nat_le, nat_lt, not, ◌&&◌, Bool, true, false, cond, List, [], ◌∷◌, ◌++◌, length, slice_index, Option, Some, None, Ok, Err, refl, sym, ap, ◌∙◌, inl, inr, arith}
+use Rattle.std.proofs.Common.{◌≡◌, ℕ, suc, ◌+◌, ◌-◌, ◌*◌, ◌/◌, ◌%◌, ◌<◌, ◌≤◌, ◌==◌, nat_le, nat_lt, not, ◌&&◌, Bool, true, false, cond, List, [], ◌∷◌, ◌++◌, length, Some, Ok, refl, ap, ◌∙◌, inl, inr, arith}
 use Rattle.std.specs.List.{flat_map}
 use Rattle.std.specs.Str.{bytes_eq}
 use Rattle.std.proofs.lemmas.Bool.Decides.{nat_tests}
 use Rattle.std.proofs.lemmas.Bool.{cases_lt}
 use Rattle.hm_names.proofs.Orders.{not_zero}
-use Rattle.std.proofs.lemmas.Grind.{common_steps}
-use Rattle.hm_names.specs.Keys.{IsRowKey, IsByteString, limited, limited_key, is_plain, hex_digit, byte_text, key_text, hex_value, hex_byte, first_byte, onto, onto_rest, spelled, read_key}
+use Rattle.hm_names.specs.Keys.{IsRowKey, IsByteString, limited, limited_key, is_plain, hex_digit, byte_text, key_text, hex_value, first_byte, onto, onto_rest, spelled, read_key}
 
 low_digit : (n : ℕ) → n < 10 → hex_value (hex_digit n) ≡ Some n
 low_digit n small =

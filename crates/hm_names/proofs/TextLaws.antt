@@ -1,5 +1,5 @@
 -- What is printed is read as the same name.
-use Rattle.std.proofs.Common.{◌≡◌, ℕ, ◌+◌, ◌-◌, ◌<◌, ◌≤◌, ◌^◌, ◌==◌, nat_le, nat_lt, ◌&&◌, ◌||◌, Bool, true, false, cond, List, ◌∷◌, ◌++◌, length, get_or, Option, Some, None, Ok, Err, refl, sym, ap, ◌∙◌, subst, codes, arith}
+use Rattle.std.proofs.Common.{◌≡◌, ℕ, ◌+◌, ◌-◌, ◌<◌, ◌≤◌, ◌^◌, ◌==◌, nat_le, nat_lt, ◌||◌, Bool, true, false, cond, List, ◌∷◌, ◌++◌, length, get_or, Option, Some, None, Ok, refl, sym, ap, ◌∙◌, codes, arith}
 use Rattle.std.specs.Fmt.{decimal}
 use Rattle.std.specs.Str.{bytes_eq}
 use Rattle.std.proofs.lemmas.List.{append_assoc}
@@ -10,12 +10,11 @@ use Rattle.hm_names.specs.declared.fault.NameFault.TheVariants.{Empty, TooLong}
 use Rattle.hm_names.specs.declared.table.TableName.{TableName}
 use Rattle.hm_names.specs.Region.{Region}
 use Rattle.hm_names.specs.Server.{Server}
-use Rattle.hm_names.specs.Cuts.{cut_first}
-use Rattle.hm_names.specs.Decimal.{number_of, within}
-use Rattle.hm_names.specs.Names.{first_wrong, part_fault, is_ns_byte, is_qualifier_byte, is_host_byte, ns_fault, qualifier_fault, host_fault, first_wrong_of_qualifier}
+use Rattle.hm_names.specs.Decimal.{within}
+use Rattle.hm_names.specs.Names.{first_wrong, part_fault, is_ns_byte, is_qualifier_byte, is_host_byte, ns_fault, qualifier_fault, first_wrong_of_qualifier}
 use Rattle.hm_names.specs.Reading.{unless, wrong_byte, first_fault}
-use Rattle.hm_names.specs.Tables.{IsTable, table_text, table_fault, table_parts, read_table}
-use Rattle.hm_names.specs.Regions.{IsRegion, region_text, region_parts, read_region}
+use Rattle.hm_names.specs.Tables.{IsTable, table_text, table_fault, read_table}
+use Rattle.hm_names.specs.Regions.{IsRegion, region_text, read_region}
 use Rattle.hm_names.specs.Servers.{IsServer, server_text, read_server}
 use Rattle.hm_names.proofs.Ascii.{right_at, part_fault-None, no_other}
 use Rattle.hm_names.proofs.Cuts.{Lacks, is_empty-at, cut_first-at, cut_first-Lacks, cut_last-at}

@@ -8,7 +8,7 @@ use Rattle.hm_names.specs.Reading.{unless, wrong_byte}
 abbrev pub first_wrong : (ℕ → Bool) → List ℕ → Option ℕ
 first_wrong is_right = position (λ b. not (is_right b))
 
--- the fault of a part at a place, which has 1 to `most` bytes and its first wrong byte at `wrong`
+-- the fault of a part at a place, that may have 1 to `most` bytes: `wrong` is its first wrong byte
 abbrev pub part_fault : ℕ → ℕ → List ℕ → Option ℕ → Option NameFault
 part_fault most at part wrong =
     if length part == 0 then Some Empty else (if nat_lt most (length part) then Some (TooLong (length part)) else wrong_byte at wrong)

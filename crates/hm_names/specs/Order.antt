@@ -5,6 +5,8 @@ use Rattle.std.specs.Cmp.Lexicographic.{slice_cmp}
 use Rattle.std.specs.declared.cmp.Ordering.{Ordering}
 use Rattle.hm_names.specs.Region.{Region}
 use Rattle.hm_names.specs.Server.{Server}
+use Rattle.hm_names.specs.declared.nonce.Nonce.{Nonce}
+use Rattle.hm_names.specs.declared.pid.Pid.{Pid}
 use Rattle.hm_names.specs.declared.table.TableName.{TableName}
 
 -- by the first byte that differs; a front of the other comes first
@@ -22,3 +24,11 @@ region_cmp = then_cmp (on (λ r. r.table) table_cmp) (on (λ r. r.id) nat_cmp)
 -- by host, then by port, then by start code
 abbrev pub server_cmp : Server → Server → Ordering
 server_cmp = then_cmp (on (λ s. s.host) bytes_cmp) (then_cmp (on (λ s. s.port) nat_cmp) (on (λ s. s.start) nat_cmp))
+
+-- by group, then by number
+abbrev pub nonce_cmp : Nonce → Nonce → Ordering
+nonce_cmp = then_cmp (on (λ n. n.group) nat_cmp) (on (λ n. n.number) nat_cmp)
+
+-- by number
+abbrev pub pid_cmp : Pid → Pid → Ordering
+pid_cmp = on (λ p. p.0) nat_cmp

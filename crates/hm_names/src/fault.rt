@@ -1,4 +1,6 @@
-use std::alloc::AllocError;
+use crate::copied::Copied;
+use crate::same::Same;
+use std::alloc::{AllocError, Global};
 use thiserror::Error;
 
 /// Why bytes are no name. A number is a length or a place; places count bytes of the whole text from 0.
@@ -13,7 +15,8 @@ pub enum NameFault {
     /// The byte at this place can't stand there.
     #[error("BadByte {0}")]
     BadByte(u64),
-    /// No number in range stands at this place, which is the text's length where a separator is missing.
+    /// No number in range stands at this place, which is the text's length where the
+    /// separators aren't as many as they must be.
     #[error("BadNumber {0}")]
     BadNumber(u64),
     /// Memory ran out.
@@ -29,5 +32,17 @@ impl From<AllocError> for NameFault {
 
     fn from(_error: AllocError) -> NameFault {
         NameFault::Memory
+    }
+}
+
+impl Copied for NameFault {
+    fn copy(&self, _alloc: Global) -> Result<NameFault, AllocError> {
+        Ok(*self)
+    }
+}
+
+impl Same for NameFault {
+    fn same(&self, other: &NameFault) -> bool {
+        self == other
     }
 }

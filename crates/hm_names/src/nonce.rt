@@ -1,4 +1,4 @@
-ghost use Rattle.std.specs.Prelude.{◌≡◌, ◌++◌, OnOk, OnErr, IfOk};
+ghost use Rattle.std.specs.Prelude.{◌≡◌, ◌++◌, OnOk, OnErr, IfOk, Ok};
 
 use crate::copied::Copied;
 use crate::cut::cut_first;
@@ -39,11 +39,21 @@ impl Nonce {
         Ok(Nonce { group, number })
     }
 
+    // The numbers fit 64 bits, so the text is read as the nonce: a law that does nothing.
+    fn named(&self)
+        ensures { read_nonce (nonce_text self.now) ≡ Ok self.now }
+    {
+        let _group = self.group;
+        let _number = self.number;
+    }
+
     /// Appends the text, all of it or nothing.
     pub fn write(&self, alloc: Global, out: &mut Vec<u8>) -> Result<(), AllocError>
         ensures written { OnOk result (out.new.items ≡ out.old.items ++ nonce_text self.now) }
         ensures kept { OnErr result (out.new.items ≡ out.old.items) }
+        ensures reads_back { read_nonce (nonce_text self.now) ≡ Ok self.now }
     {
+        self.named();
         let text = self.to_string(alloc)?;
         out.extend_from_slice(text.as_bytes())
     }

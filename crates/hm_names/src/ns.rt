@@ -1,4 +1,4 @@
-ghost use Rattle.std.specs.Prelude.{◌≡◌, ◌+◌, ◌<◌, ◌^◌, ◌++◌, IfOk, OnOk, OnErr, length, position, not};
+ghost use Rattle.std.specs.Prelude.{◌≡◌, ◌+◌, ◌<◌, ◌^◌, ◌++◌, IfOk, OnOk, OnErr, Ok, length, position, not};
 ghost use Rattle.hm_names.specs.Names.{IsNs, ns_fault, read_ns, is_ns_byte as ns_byte};
 ghost use Rattle.hm_names.specs.Reading.{Answers};
 
@@ -89,6 +89,7 @@ impl Ns {
     pub fn write(&self, _alloc: Global, out: &mut Vec<u8>) -> Result<(), AllocError>
         ensures written { OnOk result (out.new.items ≡ out.old.items ++ self.now) }
         ensures kept { OnErr result (out.new.items ≡ out.old.items) }
+        ensures reads_back { read_ns self.now ≡ Ok self.now }
     {
         out.extend_from_slice(self.bytes.as_bytes())
     }

@@ -3,7 +3,8 @@ ghost use Rattle.hm_names.specs.Names.{part_fault as fault_of};
 
 use crate::fault::NameFault;
 
-// The fault of a part that stands at a place of a text, has at most `most` bytes, and its first wrong byte at `wrong`.
+// The fault of a part of a text. The part stands at a place, may have 1 to `most` bytes, and has
+// its first wrong byte at `wrong`.
 pub fn part_fault(most: usize, at: u64, part: &[u8], wrong: Option<usize>) -> Option<NameFault>
     requires fits { at + length part.now < 2 ^ 64 }
     requires inside { IfSome wrong (λ k. k < length part.now) }

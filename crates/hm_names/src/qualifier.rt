@@ -11,7 +11,8 @@ use std::alloc::{AllocError, Global};
 use std::fmt;
 use std::marker::Model;
 
-/// The name of a table in its namespace: 1 to 128 letters, digits, `_`, `-` and `.`, of which the first is neither `-` nor `.`. Contracts see its bytes.
+/// The name of a table in its namespace: 1 to 128 letters, digits, `_`, `-` and `.`, of which the
+/// first is neither `-` nor `.`. Contracts see its bytes.
 #[derive(Debug, Drop, PartialEq, Eq, PartialOrd, Ord)]
 pub struct Qualifier {
     bytes: NameBytes,

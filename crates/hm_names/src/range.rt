@@ -31,7 +31,8 @@ impl KeyRange {
     /// Whether each range's end lies behind the other's start. Ranges that only touch don't overlap.
     pub fn overlaps(&self, other: &KeyRange) -> bool
         ensures ends { result ≡ overlaps self.now other.now }
-        ensures shared { (key : List ℕ) → IsTrue (holds self.now key) → IsTrue (holds other.now key) → IsTrue result }
+        ensures shared { (key : List ℕ)
+            → IsTrue (holds self.now key) → IsTrue (holds other.now key) → IsTrue result }
     {
         self.ends_behind(&other.start) && other.ends_behind(&self.start)
     }
@@ -65,7 +66,8 @@ impl KeyRange {
         requires next { self.end ≡ other.start }
         ensures whole { result ≡ joined self other }
         ensures parts { (front result self.end ≡ self) × (back result self.end ≡ other) }
-        ensures held { IsTrue (inner result self.end) → (k : List ℕ) → holds result k ≡ holds self k || holds other k }
+        ensures held { IsTrue (inner result self.end)
+            → (k : List ℕ) → holds result k ≡ holds self k || holds other k }
     {
         let KeyRange { start, end: _ } = self;
         let KeyRange { start: _, end } = other;

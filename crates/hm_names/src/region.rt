@@ -47,7 +47,8 @@ impl RegionName {
     // The parts of a text that names a region.
     fn judged(text: &[u8]) -> Result<((&[u8], &[u8]), u64), NameFault>
         ensures reading { MatchResult result
-            (λ p. read_region text.now ≡ Ok (record { table = record { ns = p.0.0.now; qualifier = p.0.1.now }; id = p.1 }))
+            (λ p. read_region text.now
+            ≡ Ok (record { table = record { ns = p.0.0.now; qualifier = p.0.1.now }; id = p.1 }))
             (λ e. read_region text.now ≡ Err e) }
         ensures named { IfOk result (λ p. IsNs p.0.0.now × IsQualifier p.0.1.now × (1 ≤ p.1)) }
     {
@@ -65,11 +66,21 @@ impl RegionName {
         }
     }
 
+    // The parts are names, so the text is read as the region: a law that does nothing.
+    fn named(&self)
+        ensures { read_region (region_text self.now) ≡ Ok self.now }
+    {
+        self.table.named();
+        let _id = self.id;
+    }
+
     /// Appends the text, all of it or nothing.
     pub fn write(&self, alloc: Global, out: &mut Vec<u8>) -> Result<(), AllocError>
         ensures written { OnOk result (out.new.items ≡ out.old.items ++ region_text self.now) }
         ensures kept { OnErr result (out.new.items ≡ out.old.items) }
+        ensures reads_back { read_region (region_text self.now) ≡ Ok self.now }
     {
+        self.named();
         let text = self.to_string(alloc)?;
         out.extend_from_slice(text.as_bytes())
     }

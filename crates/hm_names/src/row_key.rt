@@ -5,7 +5,7 @@ ghost use Rattle.std.specs.Cmp.{partial_order_from_own_ties};
 ghost use Rattle.std.specs.Cmp.Rules.{comparing};
 ghost use Rattle.std.specs.Cmp.Lexicographic.{pointwise, slice_cmp};
 ghost use Rattle.std.specs.Ordering.{nat_cmp, as_partial_cmp};
-ghost use Rattle.hm_names.specs.Keys.{IsRowKey, limited};
+ghost use Rattle.hm_names.specs.Keys.{IsByteString, IsRowKey, limited};
 ghost use Rattle.hm_names.specs.Reading.{Answers};
 
 use crate::copied::Copied;
@@ -17,9 +17,9 @@ use std::cmp::Ordering;
 use std::fmt;
 use std::marker::Model;
 
-/// The key of a row: at most 128 bytes of any value. Keys order by their bytes. The empty key is `\-`
-/// as a text; in any other a byte from 0x21 to 0x7E but `\` stands for itself, and any byte may stand as
-/// `\x` and two hexadecimal digits.
+/// The key of a row: at most 128 bytes of any value. Keys order by their bytes. The empty key is
+/// `\-` as a text; in any other a byte from 0x21 to 0x7E but `\` stands for itself, and any byte
+/// may stand as `\x` and two hexadecimal digits.
 #[derive(Debug, Drop)]
 pub struct RowKey {
     bytes: Vec<u8>,
@@ -35,6 +35,11 @@ impl Model for RowKey {
 
     ghost invariant = { λ s. IsRowKey s.bytes.items };
 }
+
+// Each item of a slice of bytes fits eight bits: a law that does nothing.
+fn are_bytes(bytes: &[u8])
+    ensures { IsByteString bytes.now }
+{}
 
 impl RowKey {
     ghost use Rattle.hm_names.specs.Keys.{key_text, read_key};
@@ -78,11 +83,20 @@ impl RowKey {
         self.bytes.as_slice()
     }
 
+    // The key is of bytes, so the text is read as the key: a law that does nothing.
+    fn named(&self)
+        ensures { read_key (key_text self.now) ≡ Ok self.now }
+    {
+        are_bytes(self.bytes.as_slice());
+    }
+
     /// Appends the text, all of it or nothing.
     pub fn write(&self, alloc: Global, out: &mut Vec<u8>) -> Result<(), AllocError>
         ensures written { OnOk result (out.new.items ≡ out.old.items ++ key_text self.now) }
         ensures kept { OnErr result (out.new.items ≡ out.old.items) }
+        ensures reads_back { read_key (key_text self.now) ≡ Ok self.now }
     {
+        self.named();
         let text = self.to_string(alloc)?;
         out.extend_from_slice(text.as_bytes())
     }

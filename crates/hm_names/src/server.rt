@@ -84,11 +84,22 @@ impl ServerName {
         Ok((host, port as u16, start))
     }
 
+    // The parts are names, so the text is read as the server: a law that does nothing.
+    fn named(&self)
+        ensures { read_server (server_text self.now) ≡ Ok self.now }
+    {
+        let _host = self.host.as_bytes();
+        let _port = self.port;
+        let _start = self.start;
+    }
+
     /// Appends the text, all of it or nothing.
     pub fn write(&self, alloc: Global, out: &mut Vec<u8>) -> Result<(), AllocError>
         ensures written { OnOk result (out.new.items ≡ out.old.items ++ server_text self.now) }
         ensures kept { OnErr result (out.new.items ≡ out.old.items) }
+        ensures reads_back { read_server (server_text self.now) ≡ Ok self.now }
     {
+        self.named();
         let text = self.to_string(alloc)?;
         out.extend_from_slice(text.as_bytes())
     }

@@ -19,7 +19,7 @@ pub struct TableName {
 }
 
 impl TableName {
-    ghost use Rattle.hm_names.specs.Tables.{table_text, read_table};
+    ghost use Rattle.hm_names.specs.Tables.{IsTable, table_text, read_table};
 
     /// The table that a text names; the first `:` separates.
     pub fn parse(alloc: Global, text: &[u8]) -> Result<TableName, NameFault>
@@ -66,11 +66,22 @@ impl TableName {
         Ok(TableName { ns, qualifier })
     }
 
+    // The parts are names, so the text is read as the table: a law that does nothing.
+    pub(crate) fn named(&self)
+        ensures named { IsTable self.now }
+        ensures reads_back { read_table (table_text self.now) ≡ Ok self.now }
+    {
+        let _ns = self.ns.as_bytes();
+        let _qualifier = self.qualifier.as_bytes();
+    }
+
     /// Appends the text, all of it or nothing.
     pub fn write(&self, alloc: Global, out: &mut Vec<u8>) -> Result<(), AllocError>
         ensures written { OnOk result (out.new.items ≡ out.old.items ++ table_text self.now) }
         ensures kept { OnErr result (out.new.items ≡ out.old.items) }
+        ensures reads_back { read_table (table_text self.now) ≡ Ok self.now }
     {
+        self.named();
         let text = self.to_string(alloc)?;
         out.extend_from_slice(text.as_bytes())
     }

@@ -1,5 +1,5 @@
 use crate::{
-    Copied, Host, KeyRange, List, NameFault, Nonce, Ns, Qualifier, RegionName, RowKey, Same,
+    Copied, Host, KeyRange, List, NameFault, Nonce, Ns, Pid, Qualifier, RegionName, RowKey, Same,
     ServerName, TableName,
 };
 use std::alloc::AllocError;
@@ -243,6 +243,12 @@ fn cut_at_and_join(rt: HostRuntime) {
     assert_eq!(rt; low.join(high), range(&rt, b"b", b""));
 }
 
+// Checks that a value's copy is the value.
+fn copies<R: Abort + AllocGlobal, T: Copied + Same + Drop>(rt: &R, value: &T) {
+    let copy = value.copy(rt.alloc()).expect(rt, "memory");
+    assert!(rt; copy.same(value));
+}
+
 #[test]
 fn copy(rt: HostRuntime) {
     let items = vec![in rt.alloc(); (Some(7u64), 8u64); 2].expect(&rt, "memory");
@@ -251,12 +257,31 @@ fn copy(rt: HostRuntime) {
     assert!(rt; copy.same(&list));
     assert_eq!(rt; copy.as_slice().len(), 2);
     assert_eq!(rt; copy.into_vec().len(), 2);
-    let whole = range(&rt, b"b", b"c");
-    assert!(rt; whole.copy(rt.alloc()).expect(&rt, "memory").same(&whole));
+    let none: Option<u64> = None;
+    copies(&rt, &none);
+    copies(&rt, &range(&rt, b"b", b"c"));
+    copies(&rt, &RowKey::of(rt.alloc(), b"b").expect(&rt, "a key"));
+    copies(&rt, &NameFault::BadByte(7));
+    copies(&rt, &Pid(7));
+    copies(
+        &rt,
+        &Nonce {
+            group: 1,
+            number: 2,
+        },
+    );
+}
+
+#[test]
+fn copy_names(rt: HostRuntime) {
     let server = ServerName::parse(rt.alloc(), b"h1,16020,1").expect(&rt, "a server");
-    assert!(rt; server.copy(rt.alloc()).expect(&rt, "memory").same(&server));
+    copies(&rt, &server);
+    copies(&rt, &server.host);
     let later = ServerName::parse(rt.alloc(), b"h1,16020,10").expect(&rt, "a server");
     assert!(rt; server < later);
     let region = RegionName::parse(rt.alloc(), b"a:t,2").expect(&rt, "a region");
-    assert!(rt; region.copy(rt.alloc()).expect(&rt, "memory").same(&region));
+    copies(&rt, &region);
+    copies(&rt, &region.table);
+    copies(&rt, &region.table.ns);
+    copies(&rt, &region.table.qualifier);
 }
