@@ -1,0 +1,13 @@
+pub mod Lines
+pub mod WordLemmas
+pub mod Pasts
+pub mod Indexes
+pub mod Numbers
+pub mod Rows
+pub mod Stores
+pub mod Frames
+pub mod Conversations
+pub mod Growth
+pub mod Outcomes
+pub mod Spellings
+pub mod Complete

@@ -1,0 +1,50 @@
+use Rattle.std.proofs.Common.{◌⊎◌, true, sym, subst, inl, inr}
+use Rattle.std.proofs.lemmas.Result.{IfOk-weaker, IfErr-weaker}
+use Rattle.hm_disk.proofs.Moments.{settles_weaker, stays_settled}
+use Rattle.hm_log.specs.Format.{Reads}
+use Rattle.hm_log.specs.Opening.{IsMaking}
+use Rattle.hm_log.specs.Format.{HoldsFrames}
+use Rattle.hm_top.specs.Stored.{Continues}
+use Rattle.hm_top.proofs.Stores.{stored_here, continues_self, err_both}
+use Rattle.hm_top.proofs.opening.open.Goals as goal
+
+pub returns-in-Ok-clause-journal : goal.returns-in-Ok-clause-journal
+returns-in-Ok-clause-journal g c =
+    let d = g.D.Disk in
+    let seen = d.seen c.args.disk in
+    IfOk-weaker c.world_of.result _ _
+    (λ world old. (
+      old.0,
+      λ tells. record { opens = subst (HoldsFrames seen) (sym old.2) (c.in-Ok.ensures.opens tells); legal = old.1 },
+      old.3,
+      λ tells.
+          stays_settled d.moment d.left_since c.args.disk c.in-Ok.log.disk world.disk (λ bytes. d.image c.args.disk bytes ⊎ IsMaking (d.seen c.args.disk) bytes) (Continues old.0)
+          (settles_weaker d.moment d.left_since c.args.disk c.in-Ok.log.disk (λ bytes. d.image c.args.disk bytes ⊎ IsMaking (d.seen c.args.disk) bytes) (λ bytes. Reads bytes c.in-Ok.frames) (Continues old.0)
+          (λ bytes reads. continues_self old.0 true bytes (stored_here bytes old.0 true old.1 (subst (Reads bytes) (sym old.2) reads))) (c.in-Ok.ensures.moments tells))
+          (old.4 tells),
+    ))
+    c.world_of.ensures.begun
+
+pub returns-in-Ok-clause-refused : goal.returns-in-Ok-clause-refused
+returns-in-Ok-clause-refused g c tells =
+    err_both c.world_of.result _ _ _
+    (λ r none same is. (λ journal on. none is journal on.legal (sym (c.in-Ok.ensures.exact tells _ on.opens)), inr (c.in-Ok.frames, c.in-Ok.ensures.opens tells, same is)))
+    c.world_of.ensures.refused (c.world_of.ensures.same tells)
+
+pub returns-in-Ok-clause-spared : goal.returns-in-Ok-clause-spared
+returns-in-Ok-clause-spared g c tells =
+    IfErr-weaker c.world_of.result _ _
+    (λ r spared journal some on.
+    let all = spared journal on.legal (sym (c.in-Ok.ensures.exact tells _ on.opens)) in
+    (all (g.D.Disk.seen r.0) (g.met.D.Disk.reads_now r.0 tells), λ only. all))
+    (c.world_of.ensures.spared tells)
+
+pub returns-in-Err-clause-refused : goal.returns-in-Err-clause-refused
+returns-in-Err-clause-refused g c tells is =
+    (λ journal on. c.in-Err.ensures.exact tells _ on.opens is, inl (c.in-Err.ensures.refused is))
+
+pub returns-in-Err-clause-spared : goal.returns-in-Err-clause-spared
+returns-in-Err-clause-spared g c tells journal some on = (
+  stored_here _ journal _ on.legal (c.in-Err.ensures.left tells _ some on.opens),
+  λ only bytes is. stored_here bytes journal _ on.legal (c.in-Err.ensures.spared tells _ some only on.opens bytes is),
+)

@@ -1,0 +1,21 @@
+use Rattle.std.proofs.Common.{true, List, ℕ, [], ◌∷◌, refl, subst}
+use Rattle.hm_log.specs.Format.{BeforeOrAfter}
+use Rattle.hm_top.specs.declared.entry.Entry.TheVariants.{Start}
+use Rattle.hm_disk.proofs.Moments.{weaker}
+use Rattle.hm_top.specs.Stored.{Continues}
+use Rattle.hm_top.proofs.Stores.{image_now, stored_either, continues_self}
+use Rattle.hm_top.proofs.opening.start.Goals as goal
+
+pub returns-then-is_err-2-clause-stored : goal.returns-then-is_err-2-clause-stored
+returns-then-is_err-2-clause-stored g c tells bytes is =
+    let d = g.D.Disk in
+    let now = image_now d.moment d.left_since d.image g.met.D.Disk.counts_now c.args.log.disk c.append.new.self.disk _ (c.append.ensures.any_moment tells) bytes
+    (subst (λ disk. d.image disk bytes) c.into_disk-then-is_err-2.ensures.disk is) in
+    stored_either bytes [] Start (tt, tt, (refl, tt)) (subst (λ (fs : List (List ℕ)). BeforeOrAfter fs (0 ∷ 0 ∷ 0 ∷ []) bytes) (c.requires.frames tells) now)
+
+pub returns-clause-moments : goal.returns-clause-moments
+returns-clause-moments g c tells =
+    let d = g.D.Disk in
+    weaker d.moment d.left_since c.args.log.disk c.append.new.self.disk _ (Continues [])
+    (λ bytes either. continues_self [] true bytes (stored_either bytes [] Start (tt, tt, (refl, tt)) (subst (λ (fs : List (List ℕ)). BeforeOrAfter fs (0 ∷ 0 ∷ 0 ∷ []) bytes) (c.requires.frames tells) either)))
+    (c.append.ensures.any_moment tells)

@@ -1,0 +1,15 @@
+pub mod Words
+pub mod Spelling
+pub mod Journal
+pub mod Nonces
+pub mod Script
+pub mod Table
+pub mod Said
+pub mod Answer
+pub mod Transcript
+pub mod Status
+pub mod Index
+pub mod Stored
+pub mod Opening
+pub mod View
+pub mod Run

@@ -1,0 +1,11 @@
+//! The commands of a script.
+use hm_names::{Nonce, Ns};
+
+/// A command of a script.
+#[derive(Drop)]
+pub enum Command {
+    /// Creates a namespace.
+    Namespace { nonce: Nonce, ns: Ns },
+    /// Prints the procedures.
+    Procs,
+}

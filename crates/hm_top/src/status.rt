@@ -1,0 +1,177 @@
+//! How a run ends, and the last line that says so.
+ghost use Rattle.std.specs.Prelude.{◌≡◌, Some};
+
+use hm_names::NameFault;
+use std::alloc::AllocError;
+use std::fmt;
+
+/// What is wrong with a line of a script.
+#[derive(Clone, Copy, Debug, PartialEq, Eq)]
+pub enum Why {
+    /// A word at this place of the line isn't one that may stand there.
+    Word(u64),
+    /// A word is missing.
+    Missing,
+    /// There is a word too many.
+    Extra,
+    /// A word is no name of its kind.
+    Name(NameFault),
+    /// A word is no number in its range.
+    Number,
+    /// Words stand in a wrong order.
+    Order,
+    /// The script is longer than 1,048,576 bytes.
+    TooLong,
+    /// Memory ran out.
+    Memory,
+}
+
+impl fmt::Display for Why {
+    ghost use Rattle.hm_top.specs.Status.{why_text};
+
+    ghost output = { λ w. Some (why_text w) };
+
+    fn fmt<W: fmt::Write>(&self, f: &mut fmt::Formatter<W>) -> fmt::Result {
+        match self {
+            Why::Word(at) => write!(f, "Word {at}"),
+            Why::Missing => f.write_str("Missing"),
+            Why::Extra => f.write_str("Extra"),
+            Why::Name(NameFault::Empty) => f.write_str("Name Empty"),
+            Why::Name(NameFault::TooLong(length)) => write!(f, "Name TooLong {length}"),
+            Why::Name(NameFault::BadByte(at)) => write!(f, "Name BadByte {at}"),
+            Why::Name(NameFault::BadNumber(at)) => write!(f, "Name BadNumber {at}"),
+            Why::Name(NameFault::Memory) => f.write_str("Name Memory"),
+            Why::Number => f.write_str("Number"),
+            Why::Order => f.write_str("Order"),
+            Why::TooLong => f.write_str("TooLong"),
+            Why::Memory => f.write_str("Memory"),
+        }
+    }
+}
+
+/// The first line of a script that can't be read. Lines are numbered from 1; line 0 stands for the
+/// script as a whole.
+#[derive(Clone, Copy, Debug, PartialEq, Eq)]
+pub struct Bad {
+    pub line: u64,
+    pub why: Why,
+}
+
+/// Why a log is refused.
+#[derive(Clone, Copy, Debug, PartialEq, Eq)]
+pub enum LogWhy {
+    /// The bytes are no log. For now every disk without a journal is refused so, at place 0.
+    NotALog(u64),
+    /// The frame at this place is bad.
+    BadFrame(u64),
+    /// The frame of this number is no entry, from this byte of it on.
+    BadEntry { number: u64, at: u64 },
+    /// The entry of this number breaks this rule.
+    Illegal { number: u64, rule: u8 },
+    /// The journal has other sheets of this kind.
+    SheetsDiffer(u8),
+    /// The journal has this many entries where it should have none.
+    NotEmpty(u64),
+}
+
+impl fmt::Display for LogWhy {
+    ghost use Rattle.hm_top.specs.Status.{log_text};
+
+    ghost output = { λ w. Some (log_text w) };
+
+    fn fmt<W: fmt::Write>(&self, f: &mut fmt::Formatter<W>) -> fmt::Result {
+        match self {
+            LogWhy::NotALog(at) => write!(f, "NotALog {at}"),
+            LogWhy::BadFrame(at) => write!(f, "BadFrame {at}"),
+            LogWhy::BadEntry { number, at } => write!(f, "BadEntry {number} {at}"),
+            LogWhy::Illegal { number, rule } => write!(f, "Illegal {number} {rule}"),
+            LogWhy::SheetsDiffer(kind) => write!(f, "SheetsDiffer {kind}"),
+            LogWhy::NotEmpty(entries) => write!(f, "NotEmpty {entries}"),
+        }
+    }
+}
+
+/// Why a conversation ends early.
+#[derive(Clone, Copy, Debug, PartialEq, Eq)]
+pub enum Cut {
+    /// The sink failed.
+    WriteFault,
+    /// Memory ran out.
+    Memory,
+}
+
+impl From<AllocError> for Cut {
+    ghost use Rattle.hm_top.specs.declared.status.Cut.TheVariants.{Memory};
+
+    ghost from_gives = { λ _ cut. cut ≡ Memory };
+
+    fn from(_: AllocError) -> Self {
+        Cut::Memory
+    }
+}
+
+/// How a run ends. Done, WriteFault and Memory write no last line.
+#[derive(Clone, Copy, Debug, PartialEq, Eq)]
+pub enum RunStatus {
+    /// All commands were answered.
+    Done,
+    /// The index of the first word that fits no place, or the number of words where one is missing.
+    Usage(u64),
+    /// The script is refused.
+    BadScript(Bad),
+    /// A call on the disk failed.
+    LogFault,
+    /// The disk holds no journal.
+    LogRefused(LogWhy),
+    /// The source failed.
+    ReadFault,
+    /// The sink failed.
+    WriteFault,
+    /// The bytes of the log. No run ends so yet.
+    JournalFull(u64),
+    /// Memory ran out.
+    Memory,
+}
+
+impl RunStatus {
+    ghost use Rattle.hm_top.specs.Status.{status_code};
+
+    /// The exit status of the program.
+    pub fn code(self) -> u8
+        ensures { result ≡ status_code self }
+    {
+        match self {
+            RunStatus::Done => 0,
+            RunStatus::Usage(_) => 2,
+            RunStatus::BadScript(_) => 3,
+            RunStatus::LogFault => 4,
+            RunStatus::LogRefused(_) => 5,
+            RunStatus::ReadFault => 6,
+            RunStatus::WriteFault => 7,
+            RunStatus::JournalFull(_) => 8,
+            RunStatus::Memory => 9,
+        }
+    }
+}
+
+impl fmt::Display for RunStatus {
+    ghost use Rattle.hm_top.specs.Status.{last_line};
+
+    ghost output = { λ s. Some (last_line s) };
+
+    fn fmt<W: fmt::Write>(&self, f: &mut fmt::Formatter<W>) -> fmt::Result {
+        match self {
+            RunStatus::Done | RunStatus::WriteFault | RunStatus::Memory => Ok(()),
+            RunStatus::Usage(word) => write!(f, "hmaster: usage: word {word}\n"),
+            RunStatus::BadScript(bad) => {
+                let line = bad.line;
+                let why = bad.why;
+                write!(f, "hmaster: script: line {line}: {why}\n")
+            }
+            RunStatus::LogFault => write!(f, "hmaster: log fault\n"),
+            RunStatus::LogRefused(why) => write!(f, "hmaster: log refused: {why}\n"),
+            RunStatus::ReadFault => write!(f, "hmaster: read fault\n"),
+            RunStatus::JournalFull(bytes) => write!(f, "hmaster: journal full: {bytes}\n"),
+        }
+    }
+}
