@@ -1,0 +1,239 @@
+//! Faults of the disk, the source and the sink, at each of their calls.
+ghost use Rattle.std.specs.Prelude.{◌≤◌, IfOk};
+
+use crate::lines::FROB;
+use crate::logs::SHOP;
+use crate::play::{Fails, NONE, RUN, play, says};
+use hm_disk::Choice;
+use hm_top::{Ended, RunStatus};
+use std::alloc::{AllocError, Global};
+use std::fmt::Write;
+use std::process::Abort;
+use std::test::Fail;
+
+// A script of so many submissions with new nonces, and a table.
+fn submissions(alloc: Global, count: u64) -> Result<String, AllocError> {
+    let mut script = String::new(alloc);
+    for number in 0..count {
+        write!(script, "namespace 7:{number} name{number}\n")?;
+    }
+    script.push_str("procs\n")?;
+    Ok(script)
+}
+
+// The calls that a run makes of its disk: it is done where the next one is to fail.
+fn disk_calls(alloc: Global, script: &[u8], log: &[u8]) -> Result<u64, AllocError>
+    ensures { IfOk result (λ n. n ≤ 100) }
+{
+    for call in 0..100 {
+        let fails = Fails {
+            disk: &[call],
+            ..NONE
+        };
+        if play(alloc, &RUN, script, log, fails)?.ended.status == RunStatus::Done {
+            return Ok(call);
+        }
+    }
+    Ok(100)
+}
+
+#[test]
+fn run_makes_four_calls_of_the_disk_at_each_submission(rt: HostRuntime) -> Result<(), Fail> {
+    // A new log: its size, the header and a sync, and the four of its first entry. One that is there: a
+    // sync, its size and its bytes.
+    for (log, opening) in [(b"".as_slice(), 9), (SHOP, 3)] {
+        assert_eq!(rt; disk_calls(rt.alloc(), b"", log)?, opening);
+        for count in 0..4 {
+            let script = submissions(rt.alloc(), count)?;
+            let calls = disk_calls(rt.alloc(), script.as_bytes(), log)?;
+            assert_eq!(rt; calls, opening + 4 * count, "{count} submissions");
+        }
+        // What adds no entry makes no call.
+        let script = b"namespace 0:1 shop\nnamespace 0:1 shop\nnamespace 0:1 toys\nprocs\n";
+        assert_eq!(rt; disk_calls(rt.alloc(), script, log)?, opening + 4);
+    }
+    Ok(())
+}
+
+// What a run of three submissions and a table says over a log of so many entries, where the log fails
+// behind so many of the submissions.
+fn halted_text(alloc: Global, entries: u64, recorded: u64) -> Result<String, AllocError> {
+    let mut text = format!(in alloc; "opened at {entries}\n")?;
+    for number in 0..4u64 {
+        if number < recorded {
+            let pid = entries.saturating_add(number);
+            write!(text, "pid {pid}\n")?;
+        } else {
+            text.push_str("halted LogFault\n")?;
+        }
+    }
+    text.push_str("hmaster: log fault\n")?;
+    Ok(text)
+}
+
+// What the disk reads behind a run with a fault at this call and a stop.
+fn stopped(
+    alloc: Global,
+    script: &[u8],
+    log: &[u8],
+    call: u64,
+    choice: Choice,
+) -> Result<Vec<u8>, AllocError> {
+    let fails = Fails {
+        disk: &[call],
+        ..NONE
+    };
+    let Ended { disk, .. } = play(alloc, &RUN, script, log, fails)?.ended;
+    disk.stop(choice).bytes().to_vec(alloc)
+}
+
+#[test]
+fn run_is_halted_from_a_fault_of_the_disk_on(rt: HostRuntime) -> Result<(), Fail> {
+    let script = submissions(rt.alloc(), 3)?;
+    let script = script.as_bytes();
+    for (log, opening, entries) in [(b"".as_slice(), 9, 1), (SHOP, 3, 2)] {
+        for call in opening..opening + 12 {
+            let recorded = (call - opening) / 4;
+            let fails = Fails {
+                disk: &[call],
+                ..NONE
+            };
+            let played = play(rt.alloc(), &RUN, script, log, fails)?;
+            let text = halted_text(rt.alloc(), entries, recorded)?;
+            assert_eq!(rt; played.ended.status, RunStatus::LogFault, "call {call}");
+            assert_eq!(rt; played.text.as_slice(), text.as_bytes(), "call {call}");
+
+            // The log opens again, with what was recorded and perhaps one entry more.
+            let least = entries + recorded;
+            for choice in [
+                Choice::Synced,
+                Choice::AsRead,
+                Choice::Fill(b'+'),
+                Choice::Fill(0),
+            ] {
+                let left = stopped(rt.alloc(), script, log, call, choice)?;
+                let next = play(rt.alloc(), &RUN, b"procs\n", &left, NONE)?;
+                assert_eq!(rt;
+                    next.ended.status,
+                    RunStatus::Done,
+                    "call {call}, {choice:?}"
+                );
+                let marks = next.ended.marks.as_slice();
+                assert!(rt;
+                    marks == [least].as_slice() || marks == [least + 1].as_slice(),
+                    "call {call}, {choice:?}"
+                );
+            }
+        }
+    }
+    Ok(())
+}
+
+#[test]
+fn run_ends_at_a_fault_of_the_disk_in_the_opening(rt: HostRuntime) -> Result<(), Fail> {
+    for (log, opening, first) in [
+        (b"".as_slice(), 9, "opened at 1\n"),
+        (SHOP, 3, "opened at 2\n"),
+    ] {
+        for call in 0..opening {
+            let fails = Fails {
+                disk: &[call],
+                ..NONE
+            };
+            let played = play(rt.alloc(), &RUN, b"procs\n", log, fails)?;
+            assert_eq!(rt; played.ended.status, RunStatus::LogFault, "call {call}");
+            assert_eq!(rt; played.text.as_slice(), b"hmaster: log fault\n".as_slice());
+            assert_eq!(rt; played.ended.marks.len(), 0);
+            for choice in [Choice::Synced, Choice::AsRead] {
+                let left = stopped(rt.alloc(), b"procs\n", log, call, choice)?;
+                says(&rt, b"", &left, RunStatus::Done, first)?;
+            }
+        }
+    }
+    Ok(())
+}
+
+#[test]
+fn run_ends_at_a_fault_of_the_source(rt: HostRuntime) -> Result<(), Fail> {
+    // A read gives at most 4096 bytes, and one more finds the end.
+    let mut script = vec![in rt.alloc(); b'\n'; 5000]?;
+    script.extend_from_slice(b"namespace 7:7 late\n")?;
+    for call in 0..5 {
+        let fails = Fails {
+            source: &[call],
+            ..NONE
+        };
+        let played = play(rt.alloc(), &RUN, &script, SHOP, fails)?;
+        let (status, text) = if call < 3 {
+            (RunStatus::ReadFault, b"hmaster: read fault\n".as_slice())
+        } else {
+            (RunStatus::Done, b"opened at 2\npid 2\n".as_slice())
+        };
+        assert_eq!(rt; played.ended.status, status, "call {call}");
+        assert_eq!(rt; played.text.as_slice(), text, "call {call}");
+        assert_eq!(rt; played.ended.disk.bytes() == SHOP, call < 3);
+    }
+    Ok(())
+}
+
+const THREE: &[u8] = b"namespace 1:1 shop\nnamespace 7:8 b\nprocs\n";
+
+// A run with a fault at this write has written this text, and leaves so many entries. A mark stands
+// before its answer is written.
+fn breaks_off(
+    rt: &(impl Abort + AllocGlobal),
+    write: u64,
+    text: &[u8],
+    entries: u64,
+) -> Result<(), AllocError> {
+    let fails = Fails {
+        sink: &[write],
+        ..NONE
+    };
+    let played = play(rt.alloc(), &RUN, THREE, SHOP, fails)?;
+    assert_eq!(rt; played.ended.status, RunStatus::WriteFault, "write {write}");
+    assert_eq!(rt; played.text.as_slice(), text, "write {write}");
+    assert_eq!(rt; played.ended.marks.len() as u64, write);
+    let first = format!(in rt.alloc(); "opened at {entries}\n")?;
+    says(rt, b"", played.ended.disk.bytes(), RunStatus::Done, &first)?;
+    Ok(())
+}
+
+#[test]
+fn run_ends_at_a_fault_of_the_sink(rt: HostRuntime) -> Result<(), Fail> {
+    breaks_off(&rt, 0, b"", 2)?;
+    breaks_off(&rt, 1, b"opened at 2\n", 2)?;
+    breaks_off(&rt, 2, b"opened at 2\npid 1 repeated\n", 3)?;
+    breaks_off(&rt, 3, b"opened at 2\npid 1 repeated\npid 2\n", 3)?;
+    let fails = Fails { sink: &[4], ..NONE };
+    let played = play(rt.alloc(), &RUN, THREE, SHOP, fails)?;
+    assert_eq!(rt; played.ended.status, RunStatus::Done);
+    Ok(())
+}
+
+// A run whose first write is its last line, and fails, says nothing and has this status.
+fn is_silent(
+    rt: &(impl Abort + AllocGlobal),
+    words: &[&str],
+    script: &[u8],
+    disk: &[u64],
+    status: RunStatus,
+) -> Result<(), AllocError> {
+    let fails = Fails {
+        source: &[],
+        sink: &[0],
+        disk,
+    };
+    let played = play(rt.alloc(), words, script, SHOP, fails)?;
+    assert_eq!(rt; played.ended.status, status);
+    assert_eq!(rt; played.text.len(), 0);
+    Ok(())
+}
+
+#[test]
+fn run_tries_its_last_line_once(rt: HostRuntime) -> Result<(), Fail> {
+    is_silent(&rt, &["run"], b"", &[], RunStatus::Usage(1))?;
+    is_silent(&rt, &RUN, b"frob\n", &[], RunStatus::BadScript(FROB))?;
+    is_silent(&rt, &RUN, b"", &[0], RunStatus::LogFault)?;
+    Ok(())
+}

@@ -1,0 +1,14 @@
+//! Runs over memory, in tables: a script and a log, and what is to be answered. This library is empty
+//! but for its tests.
+#![tactic(auto)]
+
+#[cfg(test)]
+mod devices;
+#[cfg(test)]
+mod lines;
+#[cfg(test)]
+mod logs;
+#[cfg(test)]
+mod play;
+#[cfg(test)]
+mod statuses;
