@@ -31,6 +31,10 @@ IsBadAt input line _ = ⊥
 abbrev pub IsBad : List ℕ → Bad → Type 0
 IsBad input bad = IsBadAt input bad.line bad.why
 
+-- a refusal of a script: it is too long, or a line of it says nothing
+abbrev pub IsRefusal : Bad → Type 0
+IsRefusal bad = ((bad.line ≡ 0) × (bad.why ≡ W.TooLong)) ⊎ ((0 < bad.line) × (bad.why ≡ W.Word 0))
+
 -- The words fit, and the source's bytes, within the limit, are the script of these commands. All of them were read.
 abbrev pub IsRead : (misfit : Option ℕ) (tells : Type 0) (before after : List ℕ) → List Command → Type 0
 IsRead misfit tells before after commands = (misfit ≡ None) × (tells → (length before ≤ 1048576) × IsScript (lines_of before) commands × (after ≡ []))

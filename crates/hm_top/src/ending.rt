@@ -1,7 +1,7 @@
 //! A run, from its words to its last line.
 ghost use Rattle.std.specs.Prelude.{◌≡◌, ◌⊎◌, ◌≤◌, List, [], length, map, None, string_bytes, IfOk, IfErr, OnOk};
 ghost use Rattle.hm_ports.specs.Faults.{Rose};
-ghost use Rattle.hm_top.specs.Run.{IsBad, IsRead, Outcome, Ends, IsLast, Talked, Got, unopened_status, talked_status};
+ghost use Rattle.hm_top.specs.Run.{IsBad, IsRead, IsRefusal, Outcome, Ends, IsLast, Talked, Got, unopened_status, talked_status};
 ghost use Rattle.hm_disk.specs.Disk.{Settles};
 ghost use Rattle.hm_log.specs.Opening.{IsMaking};
 ghost use Rattle.hm_top.specs.declared.command.Command.{Command as CommandValue};
@@ -46,6 +46,7 @@ fn read_script<S: Source>(alloc: Global, script: &mut S) -> Result<Vec<Command>,
     ensures end { S.tells → OnOk result (S.left script.new ≡ []) }
     ensures within { S.tells → OnOk result (length (S.left script.old) ≤ 1048576) }
     ensures few { IfOk result (λ commands. length commands.items ≤ 1048576) }
+    ensures refusal { IfErr result (λ why. (bad : BadValue) → why ≡ ScriptEnd.Bad bad → IsRefusal bad) }
     ensures bad { S.tells → IfErr result (λ why. (bad : BadValue) → why ≡ ScriptEnd.Bad bad → IsBad (S.left script.old) bad) }
     ensures fault { IfErr result (λ why. why ≡ ScriptEnd.ReadFault → Rose (S.faults script.old) (S.faults script.new)) }
 {
@@ -135,7 +136,7 @@ fn judge<S: Source, K: Sink, D: Disk>(
     requires { marks.old.items ≡ [] }
     ensures ends { Ends
         (misfit_of (map string_bytes words.now))
-        (λ bad. S.tells → IsBad (S.left script.old) bad)
+        (λ bad. IsRefusal bad × (S.tells → IsBad (S.left script.old) bad))
         (Rose (S.faults script.old) (S.faults script.new))
         (script.new ≡ script.old)
         (result.1 ≡ disk)
@@ -189,7 +190,7 @@ pub fn run<S: Source, K: Sink, D: Disk>(
 ) -> Ended<D>
     ensures ends { Ends
         (misfit_of (map string_bytes words.now))
-        (λ bad. S.tells → IsBad (S.left script.old) bad)
+        (λ bad. IsRefusal bad × (S.tells → IsBad (S.left script.old) bad))
         (Rose (S.faults script.old) (S.faults script.new))
         (script.new ≡ script.old)
         (result.disk ≡ disk)

@@ -6,7 +6,7 @@ use Rattle.hm_top.specs.declared.command.Command.{Command}
 use Rattle.hm_top.specs.declared.entry.Entry.{Entry}
 use Rattle.hm_top.specs.declared.status.Bad.{Bad}
 use Rattle.hm_top.specs.declared.status.RunStatus.{RunStatus}
-use Rattle.hm_top.specs.Run.{IsBad, IsRead, Talked}
+use Rattle.hm_top.specs.Run.{IsBad, IsRead, IsRefusal, Talked}
 use Rattle.hm_top.specs.Script.{lines_of, IsScript}
 use Rattle.hm_top.specs.Stored.{IsOnDisk, AllStored, Continues, Spares, IsRefused}
 use Rattle.hm_top.specs.Words.{misfit_of}
@@ -25,7 +25,7 @@ returns-in-Ok-clause-ends g c =
     let spared : Type 0 = d.tells → Spares (d.seen c.args.disk) (d.image c.args.disk) (d.seen c.converse.result.1) (d.image c.converse.result.1) in
     let refused : Type 0 = d.tells → IsRefused (d.seen c.args.disk) (d.seen c.converse.result.1) (d.image c.converse.result.1) in
     let disk_rose : Type 0 = Rose (d.faults c.args.disk) (d.faults c.converse.result.1) in
-    let script : Bad → Type 0 = λ bad. s.tells → IsBad (s.left c.args.script.now) bad in
+    let script : Bad → Type 0 = λ bad. IsRefusal bad × (s.tells → IsBad (s.left c.args.script.now) bad) in
     let read_rose : Type 0 = Rose (s.faults c.args.script.now) (s.faults c.read_script.new.script) in
     let unread : Type 0 = c.read_script.new.script ≡ c.args.script.now in
     let same : Type 0 = c.converse.result.1 ≡ c.args.disk in

@@ -6,7 +6,7 @@ use Rattle.hm_top.specs.declared.command.Command.{Command}
 use Rattle.hm_top.specs.declared.entry.Entry.{Entry}
 use Rattle.hm_top.specs.declared.status.Bad.{Bad}
 use Rattle.hm_top.specs.declared.status.RunStatus.{RunStatus}
-use Rattle.hm_top.specs.Run.{IsBad, IsRead, Ends, Outcome, Talked, Got}
+use Rattle.hm_top.specs.Run.{IsBad, IsRead, IsRefusal, Ends, Outcome, Talked, Got}
 use Rattle.hm_top.specs.Stored.{IsOnDisk, AllStored, Continues, Spares, IsRefused}
 use Rattle.hm_top.specs.Words.{misfit_of}
 use Rattle.hm_top.proofs.Outcomes.{got_finished, got_unfinished, ends_finished, ends_unfinished}
@@ -32,7 +32,7 @@ ends_of g c =
     let refused : Type 0 = d.tells → IsRefused (d.seen c.args.disk) (d.seen c.judge-status.result.1) (d.image c.judge-status.result.1) in
     let disk_rose : Type 0 = Rose (d.faults c.args.disk) (d.faults c.judge-status.result.1) in
     let misfit = misfit_of (map string_bytes c.args.words.now) in
-    let script : Bad → Type 0 = λ bad. s.tells → IsBad (s.left c.args.script.now) bad in
+    let script : Bad → Type 0 = λ bad. IsRefusal bad × (s.tells → IsBad (s.left c.args.script.now) bad) in
     let read_rose : Type 0 = Rose (s.faults c.args.script.now) (s.faults c.judge-status.new.script) in
     let unread : Type 0 = c.judge-status.new.script ≡ c.args.script.now in
     let same : Type 0 = c.judge-status.result.1 ≡ c.args.disk in
@@ -77,7 +77,7 @@ returns-clause-complete g c source_tells disk_tells commands journal fit short r
     let refused : Type 0 = d.tells → IsRefused (d.seen c.args.disk) (d.seen c.judge-status.result.1) (d.image c.judge-status.result.1) in
     let disk_rose : Type 0 = Rose (d.faults c.args.disk) (d.faults c.judge-status.result.1) in
     let misfit = misfit_of (map string_bytes c.args.words.now) in
-    let script : Bad → Type 0 = λ bad. s.tells → IsBad (s.left c.args.script.now) bad in
+    let script : Bad → Type 0 = λ bad. IsRefusal bad × (s.tells → IsBad (s.left c.args.script.now) bad) in
     let read_rose : Type 0 = Rose (s.faults c.args.script.now) (s.faults c.judge-status.new.script) in
     let unread : Type 0 = c.judge-status.new.script ≡ c.args.script.now in
     let same : Type 0 = c.judge-status.result.1 ≡ c.args.disk in
@@ -89,5 +89,5 @@ returns-clause-complete g c source_tells disk_tells commands journal fit short r
     let sink : RunStatus → List ℕ → Type 0 = λ status text. k.tells → Got sink_rose got0 got2 status text in
     let marks = c.judge-status.new.marks.items in
     complete misfit script read_rose unread same source before stored since sink spared refused disk_rose sink_rose marks c.finish-status.result fit
-    (λ bad is. not_bad (s.left c.args.script.now) commands bad short right (is source_tells)) reads works takes
+    (λ bad is. not_bad (s.left c.args.script.now) commands bad short right (is.1 source_tells)) reads works takes
     (λ none. (none disk_tells).0 journal on) (ends_of g c)
