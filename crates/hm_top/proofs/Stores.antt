@@ -2,9 +2,9 @@
 use Rattle.std.proofs.Common.{◌≡◌, ◌⊎◌, ℕ, ◌<◌, ◌≤◌, List, [], ◌∷◌, ◌++◌, length, map, Bool, true, false, refl, sym, ap, ◌∙◌, subst, inl, inr, ⊎_elim, append-nil, append_assoc, arith, Result, Ok, Err, None, length-append}
 use Rattle.std.specs.Prelude.{IfErr}
 use Rattle.std.proofs.lemmas.List.{map-append, reverse-append, length-reverse}
-use Rattle.hm_disk.specs.Disk.{Only, LeavesOnly}
+use Rattle.hm_disk.specs.Disk.{Only, LeavesOnly, Settles}
 use Rattle.hm_log.specs.Format.{Reads, BeforeOrAfter}
-use Rattle.hm_log.specs.Opening.{Reopens}
+use Rattle.hm_log.specs.Opening.{IsMaking, Reopens}
 use Rattle.hm_log.specs.Format.{HoldsFrames}
 use Rattle.hm_names.specs.declared.nonce.Nonce.{Nonce}
 use Rattle.hm_log.specs.declared.why.OpenWhy.{OpenWhy}
@@ -15,7 +15,7 @@ use Rattle.hm_top.specs.declared.opening.OpeningWhy.TheVariants.{Refused}
 use Rattle.hm_top.specs.Opening.{opening_why_of}
 use Rattle.hm_top.specs.Journal.{back, by_nonce, IsEntry, IsLegal}
 use Rattle.hm_top.specs.Spelling.{frame_of}
-use Rattle.hm_top.specs.Stored.{IsStored, IsRefused, AllStored, Continues, Spares}
+use Rattle.hm_top.specs.Stored.{IsStored, IsRefused, AllStored, Continues, Spares, GoesOn, IsOpening}
 use Rattle.hm_disk.proofs.Moments.{started}
 use Rattle.hm_top.proofs.Growth.{Grows}
 use Rattle.hm_top.specs.View.{IsSound}
@@ -134,6 +134,36 @@ pub continues_self : (journal : List Entry) (halted : Bool) (bytes : List ℕ) �
 continues_self journal halted bytes is = record { more = is.more; reads = is.reads; legal = is.legal }
 
 module _ {D : Type 0} (moment : D → ℕ) (left_since : D → ℕ → List ℕ → Type 0) (image : D → List ℕ → Type 0) (only : (d : D) (c : List ℕ) → left_since d (moment d) c → image d c) where
+  -- a disk that isn't called leaves what it could
+  pub quiet_as : (disk : D) (P : List ℕ → Type 0) → ((c : List ℕ) → image disk c → P c) → LeavesOnly moment left_since disk disk P
+  quiet_as disk P so = started moment left_since disk P (λ c left. so c (only disk c left))
+
+  -- what settled left at each moment what it could before, or what it can since
+  pub settled_all : (old new : D) (Q P : List ℕ → Type 0) → ((c : List ℕ) → image old c → Q c) → Settles moment left_since old new Q P → LeavesOnly moment left_since old new (λ c. Q c ⊎ P c)
+  settled_all old new Q P was run = record {
+    later = omega (arith, run.from, run.to);
+    each = λ c left. ⊎_elim (λ past. inl (was c (only old c past))) (λ now. now) (run.earlier (moment old) c (omega arith) left);
+    before = λ t c le left. run.earlier t c le left;
+  }
+
   -- a disk that isn't called
   pub quiet : (disk : D) (journal : List Entry) (halted : Bool) → AllStored (image disk) journal halted → LeavesOnly moment left_since disk disk (Continues journal)
-  quiet disk journal halted stored = started moment left_since disk (Continues journal) (λ c left. continues_self journal halted c (stored c (only disk c left)))
+  quiet disk journal halted stored = quiet_as disk (Continues journal) (λ c is. continues_self journal halted c (stored c is))
+
+-- what an opening left before it settled on these frames
+pub opening_first : (seen : List ℕ) (before : List ℕ → Type 0) (frames : List (List ℕ)) → HoldsFrames seen frames
+    → (c : List ℕ) → (before c ⊎ IsMaking seen c) ⊎ Reads c frames → IsOpening seen before c
+opening_first seen before frames opens c (inl (inl was)) = inl was
+opening_first seen before frames opens c (inl (inr making)) = inr (inl making)
+opening_first seen before frames opens c (inr reads) = inr (inr (frames, opens, inl reads))
+
+-- what it left since
+pub opening_then : (seen : List ℕ) (before : List ℕ → Type 0) (frames : List (List ℕ)) → HoldsFrames seen frames
+    → (c : List ℕ) → Reads c frames ⊎ GoesOn frames c → IsOpening seen before c
+opening_then seen before frames opens c more = inr (inr (frames, opens, more))
+
+-- what an opening left that never settled
+pub opening_vain : (seen : List ℕ) (before : List ℕ → Type 0) (c : List ℕ) → before c ⊎ Reopens seen c → IsOpening seen before c
+opening_vain seen before c (inl was) = inl was
+opening_vain seen before c (inr (inl alike)) = inr (inr (alike.frames, inr alike.was, inl (alike.stays alike.frames alike.was)))
+opening_vain seen before c (inr (inr making)) = inr (inl making)

@@ -1,6 +1,7 @@
 -- Which journal a disk holds.
 use Rattle.std.specs.Prelude.{◌≡◌, ◌⊎◌, ◌<◌, ◌≤◌, ℕ, List, [], ◌++◌, length, map, Bool, true, false}
 use Rattle.hm_disk.specs.Disk.{Only}
+use Rattle.hm_log.specs.Opening.{IsMaking}
 use Rattle.hm_log.specs.Format.{Reads}
 use Rattle.hm_log.specs.Format.{HoldsFrames}
 use Rattle.hm_top.specs.declared.entry.Entry.{Entry}
@@ -46,3 +47,11 @@ SameFrames before after image = (after ≡ before) ⊎ ((frames : List (List ℕ
 -- the disk held no journal, and reads as before, or as the same frames
 abbrev pub IsRefused : (before after : List ℕ) (image : List ℕ → Type 0) → Type 0
 IsRefused before after image = ((journal : List Entry) → IsOnDisk before journal → ⊥) × SameFrames before after image
+
+-- the bytes are a log of a legal journal that begins with the one of these frames
+abbrev pub GoesOn : List (List ℕ) → List ℕ → Type 0
+GoesOn frames bytes = (journal : List Entry) × IsLegal (back journal) × (map frame_of journal ≡ frames) × Continues journal bytes
+
+-- What a stop in the middle of an opening may leave: what it could before, a log in the making, the same frames, or a log that goes on from them.
+abbrev pub IsOpening : (seen : List ℕ) (before : List ℕ → Type 0) → List ℕ → Type 0
+IsOpening seen before bytes = before bytes ⊎ (IsMaking seen bytes ⊎ ((frames : List (List ℕ)) × HoldsFrames seen frames × (Reads bytes frames ⊎ GoesOn frames bytes)))

@@ -2,14 +2,14 @@
 ghost use Rattle.std.specs.Prelude.{◌≡◌, ◌⊎◌, ◌≤◌, List, [], length, map, None, string_bytes, IfOk, IfErr, OnOk};
 ghost use Rattle.hm_ports.specs.Faults.{Rose};
 ghost use Rattle.hm_top.specs.Run.{IsBad, IsRead, IsRefusal, Outcome, Ends, IsLast, Talked, Got, unopened_status, talked_status};
-ghost use Rattle.hm_disk.specs.Disk.{Settles};
+ghost use Rattle.hm_disk.specs.Disk.{LeavesOnly, Settles};
 ghost use Rattle.hm_log.specs.Opening.{IsMaking};
 ghost use Rattle.hm_top.specs.declared.command.Command.{Command as CommandValue};
 ghost use Rattle.hm_top.specs.declared.entry.Entry.{Entry as EntryValue};
 ghost use Rattle.hm_top.specs.declared.status.Bad.{Bad as BadValue};
 ghost use Rattle.hm_top.specs.Script.{lines_of, IsScript};
 ghost use Rattle.hm_top.specs.Status.{last_line};
-ghost use Rattle.hm_top.specs.Stored.{IsOnDisk, AllStored, Continues, Spares, IsRefused};
+ghost use Rattle.hm_top.specs.Stored.{IsOnDisk, AllStored, Continues, Spares, IsRefused, IsOpening};
 ghost use Rattle.hm_top.specs.Words.{misfit_of};
 
 use crate::command::Command;
@@ -108,8 +108,8 @@ fn converse<D: Disk, K: Sink>(
         (λ journal halted. D.tells → AllStored (D.image result.1) journal halted)
         (λ journal. D.tells → Settles D.moment D.left_since disk result.1 (λ c. D.image disk c ⊎ IsMaking (D.seen disk) c) (Continues journal))
         (λ status text. K.tells → Talked (K.got out.old) (K.got out.new) status text)
-        (D.tells → Spares (D.seen disk) (D.image disk) (D.seen result.1) (D.image result.1))
-        (D.tells → IsRefused (D.seen disk) (D.seen result.1) (D.image result.1))
+        (D.tells → Spares (D.seen disk) (D.image disk) (D.seen result.1) (D.image result.1) × LeavesOnly D.moment D.left_since disk result.1 (IsOpening (D.seen disk) (D.image disk)))
+        (D.tells → IsRefused (D.seen disk) (D.seen result.1) (D.image result.1) × LeavesOnly D.moment D.left_since disk result.1 (IsOpening (D.seen disk) (D.image disk)))
         (Rose (D.faults disk) (D.faults result.1))
         (Rose (K.faults out.old) (K.faults out.new))
         marks.new.items result.0 }
@@ -147,8 +147,8 @@ fn judge<S: Source, K: Sink, D: Disk>(
         (λ journal halted. D.tells → AllStored (D.image result.1) journal halted)
         (λ journal. D.tells → Settles D.moment D.left_since disk result.1 (λ c. D.image disk c ⊎ IsMaking (D.seen disk) c) (Continues journal))
         (λ status text. K.tells → Talked (K.got out.old) (K.got out.new) status text)
-        (D.tells → Spares (D.seen disk) (D.image disk) (D.seen result.1) (D.image result.1))
-        (D.tells → IsRefused (D.seen disk) (D.seen result.1) (D.image result.1))
+        (D.tells → Spares (D.seen disk) (D.image disk) (D.seen result.1) (D.image result.1) × LeavesOnly D.moment D.left_since disk result.1 (IsOpening (D.seen disk) (D.image disk)))
+        (D.tells → IsRefused (D.seen disk) (D.seen result.1) (D.image result.1) × LeavesOnly D.moment D.left_since disk result.1 (IsOpening (D.seen disk) (D.image disk)))
         (Rose (D.faults disk) (D.faults result.1))
         (Rose (K.faults out.old) (K.faults out.new))
         marks.new.items)
@@ -201,8 +201,8 @@ pub fn run<S: Source, K: Sink, D: Disk>(
         (λ journal halted. D.tells → AllStored (D.image result.disk) journal halted)
         (λ journal. D.tells → Settles D.moment D.left_since disk result.disk (λ c. D.image disk c ⊎ IsMaking (D.seen disk) c) (Continues journal))
         (λ status text. K.tells → Got (Rose (K.faults out.old) (K.faults out.new)) (K.got out.old) (K.got out.new) status text)
-        (D.tells → Spares (D.seen disk) (D.image disk) (D.seen result.disk) (D.image result.disk))
-        (D.tells → IsRefused (D.seen disk) (D.seen result.disk) (D.image result.disk))
+        (D.tells → Spares (D.seen disk) (D.image disk) (D.seen result.disk) (D.image result.disk) × LeavesOnly D.moment D.left_since disk result.disk (IsOpening (D.seen disk) (D.image disk)))
+        (D.tells → IsRefused (D.seen disk) (D.seen result.disk) (D.image result.disk) × LeavesOnly D.moment D.left_since disk result.disk (IsOpening (D.seen disk) (D.image disk)))
         (Rose (D.faults disk) (D.faults result.disk))
         (Rose (K.faults out.old) (K.faults out.new))
         result.marks.items)

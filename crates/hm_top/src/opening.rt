@@ -3,14 +3,14 @@ ghost use Rattle.std.specs.Prelude.{◌≡◌, ◌≢◌, ◌⊎◌, ◌+◌, �
 ghost use Rattle.hm_ports.specs.Faults.{Rose};
 ghost use Rattle.hm_disk.specs.Disk.{LeavesOnly, Only, Settles};
 ghost use Rattle.hm_log.specs.Format.{Reads};
-ghost use Rattle.hm_log.specs.Opening.{IsMaking};
+ghost use Rattle.hm_log.specs.Opening.{IsMaking, Reopens};
 ghost use Rattle.hm_log.specs.Format.{HoldsFrames};
 ghost use Rattle.hm_top.specs.declared.entry.Entry.{Entry as EntryValue};
 ghost use Rattle.hm_top.specs.Journal.{back, IsLegal};
 ghost use Rattle.hm_top.specs.Opening.{opening_why_of};
 ghost use Rattle.hm_top.specs.Said.{begun};
 ghost use Rattle.hm_top.specs.Spelling.{frame_of};
-ghost use Rattle.hm_top.specs.Stored.{IsOnDisk, AllRead, AllStored, Continues, Spares, SameFrames};
+ghost use Rattle.hm_top.specs.Stored.{IsOnDisk, AllRead, AllStored, Continues, Spares, SameFrames, GoesOn, IsOpening};
 ghost use Rattle.hm_top.specs.View.{said_of};
 
 use crate::entry::Entry;
@@ -68,6 +68,7 @@ fn start<D: Disk>(log: Log<D>, state: State) -> Result<World<D>, (D, OpeningWhy)
     ensures refused { IfErr result (λ r. r.1 ≡ OpeningWhy.Refused → ⊥) }
     ensures fault { IfErr result (λ r. r.1 ≡ OpeningWhy.Fault → Rose (D.faults log.disk) (D.faults r.0)) }
     ensures stored { D.tells → IfErr result (λ r. AllStored (D.image r.0) [] true) }
+    ensures ventured { D.tells → IfErr result (λ r. LeavesOnly D.moment D.left_since log.disk r.0 (Continues [])) }
 {
     let mut log = log;
     let mut state = state;
@@ -107,6 +108,7 @@ fn open_log<D: Disk>(alloc: Global, disk: D) -> Result<(Log<D>, Frames), (D, Ope
     ensures exact { D.tells → (frames : List (List ℕ)) → HoldsFrames (D.seen disk) frames → MatchResult result (λ r. r.1 ≡ frames) (λ r. r.1 ≢ OpeningWhy.Refused) }
     ensures fault { IfErr result (λ r. r.1 ≡ OpeningWhy.Fault → Rose (D.faults disk) (D.faults r.0)) }
     ensures refused { IfErr result (λ r. r.1 ≡ OpeningWhy.Refused → D.seen r.0 ≡ D.seen disk) }
+    ensures ventured { D.tells → IfErr result (λ r. LeavesOnly D.moment D.left_since disk r.0 (λ c. D.image disk c ⊎ Reopens (D.seen disk) c)) }
     ensures left { D.tells → IfErr result (λ r. (frames : List (List ℕ)) → 0 < length (D.seen disk) → HoldsFrames (D.seen disk) frames → Reads (D.seen r.0) frames) }
     ensures spared { D.tells → IfErr result (λ r. (frames : List (List ℕ)) → 0 < length (D.seen disk) → Only (D.seen disk) (D.image disk) → HoldsFrames (D.seen disk) frames → AllRead (D.image r.0) frames) }
 {
@@ -132,6 +134,7 @@ fn world_of<D: Disk>(
     ensures later { MatchResult result (λ world. D.faults log.disk ≤ D.faults world.disk) (λ r. D.faults log.disk ≤ D.faults r.0) }
     ensures fault { IfErr result (λ r. r.1 ≡ OpeningWhy.Fault → Rose (D.faults log.disk) (D.faults r.0)) }
     ensures refused { IfErr result (λ r. r.1 ≡ OpeningWhy.Refused → (journal : List EntryValue) → IsLegal (back journal) → map frame_of journal ≡ frames.now → ⊥) }
+    ensures ventured { D.tells → IfErr result (λ r. LeavesOnly D.moment D.left_since log.disk r.0 (λ c. Reads c frames.now ⊎ GoesOn frames.now c)) }
     ensures same { D.tells → IfErr result (λ r. r.1 ≡ OpeningWhy.Refused → AllRead (D.image r.0) frames.now) }
     ensures spared { D.tells → IfErr result (λ r. (journal : List EntryValue) → IsLegal (back journal) → map frame_of journal ≡ frames.now → AllStored (D.image r.0) journal true) }
 {
@@ -158,6 +161,7 @@ pub fn open<D: Disk>(alloc: Global, disk: D) -> Result<World<D>, (D, OpeningWhy)
     ensures fault { IfErr result (λ r. r.1 ≡ OpeningWhy.Fault → Rose (D.faults disk) (D.faults r.0)) }
     ensures refused { D.tells → IfErr result (λ r. r.1 ≡ OpeningWhy.Refused → ((journal : List EntryValue) → IsOnDisk (D.seen disk) journal → ⊥) × SameFrames (D.seen disk) (D.seen r.0) (D.image r.0)) }
     ensures spared { D.tells → IfErr result (λ r. Spares (D.seen disk) (D.image disk) (D.seen r.0) (D.image r.0)) }
+    ensures ventured { D.tells → IfErr result (λ r. LeavesOnly D.moment D.left_since disk r.0 (IsOpening (D.seen disk) (D.image disk))) }
 {
     match open_log(alloc, disk) {
         Ok((log, frames)) => world_of(alloc, log, &frames),

@@ -1,13 +1,13 @@
 use Rattle.std.proofs.Common.{◌≡◌, ◌⊎◌, ◌++◌, ◌≤◌, false, Bool, List, ℕ, length, take, ap, sym, ◌∙◌, subst, refl, arith}
 use Rattle.std.specs.Prelude.{OnOk}
-use Rattle.hm_disk.specs.Disk.{Settles}
+use Rattle.hm_disk.specs.Disk.{LeavesOnly, Settles}
 use Rattle.hm_log.specs.Opening.{IsMaking}
 use Rattle.hm_ports.specs.Faults.{Rose}
 use Rattle.hm_top.specs.declared.command.Command.{Command}
 use Rattle.hm_top.specs.declared.entry.Entry.{Entry}
 use Rattle.hm_top.specs.declared.status.RunStatus.{RunStatus}
 use Rattle.hm_top.specs.Run.{Outcome, Talked, IsFront, IsShort, talked_status}
-use Rattle.hm_top.specs.Stored.{IsOnDisk, AllStored, Continues, Spares, IsRefused}
+use Rattle.hm_top.specs.Stored.{IsOnDisk, AllStored, Continues, Spares, IsRefused, IsOpening}
 use Rattle.hm_top.specs.declared.answer.Answer.TheVariants.{Opened}
 use Rattle.hm_top.specs.Answer.{answer_text}
 use Rattle.hm_top.specs.Said.{Said, opened}
@@ -29,8 +29,8 @@ returns-clause-outcome g c =
     let before : List Entry → Type 0 = λ journal. d.tells → IsOnDisk (d.seen c.args.disk) journal in
     let stored : List Entry → Bool → Type 0 = λ journal halted. d.tells → AllStored (d.image c.into_disk.result) journal halted in
     let since : List Entry → Type 0 = λ journal. d.tells → Settles d.moment d.left_since c.args.disk c.into_disk.result (λ bytes. d.image c.args.disk bytes ⊎ IsMaking (d.seen c.args.disk) bytes) (Continues journal) in
-    let spared : Type 0 = d.tells → Spares (d.seen c.args.disk) (d.image c.args.disk) (d.seen c.into_disk.result) (d.image c.into_disk.result) in
-    let refused : Type 0 = d.tells → IsRefused (d.seen c.args.disk) (d.seen c.into_disk.result) (d.image c.into_disk.result) in
+    let spared : Type 0 = d.tells → Spares (d.seen c.args.disk) (d.image c.args.disk) (d.seen c.into_disk.result) (d.image c.into_disk.result) × LeavesOnly d.moment d.left_since c.args.disk c.into_disk.result (IsOpening (d.seen c.args.disk) (d.image c.args.disk)) in
+    let refused : Type 0 = d.tells → IsRefused (d.seen c.args.disk) (d.seen c.into_disk.result) (d.image c.into_disk.result) × LeavesOnly d.moment d.left_since c.args.disk c.into_disk.result (IsOpening (d.seen c.args.disk) (d.image c.args.disk)) in
     let disk_rose : Type 0 = Rose (d.faults c.args.disk) (d.faults c.into_disk.result) in
     let source : List Command → Type 0 = λ read. read ≡ c.args.commands.now in
     let got0 = k.got c.args.out.now in
@@ -76,8 +76,8 @@ returns-in-Err-clause-outcome g c =
     let before : List Entry → Type 0 = λ journal. d.tells → IsOnDisk (d.seen c.args.disk) journal in
     let stored : List Entry → Bool → Type 0 = λ journal halted. d.tells → AllStored (d.image after) journal halted in
     let since : List Entry → Type 0 = λ journal. d.tells → Settles d.moment d.left_since c.args.disk after (λ bytes. d.image c.args.disk bytes ⊎ IsMaking (d.seen c.args.disk) bytes) (Continues journal) in
-    let spared : Type 0 = d.tells → Spares (d.seen c.args.disk) (d.image c.args.disk) (d.seen after) (d.image after) in
-    let refused : Type 0 = d.tells → IsRefused (d.seen c.args.disk) (d.seen after) (d.image after) in
+    let spared : Type 0 = d.tells → Spares (d.seen c.args.disk) (d.image c.args.disk) (d.seen after) (d.image after) × LeavesOnly d.moment d.left_since c.args.disk after (IsOpening (d.seen c.args.disk) (d.image c.args.disk)) in
+    let refused : Type 0 = d.tells → IsRefused (d.seen c.args.disk) (d.seen after) (d.image after) × LeavesOnly d.moment d.left_since c.args.disk after (IsOpening (d.seen c.args.disk) (d.image c.args.disk)) in
     let disk_rose : Type 0 = Rose (d.faults c.args.disk) (d.faults after) in
     let source : List Command → Type 0 = λ read. read ≡ c.args.commands.now in
     let got = k.got c.args.out.now in
@@ -86,5 +86,5 @@ returns-in-Err-clause-outcome g c =
     let marks = c.args.marks.now.items in
     subst (Outcome source before stored since sink spared refused disk_rose sink_rose marks) (sym c.status_of.ensures)
     (outcome_unopened source before stored since sink spared refused disk_rose sink_rose c.args.commands.now marks c.in-Err.why refl c.requires.fresh
-    (λ is. c.in-Err.ensures.fault is) (λ tells. c.in-Err.ensures.spared tells) (λ is tells. c.in-Err.ensures.refused tells is)
+    (λ is. c.in-Err.ensures.fault is) (λ tells. (c.in-Err.ensures.spared tells, c.in-Err.ensures.ventured tells)) (λ is tells. (c.in-Err.ensures.refused tells is, c.in-Err.ensures.ventured tells))
     (λ tells. talked_none got c.in-Err.why))

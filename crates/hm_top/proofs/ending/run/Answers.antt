@@ -1,5 +1,5 @@
-use Rattle.std.proofs.Common.{◌≡◌, ◌⊎◌, ◌≤◌, List, ℕ, Bool, map, string_bytes, sym, subst, ⊎_elim, arith}
-use Rattle.hm_disk.specs.Disk.{Settles}
+use Rattle.std.proofs.Common.{◌≡◌, ◌⊎◌, ◌≤◌, List, ℕ, Bool, map, string_bytes, sym, subst, inl, ⊎_elim, arith}
+use Rattle.hm_disk.specs.Disk.{LeavesOnly, Settles}
 use Rattle.hm_log.specs.Opening.{IsMaking}
 use Rattle.hm_ports.specs.Faults.{Rose}
 use Rattle.hm_top.specs.declared.command.Command.{Command}
@@ -7,11 +7,11 @@ use Rattle.hm_top.specs.declared.entry.Entry.{Entry}
 use Rattle.hm_top.specs.declared.status.Bad.{Bad}
 use Rattle.hm_top.specs.declared.status.RunStatus.{RunStatus}
 use Rattle.hm_top.specs.Run.{IsBad, IsRead, IsRefusal, Ends, Outcome, Talked, Got}
-use Rattle.hm_top.specs.Stored.{IsOnDisk, AllStored, Continues, Spares, IsRefused}
+use Rattle.hm_top.specs.Stored.{IsOnDisk, AllStored, Continues, Spares, IsRefused, IsOpening}
 use Rattle.hm_top.specs.Words.{misfit_of}
 use Rattle.hm_top.proofs.Outcomes.{got_finished, got_unfinished, ends_finished, ends_unfinished}
 use Rattle.hm_top.proofs.Complete.{complete, not_bad}
-use Rattle.hm_top.proofs.Stores.{spares_self, spares_refused}
+use Rattle.hm_top.proofs.Stores.{spares_self, spares_refused, quiet_as}
 use Rattle.hm_top.proofs.ending.run.Goals as goal
 
 rose_early : (old mid new : ℕ) → mid ≤ new → Rose old mid → Rose old new
@@ -28,8 +28,8 @@ ends_of g c =
     let before : List Entry → Type 0 = λ journal. d.tells → IsOnDisk (d.seen c.args.disk) journal in
     let stored : List Entry → Bool → Type 0 = λ journal halted. d.tells → AllStored (d.image c.judge-status.result.1) journal halted in
     let since : List Entry → Type 0 = λ journal. d.tells → Settles d.moment d.left_since c.args.disk c.judge-status.result.1 (λ bytes. d.image c.args.disk bytes ⊎ IsMaking (d.seen c.args.disk) bytes) (Continues journal) in
-    let spared : Type 0 = d.tells → Spares (d.seen c.args.disk) (d.image c.args.disk) (d.seen c.judge-status.result.1) (d.image c.judge-status.result.1) in
-    let refused : Type 0 = d.tells → IsRefused (d.seen c.args.disk) (d.seen c.judge-status.result.1) (d.image c.judge-status.result.1) in
+    let spared : Type 0 = d.tells → Spares (d.seen c.args.disk) (d.image c.args.disk) (d.seen c.judge-status.result.1) (d.image c.judge-status.result.1) × LeavesOnly d.moment d.left_since c.args.disk c.judge-status.result.1 (IsOpening (d.seen c.args.disk) (d.image c.args.disk)) in
+    let refused : Type 0 = d.tells → IsRefused (d.seen c.args.disk) (d.seen c.judge-status.result.1) (d.image c.judge-status.result.1) × LeavesOnly d.moment d.left_since c.args.disk c.judge-status.result.1 (IsOpening (d.seen c.args.disk) (d.image c.args.disk)) in
     let disk_rose : Type 0 = Rose (d.faults c.args.disk) (d.faults c.judge-status.result.1) in
     let misfit = misfit_of (map string_bytes c.args.words.now) in
     let script : Bad → Type 0 = λ bad. IsRefusal bad × (s.tells → IsBad (s.left c.args.script.now) bad) in
@@ -57,8 +57,9 @@ ends_of g c =
     (λ short. subst ends (sym short.0)
     (ends_unfinished misfit script read_rose unread same source before stored since talked sink spared refused disk_rose old_rose sink_rose marks status
     (λ text t tells. got_unfinished got0 got1 got2 status text (t tells) (short.1 tells))
-    (λ unchanged tells. subst (λ disk. Spares (d.seen c.args.disk) (d.image c.args.disk) (d.seen disk) (d.image disk)) (sym unchanged) (spares_self (d.seen c.args.disk) (d.image c.args.disk)))
-    (λ none tells. spares_refused (d.seen c.args.disk) (d.seen c.judge-status.result.1) (d.image c.args.disk) (d.image c.judge-status.result.1) (none tells))
+    (λ unchanged tells. subst (λ disk. Spares (d.seen c.args.disk) (d.image c.args.disk) (d.seen disk) (d.image disk) × LeavesOnly d.moment d.left_since c.args.disk disk (IsOpening (d.seen c.args.disk) (d.image c.args.disk))) (sym unchanged)
+    (spares_self (d.seen c.args.disk) (d.image c.args.disk), quiet_as d.moment d.left_since d.image g.met.D.Disk.only_now c.args.disk (IsOpening (d.seen c.args.disk) (d.image c.args.disk)) (λ bytes was. inl was)))
+    (λ none tells. (spares_refused (d.seen c.args.disk) (d.seen c.judge-status.result.1) (d.image c.args.disk) (d.image c.judge-status.result.1) (none tells).0, (none tells).1))
     c.judge-status.ensures.ends))
     c.finish-status.ensures.line
 
@@ -73,8 +74,8 @@ returns-clause-complete g c source_tells disk_tells commands journal fit short r
     let before : List Entry → Type 0 = λ journal. d.tells → IsOnDisk (d.seen c.args.disk) journal in
     let stored : List Entry → Bool → Type 0 = λ journal halted. d.tells → AllStored (d.image c.judge-status.result.1) journal halted in
     let since : List Entry → Type 0 = λ journal. d.tells → Settles d.moment d.left_since c.args.disk c.judge-status.result.1 (λ bytes. d.image c.args.disk bytes ⊎ IsMaking (d.seen c.args.disk) bytes) (Continues journal) in
-    let spared : Type 0 = d.tells → Spares (d.seen c.args.disk) (d.image c.args.disk) (d.seen c.judge-status.result.1) (d.image c.judge-status.result.1) in
-    let refused : Type 0 = d.tells → IsRefused (d.seen c.args.disk) (d.seen c.judge-status.result.1) (d.image c.judge-status.result.1) in
+    let spared : Type 0 = d.tells → Spares (d.seen c.args.disk) (d.image c.args.disk) (d.seen c.judge-status.result.1) (d.image c.judge-status.result.1) × LeavesOnly d.moment d.left_since c.args.disk c.judge-status.result.1 (IsOpening (d.seen c.args.disk) (d.image c.args.disk)) in
+    let refused : Type 0 = d.tells → IsRefused (d.seen c.args.disk) (d.seen c.judge-status.result.1) (d.image c.judge-status.result.1) × LeavesOnly d.moment d.left_since c.args.disk c.judge-status.result.1 (IsOpening (d.seen c.args.disk) (d.image c.args.disk)) in
     let disk_rose : Type 0 = Rose (d.faults c.args.disk) (d.faults c.judge-status.result.1) in
     let misfit = misfit_of (map string_bytes c.args.words.now) in
     let script : Bad → Type 0 = λ bad. IsRefusal bad × (s.tells → IsBad (s.left c.args.script.now) bad) in
@@ -90,4 +91,4 @@ returns-clause-complete g c source_tells disk_tells commands journal fit short r
     let marks = c.judge-status.new.marks.items in
     complete misfit script read_rose unread same source before stored since sink spared refused disk_rose sink_rose marks c.finish-status.result fit
     (λ bad is. not_bad (s.left c.args.script.now) commands bad short right (is.1 source_tells)) reads works takes
-    (λ none. (none disk_tells).0 journal on) (ends_of g c)
+    (λ none. (none disk_tells).0.0 journal on) (ends_of g c)

@@ -1,11 +1,11 @@
 use Rattle.std.proofs.Common.{◌⊎◌, true, sym, subst, inl, inr}
 use Rattle.std.proofs.lemmas.Result.{IfOk-weaker, IfErr-weaker}
-use Rattle.hm_disk.proofs.Moments.{settles_weaker, stays_settled}
+use Rattle.hm_disk.proofs.Moments.{settles_weaker, stays_settled, joined, weaker}
 use Rattle.hm_log.specs.Format.{Reads}
 use Rattle.hm_log.specs.Opening.{IsMaking}
 use Rattle.hm_log.specs.Format.{HoldsFrames}
-use Rattle.hm_top.specs.Stored.{Continues}
-use Rattle.hm_top.proofs.Stores.{stored_here, continues_self, err_both}
+use Rattle.hm_top.specs.Stored.{Continues, GoesOn, IsOpening}
+use Rattle.hm_top.proofs.Stores.{stored_here, continues_self, err_both, settled_all, opening_first, opening_then, opening_vain}
 use Rattle.hm_top.proofs.opening.open.Goals as goal
 
 pub returns-in-Ok-clause-journal : goal.returns-in-Ok-clause-journal
@@ -48,3 +48,23 @@ returns-in-Err-clause-spared g c tells journal some on = (
   stored_here _ journal _ on.legal (c.in-Err.ensures.left tells _ some on.opens),
   λ only bytes is. stored_here bytes journal _ on.legal (c.in-Err.ensures.spared tells _ some only on.opens bytes is),
 )
+
+pub returns-in-Ok-clause-ventured : goal.returns-in-Ok-clause-ventured
+returns-in-Ok-clause-ventured g c tells =
+    let d = g.D.Disk in
+    let seen = d.seen c.args.disk in
+    let image = d.image c.args.disk in
+    let frames = c.in-Ok.frames in
+    let mid = c.in-Ok.log.disk in
+    IfErr-weaker c.world_of.result _ _
+    (λ r run.
+    joined d.moment d.left_since c.args.disk mid r.0 (IsOpening seen image)
+    (weaker d.moment d.left_since c.args.disk mid (λ bytes. (image bytes ⊎ IsMaking seen bytes) ⊎ Reads bytes frames) (IsOpening seen image) (opening_first seen image frames (c.in-Ok.ensures.opens tells))
+    (settled_all d.moment d.left_since d.image g.met.D.Disk.only_now c.args.disk mid (λ bytes. image bytes ⊎ IsMaking seen bytes) (λ bytes. Reads bytes frames) (λ bytes was. inl was) (c.in-Ok.ensures.moments tells)))
+    (weaker d.moment d.left_since mid r.0 (λ bytes. Reads bytes frames ⊎ GoesOn frames bytes) (IsOpening seen image) (opening_then seen image frames (c.in-Ok.ensures.opens tells)) run))
+    (c.world_of.ensures.ventured tells)
+
+pub returns-in-Err-clause-ventured : goal.returns-in-Err-clause-ventured
+returns-in-Err-clause-ventured g c tells =
+    let d = g.D.Disk in
+    weaker d.moment d.left_since c.args.disk c.in-Err.refused.0 _ (IsOpening (d.seen c.args.disk) (d.image c.args.disk)) (opening_vain (d.seen c.args.disk) (d.image c.args.disk)) (c.in-Err.ensures.ventured tells)

@@ -1,9 +1,10 @@
-use Rattle.std.proofs.Common.{true, List, ℕ, [], ◌∷◌, refl, subst}
-use Rattle.hm_log.specs.Format.{BeforeOrAfter}
+use Rattle.std.proofs.Common.{true, sym, List, ℕ, [], ◌∷◌, refl, subst}
+use Rattle.hm_log.specs.Format.{BeforeOrAfter, Reads}
 use Rattle.hm_top.specs.declared.entry.Entry.TheVariants.{Start}
 use Rattle.hm_disk.proofs.Moments.{weaker}
+use Rattle.hm_disk.specs.Disk.{LeavesOnly}
 use Rattle.hm_top.specs.Stored.{Continues}
-use Rattle.hm_top.proofs.Stores.{image_now, stored_either, continues_self}
+use Rattle.hm_top.proofs.Stores.{image_now, stored_either, stored_here, continues_self, quiet_as}
 use Rattle.hm_top.proofs.opening.start.Goals as goal
 
 pub returns-then-is_err-2-clause-stored : goal.returns-then-is_err-2-clause-stored
@@ -19,3 +20,19 @@ returns-clause-moments g c tells =
     weaker d.moment d.left_since c.args.log.disk c.append.new.self.disk _ (Continues [])
     (λ bytes either. continues_self [] true bytes (stored_either bytes [] Start (tt, tt, (refl, tt)) (subst (λ (fs : List (List ℕ)). BeforeOrAfter fs (0 ∷ 0 ∷ 0 ∷ []) bytes) (c.requires.frames tells) either)))
     (c.append.ensures.any_moment tells)
+
+pub returns-then-is_err-clause-ventured : goal.returns-then-is_err-clause-ventured
+returns-then-is_err-clause-ventured g c tells =
+    let d = g.D.Disk in
+    let back = c.into_disk.result in
+    subst (λ disk. LeavesOnly d.moment d.left_since disk back (Continues [])) c.into_disk.ensures.disk
+    (quiet_as d.moment d.left_since d.image g.met.D.Disk.only_now back (Continues []) (λ bytes is. continues_self [] true bytes (stored_here bytes [] true tt
+    (subst (λ (fs : List (List ℕ)). Reads bytes fs) (c.requires.frames tells) (c.into_disk.ensures.durable tells c.requires.live bytes is)))))
+
+pub returns-then-is_err-2-clause-ventured : goal.returns-then-is_err-2-clause-ventured
+returns-then-is_err-2-clause-ventured g c tells =
+    let d = g.D.Disk in
+    subst (λ disk. LeavesOnly d.moment d.left_since c.args.log.disk disk (Continues [])) (sym c.into_disk-then-is_err-2.ensures.disk)
+    (weaker d.moment d.left_since c.args.log.disk c.append.new.self.disk _ (Continues [])
+    (λ bytes either. continues_self [] true bytes (stored_either bytes [] Start (tt, tt, (refl, tt)) (subst (λ (fs : List (List ℕ)). BeforeOrAfter fs (0 ∷ 0 ∷ 0 ∷ []) bytes) (c.requires.frames tells) either)))
+    (c.append.ensures.any_moment tells))

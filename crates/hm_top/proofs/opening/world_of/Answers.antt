@@ -1,8 +1,15 @@
 use Rattle.std.proofs.Common.{List, ap, false, sym, ◌∙◌, subst, arith}
+use Rattle.std.proofs.Common.{◌≡◌, ◌⊎◌, [], map, inl, inr}
+use Rattle.std.proofs.lemmas.Result.{IfErr-weaker}
+use Rattle.std.proofs.lemmas.Grind.{common_steps}
+use Rattle.hm_disk.specs.Disk.{LeavesOnly}
+use Rattle.hm_disk.proofs.Moments.{weaker}
+use Rattle.hm_top.specs.Spelling.{frame_of}
+use Rattle.hm_top.specs.Stored.{Continues, GoesOn}
 use Rattle.hm_log.specs.Format.{Reads}
 use Rattle.hm_top.specs.declared.entry.Entry.{Entry}
 use Rattle.hm_top.proofs.Growth.{opened_same}
-use Rattle.hm_top.proofs.Stores.{stored_here, quiet}
+use Rattle.hm_top.proofs.Stores.{stored_here, quiet, quiet_as}
 use Rattle.hm_top.proofs.opening.world_of.Goals as goal
 
 pub invariant_of-result : goal.invariant_of-result
@@ -32,3 +39,27 @@ returns-in-Ok-clause-begun g c =
       ap (λ (j : List Entry). record { journal = j; halted = false }) (opened_same entries (omega (arith, c.count.ensures.count))),
       λ tells. quiet d.moment d.left_since d.image g.met.D.Disk.only_now c.args.log.disk entries false (λ bytes is. stored_here bytes entries false here.legal (subst (Reads bytes) (sym here.entries) (c.requires.durable tells bytes is))),
     )
+
+pub returns-in-Err-Memory-clause-ventured : goal.returns-in-Err-Memory-clause-ventured
+returns-in-Err-Memory-clause-ventured g c tells =
+    let d = g.D.Disk in
+    let frames = c.args.frames.now in
+    subst (λ disk. LeavesOnly d.moment d.left_since c.args.log.disk disk (λ bytes. Reads bytes frames ⊎ GoesOn frames bytes)) (sym c.into_disk-in-Err-Memory.ensures.disk)
+    (quiet_as d.moment d.left_since d.image g.met.D.Disk.only_now c.args.log.disk (λ bytes. Reads bytes frames ⊎ GoesOn frames bytes) (λ bytes is. inl (c.requires.durable tells bytes is)))
+
+pub returns-in-Err-NotAnEntry-clause-ventured : goal.returns-in-Err-NotAnEntry-clause-ventured
+returns-in-Err-NotAnEntry-clause-ventured g c tells =
+    let d = g.D.Disk in
+    let frames = c.args.frames.now in
+    subst (λ disk. LeavesOnly d.moment d.left_since c.args.log.disk disk (λ bytes. Reads bytes frames ⊎ GoesOn frames bytes)) (sym c.into_disk.ensures.disk)
+    (quiet_as d.moment d.left_since d.image g.met.D.Disk.only_now c.args.log.disk (λ bytes. Reads bytes frames ⊎ GoesOn frames bytes) (λ bytes is. inl (c.requires.durable tells bytes is)))
+
+pub returns-in-Ok-2-clause-ventured : goal.returns-in-Ok-2-clause-ventured
+returns-in-Ok-2-clause-ventured g c tells =
+    let d = g.D.Disk in
+    let frames = c.args.frames.now in
+    let empty : c.in-Ok-2.state.entries ≡ [] = grind (arith, common_steps) in
+    let none : map frame_of [] ≡ frames = subst (λ (es : List Entry). map frame_of es ≡ frames) empty c.in-Ok-2.ensures.entries in
+    IfErr-weaker c.start.result _ _
+    (λ r run. weaker d.moment d.left_since c.args.log.disk r.0 (Continues []) (λ bytes. Reads bytes frames ⊎ GoesOn frames bytes) (λ bytes more. inr ([], tt, none, more)) run)
+    (c.start.ensures.ventured tells)
