@@ -1,9 +1,9 @@
 -- What a range holds, and what its parts hold.
-use Rattle.std.proofs.Common.{◌≡◌, ℕ, Bool, true, false, not, ◌||◌, ◌&&◌, ◌==◌, List, length, refl, ap, ◌∙◌}
+use Rattle.std.proofs.Common.{◌≡◌, ◌≢◌, ℕ, Bool, true, false, not, ◌||◌, ◌&&◌, ◌==◌, List, [], ◌∷◌, length, refl, ap, ◌∙◌}
 use Rattle.std.specs.Str.{bytes_eq}
 use Rattle.hm_names.specs.declared.range.KeyRange.{KeyRange}
-use Rattle.hm_names.specs.Ranges.{ends_behind, holds, inner, front, back}
-use Rattle.hm_names.proofs.Orders.{below, upto, upto_not, below_trans, upto_below, below_upto, below_unequal, upto_weaker, not_empty}
+use Rattle.hm_names.specs.Ranges.{ends_behind, holds, inner, overlaps, front, back}
+use Rattle.hm_names.proofs.Orders.{below, upto, upto_not, upto_self, below_trans, upto_below, below_upto, below_unequal, upto_weaker, not_empty}
 
 pub both : (a b : Bool) → (a && b) ≡ true → (a ≡ true) × (b ≡ true)
 both true true e = (refl, refl)
@@ -70,3 +70,41 @@ shared_ends a b k p q =
     let in_a = both (upto a.start k) (ends_behind a k) p in
     let in_b = both (upto b.start k) (ends_behind b k) q in
     ends_upto (length a.end == 0) b.start k a.end in_b.0 in_a.1
+
+and_true : (a b : Bool) → a ≡ true → b ≡ true → (a && b) ≡ true
+and_true true true p q = refl
+and_true true false p q = cc
+and_true false b p q = cc
+
+or_right : (a b : Bool) → b ≡ true → (a || b) ≡ true
+or_right true b p = refl
+or_right false b p = p
+
+-- a range that has a key has its start
+pub holds_start : (r : KeyRange) (k : List ℕ) → holds r k ≡ true → holds r r.start ≡ true
+holds_start r k p = and_true (upto r.start r.start) (ends_behind r r.start) (upto_self r.start) (shared_ends r r k p p)
+
+common_by : (a b : KeyRange) (lower : Bool) → below b.start a.start ≡ lower → holds a a.start ≡ true → holds b b.start ≡ true
+    → ends_behind a b.start ≡ true → ends_behind b a.start ≡ true → (key : List ℕ) × (holds a key ≡ true) × (holds b key ≡ true)
+common_by a b true e p q in_a in_b =
+    (a.start, p, and_true (upto b.start a.start) (ends_behind b a.start) (upto_weaker b.start a.start e) in_b)
+common_by a b false e p q in_a in_b =
+    (b.start, and_true (upto a.start b.start) (ends_behind a b.start) (upto_not a.start b.start ∙ ap not e) in_a, q)
+
+-- where each one's end lies behind the other's start, two ranges that have keys have the greater start in common
+pub common_key : (a b : KeyRange) (in_a in_b : List ℕ) → holds a in_a ≡ true → holds b in_b ≡ true → overlaps a b ≡ true
+    → (key : List ℕ) × (holds a key ≡ true) × (holds b key ≡ true)
+common_key a b in_a in_b p q e =
+    let ends = both (ends_behind a b.start) (ends_behind b a.start) e in
+    common_by a b (below b.start a.start) refl (holds_start a in_a p) (holds_start b in_b q) ends.0 ends.1
+
+pub filled_not_nil : (s : List ℕ) → (length s == 0) ≡ false → s ≢ []
+filled_not_nil [] e = absurd (cc)
+filled_not_nil (x ∷ s) e = λ p. cc
+
+-- the parts of a range that is cut have keys: each has its start
+pub parts_hold_starts : (r : KeyRange) (m : List ℕ) → inner r m ≡ true → (holds (front r m) r.start ≡ true) × (holds (back r m) m ≡ true)
+parts_hold_starts r m e =
+    let is = inner_is r m e in
+    (and_true (upto r.start r.start) ((length m == 0) || below r.start m) (upto_self r.start) (or_right (length m == 0) (below r.start m) is.0),
+    and_true (upto m m) (ends_behind r m) (upto_self m) is.2)

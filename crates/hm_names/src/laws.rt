@@ -1,14 +1,16 @@
 //! What the texts and the orders of names keep: laws, as functions that do nothing.
-ghost use Rattle.std.specs.Prelude.{◌≡◌, ℕ, List, Ok};
+ghost use Rattle.std.specs.Prelude.{◌≡◌, ℕ, List, Ok, IsTrue};
 ghost use Rattle.std.specs.Cmp.{IsTotalOrder};
 ghost use Rattle.hm_names.specs.declared.nonce.Nonce.{Nonce};
 ghost use Rattle.hm_names.specs.declared.pid.Pid.{Pid};
+ghost use Rattle.hm_names.specs.declared.range.KeyRange.{KeyRange};
 ghost use Rattle.hm_names.specs.declared.table.TableName.{TableName};
 ghost use Rattle.hm_names.specs.Region.{Region};
 ghost use Rattle.hm_names.specs.Server.{Server};
 ghost use Rattle.hm_names.specs.Keys.{IsByteString, IsRowKey, key_text, read_key};
 ghost use Rattle.hm_names.specs.Nonces.{IsNonce, nonce_text, read_nonce};
 ghost use Rattle.hm_names.specs.Order.{bytes_cmp, table_cmp, region_cmp, server_cmp, nonce_cmp, pid_cmp};
+ghost use Rattle.hm_names.specs.Ranges.{holds, overlaps};
 ghost use Rattle.hm_names.specs.Regions.{IsRegion, region_text, read_region};
 ghost use Rattle.hm_names.specs.Servers.{IsServer, server_text, read_server};
 ghost use Rattle.hm_names.specs.Tables.{IsTable, table_text, read_table};
@@ -69,4 +71,10 @@ pub fn orders_are_total()
     ensures servers { IsTotalOrder server_cmp }
     ensures nonces { IsTotalOrder nonce_cmp }
     ensures pids { IsTotalOrder pid_cmp }
+{}
+
+/// Ranges that overlap, and have a key each, share one.
+pub fn overlapping_ranges_share_a_key()
+    ensures { (a b : KeyRange) (in_a in_b : List ℕ) → IsTrue (holds a in_a) → IsTrue (holds b in_b) → IsTrue (overlaps a b)
+        → (key : List ℕ) × IsTrue (holds a key) × IsTrue (holds b key) }
 {}

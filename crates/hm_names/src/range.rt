@@ -51,6 +51,8 @@ impl KeyRange {
         ensures whole { IfOk result (λ p. joined p.0 p.1 ≡ self) }
         ensures held { IfOk result (λ p. (k : List ℕ) → holds self k ≡ holds p.0 k || holds p.1 k) }
         ensures apart { IfOk result (λ p. (k : List ℕ) → (holds p.0 k && holds p.1 k) ≡ false) }
+        ensures starts { IfOk result (λ p. IsTrue (holds p.0 p.0.start) × IsTrue (holds p.1 p.1.start)) }
+        ensures next { IfOk result (λ p. (p.0.end ≢ []) × (p.0.end ≡ p.1.start)) }
     {
         let before = key.copy(alloc)?;
         let behind = key.copy(alloc)?;
