@@ -105,6 +105,7 @@ filled_not_nil (x ∷ s) e = λ p. cc
 -- the parts of a range that is cut have keys: each has its start
 pub parts_hold_starts : (r : KeyRange) (m : List ℕ) → inner r m ≡ true → (holds (front r m) r.start ≡ true) × (holds (back r m) m ≡ true)
 parts_hold_starts r m e =
-    let is = inner_is r m e in
-    (and_true (upto r.start r.start) ((length m == 0) || below r.start m) (upto_self r.start) (or_right (length m == 0) (below r.start m) is.0),
-    and_true (upto m m) (ends_behind r m) (upto_self m) is.2)
+    let is = inner_is r m e in (
+      and_true (upto r.start r.start) ((length m == 0) || below r.start m) (upto_self r.start) (or_right (length m == 0) (below r.start m) is.0),
+      and_true (upto m m) (ends_behind r m) (upto_self m) is.2,
+    )
