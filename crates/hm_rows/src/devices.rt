@@ -2,7 +2,7 @@
 ghost use Rattle.std.specs.Prelude.{◌≤◌, IfOk};
 
 use crate::lines::FROB;
-use crate::logs::SHOP;
+use crate::logs::{NEW, SHOP};
 use crate::play::{Fails, NONE, RUN, play, says};
 use hm_disk::Choice;
 use hm_top::{Ended, RunStatus};
@@ -235,5 +235,124 @@ fn run_tries_its_last_line_once(rt: HostRuntime) -> Result<(), Fail> {
     is_silent(&rt, &["run"], b"", &[], RunStatus::Usage(1))?;
     is_silent(&rt, &RUN, b"frob\n", &[], RunStatus::BadScript(FROB))?;
     is_silent(&rt, &RUN, b"", &[0], RunStatus::LogFault)?;
+    Ok(())
+}
+
+// Two submissions and a table.
+const TWO: &[u8] = b"namespace 1:1 a\nnamespace 1:2 b\nprocs\n";
+
+// What is on the disk, step by step: a log is made, and each entry is laid behind its closed gate, which then opens.
+const MADE: &[u8] = b"HMASTERJ\x01-";
+
+const START_LAID: &[u8] = b"HMASTERJ\x01-\x03\0\0\0\0\0\0-";
+
+const A_LAID: &[u8] =
+    b"HMASTERJ\x01+\x03\0\0\0\0\0\0-\x15\0\0\0\x01\x01\0\0\0\0\0\0\0\x01\0\0\0\0\0\0\0\x01\x01\0a-";
+
+const A_ADDED: &[u8] =
+    b"HMASTERJ\x01+\x03\0\0\0\0\0\0+\x15\0\0\0\x01\x01\0\0\0\0\0\0\0\x01\0\0\0\0\0\0\0\x01\x01\0a-";
+
+const B_LAID: &[u8] =
+    b"HMASTERJ\x01+\x03\0\0\0\0\0\0+\x15\0\0\0\x01\x01\0\0\0\0\0\0\0\x01\0\0\0\0\0\0\0\x01\x01\0a-\x15\0\0\0\x01\x01\0\0\0\0\0\0\0\x02\0\0\0\0\0\0\0\x01\x01\0b-";
+
+const B_ADDED: &[u8] =
+    b"HMASTERJ\x01+\x03\0\0\0\0\0\0+\x15\0\0\0\x01\x01\0\0\0\0\0\0\0\x01\0\0\0\0\0\0\0\x01\x01\0a+\x15\0\0\0\x01\x01\0\0\0\0\0\0\0\x02\0\0\0\0\0\0\0\x01\x01\0b-";
+
+// A run of the two submissions and the table over a new log has this status and text, and the disk then reads so.
+fn leaves(
+    rt: &(impl Abort + AllocGlobal),
+    fails: Fails<'_>,
+    status: RunStatus,
+    text: &[u8],
+    log: &[u8],
+) -> Result<(), AllocError> {
+    let played = play(rt.alloc(), &RUN, TWO, b"", fails)?;
+    assert_eq!(rt;
+        played.ended.status,
+        status,
+        "disk {:?}, sink {:?}",
+        fails.disk, fails.sink
+    );
+    assert_eq!(rt;
+        played.text.as_slice(),
+        text,
+        "disk {:?}, sink {:?}",
+        fails.disk,
+        fails.sink
+    );
+    assert_eq!(rt;
+        played.ended.disk.bytes(),
+        log,
+        "disk {:?}, sink {:?}",
+        fails.disk,
+        fails.sink
+    );
+    Ok(())
+}
+
+#[test]
+fn run_with_a_fault_at_each_call(rt: HostRuntime) -> Result<(), Fail> {
+    let fault = b"hmaster: log fault\n".as_slice();
+    let first =
+        b"opened at 1\nhalted LogFault\nhalted LogFault\nhalted LogFault\nhmaster: log fault\n".as_slice();
+    let second =
+        b"opened at 1\npid 1\nhalted LogFault\nhalted LogFault\nhmaster: log fault\n".as_slice();
+    // The calls of the disk by number, and what the run says and leaves where such a one fails.
+    let cases = [
+        ([0, 1, 2, 3].as_slice(), fault, b"".as_slice()),
+        (&[4, 5], fault, MADE),
+        (&[6, 7], fault, START_LAID),
+        (&[8], fault, NEW),
+        (&[9], first, NEW),
+        (&[10, 11], first, A_LAID),
+        (&[12], first, A_ADDED),
+        (&[13], second, A_ADDED),
+        (&[14, 15], second, B_LAID),
+        (&[16], second, B_ADDED),
+    ];
+    for (calls, text, log) in cases {
+        for call in calls {
+            let fails = Fails {
+                disk: &[*call],
+                ..NONE
+            };
+            leaves(&rt, fails, RunStatus::LogFault, text, log)?;
+        }
+    }
+    for call in [0, 1] {
+        let fails = Fails {
+            source: &[call],
+            ..NONE
+        };
+        leaves(
+            &rt,
+            fails,
+            RunStatus::ReadFault,
+            b"hmaster: read fault\n",
+            b"",
+        )?;
+    }
+    let cases = [
+        (0, b"".as_slice(), NEW),
+        (1, b"opened at 1\n", A_ADDED),
+        (2, b"opened at 1\npid 1\n", B_ADDED),
+        (3, b"opened at 1\npid 1\npid 2\n", B_ADDED),
+    ];
+    for (call, text, log) in cases {
+        let fails = Fails {
+            sink: &[call],
+            ..NONE
+        };
+        leaves(&rt, fails, RunStatus::WriteFault, text, log)?;
+    }
+    let text =
+        b"opened at 1\npid 1\npid 2\nprocs at 3: 2\n1 CreateNamespace a RUNNABLE\n2 CreateNamespace b RUNNABLE\n";
+    leaves(&rt, NONE, RunStatus::Done, text, B_ADDED)?;
+    let behind = Fails {
+        source: &[2],
+        sink: &[4],
+        disk: &[17],
+    };
+    leaves(&rt, behind, RunStatus::Done, text, B_ADDED)?;
     Ok(())
 }

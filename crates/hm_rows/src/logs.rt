@@ -1,6 +1,7 @@
 //! What a run leaves in its log, and what it takes for a journal.
 use crate::play::{NONE, RUN, play, says};
-use hm_top::{LogWhy, RunStatus};
+use hm_log::Log;
+use hm_top::{Ended, LogWhy, RunStatus};
 use std::alloc::{AllocError, Global};
 use std::process::Abort;
 use std::test::Fail;
@@ -98,6 +99,18 @@ fn run_leaves_these_bytes(rt: HostRuntime) -> Result<(), Fail> {
     }
     let frames = log_of(rt.alloc(), &[START, SUBMIT])?;
     assert_eq!(rt; frames.as_slice(), SHOP);
+    Ok(())
+}
+
+#[test]
+fn run_leaves_these_frames(rt: HostRuntime) -> Result<(), Fail> {
+    let played = play(rt.alloc(), &RUN, b"namespace 1:1 shop\n", b"", NONE)?;
+    let Ended { mut disk, .. } = played.ended;
+    assert_eq!(rt; disk.bytes().len(), 47);
+    let frames = Log::scan(rt.alloc(), &mut disk)?;
+    assert_eq!(rt; frames.count(), 2);
+    assert_eq!(rt; frames.frame(0), START);
+    assert_eq!(rt; frames.frame(1), SUBMIT);
     Ok(())
 }
 

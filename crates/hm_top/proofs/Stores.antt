@@ -10,12 +10,12 @@ use Rattle.hm_names.specs.declared.nonce.Nonce.{Nonce}
 use Rattle.hm_log.specs.declared.why.OpenWhy.{OpenWhy}
 use Rattle.hm_log.specs.declared.why.OpenWhy.TheVariants as L
 use Rattle.hm_top.specs.declared.entry.Entry.{Entry}
-use Rattle.hm_top.specs.declared.entry.Entry.TheVariants.{Submit}
+use Rattle.hm_top.specs.declared.entry.Entry.TheVariants.{Start, Submit}
 use Rattle.hm_top.specs.declared.opening.OpeningWhy.TheVariants.{Refused}
 use Rattle.hm_top.specs.Opening.{opening_why_of}
 use Rattle.hm_top.specs.Journal.{back, by_nonce, IsEntry, IsLegal}
 use Rattle.hm_top.specs.Spelling.{frame_of}
-use Rattle.hm_top.specs.Stored.{IsStored, IsRefused, AllStored, Continues, Spares, GoesOn, IsOpening}
+use Rattle.hm_top.specs.Stored.{IsStored, IsRefused, AllStored, Continues, Keeps, Spares, GetsFirst, IsOpening}
 use Rattle.hm_disk.proofs.Moments.{started}
 use Rattle.hm_top.proofs.Growth.{Grows}
 use Rattle.hm_top.specs.View.{IsSound}
@@ -112,8 +112,17 @@ spares_self seen image journal some on = (held seen refl, λ only bytes is. held
     still (inl blank) = let none = blank.0 in absurd (omega arith)
     still (inr reads) = reads
 
-    held : (bytes : List ℕ) → bytes ≡ seen → IsStored bytes journal true
-    held bytes same = stored_here bytes journal true on.legal (subst (λ s. Reads s (map frame_of journal)) (sym same) (still on.opens))
+    held : (bytes : List ℕ) → bytes ≡ seen → Keeps journal bytes
+    held bytes same = inl (subst (λ s. Reads s (map frame_of journal)) (sym same) (still on.opens))
+
+-- a journal without frames has no entries, and may have got its first
+pub keeps_first : (journal : List Entry) (bytes : List ℕ) → map frame_of journal ≡ [] → BeforeOrAfter [] (frame_of Start) bytes → Keeps journal bytes
+keeps_first [] bytes none either = either
+keeps_first (entry ∷ journal) bytes none either = absurd (cc)
+
+-- the same, of frames
+pub gets_first : (frames : List (List ℕ)) (bytes : List ℕ) → [] ≡ frames → BeforeOrAfter [] (frame_of Start) bytes → Reads bytes frames ⊎ GetsFirst frames bytes
+gets_first frames bytes none = ⊎_elim (λ reads. inl (subst (Reads bytes) none reads)) (λ reads. inr (sym none, reads))
 
 -- what holds no journal has none to lose
 pub spares_refused : (seen after : List ℕ) (before image : List ℕ → Type 0) → IsRefused seen after image → Spares seen before after image
@@ -159,7 +168,7 @@ opening_first seen before frames opens c (inr reads) = inr (inr (frames, opens, 
 
 -- what it left since
 pub opening_then : (seen : List ℕ) (before : List ℕ → Type 0) (frames : List (List ℕ)) → HoldsFrames seen frames
-    → (c : List ℕ) → Reads c frames ⊎ GoesOn frames c → IsOpening seen before c
+    → (c : List ℕ) → Reads c frames ⊎ GetsFirst frames c → IsOpening seen before c
 opening_then seen before frames opens c more = inr (inr (frames, opens, more))
 
 -- what an opening left that never settled

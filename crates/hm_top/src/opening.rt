@@ -2,7 +2,7 @@
 ghost use Rattle.std.specs.Prelude.{◌≡◌, ◌≢◌, ◌⊎◌, ◌+◌, ◌<◌, ◌≤◌, ◌^◌, [], ◌∷◌, List, ℕ, length, map, IfOk, IfErr, MatchResult, IsErrOf, false, true};
 ghost use Rattle.hm_ports.specs.Faults.{Rose};
 ghost use Rattle.hm_disk.specs.Disk.{LeavesOnly, Only, Settles};
-ghost use Rattle.hm_log.specs.Format.{Reads};
+ghost use Rattle.hm_log.specs.Format.{Reads, BeforeOrAfter};
 ghost use Rattle.hm_log.specs.Opening.{IsMaking, Reopens};
 ghost use Rattle.hm_log.specs.Format.{HoldsFrames};
 ghost use Rattle.hm_top.specs.declared.entry.Entry.{Entry as EntryValue};
@@ -10,7 +10,7 @@ ghost use Rattle.hm_top.specs.Journal.{back, IsLegal};
 ghost use Rattle.hm_top.specs.Opening.{opening_why_of};
 ghost use Rattle.hm_top.specs.Said.{begun};
 ghost use Rattle.hm_top.specs.Spelling.{frame_of};
-ghost use Rattle.hm_top.specs.Stored.{IsOnDisk, AllRead, AllStored, Continues, Spares, SameFrames, GoesOn, IsOpening};
+ghost use Rattle.hm_top.specs.Stored.{IsOnDisk, AllRead, Continues, Keeps, Spares, SameFrames, GetsFirst, IsOpening};
 ghost use Rattle.hm_top.specs.View.{said_of};
 
 use crate::entry::Entry;
@@ -67,8 +67,8 @@ fn start<D: Disk>(log: Log<D>, state: State) -> Result<World<D>, (D, OpeningWhy)
     ensures later { MatchResult result (λ world. D.faults log.disk ≤ D.faults world.disk) (λ r. D.faults log.disk ≤ D.faults r.0) }
     ensures refused { IfErr result (λ r. r.1 ≡ OpeningWhy.Refused → ⊥) }
     ensures fault { IfErr result (λ r. r.1 ≡ OpeningWhy.Fault → Rose (D.faults log.disk) (D.faults r.0)) }
-    ensures stored { D.tells → IfErr result (λ r. AllStored (D.image r.0) [] true) }
-    ensures ventured { D.tells → IfErr result (λ r. LeavesOnly D.moment D.left_since log.disk r.0 (Continues [])) }
+    ensures stored { D.tells → IfErr result (λ r. (c : List ℕ) → D.image r.0 c → BeforeOrAfter [] (frame_of EntryValue.Start) c) }
+    ensures ventured { D.tells → IfErr result (λ r. LeavesOnly D.moment D.left_since log.disk r.0 (BeforeOrAfter [] (frame_of EntryValue.Start))) }
 {
     let mut log = log;
     let mut state = state;
@@ -134,9 +134,9 @@ fn world_of<D: Disk>(
     ensures later { MatchResult result (λ world. D.faults log.disk ≤ D.faults world.disk) (λ r. D.faults log.disk ≤ D.faults r.0) }
     ensures fault { IfErr result (λ r. r.1 ≡ OpeningWhy.Fault → Rose (D.faults log.disk) (D.faults r.0)) }
     ensures refused { IfErr result (λ r. r.1 ≡ OpeningWhy.Refused → (journal : List EntryValue) → IsLegal (back journal) → map frame_of journal ≡ frames.now → ⊥) }
-    ensures ventured { D.tells → IfErr result (λ r. LeavesOnly D.moment D.left_since log.disk r.0 (λ c. Reads c frames.now ⊎ GoesOn frames.now c)) }
+    ensures ventured { D.tells → IfErr result (λ r. LeavesOnly D.moment D.left_since log.disk r.0 (λ c. Reads c frames.now ⊎ GetsFirst frames.now c)) }
     ensures same { D.tells → IfErr result (λ r. r.1 ≡ OpeningWhy.Refused → AllRead (D.image r.0) frames.now) }
-    ensures spared { D.tells → IfErr result (λ r. (journal : List EntryValue) → IsLegal (back journal) → map frame_of journal ≡ frames.now → AllStored (D.image r.0) journal true) }
+    ensures spared { D.tells → IfErr result (λ r. (journal : List EntryValue) → IsLegal (back journal) → map frame_of journal ≡ frames.now → (c : List ℕ) → D.image r.0 c → Keeps journal c) }
 {
     match read_state(alloc, frames) {
         Ok(state) if state.count() > 0 => Ok(World {

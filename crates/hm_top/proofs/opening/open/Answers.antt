@@ -4,7 +4,7 @@ use Rattle.hm_disk.proofs.Moments.{settles_weaker, stays_settled, joined, weaker
 use Rattle.hm_log.specs.Format.{Reads}
 use Rattle.hm_log.specs.Opening.{IsMaking}
 use Rattle.hm_log.specs.Format.{HoldsFrames}
-use Rattle.hm_top.specs.Stored.{Continues, GoesOn, IsOpening}
+use Rattle.hm_top.specs.Stored.{Continues, IsOpening, GetsFirst}
 use Rattle.hm_top.proofs.Stores.{stored_here, continues_self, err_both, settled_all, opening_first, opening_then, opening_vain}
 use Rattle.hm_top.proofs.opening.open.Goals as goal
 
@@ -45,8 +45,8 @@ returns-in-Err-clause-refused g c tells is =
 
 pub returns-in-Err-clause-spared : goal.returns-in-Err-clause-spared
 returns-in-Err-clause-spared g c tells journal some on = (
-  stored_here _ journal _ on.legal (c.in-Err.ensures.left tells _ some on.opens),
-  λ only bytes is. stored_here bytes journal _ on.legal (c.in-Err.ensures.spared tells _ some only on.opens bytes is),
+  inl (c.in-Err.ensures.left tells _ some on.opens),
+  λ only bytes is. inl (c.in-Err.ensures.spared tells _ some only on.opens bytes is),
 )
 
 pub returns-in-Ok-clause-ventured : goal.returns-in-Ok-clause-ventured
@@ -61,7 +61,7 @@ returns-in-Ok-clause-ventured g c tells =
     joined d.moment d.left_since c.args.disk mid r.0 (IsOpening seen image)
     (weaker d.moment d.left_since c.args.disk mid (λ bytes. (image bytes ⊎ IsMaking seen bytes) ⊎ Reads bytes frames) (IsOpening seen image) (opening_first seen image frames (c.in-Ok.ensures.opens tells))
     (settled_all d.moment d.left_since d.image g.met.D.Disk.only_now c.args.disk mid (λ bytes. image bytes ⊎ IsMaking seen bytes) (λ bytes. Reads bytes frames) (λ bytes was. inl was) (c.in-Ok.ensures.moments tells)))
-    (weaker d.moment d.left_since mid r.0 (λ bytes. Reads bytes frames ⊎ GoesOn frames bytes) (IsOpening seen image) (opening_then seen image frames (c.in-Ok.ensures.opens tells)) run))
+    (weaker d.moment d.left_since mid r.0 (λ bytes. Reads bytes frames ⊎ GetsFirst frames bytes) (IsOpening seen image) (opening_then seen image frames (c.in-Ok.ensures.opens tells)) run))
     (c.world_of.ensures.ventured tells)
 
 pub returns-in-Err-clause-ventured : goal.returns-in-Err-clause-ventured
