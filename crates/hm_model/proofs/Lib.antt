@@ -1,0 +1,10 @@
+pub mod Worked
+pub mod KeyTests
+pub mod Prefixes
+pub mod Rows
+pub mod Grown
+pub mod ValidSheets
+pub mod Stages
+pub mod Ranges
+pub mod Holders
+pub mod Counting

@@ -1,0 +1,199 @@
+-- The keys of a journal, and the rows that are read of its catalog.
+use Rattle.std.proofs.Common.{Bool, List, None, Option, Some, [], ap, bytes_eq, codes, false, if◌then◌else◌, inl, inr, refl, subst, sym, true, ℕ, ◌||◌, ◌∙◌, ◌∷◌, ◌≡◌, ◌≢◌, ◌⊎◌}
+use Rattle.std.proofs.lemmas.Bool.{cases_Bool, cond-false, cond-true, false_from_ne_true, false≢true, or_from}
+use Rattle.std.proofs.lemmas.Option.{none-some}
+use Rattle.std.specs.Ordering.{ordering_reverse}
+use Rattle.std.specs.declared.cmp.Ordering.{Ordering}
+use Rattle.std.specs.declared.cmp.Ordering.TheVariants.{Equal, Greater, Less}
+use Rattle.hm_data.proofs.KeyOrder.{keys_total}
+use Rattle.hm_data.specs.Keys.{key_cmp}
+use Rattle.hm_data.specs.declared.args.Args.{Args}
+use Rattle.hm_data.specs.declared.catalog.CatKey.{CatKey}
+use Rattle.hm_data.specs.declared.catalog.CatRow.{CatRow}
+use Rattle.hm_data.specs.declared.catalog.Edit.{Edit}
+use Rattle.hm_model.proofs.KeyTests.{bytes_eq-is, bytes_eq-refl, cases_key, key_cmp-is, key_cmp-same, same_key-refl}
+use Rattle.hm_model.specs.Catalog.{Catalog, at_start, cat, edited, keep, keys_of, row_at, rows_at, with_key, with_key_at, with_keys}
+use Rattle.hm_model.specs.Inputs.{rows_read}
+use Rattle.hm_model.specs.Journal.{Past}
+use Rattle.hm_model.specs.Keys.{same_key}
+use Rattle.hm_model.specs.Laws.{AllBehind, AreInOrder}
+use Rattle.hm_model.specs.Locks.{IsIn, is_ns, reads}
+use Rattle.hm_data.specs.declared.entry.Entry.TheVariants as entry_is
+use Rattle.hm_data.specs.declared.args.Args.TheVariants as args_are
+use Rattle.hm_data.specs.declared.request.Request.TheVariants as request_is
+use Rattle.hm_data.specs.declared.catalog.CatKey.TheVariants as key_is
+use Rattle.hm_data.specs.declared.catalog.CatRow.TheVariants as row_is
+
+in_at : (q key first : CatKey) (more rest : List CatKey) → ((q ≡ key) ⊎ IsIn q more → IsIn q rest) → (o : Ordering) → key_cmp key first ≡ o → (q ≡ key) ⊎ IsIn q (first ∷ more) → IsIn q (with_key_at o key first more rest)
+in_at q key first more rest on Less e h = h
+in_at q key first more rest on Equal e h = elim h [ inl new ↦ inl (new ∙ key_cmp-is key first e) | inr old ↦ old ]
+in_at q key first more rest on Greater e h = elim h [
+  | inl new ↦ inr (on (inl new))
+  | inr old ↦ elim old [ inl here ↦ inl here | inr later ↦ inr (on (inr later)) ]
+]
+
+pub in_with_key : (q key : CatKey) (keys : List CatKey) → (q ≡ key) ⊎ IsIn q keys → IsIn q (with_key key keys)
+in_with_key q key [] h = h
+in_with_key q key (first ∷ more) h = in_at q key first more (with_key key more) (in_with_key q key more) (key_cmp key first) refl h
+
+pub in_with_keys : (q : CatKey) (edits : List Edit) (keys : List CatKey) → IsIn q keys → IsIn q (with_keys edits keys)
+in_with_keys q [] keys h = h
+in_with_keys q (edit ∷ edits) keys h = in_with_keys q edits (with_key edit.key keys) (in_with_key q edit.key keys (inr h))
+
+-- a key that has a row behind edits had one before, or is of an edit
+edited_has : (q : CatKey) (edits : List Edit) (row : Option CatRow) (keys : List CatKey) → (row ≢ None → IsIn q keys) → edited edits q row ≢ None → IsIn q (with_keys edits keys)
+edited_has q [] row keys has some = has some
+edited_has q (edit ∷ edits) row keys has some = elim (cases_key q edit.key) [
+  | inl same ↦ in_with_keys q edits (with_key edit.key keys) (in_with_key q edit.key keys (inl same.1))
+  | inr differs ↦ edited_has q edits (if same_key q edit.key then edit.after else row) (with_key edit.key keys) (λ h. in_with_key q edit.key keys (inr (has (λ e. h (cond-false (same_key q edit.key) edit.after row differs.0 ∙ e))))) some
+]
+
+start_has : (q : CatKey) → at_start q ≢ None → IsIn q (keys_of [])
+start_has (key_is.Ns ns) some = elim (cases_Bool (bytes_eq ns (codes "default"))) [
+  | inl one ↦ inl (ap key_is.Ns (bytes_eq-is ns (codes "default") one))
+  | inr first_differs ↦ elim (cases_Bool (bytes_eq ns (codes "hbase"))) [
+    | inl two ↦ inr (inl (ap key_is.Ns (bytes_eq-is ns (codes "hbase") two)))
+    | inr second_differs ↦ absurd (some (cond-false (bytes_eq ns (codes "default") || bytes_eq ns (codes "hbase")) (Some row_is.Ns) None (or_from (bytes_eq ns (codes "default")) (bytes_eq ns (codes "hbase")) first_differs second_differs)))
+  ]
+]
+start_has (key_is.Table table) some = absurd (some refl)
+start_has (key_is.Region region) some = absurd (some refl)
+
+-- a key with a row is listed
+pub has_key : (J : Past) (q : CatKey) → cat J q ≢ None → IsIn q (keys_of J)
+has_key [] q some = start_has q some
+has_key (entry_is.Start sheets ∷ before) q some = has_key before q some
+has_key (entry_is.Submit nonce request ∷ before) q some = has_key before q some
+has_key (entry_is.Step pid pick out ∷ before) q some = edited_has q out.edits (cat before q) (keys_of before) (has_key before q) some
+has_key (entry_is.Undo pid row out ∷ before) q some = edited_has q out.edits (cat before q) (keys_of before) (has_key before q) some
+has_key (entry_is.Report call told ∷ before) q some = has_key before q some
+has_key (entry_is.Up server ∷ before) q some = has_key before q some
+has_key (entry_is.Down server ∷ before) q some = has_key before q some
+has_key (entry_is.Abort pid ∷ before) q some = has_key before q some
+
+behind_further : (k key : CatKey) (keys : List CatKey) → key_cmp k key ≡ Less → AllBehind key keys → AllBehind k keys
+behind_further k key [] less behind = tt
+behind_further k key (first ∷ more) less behind = (keys_total.trans k key first less behind.0, behind_further k key more less behind.1)
+
+behind_at : (o : Ordering) (k key first : CatKey) (more rest : List CatKey) → key_cmp k key ≡ Less → key_cmp k first ≡ Less → AllBehind k more → AllBehind k rest → AllBehind k (with_key_at o key first more rest)
+behind_at Less k key first more rest less here behind on = (less, (here, behind))
+behind_at Equal k key first more rest less here behind on = (here, behind)
+behind_at Greater k key first more rest less here behind on = (here, on)
+
+behind_with : (k key : CatKey) (keys : List CatKey) → key_cmp k key ≡ Less → AllBehind k keys → AllBehind k (with_key key keys)
+behind_with k key [] less behind = (less, tt)
+behind_with k key (first ∷ more) less behind =
+    behind_at (key_cmp key first) k key first more (with_key key more) less behind.0 behind.1 (behind_with k key more less behind.1)
+
+turned_back : (key first : CatKey) → key_cmp key first ≡ Greater → key_cmp first key ≡ Less
+turned_back key first e = keys_total.antisymm first key ∙ ap ordering_reverse e
+
+order_at : (o : Ordering) (key first : CatKey) (more : List CatKey) → key_cmp key first ≡ o → AllBehind first more → AreInOrder more → AreInOrder (with_key key more) → AreInOrder (with_key_at o key first more (with_key key more))
+order_at Less key first more e behind order rest = ((e, behind_further key first more e behind), (behind, order))
+order_at Equal key first more e behind order rest = (behind, order)
+order_at Greater key first more e behind order rest = (behind_with first key more (turned_back key first e) behind, rest)
+
+order_with : (key : CatKey) (keys : List CatKey) → AreInOrder keys → AreInOrder (with_key key keys)
+order_with key [] order = (tt, tt)
+order_with key (first ∷ more) order = order_at (key_cmp key first) key first more refl order.0 order.1 (order_with key more order.1)
+
+order_with_keys : (edits : List Edit) (keys : List CatKey) → AreInOrder keys → AreInOrder (with_keys edits keys)
+order_with_keys [] keys order = order
+order_with_keys (edit ∷ edits) keys order = order_with_keys edits (with_key edit.key keys) (order_with edit.key keys order)
+
+-- the keys are in order, each once
+pub keys_in_order : (J : Past) → AreInOrder (keys_of J)
+keys_in_order [] = ((refl, tt), (tt, tt))
+keys_in_order (entry_is.Start sheets ∷ before) = keys_in_order before
+keys_in_order (entry_is.Submit nonce request ∷ before) = keys_in_order before
+keys_in_order (entry_is.Step pid pick out ∷ before) = order_with_keys out.edits (keys_of before) (keys_in_order before)
+keys_in_order (entry_is.Undo pid row out ∷ before) = order_with_keys out.edits (keys_of before) (keys_in_order before)
+keys_in_order (entry_is.Report call told ∷ before) = keys_in_order before
+keys_in_order (entry_is.Up server ∷ before) = keys_in_order before
+keys_in_order (entry_is.Down server ∷ before) = keys_in_order before
+keys_in_order (entry_is.Abort pid ∷ before) = keys_in_order before
+
+keep_other : (asked : Bool) (key first : CatKey) (row : Option CatRow) (more : List (CatKey × CatRow)) → same_key key first ≡ false → row_at (keep asked first row more) key ≡ row_at more key
+keep_other false key first row more differs = refl
+keep_other true key first None more differs = refl
+keep_other true key first (Some row) more differs = cond-false (same_key key first) (Some row) (row_at more key) differs
+
+keep_same : (key first : CatKey) (row : Option CatRow) (more : List (CatKey × CatRow)) → same_key key first ≡ true → (row ≡ None → row_at more key ≡ None) → row_at (keep true first row more) key ≡ row
+keep_same key first None more same none = none refl
+keep_same key first (Some row) more same none = cond-true (same_key key first) (Some row) (row_at more key) same
+
+-- what is read of a key that is asked for is what is there
+pub row_at-rows : (asked : CatKey → Bool) (there : Catalog) (keys : List CatKey) (key : CatKey) → asked key ≡ true → (there key ≢ None → IsIn key keys) → row_at (rows_at asked there keys) key ≡ there key
+row_at-rows asked there [] key on has = sym (none_of (there key) has)
+  where
+    none_of : (o : Option CatRow) → (o ≢ None → ⊥) → o ≡ None
+    none_of None h = refl
+    none_of (Some row) h = absurd (h (λ e. cc))
+row_at-rows asked there (first ∷ keys) key on has = elim (cases_key key first) [
+  | inl same ↦
+      let here : keep (asked first) first (there first) (rows_at asked there keys) ≡ keep true key (there key) (rows_at asked there keys) = ap (λ k. keep (asked k) k (there k) (rows_at asked there keys)) (sym same.1) ∙ ap (λ b. keep b key (there key) (rows_at asked there keys)) on in
+      ap (λ l. row_at l key) here
+      ∙ keep_same key key (there key) (rows_at asked there keys) (same_key-refl key) (λ none. row_at-rows asked there keys key on (λ some. absurd (some none)) ∙ none)
+  | inr differs ↦
+      keep_other (asked first) key first (there first) (rows_at asked there keys) differs.0
+      ∙ row_at-rows asked there keys key on (λ some. elim (has some) [ inl e ↦ absurd (differs.1 e) | inr later ↦ later ])
+]
+
+-- a step reads of a key that it asks for what the catalog has
+pub row_read : (J : Past) (args : Args) (key : CatKey) → reads args key ≡ true → row_at (rows_read J args) key ≡ cat J key
+row_read J args key on = row_at-rows (reads args) (cat J) (keys_of J) key on (has_key J key)
+
+-- no row is read where none is asked for
+none_read : (asked : CatKey → Bool) (there : Catalog) (keys : List CatKey) (key : CatKey) → ((q : CatKey) → asked q ≡ true → q ≡ key) → (there key ≡ None) ⊎ (IsIn key keys → ⊥) → rows_at asked there keys ≡ []
+none_read asked there [] key only none = refl
+none_read asked there (first ∷ keys) key only none =
+    by (asked first) refl (there first) refl
+    ∙ none_read asked there keys key only (elim none [ inl e ↦ inl e | inr out ↦ inr (λ h. out (inr h)) ])
+  where
+    by : (b : Bool) → asked first ≡ b → (o : Option CatRow) → there first ≡ o → keep b first o (rows_at asked there keys) ≡ rows_at asked there keys
+    by false e o e' = refl
+    by true e None e' = refl
+    by true e (Some row) e' = elim none [
+      | inl nothing ↦ absurd (none-some row (sym nothing ∙ ap there (sym (only first e)) ∙ e'))
+      | inr out ↦ absurd (out (inl (sym (only first e))))
+    ]
+
+behind_out : (key : CatKey) (keys : List CatKey) → AllBehind key keys → IsIn key keys → ⊥
+behind_out key [] behind h = elim h [ ]
+behind_out key (first ∷ more) behind h = elim h [
+  | inl here ↦ let tied : key_cmp key first ≡ Equal = key_cmp-same key first here in cc (tied, behind.0)
+  | inr later ↦ behind_out key more behind.1 later
+]
+
+-- one row is read where one key is asked for that has a row
+one_read : (asked : CatKey → Bool) (there : Catalog) (keys : List CatKey) (key : CatKey) (row : CatRow) → ((q : CatKey) → asked q ≡ true → q ≡ key) → asked key ≡ true → there key ≡ Some row → AreInOrder keys → IsIn key keys → rows_at asked there keys ≡ (key, row) ∷ []
+one_read asked there [] key row only on some order h = elim h [ ]
+one_read asked there (first ∷ keys) key row only on some order h = elim (cases_key key first) [
+  | inl same ↦
+      ap (λ k. keep (asked k) k (there k) (rows_at asked there keys)) (sym same.1)
+      ∙ ap (λ b. keep b key (there key) (rows_at asked there keys)) on
+      ∙ ap (λ o. keep true key o (rows_at asked there keys)) some
+      ∙ ap (λ l. (key, row) ∷ l) (none_read asked there keys key only (inr (λ later. behind_out key keys (subst (λ k. AllBehind k keys) (sym same.1) order.0) later)))
+  | inr differs ↦
+      let off : asked first ≡ false = false_from_ne_true (asked first) (λ e. differs.1 (sym (only first e))) in
+      ap (λ b. keep b first (there first) (rows_at asked there keys)) off
+      ∙ one_read asked there keys key row only on some order.1 (elim h [ inl e ↦ absurd (differs.1 e) | inr later ↦ later ])
+]
+
+is_ns-is : (ns : List ℕ) (key : CatKey) → is_ns ns key ≡ true → key ≡ key_is.Ns ns
+is_ns-is ns (key_is.Ns other) h = ap key_is.Ns (sym (bytes_eq-is ns other h))
+is_ns-is ns (key_is.Table table) h = absurd (false≢true h)
+is_ns-is ns (key_is.Region region) h = absurd (false≢true h)
+
+-- a request for a namespace reads its row
+pub reads_ns : (ns : List ℕ) (first : ℕ) → reads (args_are.Root (request_is.CreateNamespace ns) first) (key_is.Ns ns) ≡ true
+reads_ns ns first = bytes_eq-refl ns
+
+pub read_none : (J : Past) (ns : List ℕ) (first : ℕ) → cat J (key_is.Ns ns) ≡ None → rows_read J (args_are.Root (request_is.CreateNamespace ns) first) ≡ []
+read_none J ns first none = none_read (is_ns ns) (cat J) (keys_of J) (key_is.Ns ns) (is_ns-is ns) (inl none)
+
+pub read_one : (J : Past) (ns : List ℕ) (first : ℕ) (row : CatRow) → cat J (key_is.Ns ns) ≡ Some row → rows_read J (args_are.Root (request_is.CreateNamespace ns) first) ≡ (key_is.Ns ns, row) ∷ []
+read_one J ns first row some = one_read (is_ns ns) (cat J) (keys_of J) (key_is.Ns ns) row (is_ns-is ns) (bytes_eq-refl ns) some (keys_in_order J) (has_key J (key_is.Ns ns) (λ e. none-some row (sym e ∙ some)))
+
+pub row_of_ns : (J : Past) (ns : List ℕ) (first : ℕ) → row_at (rows_read J (args_are.Root (request_is.CreateNamespace ns) first)) (key_is.Ns ns) ≡ cat J (key_is.Ns ns)
+row_of_ns J ns first = row_read J (args_are.Root (request_is.CreateNamespace ns) first) (key_is.Ns ns) (reads_ns ns first)

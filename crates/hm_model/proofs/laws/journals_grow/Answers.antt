@@ -1,0 +1,16 @@
+use Rattle.hm_model.proofs.Grown.{grown_all, stepper_made, start_oldest, sheets_are, by_nonce_under, by_nonce_made}
+use Rattle.hm_model.proofs.laws.journals_grow.Goals as goal
+
+pub returns-clause-grown : goal.returns-clause-grown
+returns-clause-grown c = grown_all
+
+pub returns-clause-begin : goal.returns-clause-begin
+returns-clause-begin c = λ J legal some. (start_oldest J legal some, sheets_are J legal some)
+
+pub returns-clause-nonces : goal.returns-clause-nonces
+returns-clause-nonces c = λ J legal nonce p is.
+    let made = by_nonce_made J legal nonce p is in
+    (by_nonce_under J legal nonce p is, made.0, made.1)
+
+pub returns-clause-steppers : goal.returns-clause-steppers
+returns-clause-steppers c = stepper_made

@@ -1,0 +1,161 @@
+-- What legal journals keep.
+use Rattle.std.specs.List.{list_any}
+use Rattle.std.specs.Prelude.{Bool, Decides, List, None, Option, Some, [], drop, false, if◌then◌else◌, suc, take, true, zero, ℕ, ◌++◌, ◌+◌, ◌<◌, ◌↔◌, ◌∷◌, ◌≡◌, ◌≢◌, ◌≤◌}
+use Rattle.std.specs.declared.cmp.Ordering.TheVariants.{Equal, Less}
+use Rattle.hm_data.specs.Keys.{key_cmp}
+use Rattle.hm_data.specs.declared.args.Args.{Args}
+use Rattle.hm_data.specs.declared.catalog.CatKey.{CatKey}
+use Rattle.hm_data.specs.declared.entry.Entry.{Entry}
+use Rattle.hm_data.specs.declared.request.Request.{Request}
+use Rattle.hm_data.specs.declared.step.StepOut.{StepOut}
+use Rattle.hm_names.specs.Region.{Region}
+use Rattle.hm_names.specs.Server.{Server}
+use Rattle.hm_names.specs.declared.nonce.Nonce.{Nonce}
+use Rattle.hm_names.specs.declared.pid.Pid.{Pid}
+use Rattle.hm_names.specs.declared.table.TableName.{TableName}
+use Rattle.hm_model.specs.Answers.{is_aborted, last_answer, report_of}
+use Rattle.hm_model.specs.Catalog.{cat, keys_of, row_at}
+use Rattle.hm_model.specs.Inputs.{rows_read}
+use Rattle.hm_model.specs.Journal.{Past, back}
+use Rattle.hm_model.specs.Keys.{same_key, same_region, same_table}
+use Rattle.hm_model.specs.Locks.{Holds, IsIn, NoneConflict, reads}
+use Rattle.hm_model.specs.Nonces.{NoncesActOnce, by_nonce, is_same}
+use Rattle.hm_model.specs.Phase.{ended}
+use Rattle.hm_model.specs.Records.{unfinished}
+use Rattle.hm_model.specs.Rest.{IsAvailable}
+use Rattle.hm_model.specs.Rules.{AreSheets, IsLegal}
+use Rattle.hm_model.specs.Sheets.{sheets_of}
+use Rattle.hm_model.specs.Tree.{Node, is_root, made, node_of, submitted}
+use Rattle.hm_data.specs.declared.entry.Entry.TheVariants as entry_is
+
+-- each of the keys comes behind this one
+abbrev pub AllBehind : CatKey → List CatKey → Type 0
+AllBehind key [] = Unit {0}
+AllBehind key (first ∷ more) = (key_cmp key first ≡ Less) × AllBehind key more
+
+-- each key comes behind those before it
+abbrev pub AreInOrder : List CatKey → Type 0
+AreInOrder [] = Unit {0}
+AreInOrder (key ∷ keys) = AllBehind key keys × AreInOrder keys
+
+-- what a journal made: procedures numbered from 1 on, one after another; no steps, reports or aborts but theirs
+pub record IsGrown (J : Past) : Type 0 where
+  pub none : node_of J 0 ≡ None
+  pub numbered : (p : ℕ) → made J < p → node_of J p ≡ None
+  pub there : (p : ℕ) → 1 ≤ p → p ≤ made J → (node : Node) × (node_of J p ≡ Some node)
+  pub unmade : (p : ℕ) → node_of J p ≡ None → last_answer J p ≡ None
+  pub unreported : (p : ℕ) → node_of J p ≡ None → report_of J p ≡ None
+  pub unaborted : (p : ℕ) → node_of J p ≡ None → is_aborted J p ≡ false
+
+-- an entry is a start
+abbrev pub is_start : Entry → Bool
+is_start (entry_is.Start sheets) = true
+is_start (entry_is.Submit nonce request) = false
+is_start (entry_is.Step pid pick out) = false
+is_start (entry_is.Undo pid row out) = false
+is_start (entry_is.Report call told) = false
+is_start (entry_is.Up server) = false
+is_start (entry_is.Down server) = false
+is_start (entry_is.Abort pid) = false
+
+-- the start is the oldest entry, and no other is one; its sheets are those of the journal
+abbrev pub StartIsOldest : Past → Type 0
+StartIsOldest J =
+    (newer : Past) × (J ≡ newer ++ entry_is.Start (sheets_of J) ∷ []) × (list_any is_start newer ≡ false)
+
+-- the root that stands under a nonce was made by a submission under it, and has its request
+pub record IsUnder (J : Past) (nonce : Nonce) (p : ℕ) : Type 0 where
+  pub newer : Past
+  pub used : Nonce
+  pub request : Request
+  pub older : Past
+  pub splits : J ≡ newer ++ entry_is.Submit used request ∷ older
+  pub same : is_same used nonce ≡ true
+  pub place : p ≡ made older + 1
+  pub node_is : node_of J p ≡ Some (submitted older request p)
+
+-- the tests of names and keys tell what is equal
+abbrev pub TablesDecided : Type 0
+TablesDecided = (a b : TableName) → Decides (same_table a b) (a ≡ b)
+
+abbrev pub RegionsDecided : Type 0
+RegionsDecided = (a b : Region) → Decides (same_region a b) (a ≡ b)
+
+abbrev pub KeysDecided : Type 0
+KeysDecided = (a b : CatKey) → Decides (same_key a b) (a ≡ b)
+
+-- keys compare as equal only where they are
+abbrev pub KeysTied : Type 0
+KeysTied = (a b : CatKey) → (key_cmp a b ≡ Equal) ↔ (a ≡ b)
+
+-- what stands before some entries of a legal journal is legal
+abbrev pub OlderIsLegal : Type 0
+OlderIsLegal = (newer older : Past) → IsLegal (newer ++ older) → IsLegal older
+
+-- so are the first entries of one
+abbrev pub FrontIsLegal : Type 0
+FrontIsLegal = (k : ℕ) (journal : List Entry) → IsLegal (back journal) → IsLegal (back (take k journal))
+
+-- the entries behind the first few are newer
+abbrev pub BackIsCut : Type 0
+BackIsCut = (k : ℕ) (journal : List Entry) → back journal ≡ back (drop k journal) ++ back (take k journal)
+
+-- one more entry is the newest
+abbrev pub PushIsNewest : Type 0
+PushIsNewest = (journal : List Entry) (entry : Entry) → back (journal ++ entry ∷ []) ≡ entry ∷ back journal
+
+abbrev pub AllGrown : Type 0
+AllGrown = (J : Past) → IsLegal J → IsGrown J
+
+-- who makes a step was made
+abbrev pub SteppersAreMade : Type 0
+SteppersAreMade =
+    (pid : Pid) (pick : Option Server) (out : StepOut) (before : Past) → IsLegal (entry_is.Step pid pick out ∷ before)
+    → (1 ≤ pid.0) × (pid.0 ≤ made before)
+
+-- where anything stands, the start is the oldest, and its sheets are those of the kinds that the master runs
+abbrev pub AllBegin : Type 0
+AllBegin = (J : Past) → IsLegal J → J ≢ [] → StartIsOldest J × AreSheets (sheets_of J)
+
+-- what stands under a nonce is a procedure, made by a submission under it
+abbrev pub NoncesFind : Type 0
+NoncesFind =
+    (J : Past) → IsLegal J → (nonce : Nonce) (p : ℕ) → by_nonce J nonce ≡ Some p
+    → IsUnder J nonce p × (1 ≤ p) × (p ≤ made J)
+
+-- a step reads of a row that it asks for what the catalog has
+abbrev pub RowsAreRead : Type 0
+RowsAreRead = (J : Past) (args : Args) (key : CatKey) → reads args key ≡ true → row_at (rows_read J args) key ≡ cat J key
+
+-- the keys of a journal are in order, and a key that has a row is one
+abbrev pub KeysAreListed : Type 0
+KeysAreListed = (J : Past) → AreInOrder (keys_of J) × ((key : CatKey) → cat J key ≢ None → IsIn key (keys_of J))
+
+-- one root at a time has a step and hasn't ended
+abbrev pub OneHolds : Past → Type 0
+OneHolds J = (p q : ℕ) → Holds J p → Holds J q → p ≡ q
+
+-- 1 for what holds
+abbrev pub one_if : Bool → ℕ
+one_if holds = if holds then 1 else 0
+
+-- how many numbers below n pass the test
+abbrev pub count_below : (ℕ → Bool) → ℕ → ℕ
+count_below test zero = 0
+count_below test (suc n) = count_below test n + one_if (test n)
+
+-- no two procedures that hold what they ask for conflict, in no legal journal
+abbrev pub NoneEverConflict : Type 0
+NoneEverConflict = (J : Past) → IsLegal J → NoneConflict J
+
+-- no nonce is used twice in a legal journal
+abbrev pub NoncesActOnceInAll : Type 0
+NoncesActOnceInAll = (J : Past) → IsLegal J → NoncesActOnce J
+
+-- none is unfinished exactly where each root has ended
+abbrev pub UnfinishedTells : Type 0
+UnfinishedTells = (J : Past) → IsLegal J → (unfinished J ≡ 0) ↔ ((p : ℕ) → is_root J p ≡ true → ended J p ≡ true)
+
+-- where a root is unfinished, a procedure can go on
+abbrev pub UnfinishedGoesOn : Type 0
+UnfinishedGoesOn = (J : Past) → IsLegal J → unfinished J ≢ 0 → (p : ℕ) × IsAvailable J p

@@ -1,0 +1,35 @@
+-- What was submitted under a nonce.
+use Rattle.std.specs.Prelude.{◌≡◌, ℕ, ◌+◌, [], ◌∷◌, Option, Some, None, Bool, not, ◌==◌, ◌&&◌, if◌then◌else◌}
+use Rattle.hm_names.specs.declared.nonce.Nonce.{Nonce}
+use Rattle.hm_data.specs.declared.entry.Entry.TheVariants as entry_is
+use Rattle.hm_model.specs.Journal.{Past}
+use Rattle.hm_model.specs.Tree.{made}
+
+-- the second nonce says the same as the first, and isn't none: a nonce with the number 0 is none
+abbrev pub is_same : Nonce → Nonce → Bool
+is_same used nonce = not (nonce.number == 0) && (used.group == nonce.group) && (used.number == nonce.number)
+
+-- the root that was made under a nonce: the latest
+abbrev pub by_nonce : Past → Nonce → Option ℕ
+by_nonce [] nonce = None
+by_nonce (entry_is.Start sheets ∷ before) nonce = by_nonce before nonce
+by_nonce (entry_is.Submit used request ∷ before) nonce =
+    if is_same used nonce then Some (made before + 1) else by_nonce before nonce
+by_nonce (entry_is.Step pid pick out ∷ before) nonce = by_nonce before nonce
+by_nonce (entry_is.Undo pid row out ∷ before) nonce = by_nonce before nonce
+by_nonce (entry_is.Report call told ∷ before) nonce = by_nonce before nonce
+by_nonce (entry_is.Up server ∷ before) nonce = by_nonce before nonce
+by_nonce (entry_is.Down server ∷ before) nonce = by_nonce before nonce
+by_nonce (entry_is.Abort pid ∷ before) nonce = by_nonce before nonce
+
+-- no nonce is used twice
+abbrev pub NoncesActOnce : Past → Type 0
+NoncesActOnce [] = Unit {0}
+NoncesActOnce (entry_is.Start sheets ∷ before) = NoncesActOnce before
+NoncesActOnce (entry_is.Submit nonce request ∷ before) = NoncesActOnce before × (by_nonce before nonce ≡ None)
+NoncesActOnce (entry_is.Step pid pick out ∷ before) = NoncesActOnce before
+NoncesActOnce (entry_is.Undo pid row out ∷ before) = NoncesActOnce before
+NoncesActOnce (entry_is.Report call told ∷ before) = NoncesActOnce before
+NoncesActOnce (entry_is.Up server ∷ before) = NoncesActOnce before
+NoncesActOnce (entry_is.Down server ∷ before) = NoncesActOnce before
+NoncesActOnce (entry_is.Abort pid ∷ before) = NoncesActOnce before

@@ -1,0 +1,42 @@
+-- A procedure as it is shown.
+use Rattle.std.specs.Prelude.{ℕ, zero, suc, ◌+◌, Option, if◌then◌else◌, not, ◌&&◌}
+use Rattle.std.specs.Option.{option_map}
+use Rattle.hm_names.specs.declared.pid.Pid.{Pid}
+use Rattle.hm_data.specs.declared.record.Record.{Record}
+use Rattle.hm_model.specs.Journal.{Past}
+use Rattle.hm_model.specs.Kinds.{kind_of}
+use Rattle.hm_model.specs.Tree.{Node, made, node_of, is_root, parent_in}
+use Rattle.hm_model.specs.Answers.{row_of, is_aborted}
+use Rattle.hm_model.specs.Phase.{phase, ended}
+
+-- a procedure's number
+abbrev pub pid_of : ℕ → Pid
+pid_of p = record { 0 = p }
+
+-- all that is told of a procedure. No transit tries anything yet.
+abbrev pub record_at : Past → ℕ → Node → Record
+record_at before p node = record {
+  pid = pid_of p;
+  parent = option_map pid_of (parent_in node.above);
+  root = pid_of node.root;
+  kind = kind_of node.args;
+  row = row_of before p node;
+  args = node.args;
+  tries = 0;
+  aborted = is_aborted before p;
+  phase = phase before p node;
+}
+
+-- a procedure by its number
+abbrev pub record_of : Past → ℕ → Option Record
+record_of before p = option_map (record_at before p) (node_of before p)
+
+-- how many of the procedures below n are roots that haven't ended
+abbrev pub unfinished_below : Past → ℕ → ℕ
+unfinished_below before zero = 0
+unfinished_below before (suc n) =
+    unfinished_below before n + (if is_root before n && not (ended before n) then 1 else 0)
+
+-- how many roots haven't ended
+abbrev pub unfinished : Past → ℕ
+unfinished before = unfinished_below before (made before + 1)

@@ -1,0 +1,281 @@
+-- How far the procedures are that the master runs so far: requests for namespaces alone.
+use Rattle.std.specs.Prelude.{Bool, List, None, Option, Some, [], false, length, true, ℕ, ◌+◌, ◌<◌, ◌↔◌, ◌∷◌, ◌≡◌, ◌≢◌, ◌≤◌, ◌⊎◌}
+use Rattle.hm_data.specs.declared.answer.Answer.{Answer}
+use Rattle.hm_data.specs.declared.answer.Cause.{Cause}
+use Rattle.hm_data.specs.declared.catalog.CatRow.{CatRow}
+use Rattle.hm_data.specs.declared.catalog.Edit.{Edit}
+use Rattle.hm_data.specs.declared.entry.Entry.{Entry}
+use Rattle.hm_data.specs.declared.record.Phase.{Phase}
+use Rattle.hm_data.specs.declared.sheet.Row.{Row}
+use Rattle.hm_data.specs.declared.sheet.Sheet.{Sheet}
+use Rattle.hm_data.specs.declared.step.StepIn.{StepIn}
+use Rattle.hm_data.specs.declared.step.StepOut.{StepOut}
+use Rattle.hm_names.specs.Server.{Server}
+use Rattle.hm_names.specs.declared.pid.Pid.{Pid}
+use Rattle.hm_model.specs.Answers.{failing, is_aborted, is_stop, is_stopped, last_answer, no_row, report_of, row_of}
+use Rattle.hm_model.specs.Catalog.{cat, row_at}
+use Rattle.hm_model.specs.Inputs.{input, rows_read, undoes}
+use Rattle.hm_model.specs.Journal.{Past}
+use Rattle.hm_model.specs.Kinds.{kind_of}
+use Rattle.hm_model.specs.Laws.{OneHolds, one_if}
+use Rattle.hm_model.specs.Locks.{Holds}
+use Rattle.hm_model.specs.Phase.{all_stopped, cause, children_ended, ended, ends_of, phase, rolled_back}
+use Rattle.hm_model.specs.Records.{unfinished}
+use Rattle.hm_model.specs.Rest.{IsAtRest}
+use Rattle.hm_model.specs.Rules.{IsLegal, MayBegin, MayStep}
+use Rattle.hm_model.specs.Sheets.{next_row, row_in, sheet_for, sheets_of}
+use Rattle.hm_model.specs.Steps.{CanStep, fails, gives}
+use Rattle.hm_model.specs.Tree.{Node, is_root, made, node_of, root_node}
+use Rattle.hm_model.specs.Undo.{stack}
+use Rattle.hm_data.specs.declared.entry.Entry.TheVariants as entry_is
+use Rattle.hm_data.specs.declared.answer.Answer.TheVariants as answer_is
+use Rattle.hm_data.specs.declared.answer.Cause.TheVariants as cause_is
+use Rattle.hm_data.specs.declared.args.Args.TheVariants as args_are
+use Rattle.hm_data.specs.declared.request.Request.TheVariants as request_is
+use Rattle.hm_data.specs.declared.catalog.CatKey.TheVariants as key_is
+use Rattle.hm_data.specs.declared.catalog.CatRow.TheVariants as row_is
+use Rattle.hm_data.specs.declared.act.Act.TheVariants as act_is
+use Rattle.hm_data.specs.declared.act.Back.TheVariants as back_is
+use Rattle.hm_data.specs.declared.step.Turn.TheVariants as turn_is
+use Rattle.hm_data.specs.declared.call.Told.TheVariants as told_is
+use Rattle.hm_data.specs.declared.record.Phase.TheVariants as phase_is
+
+-- the procedure that a request for a namespace makes
+abbrev pub creating : ℕ → List ℕ → Node
+creating p ns = root_node p (args_are.Root (request_is.CreateNamespace ns) 1) 1
+
+-- while the master runs only requests for namespaces: each procedure is one, nothing is reported and nobody aborts, and
+-- each was an entry of its own
+pub record IsSimple (J : Past) : Type 0 where
+  pub creates : (p : ℕ) (node : Node) → node_of J p ≡ Some node → (ns : List ℕ) × (node ≡ creating p ns)
+  pub unreported : (p : ℕ) → report_of J p ≡ None
+  pub unaborted : (p : ℕ) → is_aborted J p ≡ false
+  pub made_bound : made J ≤ length J
+
+-- what is answered makes no procedures, calls nobody and places nothing
+abbrev pub IsPlain : StepOut → Type 0
+IsPlain out = (out.children ≡ []) × (out.call ≡ None) × (out.place ≡ None)
+
+-- the row that checks that a namespace isn't there
+pub record IsCheckRow (row : Row) : Type 0 where
+  pub act : row.act ≡ act_is.CheckNamespaceFree
+  pub before_point : row.after ≡ false
+  pub undo : row.undo ≡ back_is.Nothing
+  pub goes_on : row.next ≢ no_row
+
+-- the row that adds a namespace, the last one
+pub record IsAddRow (row : Row) : Type 0 where
+  pub act : row.act ≡ act_is.AddNamespace
+  pub before_point : row.after ≡ false
+  pub undo : row.undo ≡ back_is.Nothing
+  pub ends : row.next ≡ no_row
+
+-- the row at a place of the sheet for namespaces
+abbrev pub create_row : List Sheet → ℕ → Option Row
+create_row sheets place = row_in (sheet_for sheets 1) place
+
+-- the next step adds the namespace
+abbrev pub IsAddPlace : List Sheet → ℕ → Type 0
+IsAddPlace sheets place = (row : Row) × (create_row sheets place ≡ Some row) × IsAddRow row × (place < 32)
+
+-- the sheet for namespaces checks at row 0, and then adds
+abbrev pub LeadsToAdd : List Sheet → Type 0
+LeadsToAdd sheets = (row : Row) × (create_row sheets 0 ≡ Some row) × IsCheckRow row × IsAddPlace sheets row.next
+
+-- how far a procedure that makes a namespace is: nothing done, checked, done, or refused
+abbrev pub Stage : List Sheet → Option Answer → Type 0
+Stage sheets None = Unit {0}
+Stage sheets (Some (answer_is.More next)) = IsAddPlace sheets next
+Stage sheets (Some (answer_is.Wait next)) = ⊥
+Stage sheets (Some (answer_is.Await next)) = ⊥
+Stage sheets (Some (answer_is.Done told)) = told ≡ told_is.Nothing
+Stage sheets (Some (answer_is.Fail cause)) = cause ≡ cause_is.NsExists
+Stage sheets (Some answer_is.Undone) = ⊥
+
+-- why the last answer is a failure
+abbrev pub failing_in : Option Answer → Option Cause
+failing_in None = None
+failing_in (Some answer) = failing answer
+
+-- while the master runs only requests for namespaces: each procedure is at a stage, nothing can be undone, and a root
+-- has failed where its last answer says so
+pub record IsStaged (J : Past) : Type 0 where
+  pub staged : (p : ℕ) → Stage (sheets_of J) (last_answer J p)
+  pub stacked : (p : ℕ) → stack J p ≡ []
+  pub caused : (p : ℕ) → cause J p ≡ failing_in (last_answer J p)
+
+-- what a namespace's row becomes
+abbrev pub adding : Past → List ℕ → Edit
+adding before ns = record { key = key_is.Ns ns; before = cat before (key_is.Ns ns); after = Some row_is.Ns }
+
+-- a first step that finds no namespace of the name goes on to add it
+pub record FindsFree (before : Past) (p : ℕ) (ns : List ℕ) (out : StepOut) : Type 0 where
+  pub unstepped : last_answer before p ≡ None
+  pub free : cat before (key_is.Ns ns) ≡ None
+  pub next : ℕ
+  pub adds_then : IsAddPlace (sheets_of before) next
+  pub out_is : out ≡ gives (answer_is.More next) []
+
+-- a first step that finds one fails
+pub record FindsTaken (before : Past) (p : ℕ) (ns : List ℕ) (out : StepOut) : Type 0 where
+  pub unstepped : last_answer before p ≡ None
+  pub row : CatRow
+  pub taken : cat before (key_is.Ns ns) ≡ Some row
+  pub out_is : out ≡ fails cause_is.NsExists
+
+-- a second step adds it
+pub record AddsIt (before : Past) (p : ℕ) (ns : List ℕ) (out : StepOut) : Type 0 where
+  pub next : ℕ
+  pub checked : last_answer before p ≡ Some (answer_is.More next)
+  pub out_is : out ≡ gives (answer_is.Done told_is.Nothing) (adding before ns ∷ [])
+
+-- while the master runs only requests for namespaces: what a legal step is
+pub record IsStep (pid : Pid) (pick : Option Server) (out : StepOut) (before : Past) : Type 0 where
+  pub ns : List ℕ
+  pub node_is : node_of before pid.0 ≡ Some (creating pid.0 ns)
+  pub unpicked : pick ≡ None
+  pub uncaused : cause before pid.0 ≡ None
+  pub row : Row
+  pub row_is : next_row before pid.0 (creating pid.0 ns) ≡ Some row
+  pub undo : row.undo ≡ back_is.Nothing
+  pub does : FindsFree before pid.0 ns out ⊎ (FindsTaken before pid.0 ns out ⊎ AddsIt before pid.0 ns out)
+
+-- what the last answer says of the phase, where nothing can be undone
+abbrev pub simple_phase : Option Answer → Phase
+simple_phase None = phase_is.Runnable
+simple_phase (Some (answer_is.More next)) = phase_is.Runnable
+simple_phase (Some (answer_is.Wait next)) = phase_is.Runnable
+simple_phase (Some (answer_is.Await next)) = phase_is.Awaiting
+simple_phase (Some (answer_is.Done told)) = phase_is.Success
+simple_phase (Some (answer_is.Fail cause)) = phase_is.RolledBack cause
+simple_phase (Some answer_is.Undone) = phase_is.Success
+
+-- what a step of a procedure that makes a namespace sees
+abbrev pub creating_input : Past → ℕ → List ℕ → Option Server → StepIn
+creating_input before p ns pick = record {
+  pid = record { 0 = p };
+  root = record { 0 = p };
+  kind = 1;
+  row = row_of before p (creating p ns);
+  args = args_are.Root (request_is.CreateNamespace ns) 1;
+  tries = 0;
+  rows = rows_read before (args_are.Root (request_is.CreateNamespace ns) 1);
+  ends = [];
+  report = None;
+  place = None;
+  fenced = false;
+  on_server = [];
+  pick = pick;
+  aborted = false;
+  turn = turn_is.Step;
+}
+
+-- while the master runs only requests for namespaces: no procedure has children or anything to undo, so its last answer
+-- says how far it is
+pub record IsFlat (J : Past) : Type 0 where
+  pub childless : (p : ℕ) → children_ended J p ≡ true
+  pub endless : (p : ℕ) → ends_of J p ≡ []
+  pub stopped : (p : ℕ) → all_stopped J p ≡ true
+  pub rolled : (p : ℕ) → rolled_back J p ≡ true
+  pub phase_is_simple : (p : ℕ) (node : Node) → node_of J p ≡ Some node → phase J p node ≡ simple_phase (last_answer J p)
+  pub ended_is_stopped : (p : ℕ) → ended J p ≡ is_stopped (last_answer J p)
+  pub undoes_nothing : (p : ℕ) (node : Node) → undoes J p node ≡ false
+  pub sees : (p : ℕ) (ns : List ℕ) (pick : Option Server) → input J p (creating p ns) pick ≡ creating_input J p ns pick
+
+-- while the master runs only requests for namespaces: what a step answers, and where
+pub record IsShaped (before : Past) (p : ℕ) (ns : List ℕ) (out : StepOut) : Type 0 where
+  pub childless : out.children ≡ []
+  pub followerless : out.followers ≡ []
+  pub uncalled : out.call ≡ None
+  pub unplaced : out.place ≡ None
+  pub runs : (last_answer before p ≡ None) ⊎ ((next : ℕ) × (last_answer before p ≡ Some (answer_is.More next)))
+  pub answers : ((next : ℕ) × (out.answer ≡ answer_is.More next)) ⊎ ((out.answer ≡ answer_is.Done told_is.Nothing) ⊎ (out.answer ≡ answer_is.Fail cause_is.NsExists))
+  pub edits : (out.edits ≡ []) ⊎ (out.edits ≡ adding before ns ∷ [])
+
+-- each of these holds of each legal journal while the master runs only requests for namespaces
+abbrev pub AllSimple : Type 0
+AllSimple = (J : Past) → IsLegal J → IsSimple J
+
+abbrev pub AllStaged : Type 0
+AllStaged = (J : Past) → IsLegal J → IsStaged J
+
+abbrev pub AllFlat : Type 0
+AllFlat = (J : Past) → IsLegal J → IsFlat J
+
+abbrev pub AllSteps : Type 0
+AllSteps =
+    (pid : Pid) (pick : Option Server) (out : StepOut) (before : Past) → IsLegal (entry_is.Step pid pick out ∷ before)
+    → (step : IsStep pid pick out before) × IsShaped before pid.0 step.ns out
+
+-- a request for a namespace reads the namespace's row, and no other
+abbrev pub NamespaceIsRead : Type 0
+NamespaceIsRead =
+    (J : Past) (ns : List ℕ) (first : ℕ)
+    → (cat J (key_is.Ns ns) ≡ None → rows_read J (args_are.Root (request_is.CreateNamespace ns) first) ≡ [])
+    × ((row : CatRow) → cat J (key_is.Ns ns) ≡ Some row → rows_read J (args_are.Root (request_is.CreateNamespace ns) first) ≡ (key_is.Ns ns, row) ∷ [])
+    × (row_at (rows_read J (args_are.Root (request_is.CreateNamespace ns) first)) (key_is.Ns ns) ≡ cat J (key_is.Ns ns))
+
+-- an unfinished procedure's row is in its sheet, which can be asked for its step
+pub record IsPlaced (J : Past) (p : ℕ) (node : Node) : Type 0 where
+  pub sheet : Sheet
+  pub sheet_is : sheet_for (sheets_of J) (kind_of node.args) ≡ Some sheet
+  pub row : Row
+  pub row_is : next_row J p node ≡ Some row
+  pub within : row_of J p node < length sheet.rows
+  pub can : (pick : Option Server) → CanStep sheet (input J p node pick)
+
+-- an entry that ends a root, while nothing is undone
+abbrev pub is_ending : Entry → Bool
+is_ending (entry_is.Start sheets) = false
+is_ending (entry_is.Submit nonce request) = false
+is_ending (entry_is.Step pid pick out) = is_stop out.answer
+is_ending (entry_is.Undo pid row out) = false
+is_ending (entry_is.Report call told) = false
+is_ending (entry_is.Up server) = false
+is_ending (entry_is.Down server) = false
+is_ending (entry_is.Abort pid) = false
+
+-- a submission
+abbrev pub is_submission : Entry → Bool
+is_submission (entry_is.Start sheets) = false
+is_submission (entry_is.Submit nonce request) = true
+is_submission (entry_is.Step pid pick out) = false
+is_submission (entry_is.Undo pid row out) = false
+is_submission (entry_is.Report call told) = false
+is_submission (entry_is.Up server) = false
+is_submission (entry_is.Down server) = false
+is_submission (entry_is.Abort pid) = false
+
+-- the row that a procedure is at is a byte
+abbrev pub RowsFit : Type 0
+RowsFit = (J : Past) → IsLegal J → (p : ℕ) (node : Node) → row_of J p node < 256
+
+abbrev pub AllPlaced : Type 0
+AllPlaced =
+    (J : Past) → IsLegal J → (p : ℕ) (node : Node) → node_of J p ≡ Some node → is_stopped (last_answer J p) ≡ false
+    → IsPlaced J p node
+
+abbrev pub AllOneHolds : Type 0
+AllOneHolds = (J : Past) → IsLegal J → OneHolds J
+
+-- a procedure may step where it is there and its last step didn't end it
+abbrev pub StepsWhileRunning : Type 0
+StepsWhileRunning =
+    (J : Past) → IsLegal J → (p : ℕ)
+    → MayStep J p ↔ ((node : Node) × (node_of J p ≡ Some node) × (is_stopped (last_answer J p) ≡ false))
+
+-- a root may begin where none has a step and is unfinished
+abbrev pub BeginsAlone : Type 0
+BeginsAlone =
+    (J : Past) → IsLegal J → (p : ℕ) → is_root J p ≡ true
+    → MayBegin J p ↔ (last_answer J p ≡ None → (q : ℕ) → Holds J q → ⊥)
+
+-- a submission makes one more unfinished, a step that ends its procedure one less, and nothing else changes that
+abbrev pub UnfinishedCounts : Type 0
+UnfinishedCounts =
+    (entry : Entry) (before : Past) → IsLegal (entry ∷ before)
+    → unfinished (entry ∷ before) + one_if (is_ending entry) ≡ unfinished before + one_if (is_submission entry)
+
+-- nothing can go on exactly where none is unfinished
+abbrev pub RestIsDone : Type 0
+RestIsDone = (J : Past) → IsLegal J → IsAtRest J ↔ (unfinished J ≡ 0)

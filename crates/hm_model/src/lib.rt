@@ -1,0 +1,8 @@
+//! What a journal says: its procedures and their phases, its catalog, what it locks, what a step answers, and which
+//! entries may follow one another. Definitions alone, and laws about them; the layers above are proved against these.
+#![tactic(auto)]
+
+pub mod laws;
+mod lock;
+
+pub use lock::{Ask, Resource};
