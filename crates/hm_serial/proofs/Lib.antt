@@ -1,0 +1,12 @@
+pub mod Local
+pub mod Sheets
+pub mod Roots
+pub mod CreateNamespace
+pub mod Steps
+pub mod Trees
+pub mod Frame
+pub mod Alone
+pub mod Moves
+pub mod Keeps
+pub mod Serial
+pub mod Paid

@@ -1,0 +1,131 @@
+-- The rows of a valid sheet are led through as its kind lists them.
+use Rattle.std.proofs.Common.{◌≡◌, ℕ, zero, suc, ◌<◌, List, [], ◌∷◌, length, Bool, true, false, not, ◌&&◌, ◌||◌, ◌==◌, cond, if◌then◌else◌, Option, Some, None, refl, ap, sym, ◌∙◌, arith, inl, inr, ◌⊎◌, slice_get, map}
+use Rattle.std.specs.List.{list_any}
+use Rattle.std.proofs.lemmas.Bool.{and_parts, or_cases, cases_Bool, eqb-true, eq-eqb, cond-true, cond-false, not-true, true≢false, false≢true}
+use Rattle.std.proofs.lemmas.Option.{same_Some, none-some}
+use Rattle.hm_data.specs.Numbers.{act_number, act_of, back_number, back_of}
+use Rattle.hm_data.specs.declared.act.Act.{Act}
+use Rattle.hm_data.specs.declared.act.Back.{Back}
+use Rattle.hm_data.specs.declared.act.Back.TheVariants as back_is
+use Rattle.hm_data.specs.declared.sheet.Row.{Row}
+use Rattle.hm_data.specs.declared.sheet.Sheet.{Sheet}
+use Rattle.hm_model.proofs.ValidSheets.{valid_fits, valid_row}
+use Rattle.hm_data.proofs.ActNumbers.{act_of-act_number}
+use Rattle.hm_model.specs.Answers.{no_row}
+use Rattle.hm_model.specs.Lists.{Line, lines_of, exact_rows}
+use Rattle.hm_model.specs.Sheets.{sheet_for}
+use Rattle.hm_model.specs.Validity.{same_flag, fits, astray, misfit_in, IsValid, AllValid}
+
+-- a row is as a line lists it, with its undo or none
+abbrev pub Fits : Line → Row → Type 0
+Fits line row =
+    (row.act ≡ line.act) × (row.after ≡ line.after) × ((row.undo ≡ line.undo) ⊎ (row.undo ≡ back_is.Nothing))
+
+abbrev pub is_last : List Line → Bool
+is_last [] = true
+is_last (line ∷ lines) = false
+
+-- the rows from a place on, as each says the next, are as listed, up to the end
+abbrev pub Leads : List Row → ℕ → List Line → Type 0
+Leads rows place [] = place ≡ no_row
+Leads rows place (line ∷ lines) =
+    (row : Row) × (slice_get rows place ≡ Some row) × Fits line row × ((row.next == no_row) ≡ is_last lines) × Leads rows row.next lines
+
+same_flag-is : (a b : Bool) → same_flag a b ≡ true → a ≡ b
+same_flag-is true true h = refl
+same_flag-is true false h = absurd (false≢true h)
+same_flag-is false true h = absurd (false≢true h)
+same_flag-is false false h = refl
+
+same_act : (a b : Act) → act_number a ≡ act_number b → a ≡ b
+same_act a b e = same_Some a b (sym (act_of-act_number a) ∙ ap act_of e ∙ act_of-act_number b)
+
+back_of-back_number : (undo : Back) → back_of (back_number undo) ≡ Some undo
+back_of-back_number back_is.Nothing = refl
+back_of-back_number back_is.Edits = refl
+back_of-back_number back_is.Sweep = refl
+back_of-back_number back_is.Reopen = refl
+
+same_back : (a b : Back) → back_number a ≡ back_number b → a ≡ b
+same_back a b e = same_Some a b (sym (back_of-back_number a) ∙ ap back_of e ∙ back_of-back_number b)
+
+fits_is : (line : Line) (row : Row) → fits line row ≡ true → Fits line row
+fits_is line row h =
+    let act = and_parts (act_number row.act == act_number line.act) (same_flag row.after line.after && ((back_number row.undo == back_number line.undo) || (back_number row.undo == 0))) h in
+    let rest = and_parts (same_flag row.after line.after) ((back_number row.undo == back_number line.undo) || (back_number row.undo == 0)) act.1 in (
+      same_act row.act line.act (eqb-true (act_number row.act) (act_number line.act) act.0),
+      same_flag-is row.after line.after rest.0,
+      elim (or_cases (back_number row.undo == back_number line.undo) (back_number row.undo == 0) rest.1) [
+        | inl listed ↦ inl (same_back row.undo line.undo (eqb-true (back_number row.undo) (back_number line.undo) listed))
+        | inr none ↦ inr (same_back row.undo back_is.Nothing (eqb-true (back_number row.undo) 0 none))
+      ],
+    )
+
+row_there : (rows : List Row) (place : ℕ) → place < length rows → (row : Row) × (slice_get rows place ≡ Some row)
+row_there [] place lt = absurd (omega (arith, lt))
+row_there (row ∷ rows) zero lt = (row, refl)
+row_there (row ∷ rows) (suc place) lt = row_there rows place (omega (arith, lt))
+
+if_none : (b : Bool) (o : Option ℕ) (place : ℕ) → cond b o (Some place) ≡ None → (b ≡ true) × (o ≡ None)
+if_none true o place h = (refl, h)
+if_none false o place h = absurd (none-some place (sym h))
+
+at_end : (line : Line) (place : ℕ) (o : Option Row) (row : Row) → o ≡ Some row → (elim o as (λ r. Option ℕ) [ None ↦ None | Some x ↦ if fits line x && (x.next == no_row) then None else Some place ]) ≡ None → (fits line row && (row.next == no_row)) ≡ true
+at_end line place None row is h = absurd (none-some row is)
+at_end line place (Some x) row is h = rw (← same_Some x row is) (if_none (fits line x && (x.next == no_row)) None place h).0
+
+at_more : (rows : List Row) (line following : Line) (lines : List Line) (place : ℕ) (o : Option Row) (row : Row) → o ≡ Some row → (elim o as (λ r. Option ℕ) [ None ↦ None | Some x ↦ if fits line x && not (x.next == no_row) then astray rows following lines x.next else Some place ]) ≡ None → ((fits line row && not (row.next == no_row)) ≡ true) × (astray rows following lines row.next ≡ None)
+at_more rows line following lines place None row is h = absurd (none-some row is)
+at_more rows line following lines place (Some x) row is h = rw (← same_Some x row is) (if_none (fits line x && not (x.next == no_row)) (astray rows following lines x.next) place h)
+
+module _ (rows : List Row) (onward : (place : ℕ) (row : Row) → slice_get rows place ≡ Some row → (row.next ≡ no_row) ⊎ (row.next < length rows)) where
+  led : (line : Line) (lines : List Line) (place : ℕ) → place < length rows → astray rows line lines place ≡ None → Leads rows place (line ∷ lines)
+  led line [] place lt h =
+      let there = row_there rows place lt in
+      let parts = and_parts (fits line there.0) (there.0.next == no_row) (at_end line place (slice_get rows place) there.0 there.1 h) in
+      (there.0, there.1, fits_is line there.0 parts.0, parts.1, eqb-true there.0.next no_row parts.1)
+  led line (following ∷ lines) place lt h =
+      let there = row_there rows place lt in
+      let on = at_more rows line following lines place (slice_get rows place) there.0 there.1 h in
+      let parts = and_parts (fits line there.0) (not (there.0.next == no_row)) on.0 in
+      let off : (there.0.next == no_row) ≡ false = not-true (there.0.next == no_row) parts.1 in (
+        there.0,
+        there.1,
+        fits_is line there.0 parts.0,
+        off,
+        led following lines there.0.next (elim (onward place there.0 there.1) [
+          | inl end ↦ absurd (true≢false (sym (eq-eqb there.0.next no_row end) ∙ off))
+          | inr within ↦ within
+        ]) on.1,
+      )
+
+led_first : (exact : List Row) (line : Line) (lines : List Line) (rows : List Row) → exact ≡ [] → misfit_in exact (line ∷ lines) rows ≡ None → (0 < length rows) × (astray rows line lines 0 ≡ None)
+led_first exact line lines [] none h = absurd (none-some 0 (sym h))
+led_first (x ∷ exact) line lines (row ∷ rows) none h = absurd (cc)
+led_first [] line lines (row ∷ rows) none h = (omega arith, h)
+
+-- the rows of a kind that lists lines lead through them from the first on
+pub valid_leads : (sheet : Sheet) (line : Line) (lines : List Line) → IsValid sheet → exact_rows sheet.kind ≡ [] → lines_of sheet.kind ≡ line ∷ lines → Leads sheet.rows 0 (line ∷ lines)
+valid_leads sheet line lines valid exact listed =
+    let none : misfit_in (exact_rows sheet.kind) (line ∷ lines) sheet.rows ≡ None = ap (λ l. misfit_in (exact_rows sheet.kind) l sheet.rows) (sym listed) ∙ valid_fits sheet valid in
+    let first = led_first (exact_rows sheet.kind) line lines sheet.rows exact none in
+    led sheet.rows (λ place row is. (valid_row sheet valid place row is).0) line lines 0 first.0 first.1
+
+-- no row has the number that ends a procedure
+pub valid_end : (sheet : Sheet) → IsValid sheet → (row : Row) → slice_get sheet.rows no_row ≡ Some row → ⊥
+valid_end sheet valid row is =
+    let low = (valid_row sheet valid no_row row is).1 in
+    omega (arith, low)
+
+-- a kind that sheets are for has one
+pub sheet_found : (sheets : List Sheet) (kind : ℕ) → AllValid sheets → list_any (λ k. k == kind) (map (λ s. s.kind) sheets) ≡ true → (sheet : Sheet) × (sheet_for sheets kind ≡ Some sheet) × IsValid sheet × (sheet.kind ≡ kind)
+sheet_found [] kind valid among = absurd (false≢true among)
+sheet_found (sheet ∷ sheets) kind valid among = elim (cases_Bool (sheet.kind == kind)) [
+  | inl on ↦ (sheet, cond-true (sheet.kind == kind) (Some sheet) (sheet_for sheets kind) on, valid.0, eqb-true sheet.kind kind on)
+  | inr off ↦
+      let later = sheet_found sheets kind valid.1 (elim (or_cases (sheet.kind == kind) (list_any (λ k. k == kind) (map (λ s. s.kind) sheets)) among) [
+        | inl on ↦ absurd (true≢false (sym on ∙ off))
+        | inr rest ↦ rest
+      ]) in
+      (later.0, cond-false (sheet.kind == kind) (Some sheet) (sheet_for sheets kind) off ∙ later.1, later.2, later.3)
+]

@@ -1,0 +1,9 @@
+//! What holds of every legal journal: the catalog is that of the deeds, one after another. Each function is a law: its
+//! contract is proved, and its body has nothing to do.
+#![tactic(auto)]
+
+mod laws;
+
+pub use laws::{
+    catalog_is_serial, cost_bound, deeds_apply, failure_leaves_all, settled_catalog_is_serial,
+};
