@@ -1,0 +1,10 @@
+pub mod Loop
+pub mod Codec
+pub mod FieldCodecs
+pub mod KindCodecs
+pub mod CodeCodecs
+pub mod NameCodecs
+pub mod RequestCodecs
+pub mod StepCodecs
+pub mod EntryCodec
+pub mod Room
