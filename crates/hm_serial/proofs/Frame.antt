@@ -87,9 +87,6 @@ push_within args back_is.Reopen false p row edits below one more = (tt, more)
 
 -- another tree stays as it was
 module _ (J J' : Past) (s : ℕ) (node : Node) (same : Same J J' s) where
-  rows_same : (args : Args) → rows_for J' args ≡ rows_for J args
-  rows_same args = rw (same.sheets) refl
-
   follows_same : following J' s node ≡ following J s node
   follows_same = rw (same.sheets, same.last) refl
 

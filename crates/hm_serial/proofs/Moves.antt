@@ -81,9 +81,6 @@ pub some_or : {A : Type 0} (o : Option A) → (o ≡ None) ⊎ ((x : A) × (o �
 some_or None = inl refl
 some_or (Some x) = inr (x, refl)
 
-none_is : {A : Type 0} (o : Option A) → o ≡ None → is_some o ≡ false
-none_is o e = ap is_some e
-
 some_is : {A : Type 0} (o : Option A) → is_some o ≡ true → (x : A) × (o ≡ Some x)
 some_is None e = absurd (false≢true e)
 some_is (Some x) e = (x, refl)

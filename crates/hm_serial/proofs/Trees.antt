@@ -68,13 +68,6 @@ forest_all J legal =
 pub root_is : (J : Past) → IsForest J → (p : ℕ) (node : Node) → node_of J p ≡ Some node → root_of J p ≡ p
 root_is J forest p node is = ap root_in is ∙ (forest.tops p node is).1
 
-pub some_node : (J : Past) → IsForest J → (p : ℕ) → last_answer J p ≢ None → (node : Node) × (node_of J p ≡ Some node)
-some_node J forest p some = by (node_of J p) refl
-  where
-    by : (o : Option Node) → node_of J p ≡ o → (node : Node) × (node_of J p ≡ Some node)
-    by None e = absurd (some (forest.unmade p e))
-    by (Some node) e = (node, e)
-
 -- the rows of the sheet for a procedure
 abbrev pub rows_in : Option Sheet → List Row
 rows_in None = []
