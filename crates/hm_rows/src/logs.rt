@@ -104,9 +104,9 @@ fn run_leaves_these_bytes(rt: HostRuntime) -> Result<(), Fail> {
 
 #[test]
 fn run_leaves_these_frames(rt: HostRuntime) -> Result<(), Fail> {
-    let played = play(rt.alloc(), &RUN, b"namespace 1:1 shop\n", b"", NONE)?;
-    let Ended { mut disk, .. } = played.ended;
+    let Ended { disk, .. } = play(rt.alloc(), &RUN, b"namespace 1:1 shop\n", b"", NONE)?.ended;
     assert_eq!(rt; disk.bytes().len(), 47);
+    let mut disk = disk;
     let frames = Log::scan(rt.alloc(), &mut disk)?;
     assert_eq!(rt; frames.count(), 2);
     assert_eq!(rt; frames.frame(0), START);
