@@ -1,0 +1,60 @@
+-- One of several things is written over by one whose sheets are the same and whose count rose.
+use Rattle.std.proofs.Common.{◌≡◌, ℕ, zero, suc, ◌+◌, ◌-◌, ◌^◌, ◌<◌, ◌≤◌, List, [], ◌∷◌, ◌++◌, IfSome, map, set, length, get_or, slice_get, refl, ap, ◌∙◌, sym, arith, inl, inr, sum, Option, Some, None}
+use Rattle.std.proofs.lemmas.Grind.{common_steps}
+use Rattle.std.proofs.lemmas.Bool.{cases_lt}
+use Rattle.std.proofs.lemmas.Option.{slice_get-get_or}
+use Rattle.std.specs.List.{flat_map}
+use Rattle.hm_data.specs.declared.sheet.Sheet.{Sheet}
+use Rattle.hm_data.specs.declared.step.StepIn.{StepIn}
+use Rattle.hm_data.specs.declared.step.StepOut.{StepOut}
+use Rattle.hm_model.specs.Sheets.{sheet_for}
+use Rattle.hm_model.specs.Steps.{evaluation}
+use Rattle.hm_sheet.specs.Words.{Rises, CountsRise, answer_of}
+
+-- x is at place i, and y has the same
+pub flat_map-set_same : {X Y : Type 0} (f : X → List Y) (xs : List X) (i : ℕ) (x y : X) → i < length xs → x ≡ get_or xs i x → f y ≡ f x → flat_map f (set xs i y) ≡ flat_map f xs
+flat_map-set_same f [] i x y lt is same = refl
+flat_map-set_same f (z ∷ xs) zero x y lt is same = ap (λ w. w ++ flat_map f xs) (same ∙ ap f is)
+flat_map-set_same f (z ∷ xs) (suc i) x y lt is same =
+    ap (λ zs. f z ++ zs) (flat_map-set_same f xs i x y (omega arith) is same)
+
+sum-cons : (a : ℕ) (xs : List ℕ) → sum (a ∷ xs) ≡ a + sum xs
+sum-cons a xs = grind (arith, common_steps)
+
+less_head : (a b rest : ℕ) → a < b → a + rest < b + rest
+less_head a b rest lt = omega arith
+
+less_tail : (a m n : ℕ) → m < n → a + m < a + n
+less_tail a m n lt = omega arith
+
+-- one count rises, and the others stay
+pub counts_rise : {X : Type 0} (f : X → ℕ) (xs : List X) (i : ℕ) (x y : X) → i < length xs → x ≡ get_or xs i x → Rises (f x) (f y) → CountsRise (map f xs) (map f (set xs i y))
+counts_rise f [] i x y lt is rises = absurd (omega arith)
+counts_rise f (z ∷ xs) zero x y lt is rises = elim (cases_lt (f z) (2 ^ 64 - 1)) [
+  | inl below ↦ inl (let same : f x ≡ f z = ap f is in rw (sum-cons (f z) (map f xs), sum-cons (f y) (map f xs)) (less_head (f z) (f y) (sum (map f xs)) (omega (arith, rises))))
+  | inr full ↦ inr (0, f z, omega arith, refl, full)
+]
+counts_rise f (z ∷ xs) (suc i) x y lt is rises = elim (counts_rise f xs i x y (omega arith) is rises) [
+  | inl more ↦ inl (rw (sum-cons (f z) (map f xs), sum-cons (f z) (map f (set xs i y))) (less_tail (f z) (sum (map f xs)) (sum (map f (set xs i y))) more))
+  | inr full ↦ inr (suc full.0, full.1, omega (arith, full.2), full.3, full.4)
+]
+
+-- one count doesn't fall, and the others stay
+pub counts_stay : {X : Type 0} (f : X → ℕ) (xs : List X) (i : ℕ) (x y : X) → i < length xs → x ≡ get_or xs i x → f x ≤ f y → sum (map f xs) ≤ sum (map f (set xs i y))
+counts_stay f [] i x y lt is kept = absurd (omega arith)
+counts_stay f (z ∷ xs) zero x y lt is kept =
+    let same : f x ≡ f z = ap f is in
+    rw (sum-cons (f z) (map f xs), sum-cons (f y) (map f xs)) (omega arith)
+counts_stay f (z ∷ xs) (suc i) x y lt is kept =
+    let rest : sum (map f xs) ≤ sum (map f (set xs i y)) = counts_stay f xs i x y (omega arith) is kept in
+    rw (sum-cons (f z) (map f xs), sum-cons (f z) (map f (set xs i y))) (omega arith)
+
+abbrev said : Option Sheet → StepIn → Option StepOut
+said sheet at = elim sheet as (λ s. Option StepOut) [ None ↦ None | Some s ↦ evaluation s at ]
+
+-- what the thing at place i says is what all say
+pub ran : {X : Type 0} (f : X → List Sheet) (xs : List X) (i : ℕ) (x : X) (at : StepIn) (out : StepOut) → i < length xs → x ≡ get_or xs i x → IfSome (slice_get xs i) (λ y. sheet_for (f y) at.kind ≡ sheet_for (flat_map f xs) at.kind) → answer_of (f x) at ≡ Some out → answer_of (flat_map f xs) at ≡ Some out
+ran f xs i x at out lt is served says =
+    let there : slice_get xs i ≡ Some x = slice_get-get_or xs i x lt ∙ ap (λ y. Some y) (sym is) in
+    let same : sheet_for (f x) at.kind ≡ sheet_for (flat_map f xs) at.kind = rw there at served in
+    ap (λ (s : Option Sheet). said s at) (sym same) ∙ says

@@ -1,0 +1,60 @@
+-- What sheets say at an input, and counts.
+use Rattle.std.specs.Prelude.{ℕ, ◌+◌, ◌-◌, ◌^◌, ◌≤◌, ◌<◌, min, List, [], ◌∷◌, Option, Some, None, sum, ◌⊎◌, Any, IsTrue, IsSome, ◌≡◌, ◌==◌, if◌then◌else◌}
+use Rattle.hm_data.specs.declared.sheet.Sheet.{Sheet}
+use Rattle.hm_data.specs.declared.step.StepIn.{StepIn}
+use Rattle.hm_data.specs.declared.step.StepOut.{StepOut}
+use Rattle.hm_model.specs.Kinds.{is_running_kind}
+use Rattle.hm_model.specs.Sheets.{sheet_for}
+use Rattle.hm_sheet.specs.declared.fault.RegistryFault.{RegistryFault}
+use Rattle.hm_sheet.specs.declared.fault.RegistryFault.TheVariants as fault_is
+use Rattle.hm_model.specs.Steps.{evaluation, CanStep}
+
+-- a sheet is there, and can be asked at the input
+abbrev pub CanBeAsked : Option Sheet → StepIn → Type 0
+CanBeAsked None at = ⊥
+CanBeAsked (Some sheet) at = CanStep sheet at
+
+-- the sheets have one for the input's kind, which can be asked there
+abbrev pub CanRun : List Sheet → StepIn → Type 0
+CanRun sheets at = CanBeAsked (sheet_for sheets at.kind) at
+
+-- what the sheet for the input's kind says there
+abbrev pub answer_of : List Sheet → StepIn → Option StepOut
+answer_of sheets at =
+    elim (sheet_for sheets at.kind) as (λ s. Option StepOut) [ None ↦ None | Some sheet ↦ evaluation sheet at ]
+
+-- a count rose, or stands at its end
+abbrev pub Rises : ℕ → ℕ → Type 0
+Rises before now = min (before + 1) (2 ^ 64 - 1) ≤ now
+
+-- the sum of counts rose, or one of them stood at its end
+abbrev pub CountsRise : List ℕ → List ℕ → Type 0
+CountsRise before now = (sum before < sum now) ⊎ Any (λ n. 2 ^ 64 - 1 ≤ n) before
+
+-- how many sheets have the kind
+abbrev pub count_of : List Sheet → ℕ → ℕ
+count_of [] kind = 0
+count_of (sheet ∷ sheets) kind = (if sheet.kind == kind then 1 else 0) + count_of sheets kind
+
+-- two sheets have the kind, and no lower kind has two
+abbrev pub IsLowestTwice : List Sheet → ℕ → Type 0
+IsLowestTwice sheets kind = (1 < count_of sheets kind) × ((lower : ℕ) → lower < kind → count_of sheets lower ≤ 1)
+
+-- no kind has two sheets
+abbrev pub NoneTwice : List Sheet → Type 0
+NoneTwice sheets = (kind : ℕ) → kind < 256 → count_of sheets kind ≤ 1
+
+-- the master runs the kind, which no sheet has, and every lower kind that it runs has one
+abbrev pub IsLowestMissing : List Sheet → ℕ → Type 0
+IsLowestMissing sheets kind =
+    IsTrue (is_running_kind kind) × (sheet_for sheets kind ≡ None) × ((lower : ℕ) → lower < kind → IsTrue (is_running_kind lower) → IsSome (sheet_for sheets lower))
+
+-- each kind that the master runs has a sheet
+abbrev pub HasAll : List Sheet → Type 0
+HasAll sheets = (kind : ℕ) → IsTrue (is_running_kind kind) → IsSome (sheet_for sheets kind)
+
+-- why sheets make no registry. Making one needs no memory.
+abbrev pub IsNoRegistry : List Sheet → RegistryFault → Type 0
+IsNoRegistry sheets (fault_is.Twice kind) = IsLowestTwice sheets kind
+IsNoRegistry sheets (fault_is.Missing kind) = NoneTwice sheets × IsLowestMissing sheets kind
+IsNoRegistry sheets fault_is.Memory = ⊥

@@ -1,0 +1,28 @@
+//! Sheets: which are valid, what their rows answer, and the boxed objects that run them.
+#![tactic(auto)]
+
+mod acts;
+mod among;
+mod check;
+mod fault;
+mod handler;
+mod kinds;
+mod lines;
+mod plain;
+mod registry;
+mod rules;
+mod undo;
+mod valid;
+mod walk;
+
+pub use among::{answer, sheet_for};
+pub use check::check_sheet;
+pub use fault::{RegistryFault, SheetFault};
+pub use handler::Handler;
+pub use kinds::is_running_kind;
+pub use plain::{needs_pick, plain_step};
+pub use registry::Registry;
+pub use valid::Valid;
+
+#[cfg(test)]
+mod tests;

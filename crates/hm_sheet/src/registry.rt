@@ -1,0 +1,178 @@
+ghost use Rattle.std.specs.Prelude.{◌≡◌, ◌+◌, ◌-◌, ◌^◌, ◌≤◌, ◌&&◌, min, map, sum, is_none, IsSome, IfOk, IfErr, OnOk, OnErr, MatchOption, Some};
+ghost use Rattle.std.specs.List.{flat_map};
+ghost use Rattle.hm_model.specs.Kinds.{running_kinds as running, is_running_kind as runs};
+ghost use Rattle.hm_model.specs.Rules.{AreSheets};
+ghost use Rattle.hm_model.specs.Sheets.{sheet_for as first_of};
+ghost use Rattle.hm_model.specs.Validity.{IsValid};
+ghost use Rattle.hm_sheet.specs.Words.{CanRun, answer_of, Rises, CountsRise, IsLowestTwice, NoneTwice, IsLowestMissing, HasAll, IsNoRegistry};
+
+use crate::among::{count_of, place_of, sheet_for};
+use crate::fault::RegistryFault;
+use crate::handler::Handler;
+use crate::kinds::{is_running_kind, running_kinds};
+use crate::valid::Valid;
+use hm_data::{Sheet, StepIn, StepOut, Turn};
+use hm_names::{Copied, List};
+use std::alloc::{AllocError, Global};
+
+/// Boxed handlers that have a sheet for each kind that the master runs, and how often they were run.
+#[derive(Drop)]
+pub struct Registry {
+    handlers: Vec<Box<dyn Handler>>,
+    runs: u64,
+}
+
+// The lowest kind that two sheets have.
+fn lowest_twice(handlers: &[Box<dyn Handler>]) -> Option<u8>
+    ensures { MatchOption result
+        (NoneTwice (flat_map (λ h. sheets_are h) handlers.now))
+        (λ kind. IsLowestTwice (flat_map (λ h. sheets_are h) handlers.now) kind) }
+{
+    for kind in 0..=u8::MAX {
+        if count_of(handlers, kind) > 1 {
+            return Some(kind);
+        }
+    }
+    None
+}
+
+// The master runs the kind, and no sheet has it.
+fn is_missing(handlers: &[Box<dyn Handler>], kind: u8) -> bool
+    ensures { result ≡ (runs kind && is_none (first_of (flat_map (λ h. sheets_are h) handlers.now) kind)) }
+{
+    is_running_kind(kind) && place_of(handlers, kind).is_none()
+}
+
+// The lowest kind that the master runs and no sheet has.
+fn lowest_missing(handlers: &[Box<dyn Handler>]) -> Option<u8>
+    ensures { MatchOption result
+        (HasAll (flat_map (λ h. sheets_are h) handlers.now))
+        (λ kind. IsLowestMissing (flat_map (λ h. sheets_are h) handlers.now) kind) }
+{
+    for kind in 0..=u8::MAX {
+        if is_missing(handlers, kind) {
+            return Some(kind);
+        }
+    }
+    None
+}
+
+// Calls the handler by the turn.
+fn run_one(
+    handler: &mut Box<dyn Handler>,
+    alloc: Global,
+    at: &StepIn,
+    out: &mut StepOut,
+) -> Result<(), AllocError>
+    requires { CanRun (sheets_are handler.old) at.now }
+    ensures out { OnOk result (answer_of (sheets_are handler.old) at.now ≡ Some out.new) }
+    ensures sheets { sheets_are handler.new ≡ sheets_are handler.old }
+    ensures calls { OnOk result (Rises (calls_are handler.old) (calls_are handler.new)) }
+    ensures kept { calls_are handler.old ≤ calls_are handler.new }
+{
+    match &at.turn {
+        Turn::Step => handler.step(alloc, at, out),
+        Turn::Undo { edits: _ } => handler.undo(alloc, at, out),
+    }
+}
+
+// The sheet of a kind that the handler has.
+fn sheet_at(handler: &Box<dyn Handler>, kind: u8) -> &Valid
+    requires { IsSome (first_of (sheets_are handler.now) kind) }
+    ensures { first_of (sheets_are handler.now) kind ≡ Some result.now }
+{
+    match sheet_for(handler.sheets(), kind) {
+        Some(valid) => valid,
+        None => unreachable!(),
+    }
+}
+
+impl Registry {
+    /// The registry of these handlers. No kind may have two sheets, and each kind that the master runs so far must have
+    /// one. Making a registry takes no memory, so `Memory` isn't answered.
+    pub fn new(alloc: Global, handlers: Vec<Box<dyn Handler>>) -> Result<Registry, RegistryFault>
+        ensures handlers { IfOk result (λ registry. registry.handlers.items ≡ handlers.items) }
+        ensures runs { IfOk result (λ registry. registry.runs ≡ 0) }
+        ensures once { IfOk result (λ registry. NoneTwice (flat_map (λ h. sheets_are h) registry.handlers.items)) }
+        ensures all { IfOk result (λ registry. HasAll (flat_map (λ h. sheets_are h) registry.handlers.items)) }
+        ensures err { IfErr result (λ fault. IsNoRegistry (flat_map (λ h. sheets_are h) handlers.items) fault) }
+    {
+        let _ = alloc;
+        if let Some(kind) = lowest_twice(&handlers) {
+            return Err(RegistryFault::Twice(kind));
+        }
+        if let Some(kind) = lowest_missing(&handlers) {
+            return Err(RegistryFault::Missing(kind));
+        }
+        Ok(Registry { handlers, runs: 0 })
+    }
+
+    /// Calls the handler that has the input's kind, and leaves in `out` what its sheet says, whatever was called before.
+    /// Where memory runs out `out` is any value, and isn't to be used.
+    pub fn run(&mut self, alloc: Global, at: &StepIn, out: &mut StepOut) -> Result<(), AllocError>
+        requires { CanRun (flat_map (λ h. sheets_are h) self.old.handlers.items) at.now }
+        ensures out { OnOk result
+            (answer_of (flat_map (λ h. sheets_are h) self.old.handlers.items) at.now ≡ Some out.new) }
+        ensures sheets { flat_map (λ h. sheets_are h) self.new.handlers.items
+            ≡ flat_map (λ h. sheets_are h) self.old.handlers.items }
+        ensures runs { OnOk result (self.new.runs ≡ min (self.old.runs + 1) (2 ^ 64 - 1)) }
+        ensures idle { OnErr result (self.new.runs ≡ self.old.runs) }
+        ensures calls { OnOk result (CountsRise
+            (map (λ h. calls_are h) self.old.handlers.items) (map (λ h. calls_are h) self.new.handlers.items)) }
+        ensures kept { sum (map (λ h. calls_are h) self.old.handlers.items)
+            ≤ sum (map (λ h. calls_are h) self.new.handlers.items) }
+    {
+        let Some(place) = place_of(&self.handlers, at.kind) else {
+            unreachable!()
+        };
+        let handler = &mut self.handlers[place];
+        run_one(handler, alloc, at, out)?;
+        self.runs = self.runs.saturating_add(1);
+        Ok(())
+    }
+
+    /// How many calls of `run` were answered, up to 2^64 - 1, where the number stays.
+    pub fn runs(&self) -> u64
+        ensures { result ≡ self.now.runs }
+    {
+        self.runs
+    }
+
+    /// The sheet of a kind.
+    pub fn sheet(&self, kind: u8) -> &Valid
+        requires { IsSome (first_of (flat_map (λ h. sheets_are h) self.now.handlers.items) kind) }
+        ensures { first_of (flat_map (λ h. sheets_are h) self.now.handlers.items) kind ≡ Some result.now }
+    {
+        let Some(place) = place_of(&self.handlers, kind) else {
+            unreachable!()
+        };
+        sheet_at(&self.handlers[place], kind)
+    }
+
+    // A copy of the sheet of a kind.
+    fn sheet_copy(&self, alloc: Global, kind: u8) -> Result<Sheet, AllocError>
+        requires { IsSome (first_of (flat_map (λ h. sheets_are h) self.now.handlers.items) kind) }
+        ensures found { IfOk result
+            (λ sheet. first_of (flat_map (λ h. sheets_are h) self.now.handlers.items) kind ≡ Some sheet) }
+        ensures valid { IfOk result (λ sheet. IsValid sheet) }
+    {
+        self.sheet(kind).sheet().copy(alloc)
+    }
+
+    /// The sheets of the kinds that the master runs so far, in the order of the kinds.
+    pub fn sheets(&self, alloc: Global) -> Result<List<Sheet>, AllocError>
+        requires { HasAll (flat_map (λ h. sheets_are h) self.now.handlers.items) }
+        ensures found { IfOk result (λ sheets. map Some sheets
+            ≡ map (λ kind. first_of (flat_map (λ h. sheets_are h) self.now.handlers.items) kind) running) }
+        ensures valid { IfOk result (λ sheets. AreSheets sheets) }
+    {
+        let mut sheets = Vec::new(alloc);
+        for kind in running_kinds() {
+            sheets.push(self.sheet_copy(alloc, *kind)?)?;
+        }
+        Ok(List::of(sheets))
+    }
+}
+
+#[cfg(test)]
+mod tests;

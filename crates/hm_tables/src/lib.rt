@@ -1,0 +1,9 @@
+//! The handler of namespaces and tables.
+#![tactic(auto)]
+
+mod hands;
+
+pub use hands::TableHands;
+
+#[cfg(test)]
+mod tests;
