@@ -1,4 +1,4 @@
-ghost use Rattle.std.specs.Prelude.{◌≡◌, ◌+◌, ◌-◌, ◌^◌, ◌≤◌, ◌&&◌, min, map, sum, is_none, IsSome, IfOk, IfErr, OnOk, OnErr, MatchOption, Some};
+ghost use Rattle.std.specs.Prelude.{◌≡◌, ◌+◌, ◌-◌, ◌^◌, ◌≤◌, ◌&&◌, min, map, sum, is_none, IsSome, IfOk, IfErr, OnOk, OnErr, MatchOption, Some, option_copied};
 ghost use Rattle.std.specs.List.{flat_map};
 ghost use Rattle.hm_model.specs.Kinds.{running_kinds as running, is_running_kind as runs};
 ghost use Rattle.hm_model.specs.Rules.{AreSheets};
@@ -147,6 +147,16 @@ impl Registry {
             unreachable!()
         };
         sheet_at(&self.handlers[place], kind)
+    }
+
+    /// The sheet of a kind, if a handler has one.
+    pub fn find(&self, kind: u8) -> Option<&Valid>
+        ensures { option_copied result ≡ first_of (flat_map (λ h. sheets_are h) self.now.handlers.items) kind }
+    {
+        match place_of(&self.handlers, kind) {
+            Some(place) => Some(sheet_at(&self.handlers[place], kind)),
+            None => None,
+        }
     }
 
     // A copy of the sheet of a kind.

@@ -10,6 +10,6 @@ abbrev pub create_namespace_sheet : Sheet
 create_namespace_sheet = record {
   kind = 1;
   rows =
-    record { act = act_is.CheckNamespaceFree; next = 1; after = false; undo = back_is.Nothing }
-    ∷ record { act = act_is.AddNamespace; next = 255; after = false; undo = back_is.Nothing } ∷ [];
+      record { act = act_is.CheckNamespaceFree; next = 1; after = false; undo = back_is.Nothing }
+      ∷ record { act = act_is.AddNamespace; next = 255; after = false; undo = back_is.Nothing } ∷ [];
 }

@@ -57,8 +57,12 @@ fn boxed_hands_run_both_rows(rt: HostRuntime) {
         panic!(rt; "a registry")
     };
     let mut out = nothing(&rt);
-    registry.run(rt.alloc(), &input(&rt, 0), &mut out).expect(&rt, "memory");
+    registry
+        .run(rt.alloc(), &input(&rt, 0), &mut out)
+        .expect(&rt, "memory");
     assert_eq!(rt; out.answer, Answer::More(1));
-    registry.run(rt.alloc(), &input(&rt, 1), &mut out).expect(&rt, "memory");
+    registry
+        .run(rt.alloc(), &input(&rt, 1), &mut out)
+        .expect(&rt, "memory");
     assert_eq!(rt; out.answer, Answer::Done(Told::Nothing));
 }

@@ -1,3 +1,6 @@
+ghost use Rattle.std.specs.List.{flat_map};
+ghost use Rattle.hm_sheet.specs.Words.{HasAll};
+
 use super::Registry;
 use crate::among::{answer, place_of};
 use crate::fault::RegistryFault;
@@ -69,7 +72,9 @@ fn new_hands<R: Abort + AllocGlobal>(rt: &R) -> Counting {
     }
 }
 
-fn single<R: Abort + AllocGlobal>(rt: &R, hands: Box<dyn Handler>) -> Registry {
+fn single<R: Abort + AllocGlobal>(rt: &R, hands: Box<dyn Handler>) -> Registry
+    ensures { HasAll (flat_map (λ h. sheets_are h) result.handlers.items) }
+{
     let mut handlers = Vec::new(rt.alloc());
     handlers.push(hands).map_err(drop).expect(rt, "memory");
     match Registry::new(rt.alloc(), handlers) {
@@ -120,6 +125,18 @@ fn runs(
     Ok(true)
 }
 
+// What a call is to overwrite.
+fn no_answer(alloc: Global) -> StepOut {
+    StepOut {
+        answer: Answer::More(0),
+        edits: List::of(Vec::new(alloc)),
+        children: List::of(Vec::new(alloc)),
+        call: None,
+        place: None,
+        followers: List::of(Vec::new(alloc)),
+    }
+}
+
 // The answer of the handler at a row, and how many edits it has.
 fn answer_at<R: Abort + AllocGlobal>(
     rt: &R,
@@ -127,14 +144,7 @@ fn answer_at<R: Abort + AllocGlobal>(
     row: u8,
     aborted: bool,
 ) -> (Answer, usize) {
-    let mut out = StepOut {
-        answer: Answer::Undone,
-        edits: List::of(Vec::new(rt.alloc())),
-        children: List::of(Vec::new(rt.alloc())),
-        call: None,
-        place: None,
-        followers: List::of(Vec::new(rt.alloc())),
-    };
+    let mut out = no_answer(rt.alloc());
     let ran = runs(registry, rt.alloc(), &input(rt, row, aborted), &mut out).expect(rt, "memory");
     assert!(rt; ran);
     (out.answer, out.edits.as_slice().len())
@@ -180,4 +190,50 @@ fn new_misses_a_kind(rt: HostRuntime) {
             Err(RegistryFault::Missing(1))
         )
     );
+}
+
+#[test]
+fn new_refuses_two_sheets_of_a_kind(rt: HostRuntime) {
+    let mut handlers = Vec::new(rt.alloc());
+    for _ in 0..2 {
+        let hands: Box<dyn Handler> = match Box::new(rt.alloc(), new_hands(&rt)) {
+            Ok(hands) => hands,
+            Err(_) => panic!(rt; "memory"),
+        };
+        handlers.push(hands).map_err(drop).expect(&rt, "memory");
+    }
+    assert!(rt;
+        matches!(
+            Registry::new(rt.alloc(), handlers),
+            Err(RegistryFault::Twice(1))
+        )
+    );
+}
+
+#[test]
+fn sheets_are_copied(rt: HostRuntime) {
+    let hands: Box<dyn Handler> = match Box::new(rt.alloc(), new_hands(&rt)) {
+        Ok(hands) => hands,
+        Err(_) => panic!(rt; "memory"),
+    };
+    let registry = single(&rt, hands);
+    assert!(rt; registry.find(2).is_none());
+    let sheets = registry.sheets(rt.alloc()).expect(&rt, "memory");
+    assert_eq!(rt; sheets.as_slice().len(), 1);
+}
+
+#[test]
+fn undo_of_a_row_without_one(rt: HostRuntime) {
+    let hands: Box<dyn Handler> = match Box::new(rt.alloc(), new_hands(&rt)) {
+        Ok(hands) => hands,
+        Err(_) => panic!(rt; "memory"),
+    };
+    let mut registry = single(&rt, hands);
+    let mut at = input(&rt, 0, false);
+    at.turn = Turn::Undo {
+        edits: List::of(Vec::new(rt.alloc())),
+    };
+    let mut out = no_answer(rt.alloc());
+    assert!(rt; runs(&mut registry, rt.alloc(), &at, &mut out).expect(&rt, "memory"));
+    assert!(rt; out.answer == Answer::Undone);
 }
