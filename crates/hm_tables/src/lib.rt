@@ -4,6 +4,3 @@
 mod hands;
 
 pub use hands::TableHands;
-
-#[cfg(test)]
-mod tests;
