@@ -1,0 +1,8 @@
+mod Pairs
+mod Places
+mod Readings
+mod Keeps
+mod Ties
+mod Judged
+mod JudgedMore
+mod Starts

@@ -1,0 +1,6 @@
+pub mod Index
+pub mod Nonces
+pub mod Rows
+pub mod Records
+pub mod Ready
+pub mod State

@@ -1,0 +1,19 @@
+//! The procedures of nonces.
+ghost use Rattle.std.specs.Prelude.{◌≡◌, ◌+◌, ◌≤◌, OnOk};
+ghost use Rattle.hm_names.specs.Order.{nonce_cmp};
+ghost use Rattle.hm_state.specs.Index.{find};
+ghost use Rattle.hm_state.specs.Nonces.{AreWith};
+
+use crate::index::Index;
+use hm_names::{Nonce, Pid};
+
+// Keeps the procedure of a nonce, unless the nonce is none.
+pub(crate) fn add_nonce(nonces: &mut Index<Nonce, Pid>, nonce: Nonce, pid: Pid)
+    requires { 1 ≤ nonces.old.spare }
+    ensures pairs { AreWith nonces.old.pairs nonce pid nonces.new.pairs }
+    ensures spare { nonces.old.spare ≤ nonces.new.spare + 1 }
+{
+    if nonce.number != 0 {
+        nonces.set(nonce, pid);
+    }
+}
