@@ -327,7 +327,6 @@ impl State {
     }
 
     /// What the next step of a procedure sees.
-    #[tactic(none)]
     pub fn step_in(
         &self,
         alloc: Global,
