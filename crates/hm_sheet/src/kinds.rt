@@ -6,7 +6,7 @@ use crate::rules::is_among;
 static RUNNING_KINDS: [u8; 1] = [1];
 
 /// The kinds that the master runs so far, in their order.
-pub(crate) fn running_kinds() -> &'static [u8]
+pub fn running_kinds() -> &'static [u8]
     ensures { result.now ≡ running }
 {
     &RUNNING_KINDS

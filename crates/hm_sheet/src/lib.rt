@@ -19,7 +19,7 @@ pub use among::{answer, sheet_for};
 pub use check::check_sheet;
 pub use fault::{RegistryFault, SheetFault};
 pub use handler::Handler;
-pub use kinds::is_running_kind;
+pub use kinds::{is_running_kind, running_kinds};
 pub use plain::{needs_pick, plain_step};
 pub use registry::Registry;
 pub use valid::Valid;

@@ -1,0 +1,43 @@
+//! The trait of what records entries.
+ghost use Rattle.std.specs.Prelude.{◌≡◌, ◌≢◌, ◌≤◌, ℕ, MatchResult, IsErrOf, Some, None};
+ghost use Rattle.hm_ports.specs.Faults.{Rose};
+ghost use Rattle.hm_data.specs.declared.entry.Entry.{Entry as EntryValue};
+ghost use Rattle.hm_hall.specs.Recording.{Recording, CanBeRecorded, Records, full_at, next_of, with_next, halt_of};
+
+use crate::fault::{Halt, RecordFault};
+use hm_data::Entry;
+use std::alloc::{AllocError, Global};
+
+/// Records entries, one after another, and keeps them. An entry is made ready first, which takes what memory it needs;
+/// recording it takes none.
+pub trait Recorder {
+    // What was recorded, and what halted it.
+    ghost kept: { Self → Recording };
+
+    // How often what it records on failed.
+    ghost faults: { Self → ℕ };
+
+    /// Makes an entry ready to be recorded, in place of one that was.
+    fn ready(&mut self, alloc: Global, entry: &Entry) -> Result<(), AllocError>
+        requires { CanBeRecorded entry.now }
+        ensures kept { MatchResult result
+            (λ _. kept self.new ≡ with_next (kept self.old) entry.now)
+            (λ _. kept self.new ≡ kept self.old) }
+        ensures faults { faults self.new ≡ faults self.old };
+
+    /// Records the entry that is ready, and gives its number.
+    fn record_entry(&mut self) -> Result<u64, RecordFault>
+        requires { next_of (kept self.old) ≢ None }
+        ensures records { (entry : EntryValue) → next_of (kept self.old) ≡ Some entry →
+            Records (kept self.old) entry result (kept self.new) }
+        ensures fault { IsErrOf result RecordFault.LogFault → Rose (faults self.old) (faults self.new) }
+        ensures later { faults self.old ≤ faults self.new };
+
+    /// The bytes of the journal, where they have reached the soft mark.
+    fn soft_full(&self) -> Option<u64>
+        ensures { result ≡ full_at (kept self.now) };
+
+    /// What halted it.
+    fn halted(&self) -> Option<Halt>
+        ensures { result ≡ halt_of (kept self.now) };
+}

@@ -1,0 +1,91 @@
+-- What the images of a disk hold that is opened.
+use Rattle.std.proofs.Common.{◌≡◌, ◌⊎◌, ℕ, ◌<◌, ◌≤◌, List, [], ◌∷◌, length, refl, ap, ◌∙◌, sym, subst, inl, inr, ⊎_elim, arith, Result, Ok, Err}
+use Rattle.std.specs.Prelude.{IfErr, IfOk, MatchResult}
+use Rattle.hm_disk.specs.Disk.{Only, LeavesOnly, Settles}
+use Rattle.hm_disk.proofs.Moments.{started}
+use Rattle.hm_log.specs.Format.{Reads, BeforeOrAfter, HoldsFrames}
+use Rattle.hm_log.specs.Opening.{IsMaking, Reopens}
+use Rattle.hm_data.specs.declared.entry.Entry.{Entry}
+use Rattle.hm_data.specs.declared.entry.Entry.TheVariants as entry_is
+use Rattle.hm_data.specs.declared.sheet.Sheet.{Sheet}
+use Rattle.hm_entry.specs.Spelling.{entry as spelling}
+use Rattle.hm_journal.specs.Stored.{frames_of, Keeps, GetsFirst, IsOpening}
+
+-- two facts of what an opening gives, one of them where the disk tells its content
+pub ok_both : {T E : Type 0} (r : Result T E) (tells : Type 0) (P Q R : T → Type 0) (S : E → Type 0) → ((x : T) → P x → (tells → Q x) → R x) → IfOk r P → (tells → MatchResult r Q S) → IfOk r R
+ok_both (Ok x) tells P Q R S so p q = so x p q
+ok_both (Err y) tells P Q R S so p q = tt
+
+-- two facts of an error
+pub err_both : {T E : Type 0} (r : Result T E) (P Q R : E → Type 0) (S : T → Type 0) → ((y : E) → P y → Q y → R y) → IfErr r P → MatchResult r S Q → IfErr r R
+err_both (Ok x) P Q R S so p q = tt
+err_both (Err y) P Q R S so p q = so y p q
+
+module _ {D : Type 0} (moment : D → ℕ) (left_since : D → ℕ → List ℕ → Type 0) (image : D → List ℕ → Type 0) (counts : (d : D) (t : ℕ) (c : List ℕ) → t ≤ moment d → image d c → left_since d t c) where
+  -- what a stop at any moment leaves, a stop now leaves
+  pub image_now : (old new : D) (P : List ℕ → Type 0) → LeavesOnly moment left_since old new P → (c : List ℕ) → image new c → P c
+  image_now old new P leaves c is = leaves.each c (counts new (moment old) c leaves.later is)
+
+module _ {D : Type 0} (moment : D → ℕ) (left_since : D → ℕ → List ℕ → Type 0) (image : D → List ℕ → Type 0) (only : (d : D) (c : List ℕ) → left_since d (moment d) c → image d c) where
+  -- a disk that isn't called leaves what it could
+  pub quiet_as : (disk : D) (P : List ℕ → Type 0) → ((c : List ℕ) → image disk c → P c) → LeavesOnly moment left_since disk disk P
+  quiet_as disk P so = started moment left_since disk P (λ c left. so c (only disk c left))
+
+  -- what settled left at each moment what it could before, or what it can since
+  pub settled_all : (old new : D) (Q P : List ℕ → Type 0) → ((c : List ℕ) → image old c → Q c) → Settles moment left_since old new Q P → LeavesOnly moment left_since old new (λ c. Q c ⊎ P c)
+  settled_all old new Q P was run = record {
+    later = omega (arith, run.from, run.to);
+    each = λ c left. ⊎_elim (λ past. inl (was c (only old c past))) (λ now. now) (run.earlier (moment old) c (omega arith) left);
+    before = λ t c le left. run.earlier t c le left;
+  }
+
+-- a log that was opened in vain still reads as its frames
+pub still_reads : (seen : List ℕ) (image : List ℕ → Type 0) (frames : List (List ℕ)) → 0 < length seen → Only seen image → HoldsFrames seen frames
+    → (c : List ℕ) → image c ⊎ Reopens seen c → Reads c frames
+still_reads seen image frames some only (inl blank) c is = let none = blank.0 in absurd (omega arith)
+still_reads seen image frames some only (inr reads) c (inl was) = subst (λ s. Reads s frames) (sym (only c was)) reads
+still_reads seen image frames some only (inr reads) c (inr (inl alike)) = alike.stays frames reads
+still_reads seen image frames some only (inr reads) c (inr (inr making)) = let none = making.0 in absurd (omega arith)
+
+-- a journal without entries may have got its first
+pub keeps_first : (sheets : List Sheet) (journal : List Entry) → length journal ≤ 0 → (bytes : List ℕ) → BeforeOrAfter [] (spelling (entry_is.Start sheets)) bytes → Keeps sheets journal bytes
+keeps_first sheets [] none bytes either = either
+keeps_first sheets (entry ∷ journal) none bytes either = absurd (omega arith)
+
+-- where there are no frames there are no entries
+pub no_entries : (journal : List Entry) → frames_of journal ≡ [] → journal ≡ []
+no_entries [] none = refl
+no_entries (entry ∷ journal) none = absurd (cc)
+
+-- what keeps a journal without entries keeps each of its frames
+pub keeps_none : (sheets : List Sheet) (kept journal : List Entry) (frames : List (List ℕ)) (bytes : List ℕ) → kept ≡ [] → frames_of kept ≡ frames → frames_of journal ≡ frames
+    → Keeps sheets kept bytes → Keeps sheets journal bytes
+keeps_none sheets kept journal frames bytes none are journal_are keeps =
+    let same : kept ≡ journal = none ∙ sym (no_entries journal (journal_are ∙ sym are ∙ ap frames_of none)) in
+    subst (λ (j : List Entry). Keeps sheets j bytes) same keeps
+
+-- the same, of the frames
+pub gets_first : (sheets : List Sheet) (kept : List Entry) (frames : List (List ℕ)) (bytes : List ℕ) → kept ≡ [] → frames_of kept ≡ frames → Keeps sheets kept bytes
+    → Reads bytes frames ⊎ GetsFirst sheets frames bytes
+gets_first sheets kept frames bytes none are keeps =
+    let empty : [] ≡ frames = ap frames_of (sym none) ∙ are in
+    let first : Keeps sheets [] bytes = subst (λ (j : List Entry). Keeps sheets j bytes) none keeps in
+    ⊎_elim (λ reads. inl (subst (Reads bytes) empty reads)) (λ reads. inr (sym empty, reads)) first
+
+-- what an opening left before it settled on these frames
+pub opening_first : (sheets : List Sheet) (seen : List ℕ) (before : List ℕ → Type 0) (frames : List (List ℕ)) → HoldsFrames seen frames
+    → (c : List ℕ) → (before c ⊎ IsMaking seen c) ⊎ Reads c frames → IsOpening sheets seen before c
+opening_first sheets seen before frames opens c (inl (inl was)) = inl was
+opening_first sheets seen before frames opens c (inl (inr making)) = inr (inl making)
+opening_first sheets seen before frames opens c (inr reads) = inr (inr (frames, opens, inl reads))
+
+-- what it left since
+pub opening_then : (sheets : List Sheet) (seen : List ℕ) (before : List ℕ → Type 0) (frames : List (List ℕ)) → HoldsFrames seen frames
+    → (c : List ℕ) → Reads c frames ⊎ GetsFirst sheets frames c → IsOpening sheets seen before c
+opening_then sheets seen before frames opens c more = inr (inr (frames, opens, more))
+
+-- what an opening left that never settled
+pub opening_vain : (sheets : List Sheet) (seen : List ℕ) (before : List ℕ → Type 0) (c : List ℕ) → before c ⊎ Reopens seen c → IsOpening sheets seen before c
+opening_vain sheets seen before c (inl was) = inl was
+opening_vain sheets seen before c (inr (inl alike)) = inr (inr (alike.frames, inr alike.was, inl (alike.stays alike.frames alike.was)))
+opening_vain sheets seen before c (inr (inr making)) = inr (inl making)

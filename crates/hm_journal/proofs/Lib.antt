@@ -1,0 +1,11 @@
+pub mod Spelled
+pub mod Judging
+pub mod Differing
+pub mod Valid
+pub mod Kept
+pub mod Refusing
+pub mod Images
+pub mod Sizes
+pub mod Recorded
+pub mod Found
+pub mod Beginning

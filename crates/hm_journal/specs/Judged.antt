@@ -1,0 +1,64 @@
+-- What the parts of judging and of opening answer.
+use Rattle.std.specs.Prelude.{◌≡◌, ◌⊎◌, ℕ, List, length, slice_get, Some, All}
+use Rattle.std.specs.Global.{Vec}
+use Rattle.hm_log.specs.declared.why.OpenWhy.{OpenWhy}
+use Rattle.hm_log.specs.declared.why.OpenWhy.TheVariants as log_why_is
+use Rattle.hm_data.specs.declared.entry.Entry.{Entry}
+use Rattle.hm_data.specs.declared.sheet.Sheet.{Sheet}
+use Rattle.hm_entry.specs.Fits.{EntryFits}
+use Rattle.hm_entry.specs.Reading.{all_of}
+use Rattle.hm_entry.specs.declared.fault.EntryFault.{EntryFault}
+use Rattle.hm_entry.specs.declared.fault.EntryFault.TheVariants as entry_fault_is
+use Rattle.hm_model.specs.Journal.{back}
+use Rattle.hm_model.specs.Rules.{Breaks}
+use Rattle.hm_journal.specs.Stored.{IsJournal, frames_of, opened}
+use Rattle.hm_journal.specs.Verdict.{FailsAt, IsNoEntry, IsNoJournal}
+use Rattle.hm_journal.specs.View.{entries_in}
+use Rattle.hm_journal.specs.declared.why.JournalWhy.{JournalWhy}
+use Rattle.hm_journal.specs.declared.why.JournalWhy.TheVariants as why_is
+
+-- what is answered where the log isn't opened
+abbrev pub of_log : OpenWhy → JournalWhy
+of_log log_why_is.Fault = why_is.Fault
+of_log (log_why_is.NotALog place) = why_is.NotALog place
+of_log (log_why_is.BadFrame place) = why_is.BadFrame place
+of_log log_why_is.Memory = why_is.Memory
+
+-- what is answered where reading the frame of this number failed so
+abbrev pub bad_entry : ℕ → EntryFault → JournalWhy
+bad_entry number (entry_fault_is.Short place) = why_is.BadEntry number place
+bad_entry number (entry_fault_is.Field place) = why_is.BadEntry number place
+bad_entry number (entry_fault_is.Rest place) = why_is.BadEntry number place
+bad_entry number entry_fault_is.Memory = why_is.Memory
+
+-- why the frame of this number spells no entry
+abbrev pub IsBadFrom : List (List ℕ) → ℕ → JournalWhy → Type 0
+IsBadFrom frames number why_is.Fault = ⊥
+IsBadFrom frames number (why_is.NotALog place) = ⊥
+IsBadFrom frames number (why_is.BadFrame place) = ⊥
+IsBadFrom frames number (why_is.BadEntry bad at) = (bad ≡ number) × ((frame : List ℕ) × (slice_get frames number ≡ Some frame) × FailsAt (all_of frame) at)
+IsBadFrom frames number (why_is.Illegal bad rule) = ⊥
+IsBadFrom frames number (why_is.SheetsDiffer kind) = ⊥
+IsBadFrom frames number why_is.Memory = Unit {0}
+
+-- why an entry isn't added behind these
+abbrev pub IsNotAdded : List Entry → Entry → JournalWhy → Type 0
+IsNotAdded entries entry why_is.Fault = ⊥
+IsNotAdded entries entry (why_is.NotALog place) = ⊥
+IsNotAdded entries entry (why_is.BadFrame place) = ⊥
+IsNotAdded entries entry (why_is.BadEntry number at) = ⊥
+IsNotAdded entries entry (why_is.Illegal number rule) = (number ≡ length entries) × Breaks (back entries) entry rule
+IsNotAdded entries entry (why_is.SheetsDiffer kind) = ⊥
+IsNotAdded entries entry why_is.Memory = Unit {0}
+
+-- why frames are no journal of these sheets
+abbrev pub IsNoJournalIn : List Sheet → List (List ℕ) → JournalWhy → Type 0
+IsNoJournalIn sheets frames why =
+    IsNoEntry frames why ⊎ ((entries : List Entry) × (frames_of entries ≡ frames) × All EntryFits entries × IsNoJournal sheets entries why)
+
+-- A copy of frames that spell a journal of these sheets, and its entries; of none, the first.
+pub record IsFound (sheets : List Sheet) (frames : List (List ℕ)) (copy : List (Vec ℕ)) (entries : List Entry) : Type 0 where
+  pub is : IsJournal sheets (entries_in copy)
+  pub spelled : frames_of (entries_in copy) ≡ frames
+  pub count : length copy ≡ length (entries_in copy)
+  pub entries_are : entries ≡ opened sheets (entries_in copy)

@@ -1,0 +1,4 @@
+pub mod Judged
+pub mod Stored
+pub mod Verdict
+pub mod View

@@ -1,0 +1,15 @@
+//! A journal on a disk: its entries as the frames of a log.
+#![tactic(auto)]
+
+mod journal;
+mod laws;
+mod limits;
+mod opening;
+mod reading;
+mod sheets;
+mod why;
+
+pub use journal::Journal;
+pub use laws::entries_fit_frames;
+pub use limits::Limits;
+pub use why::JournalWhy;

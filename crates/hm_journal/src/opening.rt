@@ -1,0 +1,307 @@
+//! Opens a disk as a journal.
+ghost use Rattle.std.specs.Prelude.{◌≡◌, ◌⊎◌, ◌<◌, ◌≤◌, ◌+◌, List, ℕ, [], ◌∷◌, length, IsErrOf, IfOk, IfErr, OnOk, OnErr, MatchResult, All, None, false};
+ghost use Rattle.hm_ports.specs.Faults.{Rose};
+ghost use Rattle.hm_disk.specs.Disk.{LeavesOnly, Only, Settles};
+ghost use Rattle.hm_log.specs.Format.{BeforeOrAfter, HoldsFrames, Reads, size_with};
+ghost use Rattle.hm_log.specs.Opening.{IsMaking, IsUntouched, Reopens};
+ghost use Rattle.hm_data.specs.declared.entry.Entry.{Entry as EntryValue};
+ghost use Rattle.hm_data.specs.declared.sheet.Sheet.{Sheet as SheetValue};
+ghost use Rattle.hm_entry.specs.Fits.{EntryFits};
+ghost use Rattle.hm_entry.specs.Spelling.{entry as spelling};
+ghost use Rattle.hm_model.specs.Rules.{AreSheets};
+ghost use Rattle.hm_hall.specs.Recording.{with_next};
+ghost use Rattle.hm_journal.specs.Stored.{IsJournal, IsOnDisk, Keeps, Spares, SameFrames, GetsFirst, IsOpening, frames_of, opened};
+ghost use Rattle.hm_journal.specs.Judged.{IsNoJournalIn, of_log};
+ghost use Rattle.hm_journal.specs.Verdict.{Refuses, IsUnjudged};
+ghost use Rattle.hm_journal.specs.View.{entries_in, kept_of};
+
+use crate::journal::Journal;
+use crate::limits::Limits;
+use crate::reading::{count_entries, find_journal};
+use crate::sheets::copy_sheets;
+use crate::why::JournalWhy;
+use hm_data::{Entry, Sheet};
+use hm_disk::Disk;
+use hm_log::{Frames, Log, OpenWhy};
+use hm_state::State;
+use std::alloc::{AllocError, Global};
+
+// Why a log isn't opened.
+fn why_of(why: OpenWhy) -> JournalWhy
+    ensures { result ≡ of_log why }
+{
+    match why {
+        OpenWhy::Fault => JournalWhy::Fault,
+        OpenWhy::NotALog(place) => JournalWhy::NotALog(place),
+        OpenWhy::BadFrame(place) => JournalWhy::BadFrame(place),
+        OpenWhy::Memory => JournalWhy::Memory,
+    }
+}
+
+fn start_entry(alloc: Global, sheets: &[Sheet]) -> Result<Entry, AllocError>
+    ensures { IfOk result (λ entry. entry ≡ Entry.Start sheets.now) }
+{
+    Ok(Entry::Start {
+        sheets: copy_sheets(alloc, sheets)?,
+    })
+}
+
+// The journal of an open log, whose frames these are.
+fn journal_of<D: Disk>(log: Log<D>, frames: Vec<Vec<u8>>, limits: Limits) -> Journal<D>
+    requires live { log.stalled ≡ false }
+    requires fits { All EntryFits (entries_in frames.items) }
+    requires count { length frames.items ≡ length (entries_in frames.items) }
+    requires bytes { log.bytes ≡ size_with (frames_of (entries_in frames.items)) }
+    requires logged { D.tells → log.frames ≡ frames_of (entries_in frames.items) }
+    requires durable { D.tells → (c : List ℕ) → D.image log.disk c → Reads c (frames_of (entries_in frames.items)) }
+    ensures disk { result.disk ≡ log.disk }
+    ensures kept { result.kept ≡ kept_of frames.items None None None limits }
+{
+    let bytes = log.bytes();
+    Journal {
+        log,
+        frames,
+        bytes,
+        next: None,
+        tail: None,
+        halted: None,
+        limits,
+    }
+}
+
+// Makes the first entry ready to be recorded.
+fn ready_start<D: Disk>(
+    alloc: Global,
+    journal: &mut Journal<D>,
+    sheets: &[Sheet],
+) -> Result<(), AllocError>
+    requires { AreSheets sheets.now }
+    ensures kept { OnOk result (journal.new.kept ≡ with_next journal.old.kept (Entry.Start sheets.now)) }
+    ensures disk { journal.new.disk ≡ journal.old.disk }
+{
+    let start = start_entry(alloc, sheets)?;
+    let ready = journal.ready(alloc, &start);
+    drop(start);
+    ready
+}
+
+// Records the first entry.
+fn record_start<D: Disk>(
+    alloc: Global,
+    journal: &mut Journal<D>,
+    sheets: &[Sheet],
+) -> Result<(), JournalWhy>
+    requires sheets { AreSheets sheets.now }
+    requires hard { 65551 ≤ journal.old.kept.hard }
+    requires empty { journal.old.kept.entries ≡ [] }
+    requires live { journal.old.kept.halted ≡ None }
+    requires durable { D.tells → (c : List ℕ) → D.image journal.old.disk c → Reads c [] }
+    ensures kept { OnOk result (journal.new.kept ≡ record journal.old.kept { entries = Entry.Start sheets.now ∷ []; next = None }) }
+    ensures why { IfErr result IsUnjudged }
+    ensures fault { IsErrOf result JournalWhy.Fault → Rose (D.faults journal.old.disk) (D.faults journal.new.disk) }
+    ensures any_moment { D.tells → LeavesOnly D.moment D.left_since journal.old.disk journal.new.disk (BeforeOrAfter [] (spelling (Entry.Start sheets.now))) }
+    ensures faults { D.faults journal.old.disk ≤ D.faults journal.new.disk }
+    ensures changes { (D.changes journal.old.disk ≤ D.changes journal.new.disk) × (D.changes journal.new.disk ≤ D.changes journal.old.disk + 2) }
+    ensures setting { D.setting journal.new.disk ≡ D.setting journal.old.disk }
+{
+    ready_start(alloc, journal, sheets)?;
+    match journal.record_entry() {
+        Ok(_) => Ok(()),
+        Err(_) => Err(JournalWhy::Fault),
+    }
+}
+
+// The journal of a log without frames, which gets its first entry.
+fn start<D: Disk>(
+    alloc: Global,
+    journal: Journal<D>,
+    sheets: &[Sheet],
+) -> Result<Journal<D>, (D, JournalWhy)>
+    requires sheets { AreSheets sheets.now }
+    requires hard { 65551 ≤ journal.kept.hard }
+    requires empty { journal.kept.entries ≡ [] }
+    requires live { journal.kept.halted ≡ None }
+    requires durable { D.tells → (c : List ℕ) → D.image journal.disk c → Reads c [] }
+    ensures kept { IfOk result (λ started. started.kept ≡ record journal.kept { entries = Entry.Start sheets.now ∷ []; next = None }) }
+    ensures why { IfErr result (λ e. IsUnjudged e.1) }
+    ensures fault { IfErr result (λ e. e.1 ≡ JournalWhy.Fault → Rose (D.faults journal.disk) (D.faults e.0)) }
+    ensures any_moment { D.tells → MatchResult result
+        (λ started. LeavesOnly D.moment D.left_since journal.disk started.disk (BeforeOrAfter [] (spelling (Entry.Start sheets.now))))
+        (λ e. LeavesOnly D.moment D.left_since journal.disk e.0 (BeforeOrAfter [] (spelling (Entry.Start sheets.now)))) }
+    ensures faults { MatchResult result (λ started. D.faults journal.disk ≤ D.faults started.disk) (λ e. D.faults journal.disk ≤ D.faults e.0) }
+    ensures changes { MatchResult result
+        (λ started. (D.changes journal.disk ≤ D.changes started.disk) × (D.changes started.disk ≤ D.changes journal.disk + 2))
+        (λ e. (D.changes journal.disk ≤ D.changes e.0) × (D.changes e.0 ≤ D.changes journal.disk + 2)) }
+    ensures setting { MatchResult result (λ started. D.setting started.disk ≡ D.setting journal.disk) (λ e. D.setting e.0 ≡ D.setting journal.disk) }
+{
+    let mut journal = journal;
+    match record_start(alloc, &mut journal, sheets) {
+        Ok(()) => Ok(journal),
+        Err(why) => Err((journal.into_disk(), why)),
+    }
+}
+
+// Opens the log on a disk.
+fn open_log<D: Disk>(alloc: Global, disk: D) -> Result<(Log<D>, Frames), (D, JournalWhy)>
+    ensures opens { D.tells → IfOk result (λ r. HoldsFrames (D.seen disk) r.1) }
+    ensures frames { D.tells → IfOk result (λ r. r.0.frames ≡ r.1) }
+    ensures bytes { IfOk result (λ r. r.0.bytes ≡ size_with r.1) }
+    ensures live { IfOk result (λ r. r.0.stalled ≡ false) }
+    ensures durable { D.tells → IfOk result (λ r. (c : List ℕ) → D.image r.0.disk c → Reads c r.1) }
+    ensures settles { D.tells → IfOk result (λ r. Settles D.moment D.left_since disk r.0.disk (λ c. D.image disk c ⊎ IsMaking (D.seen disk) c) (λ c. Reads c r.1)) }
+    ensures why { D.tells → IfErr result (λ e. (sheets : List SheetValue) → Refuses sheets (D.seen disk) e.1) }
+    ensures exact { D.tells → (frames : List (List ℕ)) → HoldsFrames (D.seen disk) frames → MatchResult result (λ r. r.1 ≡ frames) (λ e. IsUnjudged e.1) }
+    ensures fault { IfErr result (λ e. e.1 ≡ JournalWhy.Fault → Rose (D.faults disk) (D.faults e.0)) }
+    ensures same { IfErr result (λ e. (IsUnjudged e.1 → ⊥) → D.seen e.0 ≡ D.seen disk) }
+    ensures left { D.tells → IfErr result (λ e. (frames : List (List ℕ)) → 0 < length (D.seen disk) → HoldsFrames (D.seen disk) frames → Reads (D.seen e.0) frames) }
+    ensures spared { D.tells → IfErr result (λ e. (frames : List (List ℕ)) → 0 < length (D.seen disk) → Only (D.seen disk) (D.image disk) → HoldsFrames (D.seen disk) frames
+        → (c : List ℕ) → D.image e.0 c → Reads c frames) }
+    ensures any_moment { D.tells → IfErr result (λ e. LeavesOnly D.moment D.left_since disk e.0 (λ c. D.image disk c ⊎ Reopens (D.seen disk) c)) }
+    ensures faults { MatchResult result (λ r. D.faults disk ≤ D.faults r.0.disk) (λ e. D.faults disk ≤ D.faults e.0) }
+    ensures changes { MatchResult result
+        (λ r. (D.changes disk ≤ D.changes r.0.disk) × (D.changes r.0.disk ≤ D.changes disk + 1))
+        (λ e. (D.changes disk ≤ D.changes e.0) × (D.changes e.0 ≤ D.changes disk + 1)) }
+    ensures setting { MatchResult result (λ r. D.setting r.0.disk ≡ D.setting disk) (λ e. D.setting e.0 ≡ D.setting disk) }
+{
+    match Log::open(alloc, disk) {
+        Ok(opened) => Ok(opened),
+        Err((disk, why)) => Err((disk, why_of(why))),
+    }
+}
+
+// A journal and its state. One without entries gets its first.
+fn begin<D: Disk>(
+    alloc: Global,
+    journal: Journal<D>,
+    state: State,
+    sheets: &[Sheet],
+) -> Result<(Journal<D>, State), (D, JournalWhy)>
+    requires sheets { AreSheets sheets.now }
+    requires hard { 65551 ≤ journal.kept.hard }
+    requires next { journal.kept.next ≡ None }
+    requires live { journal.kept.halted ≡ None }
+    requires durable { D.tells → (c : List ℕ) → D.image journal.disk c → Reads c (frames_of journal.kept.entries) }
+    requires state { state.entries ≡ opened sheets.now journal.kept.entries }
+    ensures kept { IfOk result (λ r. r.0.kept ≡ record journal.kept { entries = opened sheets.now journal.kept.entries }) }
+    ensures state { IfOk result (λ r. r.1.entries ≡ opened sheets.now journal.kept.entries) }
+    ensures empty { OnErr result (journal.kept.entries ≡ []) }
+    ensures why { IfErr result (λ e. IsUnjudged e.1) }
+    ensures fault { IfErr result (λ e. e.1 ≡ JournalWhy.Fault → Rose (D.faults journal.disk) (D.faults e.0)) }
+    ensures any_moment { D.tells → MatchResult result
+        (λ r. LeavesOnly D.moment D.left_since journal.disk r.0.disk (Keeps sheets.now journal.kept.entries))
+        (λ e. LeavesOnly D.moment D.left_since journal.disk e.0 (Keeps sheets.now journal.kept.entries)) }
+    ensures faults { MatchResult result (λ r. D.faults journal.disk ≤ D.faults r.0.disk) (λ e. D.faults journal.disk ≤ D.faults e.0) }
+    ensures changes { MatchResult result
+        (λ r. (D.changes journal.disk ≤ D.changes r.0.disk) × (D.changes r.0.disk ≤ D.changes journal.disk + 2))
+        (λ e. (D.changes journal.disk ≤ D.changes e.0) × (D.changes e.0 ≤ D.changes journal.disk + 2)) }
+    ensures setting { MatchResult result (λ r. D.setting r.0.disk ≡ D.setting journal.disk) (λ e. D.setting e.0 ≡ D.setting journal.disk) }
+{
+    if journal.durable() > 0 {
+        return Ok((journal, state));
+    }
+    match start(alloc, journal, sheets) {
+        Ok(journal) => Ok((journal, state)),
+        Err(failed) => Err(failed),
+    }
+}
+
+// The journal of an open log, and its state.
+fn of_frames<D: Disk>(
+    alloc: Global,
+    log: Log<D>,
+    frames: &Frames,
+    sheets: &[Sheet],
+    limits: Limits,
+) -> Result<(Journal<D>, State), (D, JournalWhy)>
+    requires sheets { AreSheets sheets.now }
+    requires hard { 65551 ≤ limits.hard }
+    requires live { log.stalled ≡ false }
+    requires bytes { log.bytes ≡ size_with frames.now }
+    requires logged { D.tells → log.frames ≡ frames.now }
+    requires durable { D.tells → (c : List ℕ) → D.image log.disk c → Reads c frames.now }
+    ensures journal { IfOk result (λ r. (old : List EntryValue) × IsJournal sheets.now old × (frames_of old ≡ frames.now) × (r.0.kept.entries ≡ opened sheets.now old)
+        × (D.tells → LeavesOnly D.moment D.left_since log.disk r.0.disk (Keeps sheets.now old))) }
+    ensures state { IfOk result (λ r. r.1.entries ≡ r.0.kept.entries) }
+    ensures fresh { IfOk result (λ r. (r.0.kept.next ≡ None) × (r.0.kept.tail ≡ None) × (r.0.kept.halted ≡ None)) }
+    ensures limits { IfOk result (λ r. (r.0.kept.soft ≡ limits.soft) × (r.0.kept.hard ≡ limits.hard)) }
+    ensures why { IfErr result (λ e. IsUnjudged e.1 ⊎ IsNoJournalIn sheets.now frames.now e.1) }
+    ensures fault { IfErr result (λ e. e.1 ≡ JournalWhy.Fault → Rose (D.faults log.disk) (D.faults e.0)) }
+    ensures same { D.tells → IfErr result (λ e. (IsUnjudged e.1 → ⊥) → (c : List ℕ) → D.image e.0 c → Reads c frames.now) }
+    ensures spared { D.tells → IfErr result (λ e. (journal : List EntryValue) → frames_of journal ≡ frames.now → (c : List ℕ) → D.image e.0 c → Keeps sheets.now journal c) }
+    ensures any_moment { D.tells → IfErr result (λ e. LeavesOnly D.moment D.left_since log.disk e.0 (λ c. Reads c frames.now ⊎ GetsFirst sheets.now frames.now c)) }
+    ensures faults { MatchResult result (λ r. D.faults log.disk ≤ D.faults r.0.disk) (λ e. D.faults log.disk ≤ D.faults e.0) }
+    ensures changes { MatchResult result
+        (λ r. (D.changes log.disk ≤ D.changes r.0.disk) × (D.changes r.0.disk ≤ D.changes log.disk + 2))
+        (λ e. (D.changes log.disk ≤ D.changes e.0) × (D.changes e.0 ≤ D.changes log.disk + 2)) }
+    ensures setting { MatchResult result (λ r. D.setting r.0.disk ≡ D.setting log.disk) (λ e. D.setting e.0 ≡ D.setting log.disk) }
+{
+    match find_journal(alloc, frames, sheets) {
+        Ok((copy, state)) => begin(alloc, journal_of(log, copy, limits), state, sheets),
+        Err(why) => Err((log.into_disk(), why)),
+    }
+}
+
+impl<D: Disk> Journal<D> {
+    /// Opens a disk as a journal of these sheets, and gives its state too. A disk of size 0, and a log without frames,
+    /// gets its first entry. An error gives the disk back; where it is a refusal the disk reads as before, or as the same
+    /// frames with nothing behind them.
+    pub fn open(
+        alloc: Global,
+        disk: D,
+        sheets: &[Sheet],
+        limits: Limits,
+    ) -> Result<(Journal<D>, State), (D, JournalWhy)>
+        requires sheets { AreSheets sheets.now }
+        requires hard { 65551 ≤ limits.hard }
+
+        // What it gives.
+        ensures journal { IfOk result (λ r. (old : List EntryValue) × IsJournal sheets.now old × (r.0.kept.entries ≡ opened sheets.now old)
+            × (D.tells → IsOnDisk sheets.now (D.seen disk) old
+            × Settles D.moment D.left_since disk r.0.disk (λ c. D.image disk c ⊎ IsMaking (D.seen disk) c) (Keeps sheets.now old))) }
+        ensures state { IfOk result (λ r. r.1.entries ≡ r.0.kept.entries) }
+        ensures fresh { IfOk result (λ r. (r.0.kept.next ≡ None) × (r.0.kept.tail ≡ None) × (r.0.kept.halted ≡ None)) }
+        ensures limits { IfOk result (λ r. (r.0.kept.soft ≡ limits.soft) × (r.0.kept.hard ≡ limits.hard)) }
+
+        // When which error comes.
+        ensures why { D.tells → IfErr result (λ e. Refuses sheets.now (D.seen disk) e.1) }
+        ensures exact { D.tells → (journal : List EntryValue) → IsOnDisk sheets.now (D.seen disk) journal →
+            MatchResult result (λ r. r.0.kept.entries ≡ opened sheets.now journal) (λ e. IsUnjudged e.1) }
+        ensures fault { IfErr result (λ e. e.1 ≡ JournalWhy.Fault → Rose (D.faults disk) (D.faults e.0)) }
+
+        // What an error leaves.
+        ensures same { D.tells → IfErr result (λ e. (IsUnjudged e.1 → ⊥) → SameFrames (D.seen disk) (D.seen e.0) (D.image e.0)) }
+        ensures spared { D.tells → IfErr result (λ e. Spares sheets.now (D.seen disk) (D.image disk) (D.seen e.0) (D.image e.0)) }
+        ensures any_moment { D.tells → IfErr result (λ e. LeavesOnly D.moment D.left_since disk e.0 (IsOpening sheets.now (D.seen disk) (D.image disk))) }
+
+        // The disk's counts and its setting.
+        ensures faults { MatchResult result (λ r. D.faults disk ≤ D.faults r.0.disk) (λ e. D.faults disk ≤ D.faults e.0) }
+        ensures changes { MatchResult result
+            (λ r. (D.changes disk ≤ D.changes r.0.disk) × (D.changes r.0.disk ≤ D.changes disk + 3))
+            (λ e. (D.changes disk ≤ D.changes e.0) × (D.changes e.0 ≤ D.changes disk + 3)) }
+        ensures setting { MatchResult result (λ r. D.setting r.0.disk ≡ D.setting disk) (λ e. D.setting e.0 ≡ D.setting disk) }
+    {
+        match open_log(alloc, disk) {
+            Ok((log, frames)) => of_frames(alloc, log, &frames, sheets, limits),
+            Err(refused) => Err(refused),
+        }
+    }
+
+    /// Judges a disk as `open` does, and counts the entries of its journal. It only reads. A disk of size 0 holds none.
+    pub fn check(alloc: Global, disk: &mut D, sheets: &[Sheet]) -> Result<u64, JournalWhy>
+        requires { AreSheets sheets.now }
+        ensures count { D.tells → IfOk result (λ n. (journal : List EntryValue) × IsOnDisk sheets.now (D.seen disk.old) journal × (n ≡ length journal)) }
+        ensures why { D.tells → IfErr result (Refuses sheets.now (D.seen disk.old)) }
+        ensures exact { D.tells → (journal : List EntryValue) → IsOnDisk sheets.now (D.seen disk.old) journal →
+            MatchResult result (λ n. n ≡ length journal) IsUnjudged }
+        ensures fault { IsErrOf result JournalWhy.Fault → Rose (D.faults disk.old) (D.faults disk.new) }
+        ensures untouched { IsUntouched D.seen D.image D.changes disk.old disk.new }
+        ensures any_moment { LeavesOnly D.moment D.left_since disk.old disk.new (D.image disk.old) }
+        ensures faults { D.faults disk.old ≤ D.faults disk.new }
+        ensures setting { D.setting disk.new ≡ D.setting disk.old }
+    {
+        match Log::scan(alloc, disk) {
+            Ok(frames) => count_entries(alloc, &frames, sheets),
+            Err(why) => Err(why_of(why)),
+        }
+    }
+}
