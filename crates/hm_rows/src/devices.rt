@@ -2,10 +2,10 @@
 ghost use Rattle.std.specs.Prelude.{◌≤◌, IfOk};
 
 use crate::lines::FROB;
-use crate::logs::{NEW, SHOP};
+use crate::logs::{ADDS, CHECKS, SHOP, START, SUBMIT, gated};
 use crate::play::{Fails, NONE, RUN, play, says};
 use hm_disk::Choice;
-use hm_top::{Ended, RunStatus};
+use hm_top::RunStatus;
 use std::alloc::{AllocError, Global};
 use std::fmt::Write;
 use std::process::Abort;
@@ -30,7 +30,7 @@ fn disk_calls(alloc: Global, script: &[u8], log: &[u8]) -> Result<u64, AllocErro
             disk: &[call],
             ..NONE
         };
-        if play(alloc, &RUN, script, log, fails)?.ended.status == RunStatus::Done {
+        if play(alloc, &RUN, script, log, fails)?.status == RunStatus::Done {
             return Ok(call);
         }
     }
@@ -83,7 +83,7 @@ fn stopped(
         disk: &[call],
         ..NONE
     };
-    let Ended { disk, .. } = play(alloc, &RUN, script, log, fails)?.ended;
+    let disk = play(alloc, &RUN, script, log, fails)?.disk;
     disk.stop(choice).bytes().to_vec(alloc)
 }
 
@@ -100,7 +100,7 @@ fn run_is_halted_from_a_fault_of_the_disk_on(rt: HostRuntime) -> Result<(), Fail
             };
             let played = play(rt.alloc(), &RUN, script, log, fails)?;
             let text = halted_text(rt.alloc(), entries, recorded)?;
-            assert_eq!(rt; played.ended.status, RunStatus::LogFault, "call {call}");
+            assert_eq!(rt; played.status, RunStatus::LogFault, "call {call}");
             assert_eq!(rt; played.text.as_slice(), text.as_bytes(), "call {call}");
 
             // The log opens again, with what was recorded and perhaps one entry more.
@@ -113,12 +113,8 @@ fn run_is_halted_from_a_fault_of_the_disk_on(rt: HostRuntime) -> Result<(), Fail
             ] {
                 let left = stopped(rt.alloc(), script, log, call, choice)?;
                 let next = play(rt.alloc(), &RUN, b"procs\n", &left, NONE)?;
-                assert_eq!(rt;
-                    next.ended.status,
-                    RunStatus::Done,
-                    "call {call}, {choice:?}"
-                );
-                let marks = next.ended.marks.as_slice();
+                assert_eq!(rt; next.status, RunStatus::Done, "call {call}, {choice:?}");
+                let marks = next.marks.as_slice();
                 assert!(rt;
                     marks == [least].as_slice() || marks == [least + 1].as_slice(),
                     "call {call}, {choice:?}"
@@ -141,9 +137,9 @@ fn run_ends_at_a_fault_of_the_disk_in_the_opening(rt: HostRuntime) -> Result<(),
                 ..NONE
             };
             let played = play(rt.alloc(), &RUN, b"procs\n", log, fails)?;
-            assert_eq!(rt; played.ended.status, RunStatus::LogFault, "call {call}");
+            assert_eq!(rt; played.status, RunStatus::LogFault, "call {call}");
             assert_eq!(rt; played.text.as_slice(), b"hmaster: log fault\n".as_slice());
-            assert_eq!(rt; played.ended.marks.len(), 0);
+            assert_eq!(rt; played.marks.len(), 0);
             for choice in [Choice::Synced, Choice::AsRead] {
                 let left = stopped(rt.alloc(), b"procs\n", log, call, choice)?;
                 says(&rt, b"", &left, RunStatus::Done, first)?;
@@ -169,9 +165,9 @@ fn run_ends_at_a_fault_of_the_source(rt: HostRuntime) -> Result<(), Fail> {
         } else {
             (RunStatus::Done, b"opened at 2\npid 2\n".as_slice())
         };
-        assert_eq!(rt; played.ended.status, status, "call {call}");
+        assert_eq!(rt; played.status, status, "call {call}");
         assert_eq!(rt; played.text.as_slice(), text, "call {call}");
-        assert_eq!(rt; played.ended.disk.bytes() == SHOP, call < 3);
+        assert_eq!(rt; played.disk.bytes() == SHOP, call < 3);
     }
     Ok(())
 }
@@ -191,11 +187,11 @@ fn breaks_off(
         ..NONE
     };
     let played = play(rt.alloc(), &RUN, THREE, SHOP, fails)?;
-    assert_eq!(rt; played.ended.status, RunStatus::WriteFault, "write {write}");
+    assert_eq!(rt; played.status, RunStatus::WriteFault, "write {write}");
     assert_eq!(rt; played.text.as_slice(), text, "write {write}");
-    assert_eq!(rt; played.ended.marks.len() as u64, write);
+    assert_eq!(rt; played.marks.len() as u64, write);
     let first = format!(in rt.alloc(); "opened at {entries}\n")?;
-    says(rt, b"", played.ended.disk.bytes(), RunStatus::Done, &first)?;
+    says(rt, b"", played.disk.bytes(), RunStatus::Done, &first)?;
     Ok(())
 }
 
@@ -207,7 +203,7 @@ fn run_ends_at_a_fault_of_the_sink(rt: HostRuntime) -> Result<(), Fail> {
     breaks_off(&rt, 3, b"opened at 2\npid 1 repeated\npid 2\n", 3)?;
     let fails = Fails { sink: &[4], ..NONE };
     let played = play(rt.alloc(), &RUN, THREE, SHOP, fails)?;
-    assert_eq!(rt; played.ended.status, RunStatus::Done);
+    assert_eq!(rt; played.status, RunStatus::Done);
     Ok(())
 }
 
@@ -225,7 +221,7 @@ fn is_silent(
         disk,
     };
     let played = play(rt.alloc(), words, script, SHOP, fails)?;
-    assert_eq!(rt; played.ended.status, status);
+    assert_eq!(rt; played.status, status);
     assert_eq!(rt; played.text.len(), 0);
     Ok(())
 }
@@ -238,121 +234,87 @@ fn run_tries_its_last_line_once(rt: HostRuntime) -> Result<(), Fail> {
     Ok(())
 }
 
-// Two submissions and a table.
-const TWO: &[u8] = b"namespace 1:1 a\nnamespace 1:2 b\nprocs\n";
+// A submission, which is settled, and a table.
+const SETTLES: &[u8] = b"namespace 1:1 shop\nsettle\nprocs\n";
 
-// What is on the disk, step by step: a log is made, and each entry is laid behind its closed gate, which then opens.
-const MADE: &[u8] = b"HMASTERJ\x01-";
-
-const START_LAID: &[u8] = b"HMASTERJ\x01-\x03\0\0\0\0\0\0-";
-
-const A_LAID: &[u8] =
-    b"HMASTERJ\x01+\x03\0\0\0\0\0\0-\x15\0\0\0\x01\x01\0\0\0\0\0\0\0\x01\0\0\0\0\0\0\0\x01\x01\0a-";
-
-const A_ADDED: &[u8] =
-    b"HMASTERJ\x01+\x03\0\0\0\0\0\0+\x15\0\0\0\x01\x01\0\0\0\0\0\0\0\x01\0\0\0\0\0\0\0\x01\x01\0a-";
-
-const B_LAID: &[u8] =
-    b"HMASTERJ\x01+\x03\0\0\0\0\0\0+\x15\0\0\0\x01\x01\0\0\0\0\0\0\0\x01\0\0\0\0\0\0\0\x01\x01\0a-\x15\0\0\0\x01\x01\0\0\0\0\0\0\0\x02\0\0\0\0\0\0\0\x01\x01\0b-";
-
-const B_ADDED: &[u8] =
-    b"HMASTERJ\x01+\x03\0\0\0\0\0\0+\x15\0\0\0\x01\x01\0\0\0\0\0\0\0\x01\0\0\0\0\0\0\0\x01\x01\0a+\x15\0\0\0\x01\x01\0\0\0\0\0\0\0\x02\0\0\0\0\0\0\0\x01\x01\0b-";
-
-// A run of the two submissions and the table over a new log has this status and text, and the disk then reads so.
+// A run of it over a new log has this status and text, and of its four entries so many are laid on the disk, and so many
+// behind an open gate.
 fn leaves(
     rt: &(impl Abort + AllocGlobal),
     fails: Fails<'_>,
     status: RunStatus,
     text: &[u8],
-    log: &[u8],
+    (laid, open): (usize, usize),
 ) -> Result<(), AllocError> {
-    let played = play(rt.alloc(), &RUN, TWO, b"", fails)?;
-    assert_eq!(rt;
-        played.ended.status,
-        status,
-        "disk {:?}, sink {:?}",
-        fails.disk, fails.sink
-    );
+    let played = play(rt.alloc(), &RUN, SETTLES, b"", fails)?;
+    let (disk, sink) = (fails.disk, fails.sink);
+    assert_eq!(rt; played.status, status, "disk {disk:?}, sink {sink:?}");
     assert_eq!(rt;
         played.text.as_slice(),
         text,
-        "disk {:?}, sink {:?}",
-        fails.disk,
-        fails.sink
+        "disk {disk:?}, sink {sink:?}"
     );
+    let frames = [START, SUBMIT, CHECKS, ADDS];
+    let laid = &frames[..laid.min(4)];
+    let log = gated(rt.alloc(), laid, open)?;
     assert_eq!(rt;
-        played.ended.disk.bytes(),
-        log,
-        "disk {:?}, sink {:?}",
-        fails.disk,
-        fails.sink
+        played.disk.bytes(),
+        log.as_slice(),
+        "disk {disk:?}, sink {sink:?}"
     );
     Ok(())
 }
 
 #[test]
 fn run_with_a_fault_at_each_call(rt: HostRuntime) -> Result<(), Fail> {
-    let fault = b"hmaster: log fault\n".as_slice();
-    let first =
+    let opening = b"hmaster: log fault\n".as_slice();
+    let submitting =
         b"opened at 1\nhalted LogFault\nhalted LogFault\nhalted LogFault\nhmaster: log fault\n".as_slice();
-    let second =
+    let settling =
         b"opened at 1\npid 1\nhalted LogFault\nhalted LogFault\nhmaster: log fault\n".as_slice();
-    // The calls of the disk by number, and what the run says and leaves where such a one fails.
+    // The calls of the disk by number, and what the run says and leaves where such a one fails: an entry is laid behind
+    // its closed gate, synced, and then the gate opens and is synced.
     let cases = [
-        ([0, 1, 2, 3].as_slice(), fault, b"".as_slice()),
-        (&[4, 5], fault, MADE),
-        (&[6, 7], fault, START_LAID),
-        (&[8], fault, NEW),
-        (&[9], first, NEW),
-        (&[10, 11], first, A_LAID),
-        (&[12], first, A_ADDED),
-        (&[13], second, A_ADDED),
-        (&[14, 15], second, B_LAID),
-        (&[16], second, B_ADDED),
+        ([4, 5].as_slice(), opening, (0, 0)),
+        (&[6, 7], opening, (1, 0)),
+        (&[8], opening, (1, 1)),
+        (&[9], submitting, (1, 1)),
+        (&[10, 11], submitting, (2, 1)),
+        (&[12], submitting, (2, 2)),
+        (&[13], settling, (2, 2)),
+        (&[14, 15], settling, (3, 2)),
+        (&[16, 17], settling, (3, 3)),
+        (&[18, 19], settling, (4, 3)),
+        (&[20], settling, (4, 4)),
     ];
-    for (calls, text, log) in cases {
+    for (calls, text, left) in cases {
         for call in calls {
             let fails = Fails {
                 disk: &[*call],
                 ..NONE
             };
-            leaves(&rt, fails, RunStatus::LogFault, text, log)?;
+            leaves(&rt, fails, RunStatus::LogFault, text, left)?;
         }
     }
-    for call in [0, 1] {
-        let fails = Fails {
-            source: &[call],
-            ..NONE
-        };
-        leaves(
-            &rt,
-            fails,
-            RunStatus::ReadFault,
-            b"hmaster: read fault\n",
-            b"",
-        )?;
-    }
     let cases = [
-        (0, b"".as_slice(), NEW),
-        (1, b"opened at 1\n", A_ADDED),
-        (2, b"opened at 1\npid 1\n", B_ADDED),
-        (3, b"opened at 1\npid 1\npid 2\n", B_ADDED),
+        (0, b"".as_slice(), (1, 1)),
+        (1, b"opened at 1\n", (2, 2)),
+        (2, b"opened at 1\npid 1\n", (4, 4)),
+        (3, b"opened at 1\npid 1\nsettled at 4\n", (4, 4)),
     ];
-    for (call, text, log) in cases {
+    for (call, text, left) in cases {
         let fails = Fails {
             sink: &[call],
             ..NONE
         };
-        leaves(&rt, fails, RunStatus::WriteFault, text, log)?;
+        leaves(&rt, fails, RunStatus::WriteFault, text, left)?;
     }
-    let text =
-        b"opened at 1\npid 1\npid 2\nprocs at 3: 2\n1 CreateNamespace a RUNNABLE\n2 CreateNamespace b RUNNABLE\n";
-    leaves(&rt, NONE, RunStatus::Done, text, B_ADDED)?;
     let behind = Fails {
         source: &[2],
         sink: &[4],
-        disk: &[17],
+        disk: &[21],
     };
-    leaves(&rt, behind, RunStatus::Done, text, B_ADDED)?;
+    let text = b"opened at 1\npid 1\nsettled at 4\nprocs at 4: 1\n1 CreateNamespace shop SUCCESS\n";
+    leaves(&rt, behind, RunStatus::Done, text, (4, 4))?;
     Ok(())
 }

@@ -5,6 +5,10 @@
 #[cfg(test)]
 mod devices;
 #[cfg(test)]
+mod full;
+#[cfg(test)]
+mod hands;
+#[cfg(test)]
 mod lines;
 #[cfg(test)]
 mod logs;

@@ -5,6 +5,9 @@ use hm_top::{Bad, RunStatus, Why};
 use std::process::Abort;
 use std::test::Fail;
 
+/// A name of the greatest length.
+pub const LONGEST: &str = "abcdefghijklmnopqrstuvwxyzabcdefghijklmnopqrstuvwxyzabcdefghijkl";
+
 /// What a first line that is no command is answered.
 pub const FROB: Bad = Bad {
     line: 1,
@@ -25,6 +28,7 @@ fn run_reads_these_lines(rt: HostRuntime) -> Result<(), Fail> {
             "pid 1\nprocs at 2: 1\n1 CreateNamespace shop RUNNABLE\n",
         ),
         (b"procs", "procs at 1: 0\n"),
+        (b"  settle \r\nsettle", "settled at 1\nsettled at 1\n"),
         // Empty lines and comments, which may have any byte.
         (
             b"\n\r\n#\n# procs\r\n#\x07\xff\n##\n\nprocs\n#",
@@ -92,7 +96,9 @@ fn run_refuses_these_lines(rt: HostRuntime) -> Result<(), Fail> {
         b"Procs\n",
         b"proc\n",
         b"frob\n",
-        b"settle\n",
+        b"settle x\n",
+        b"settled\n",
+        b"step 1\n",
         b"run\n",
         // Nonces.
         b"namespace 01:1 shop\n",
@@ -170,14 +176,14 @@ fn run_refuses_words_that_are_no_command(rt: HostRuntime) -> Result<(), Fail> {
         let played = play(rt.alloc(), words, b"frob\n", b"HMASTER", NONE)?;
         let text = format!(in rt.alloc(); "hmaster: usage: word {word}\n")?;
         assert_eq!(rt;
-            played.ended.status,
+            played.status,
             RunStatus::Usage(word),
             "the words {words:?}"
         );
         assert_eq!(rt; played.text.as_slice(), text.as_bytes());
-        assert_eq!(rt; played.ended.disk.bytes(), b"HMASTER".as_slice());
+        assert_eq!(rt; played.disk.bytes(), b"HMASTER".as_slice());
     }
     let played = play(rt.alloc(), &RUN, b"frob\n", b"HMASTER", NONE)?;
-    assert_eq!(rt; played.ended.status, RunStatus::BadScript(FROB));
+    assert_eq!(rt; played.status, RunStatus::BadScript(FROB));
     Ok(())
 }

@@ -1,32 +1,32 @@
 //! What a run leaves in its log, and what it takes for a journal.
 use crate::play::{NONE, RUN, play, says};
 use hm_log::Log;
-use hm_top::{Ended, LogWhy, RunStatus};
+use hm_top::RunStatus;
 use std::alloc::{AllocError, Global};
 use std::process::Abort;
 use std::test::Fail;
 
 /// The journal of an empty script.
-pub const NEW: &[u8] = b"HMASTERJ\x01+\x03\0\0\0\0\0\0-";
+pub const NEW: &[u8] = b"HMASTERJ\x01+\x0e\0\0\0\0\x01\0\x01\x02\0\x01\x01\0\0\x02\xff\0\0-";
 
 /// The journal of `namespace 1:1 shop`.
 pub const SHOP: &[u8] =
-    b"HMASTERJ\x01+\x03\0\0\0\0\0\0+\x18\0\0\0\x01\x01\0\0\0\0\0\0\0\x01\0\0\0\0\0\0\0\x01\x04\0shop-";
+    b"HMASTERJ\x01+\x0e\0\0\0\0\x01\0\x01\x02\0\x01\x01\0\0\x02\xff\0\0+\x18\0\0\0\x01\x01\0\0\0\0\0\0\0\x01\0\0\0\0\0\0\0\x01\x04\0shop-";
 
-// The same of `namespace 0:0 shop`.
-const SHOP_WITH_NO_NONCE: &[u8] =
-    b"HMASTERJ\x01+\x03\0\0\0\0\0\0+\x18\0\0\0\x01\0\0\0\0\0\0\0\0\0\0\0\0\0\0\0\0\x01\x04\0shop-";
+/// The entries of a settled journal of `namespace 1:1 shop`: its start, the submission, and two steps.
+pub const START: &[u8] = b"\0\x01\0\x01\x02\0\x01\x01\0\0\x02\xff\0\0";
 
-// The frame of the first entry, and that of `namespace 1:1 shop`.
-const START: &[u8] = b"\0\0\0";
+pub const SUBMIT: &[u8] = b"\x01\x01\0\0\0\0\0\0\0\x01\0\0\0\0\0\0\0\x01\x04\0shop";
 
-const SUBMIT: &[u8] = b"\x01\x01\0\0\0\0\0\0\0\x01\0\0\0\0\0\0\0\x01\x04\0shop";
+pub const CHECKS: &[u8] = b"\x02\x01\0\0\0\0\0\0\0\0\0\x01\0\0\0\0\0\0\0\0";
 
-// A log of these frames.
-fn log_of(alloc: Global, frames: &[&[u8]]) -> Result<Vec<u8>, AllocError> {
+pub const ADDS: &[u8] = b"\x02\x01\0\0\0\0\0\0\0\0\x03\0\x01\0\0\x04\0shop\0\x01\0\0\0\0\0\0\0";
+
+/// The bytes of a log of these frames, of which so many have an open gate.
+pub fn gated(alloc: Global, frames: &[&[u8]], open: usize) -> Result<Vec<u8>, AllocError> {
     let mut log = b"HMASTERJ\x01".to_vec(alloc)?;
-    for frame in frames {
-        log.push(b'+')?;
+    for (place, frame) in frames.iter().enumerate() {
+        log.push(if place < open { b'+' } else { b'-' })?;
         log.extend_from_slice(&(frame.len() as u64).to_le_bytes()[..4])?;
         log.extend_from_slice(frame)?;
     }
@@ -34,15 +34,32 @@ fn log_of(alloc: Global, frames: &[&[u8]]) -> Result<Vec<u8>, AllocError> {
     Ok(log)
 }
 
+// A log of these frames.
+fn log_of(alloc: Global, frames: &[&[u8]]) -> Result<Vec<u8>, AllocError> {
+    gated(alloc, frames, frames.len())
+}
+
 #[test]
 fn run_answers_and_the_next_run_knows(rt: HostRuntime) -> Result<(), Fail> {
     let cases = [
         ("", "opened at 1\n", "", "opened at 1\n"),
         (
+            "namespace 1:1 shop\nsettle\nprocs\n",
+            "opened at 1\npid 1\nsettled at 4\nprocs at 4: 1\n1 CreateNamespace shop SUCCESS\n",
+            "settle\nnamespace 1:1 shop\nprocs\n",
+            "opened at 4\nsettled at 4\npid 1 repeated\nprocs at 4: 1\n1 CreateNamespace shop SUCCESS\n",
+        ),
+        (
+            "namespace 1:1 default\nnamespace 1:2 shop\nsettle\nprocs\n",
+            "opened at 1\npid 1\npid 2\nsettled at 6\nprocs at 6: 2\n1 CreateNamespace default ROLLEDBACK NsExists\n2 CreateNamespace shop SUCCESS\n",
+            "namespace 1:3 shop\nsettle\nprocs\n",
+            "opened at 6\npid 3\nsettled at 8\nprocs at 8: 3\n1 CreateNamespace default ROLLEDBACK NsExists\n2 CreateNamespace shop SUCCESS\n3 CreateNamespace shop ROLLEDBACK NsExists\n",
+        ),
+        (
             "namespace 1:1 shop\nnamespace 1:2 toys\nnamespace 1:1 shop\nprocs\n",
             "opened at 1\npid 1\npid 2\npid 1 repeated\nprocs at 3: 2\n1 CreateNamespace shop RUNNABLE\n2 CreateNamespace toys RUNNABLE\n",
-            "procs\n",
-            "opened at 3\nprocs at 3: 2\n1 CreateNamespace shop RUNNABLE\n2 CreateNamespace toys RUNNABLE\n",
+            "settle\nprocs\n",
+            "opened at 3\nsettled at 7\nprocs at 7: 2\n1 CreateNamespace shop SUCCESS\n2 CreateNamespace toys SUCCESS\n",
         ),
         (
             "namespace 1:1 shop\nnamespace 1:1 shop\nnamespace 1:1 shop2\n",
@@ -51,16 +68,10 @@ fn run_answers_and_the_next_run_knows(rt: HostRuntime) -> Result<(), Fail> {
             "opened at 2\nrefused NonceClash 1\npid 1 repeated\npid 2\n",
         ),
         (
-            "namespace 0:0 shop\nprocs\n",
-            "opened at 1\npid 1\nprocs at 2: 1\n1 CreateNamespace shop RUNNABLE\n",
+            "namespace 0:0 shop\nnamespace 5:0 a\nnamespace 5:0 a\n",
+            "opened at 1\npid 1\npid 2\npid 3\n",
             "procs\n",
-            "opened at 2\nprocs at 2: 1\n1 CreateNamespace shop RUNNABLE\n",
-        ),
-        (
-            "namespace 5:0 a\nnamespace 5:0 a\n",
-            "opened at 1\npid 1\npid 2\n",
-            "namespace 5:0 b\n",
-            "opened at 3\npid 3\n",
+            "opened at 4\nprocs at 4: 3\n1 CreateNamespace shop RUNNABLE\n2 CreateNamespace a RUNNABLE\n3 CreateNamespace a RUNNABLE\n",
         ),
     ];
     for (script, text, again, next) in cases {
@@ -72,23 +83,22 @@ fn run_answers_and_the_next_run_knows(rt: HostRuntime) -> Result<(), Fail> {
 
 #[test]
 fn run_leaves_these_bytes(rt: HostRuntime) -> Result<(), Fail> {
+    let settled = log_of(rt.alloc(), &[START, SUBMIT, CHECKS, ADDS])?;
     let cases = [
         ("", "opened at 1\n", NEW),
         ("namespace 1:1 shop\n", "opened at 1\npid 1\n", SHOP),
         (
-            "namespace 0:0 shop\n",
-            "opened at 1\npid 1\n",
-            SHOP_WITH_NO_NONCE,
+            "namespace 1:1 shop\nsettle\n",
+            "opened at 1\npid 1\nsettled at 4\n",
+            settled.as_slice(),
         ),
     ];
+    // No bytes, a log without frames, and a new journal with a torn frame or a closed gate behind it hold the same.
+    let mut torn = NEW.to_vec(rt.alloc())?;
+    torn.extend_from_slice(b"\x01\0\0\0\x04-")?;
+    let closed = gated(rt.alloc(), &[START, SUBMIT], 1)?;
     for (script, text, left) in cases {
-        // No bytes, a log without frames and a new journal with a torn frame behind it hold the same.
-        for log in [
-            b"".as_slice(),
-            b"HMASTERJ\x01-",
-            NEW,
-            b"HMASTERJ\x01+\x03\0\0\0\0\0\0-\x01\0\0",
-        ] {
+        for log in [b"".as_slice(), b"HMASTERJ\x01-", NEW, &torn, &closed] {
             let bytes = says(&rt, script.as_bytes(), log, RunStatus::Done, text)?;
             assert_eq!(rt;
                 bytes.as_slice(),
@@ -97,16 +107,7 @@ fn run_leaves_these_bytes(rt: HostRuntime) -> Result<(), Fail> {
             );
         }
     }
-    let frames = log_of(rt.alloc(), &[START, SUBMIT])?;
-    assert_eq!(rt; frames.as_slice(), SHOP);
-    Ok(())
-}
-
-#[test]
-fn run_leaves_these_frames(rt: HostRuntime) -> Result<(), Fail> {
-    let Ended { disk, .. } = play(rt.alloc(), &RUN, b"namespace 1:1 shop\n", b"", NONE)?.ended;
-    assert_eq!(rt; disk.bytes().len(), 47);
-    let mut disk = disk;
+    let mut disk = play(rt.alloc(), &RUN, b"namespace 1:1 shop\n", b"", NONE)?.disk;
     let frames = Log::scan(rt.alloc(), &mut disk)?;
     assert_eq!(rt; frames.count(), 2);
     assert_eq!(rt; frames.frame(0), START);
@@ -114,71 +115,66 @@ fn run_leaves_these_frames(rt: HostRuntime) -> Result<(), Fail> {
     Ok(())
 }
 
-// Whether a run refuses this log, and leaves it.
-fn refuses(rt: &(impl Abort + AllocGlobal), log: &[u8]) -> Result<(), AllocError> {
-    let status = RunStatus::LogRefused(LogWhy::NotALog(0));
-    let left = says(
-        rt,
-        b"procs\n",
-        log,
-        status,
-        "hmaster: log refused: NotALog 0\n",
-    )?;
-    assert_eq!(rt; left.as_slice(), log);
+// A run refuses this log, and leaves it.
+fn refuses(rt: &(impl Abort + AllocGlobal), log: &[u8], why: &str) -> Result<(), AllocError> {
+    let played = play(rt.alloc(), &RUN, b"procs\n", log, NONE)?;
+    let text = format!(in rt.alloc(); "hmaster: log refused: {why}\n")?;
+    assert_eq!(rt; played.text.as_slice(), text.as_bytes(), "{log:?}");
+    assert_eq!(rt; played.status.code(), 5, "{why}");
+    assert_eq!(rt; played.disk.bytes(), log, "{why}");
+    Ok(())
+}
+
+#[test]
+fn run_refuses_what_is_no_log(rt: HostRuntime) -> Result<(), Fail> {
+    let cases = [
+        (b"HMASTER".as_slice(), "NotALog 7"),
+        (b"XMASTERJ\x01-", "NotALog 0"),
+        (b"HMASTERJ\x09-", "NotALog 8"),
+        (b"HMASTERJ\x01+", "BadFrame 9"),
+        (b"HMASTERJ\x01+\x0e\0\0\0\0\x01-", "BadFrame 9"),
+        (b"HMASTERJ\x01+\0\0\0\0-", "BadFrame 9"),
+    ];
+    for (log, why) in cases {
+        refuses(&rt, log, why)?;
+    }
     Ok(())
 }
 
 #[test]
 fn run_refuses_what_is_no_journal(rt: HostRuntime) -> Result<(), Fail> {
-    for log in [
-        b"HMASTER".as_slice(),
-        b"XMASTERJ\x01-",
-        b"HMASTERJ\x09-",
-        b"HMASTERJ\x01+",
-    ] {
-        refuses(&rt, log)?;
-    }
+    let toys = b"\x01\x01\0\0\0\0\0\0\0\x01\0\0\0\0\0\0\0\x01\x04\0toys".as_slice();
+    let another_kind = b"\x01\x01\0\0\0\0\0\0\0\x01\0\0\0\0\0\0\0\x02\x04\0shop".as_slice();
+    let too_long = b"\x01\x01\0\0\0\0\0\0\0\x01\0\0\0\0\0\0\0\x01\x04\0shops".as_slice();
+    let no_name = b"\x01\x01\0\0\0\0\0\0\0\x01\0\0\0\0\0\0\0\x01\x04\0sh-p".as_slice();
+    let done_at_once = b"\x02\x01\0\0\0\0\0\0\0\0\x03\0\0\0\0\0\0\0\0\0".as_slice();
+    let checks_twice = b"\0\x01\0\x01\x03\0\x01\x02\0\0\x01\x02\0\0\x02\xff\0\0".as_slice();
     let cases = [
-        // The first entry is missing, stands twice, or is spelled otherwise.
-        [SUBMIT, START].as_slice(),
-        &[SUBMIT],
-        &[START, START],
-        &[START, SUBMIT, START],
-        &[b"\0\0"],
-        &[b"\0\0\0\0"],
-        &[b"\0\x01\0"],
-        // A nonce stands twice, for the same name or for another.
-        &[START, SUBMIT, SUBMIT],
-        &[
-            START,
-            SUBMIT,
-            b"\x01\x01\0\0\0\0\0\0\0\x01\0\0\0\0\0\0\0\x01\x04\0toys",
-        ],
-        // The tag or the kind is another one.
-        &[START, b"\xff"],
-        &[START, b"\x01\x02\x03"],
-        &[START, b"\x02\x01\0\0\0\0\0\0\0\0\0\x01\0\0\0\0\0\0\0\0"],
-        &[
-            START,
-            b"\x01\x01\0\0\0\0\0\0\0\x01\0\0\0\0\0\0\0\x02\x04\0shop",
-        ],
-        // A byte is missing or too many, or the name is none.
-        &[
-            START,
-            b"\x01\x01\0\0\0\0\0\0\0\x01\0\0\0\0\0\0\0\x01\x04\0sho",
-        ],
-        &[
-            START,
-            b"\x01\x01\0\0\0\0\0\0\0\x01\0\0\0\0\0\0\0\x01\x04\0shops",
-        ],
-        &[START, b"\x01\x01\0\0\0\0\0\0\0\x01\0\0\0\0\0\0\0\x01\0\0"],
-        &[
-            START,
-            b"\x01\x01\0\0\0\0\0\0\0\x01\0\0\0\0\0\0\0\x01\x04\0sh-p",
-        ],
+        // A frame spells no entry. Each is read before the first entry is judged.
+        ([START, b"\xff"].as_slice(), "BadEntry 1 0"),
+        (&[START, b"\x01\x02\x03"], "BadEntry 1 1"),
+        (&[START, &SUBMIT[..23]], "BadEntry 1 18"),
+        (&[START, too_long], "BadEntry 1 24"),
+        (&[START, no_name], "BadEntry 1 18"),
+        (&[&START[..13]], "BadEntry 0 13"),
+        (&[b"\0\0\0", b"\xff"], "BadEntry 1 0"),
+        // The first entry starts a journal, with a sheet of each kind that the master runs, and no other entry does.
+        (&[b"\0\0\0", SUBMIT], "Illegal 0 1"),
+        (&[SUBMIT, START], "Illegal 0 1"),
+        (&[START, SUBMIT, START], "Illegal 2 1"),
+        // A kind that the master doesn't run, and a nonce that stands twice, for the same name or for another.
+        (&[START, another_kind], "Illegal 1 2"),
+        (&[START, SUBMIT, SUBMIT], "Illegal 2 3"),
+        (&[START, SUBMIT, toys], "Illegal 2 3"),
+        // A step of a procedure that isn't there, and what its sheet doesn't say.
+        (&[START, CHECKS], "Illegal 1 5"),
+        (&[START, SUBMIT, done_at_once], "Illegal 2 8"),
+        (&[START, SUBMIT, CHECKS, CHECKS], "Illegal 3 8"),
+        // It began with other sheets.
+        (&[checks_twice], "SheetsDiffer 1"),
     ];
-    for frames in cases {
-        refuses(&rt, &log_of(rt.alloc(), frames)?)?;
+    for (frames, why) in cases {
+        refuses(&rt, &log_of(rt.alloc(), frames)?, why)?;
     }
     Ok(())
 }
@@ -186,10 +182,10 @@ fn run_refuses_what_is_no_journal(rt: HostRuntime) -> Result<(), Fail> {
 #[test]
 fn run_marks_the_length_of_the_journal_at_each_answer(rt: HostRuntime) -> Result<(), Fail> {
     let script =
-        b"namespace 1:1 shop\n# none\nprocs\nnamespace 1:1 shop\nnamespace 1:1 toys\nnamespace 0:0 shop\n";
-    for (log, marks) in [(b"".as_slice(), [2, 2, 2, 2, 3]), (SHOP, [2, 2, 2, 2, 3])] {
+        b"namespace 1:1 shop\n# none\nprocs\nnamespace 1:1 shop\nsettle\nnamespace 0:0 shop\n";
+    for log in [b"".as_slice(), SHOP] {
         let played = play(rt.alloc(), &RUN, script, log, NONE)?;
-        assert_eq!(rt; played.ended.marks.as_slice(), marks.as_slice());
+        assert_eq!(rt; played.marks.as_slice(), [2, 2, 2, 4, 5].as_slice());
     }
     Ok(())
 }

@@ -1,7 +1,10 @@
 //! A run over memory.
 use hm_disk::MemDisk;
+use hm_journal::Limits;
 use hm_ports::{MemSink, MemSource};
-use hm_top::{Ended, RunStatus, run};
+use hm_sheet::{Handler, Registry};
+use hm_tables::TableHands;
+use hm_top::{Ended, RunStatus, hands_agree, run, run_within};
 use std::alloc::{AllocError, Global};
 use std::process::Abort;
 
@@ -23,11 +26,23 @@ pub const NONE: Fails<'static> = Fails {
     disk: &[],
 };
 
-/// A run that has ended, and what its sink has got.
+/// A run that has ended, how often each of its registries was run, and what its sink has got.
 #[derive(Drop)]
 pub struct Played {
-    pub ended: Ended<MemDisk>,
+    pub status: RunStatus,
+    pub disk: MemDisk,
+    pub marks: Vec<u64>,
+    pub runs: Vec<u64>,
     pub text: Vec<u8>,
+}
+
+/// What a run is given beside its handlers.
+#[derive(Drop)]
+pub struct Devices {
+    words: Vec<String>,
+    source: MemSource,
+    sink: MemSink,
+    disk: MemDisk,
 }
 
 fn strings(alloc: Global, words: &[&str]) -> Result<Vec<String>, AllocError> {
@@ -38,6 +53,102 @@ fn strings(alloc: Global, words: &[&str]) -> Result<Vec<String>, AllocError> {
     Ok(strings)
 }
 
+// A log with much room behind it.
+fn disk(alloc: Global, log: &[u8], fails: &[u64]) -> Result<MemDisk, AllocError> {
+    let bytes = log.to_vec(alloc)?;
+    let room = (bytes.len() as u64).saturating_add(131_072);
+    MemDisk::new(alloc, room, bytes, fails.to_vec(alloc)?)
+}
+
+pub fn devices_of(
+    alloc: Global,
+    words: &[&str],
+    script: &[u8],
+    log: &[u8],
+    fails: Fails<'_>,
+) -> Result<Devices, AllocError> {
+    Ok(Devices {
+        words: strings(alloc, words)?,
+        source: MemSource::new(script.to_vec(alloc)?, fails.source.to_vec(alloc)?),
+        sink: MemSink::new(vec![in alloc; 0; 16_384]?, fails.sink.to_vec(alloc)?),
+        disk: disk(alloc, log, fails.disk)?,
+    })
+}
+
+fn runs_of(alloc: Global, hands: &[Registry]) -> Result<Vec<u64>, AllocError> {
+    let mut runs = Vec::new(alloc);
+    for registry in hands {
+        runs.push(registry.runs())?;
+    }
+    Ok(runs)
+}
+
+/// Runs with a registry for each of these handlers, and within these limits where there are any.
+pub fn play_with(
+    alloc: Global,
+    devices: Devices,
+    handlers: Vec<Box<dyn Handler>>,
+    limits: Option<Limits>,
+) -> Result<Played, AllocError> {
+    let mut hands = Vec::new(alloc);
+    for handler in handlers {
+        let mut one = Vec::new(alloc);
+        one.push(handler)?;
+        let Ok(registry) = Registry::new(alloc, one) else {
+            return Err(AllocError);
+        };
+        hands.push(registry)?;
+    }
+    if !hands_agree(&hands) {
+        return Err(AllocError);
+    }
+    let Devices {
+        words,
+        source,
+        sink,
+        disk,
+    } = devices;
+    let mut source = source;
+    let mut sink = sink;
+    let Ended {
+        status,
+        disk,
+        marks,
+        hands,
+    } = match limits {
+        Some(limits) if limits.hard >= 65_551 => run_within(
+            alloc,
+            &words,
+            &mut source,
+            &mut sink,
+            disk,
+            hands,
+            limits,
+        ),
+        _ => run(alloc, &words, &mut source, &mut sink, disk, hands),
+    };
+    Ok(Played {
+        status,
+        disk,
+        marks,
+        runs: runs_of(alloc, &hands)?,
+        text: sink.got().to_vec(alloc)?,
+    })
+}
+
+// Runs with seventeen handlers of tables.
+fn play_tables(
+    alloc: Global,
+    devices: Devices,
+    limits: Option<Limits>,
+) -> Result<Played, AllocError> {
+    let mut handlers: Vec<Box<dyn Handler>> = Vec::new(alloc);
+    for _ in 0..17 {
+        handlers.push(Box::new(alloc, TableHands::new(alloc)?)?)?;
+    }
+    play_with(alloc, devices, handlers, limits)
+}
+
 /// Runs a script over a log with much room behind it.
 pub fn play(
     alloc: Global,
@@ -46,16 +157,34 @@ pub fn play(
     log: &[u8],
     fails: Fails<'_>,
 ) -> Result<Played, AllocError> {
-    let bytes = log.to_vec(alloc)?;
-    let room = (bytes.len() as u64).saturating_add(4096);
-    let disk = MemDisk::new(alloc, room, bytes, fails.disk.to_vec(alloc)?)?;
-    let mut source = MemSource::new(script.to_vec(alloc)?, fails.source.to_vec(alloc)?);
-    let mut sink = MemSink::new([0; 1024].to_vec(alloc)?, fails.sink.to_vec(alloc)?);
-    let ended = run(alloc, &strings(alloc, words)?, &mut source, &mut sink, disk);
-    Ok(Played {
-        ended,
-        text: sink.got().to_vec(alloc)?,
-    })
+    play_tables(alloc, devices_of(alloc, words, script, log, fails)?, None)
+}
+
+/// The same within other limits.
+pub fn play_within(
+    alloc: Global,
+    limits: Limits,
+    script: &[u8],
+    log: &[u8],
+) -> Result<Played, AllocError> {
+    play_tables(
+        alloc,
+        devices_of(alloc, &RUN, script, log, NONE)?,
+        Some(limits),
+    )
+}
+
+/// Compares the status and the text of a run, and gives what the disk then reads.
+pub fn ends_so(
+    rt: &(impl Abort + AllocGlobal),
+    played: &Played,
+    status: RunStatus,
+    text: &str,
+    what: &[u8],
+) -> Result<Vec<u8>, AllocError> {
+    assert_eq!(rt; played.text.as_slice(), text.as_bytes(), "{what:?}");
+    assert_eq!(rt; played.status, status, "{what:?}");
+    played.disk.bytes().to_vec(rt.alloc())
 }
 
 /// Runs a script over a log where no call fails, compares the status and the text, and gives what the
@@ -68,11 +197,5 @@ pub fn says(
     text: &str,
 ) -> Result<Vec<u8>, AllocError> {
     let played = play(rt.alloc(), &RUN, script, log, NONE)?;
-    assert_eq!(rt;
-        played.text.as_slice(),
-        text.as_bytes(),
-        "the script {script:?}"
-    );
-    assert_eq!(rt; played.ended.status, status, "the script {script:?}");
-    played.ended.disk.bytes().to_vec(rt.alloc())
+    ends_so(rt, &played, status, text, script)
 }

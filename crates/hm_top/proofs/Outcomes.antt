@@ -1,27 +1,39 @@
 -- How a run ends.
-use Rattle.std.proofs.Common.{◌≡◌, ◌⊎◌, ℕ, List, [], ◌++◌, length, take, drop, Bool, true, false, Option, None, Result, Ok, Err, refl, sym, ap, ◌∙◌, subst, inl, inr, ⊎_elim, append-nil, arith}
+use Rattle.std.proofs.Common.{◌≡◌, ℕ, List, [], ◌++◌, length, take, drop, Option, Some, None, Result, Ok, Err, refl, sym, ap, ◌∙◌, subst, inl, inr, ⊎_elim, append-nil, append_assoc, arith, ◌∷◌}
 use Rattle.std.specs.Prelude.{OnOk}
 use Rattle.std.proofs.Math.Seq.{take-length}
-use Rattle.std.proofs.lemmas.List.{take-append-drop, take_all}
+use Rattle.std.proofs.lemmas.List.{append_cancel_left, take-append-drop, take_all}
+use Rattle.hm_data.specs.declared.entry.Entry.{Entry}
+use Rattle.hm_data.specs.declared.entry.Entry.TheVariants as entry_is
+use Rattle.hm_data.specs.declared.sheet.Sheet.{Sheet}
+use Rattle.hm_hall.specs.declared.fault.Halt.{Halt}
+use Rattle.hm_hall.specs.declared.fault.Halt.TheVariants as halt_is
+use Rattle.hm_journal.specs.Stored.{opened}
+use Rattle.hm_journal.specs.Verdict.{IsUnjudged}
+use Rattle.hm_journal.specs.declared.limits.Limits.{Limits}
+use Rattle.hm_journal.specs.declared.why.JournalWhy.{JournalWhy}
+use Rattle.hm_journal.specs.declared.why.JournalWhy.TheVariants as why_is
+use Rattle.hm_model.specs.Journal.{Past, back}
+use Rattle.hm_model.specs.Rules.{IsLegal}
+use Rattle.hm_model.proofs.Holders.{none_conflict, nonces_once}
+use Rattle.hm_model.proofs.Prefixes.{legal_before, legal_cut}
+use Rattle.hm_serial.proofs.Serial.{catalog_is, deeds_apply_is, failure_leaves}
 use Rattle.hm_top.specs.declared.answer.Answer.TheVariants.{Opened}
 use Rattle.hm_top.specs.declared.command.Command.{Command}
-use Rattle.hm_top.specs.declared.entry.Entry.{Entry}
 use Rattle.hm_top.specs.declared.status.Bad.{Bad}
 use Rattle.hm_top.specs.declared.status.Cut.{Cut}
-use Rattle.hm_top.specs.declared.status.Cut.TheVariants as C
+use Rattle.hm_top.specs.declared.status.Cut.TheVariants as cut_is
+use Rattle.hm_top.specs.declared.status.LogWhy.{LogWhy}
 use Rattle.hm_top.specs.declared.status.RunStatus.{RunStatus}
 use Rattle.hm_top.specs.declared.status.RunStatus.TheVariants.{Done, Usage, BadScript, LogFault, LogRefused, ReadFault, WriteFault, JournalFull, Memory}
 use Rattle.hm_top.specs.Answer.{answer_text}
-use Rattle.hm_top.specs.Journal.{back, IsLegal}
-use Rattle.hm_top.specs.Nonces.{IsSingleUse}
-use Rattle.hm_top.specs.declared.opening.OpeningWhy.{OpeningWhy}
-use Rattle.hm_top.specs.declared.opening.OpeningWhy.TheVariants as O
-use Rattle.hm_top.specs.Run.{IsTold, Outcome, Ends, IsFront, IsShort, IsLast, Talked, Got, talked_status, unopened_status}
-use Rattle.hm_top.specs.Said.{Said, opened, begun}
+use Rattle.hm_top.specs.Faith.{KeepsFaith}
+use Rattle.hm_top.specs.Hands.{Ran, RisesBy, steps_in}
+use Rattle.hm_top.specs.Run.{IsTold, IsToldWhole, IsBrokenOffIn, AreUnsaid, Outcome, Ends, IsFront, IsShort, IsLast, Talked, Got, log_why_of, talked_status, unopened_status}
+use Rattle.hm_top.specs.Said.{Said, begun}
 use Rattle.hm_top.specs.Status.{last_line}
 use Rattle.hm_top.specs.Transcript.{Conversation}
-use Rattle.hm_top.proofs.Growth.{run_grows}
-use Rattle.hm_top.proofs.Pasts.{single_use, legal_front}
+use Rattle.hm_top.proofs.Growth.{opened_grows, steps_more, transcript_grows}
 
 -- a whole text is a front of it
 whole_is_front : (old new text : List ℕ) → new ≡ old ++ text → IsFront old new text
@@ -38,196 +50,209 @@ last_more rose rose' old mid new text line later e last = subst (λ m. IsLast ro
 -- what the sink has behind the last line
 pub got_finished : (rose rose' : Type 0) (old mid new : List ℕ) (status : RunStatus) (text : List ℕ) → (rose → rose') → Talked old mid status text → IsLast rose mid new (last_line status) → Got rose' old new status text
 got_finished rose rose' old mid new Done text later e last = front_none mid new last.0 ∙ e
-got_finished rose rose' old mid new (Usage word) text later e last = last_more rose rose' old mid new text (last_line (Usage word)) later e last
-got_finished rose rose' old mid new (BadScript bad) text later e last = last_more rose rose' old mid new text (last_line (BadScript bad)) later e last
-got_finished rose rose' old mid new LogFault text later e last = last_more rose rose' old mid new text (last_line LogFault) later e last
-got_finished rose rose' old mid new (LogRefused why) text later e last = last_more rose rose' old mid new text (last_line (LogRefused why)) later e last
-got_finished rose rose' old mid new ReadFault text later e last = last_more rose rose' old mid new text (last_line ReadFault) later e last
 got_finished rose rose' old mid new WriteFault text later e last = (e.0, e.1, front_none mid new last.0 ∙ e.2)
-got_finished rose rose' old mid new (JournalFull bytes) text later e last = last_more rose rose' old mid new text (last_line (JournalFull bytes)) later e last
 got_finished rose rose' old mid new Memory text later e last = (e.0, front_none mid new last.0 ∙ e.1)
+got_finished rose rose' old mid new status text later e last = last_more rose rose' old mid new text (last_line status) later e last
 
 -- what the sink has where there was no memory for the last line
 pub got_unfinished : (old mid new : List ℕ) (status : RunStatus) (text : List ℕ) → Talked old mid status text → new ≡ mid → IsFront old new text
-got_unfinished old mid new Done text e same = whole_is_front old new text (same ∙ e)
-got_unfinished old mid new (Usage word) text e same = whole_is_front old new text (same ∙ e)
-got_unfinished old mid new (BadScript bad) text e same = whole_is_front old new text (same ∙ e)
-got_unfinished old mid new LogFault text e same = whole_is_front old new text (same ∙ e)
-got_unfinished old mid new (LogRefused why) text e same = whole_is_front old new text (same ∙ e)
-got_unfinished old mid new ReadFault text e same = whole_is_front old new text (same ∙ e)
 got_unfinished old mid new WriteFault text e same = (e.0, same ∙ e.2)
-got_unfinished old mid new (JournalFull bytes) text e same = whole_is_front old new text (same ∙ e)
 got_unfinished old mid new Memory text e same = (e.0, same ∙ e.1)
+got_unfinished old mid new status text e same = whole_is_front old new text (same ∙ e)
 
--- a conversation, said of other ends
-abbrev told_map : (source source' : List Command → Type 0) (before : List Entry → Type 0) (stored : List Entry → Bool → Type 0) (since : List Entry → Type 0) (disk_rose : Type 0) (P Q : List ℕ → Type 0) (marks : List ℕ)
-    → ((commands : List Command) → source commands → source' commands) → ((text : List ℕ) → P text → Q text) → IsTold source before stored since disk_rose P marks → IsTold source' before stored since disk_rose Q marks
-told_map source source' before stored since disk_rose P Q marks f g told = record {
-  commands = told.commands;
-  answered = told.answered;
-  rest = told.rest;
-  old = told.old;
-  new = told.new;
-  added = told.added;
-  text = told.text;
-  source_is = f told.commands told.source_is;
-  parts = told.parts;
-  before_is = told.before_is;
-  transcript = told.transcript;
-  longer = told.longer;
-  legal = told.legal;
-  single_use = told.single_use;
-  stored_is = told.stored_is;
-  since_is = told.since_is;
-  cause = told.cause;
-  sink_is = g (answer_text (Opened (length (opened told.old))) ++ told.text) told.sink_is;
+-- what holds of a legal journal
+faith_of : (J : Past) → IsLegal J → KeepsFaith J
+faith_of J legal = record {
+  legal = legal;
+  serial_is = catalog_is J legal;
+  deeds = λ newer older pid pick out is. deeds_apply_is pid pick out older (legal_before newer (entry_is.Step pid pick out ∷ older) (subst IsLegal is legal));
+  failures = λ newer older entry is. failure_leaves entry older (legal_before newer (entry ∷ older) (subst IsLegal is legal));
+  nonces = nonces_once J legal;
+  locks = none_conflict J legal;
 }
 
-module _ (source source' : List Command → Type 0) (before : List Entry → Type 0) (stored : List Entry → Bool → Type 0) (since : List Entry → Type 0) (sink sink' : RunStatus → List ℕ → Type 0)
-    (spared refused disk_rose sink_rose sink_rose' : Type 0) (marks : List ℕ) (f : (commands : List Command) → source commands → source' commands) where
+module _ (sheets : List Sheet) (limits : Limits) (before : List Entry → Type 0) (stored : List Entry → Option Halt → Type 0) (since : List Entry → Type 0)
+    (spared : Type 0) (refused : JournalWhy → Type 0) (disk_rose : Type 0) (marks : List ℕ) (source source' : List Command → Type 0) (ran ran' : ℕ → Type 0)
+    (sink sink' : RunStatus → List ℕ → Type 0) (sink_rose sink_rose' : Type 0)
+    (f : (commands : List Command) → source commands → source' commands) (h : (count : ℕ) → ran count → ran' count) where
+  -- a conversation, said of other ends
+  abbrev told_map : (P Q : List ℕ → Type 0) → ((text : List ℕ) → P text → Q text) → IsTold sheets limits source before stored since disk_rose ran P marks → IsTold sheets limits source' before stored since disk_rose ran' Q marks
+  told_map P Q g told = record {
+    commands = told.commands;
+    answered = told.answered;
+    rest = told.rest;
+    old = told.old;
+    new = told.new;
+    added = told.added;
+    unsaid = told.unsaid;
+    text = told.text;
+    source_is = f told.commands told.source_is;
+    parts = told.parts;
+    before_is = told.before_is;
+    transcript = told.transcript;
+    longer = told.longer;
+    unsaid_are = told.unsaid_are;
+    faith = told.faith;
+    stored_is = told.stored_is;
+    since_is = told.since_is;
+    cause = told.cause;
+    ran_is = h (steps_in (told.added ++ told.unsaid)) told.ran_is;
+    sink_is = g (answer_text (Opened (length (opened sheets told.old))) ++ told.text) told.sink_is;
+  }
+
+  whole_map : (P Q : List ℕ → Type 0) (halted : Option Halt) → ((text : List ℕ) → P text → Q text)
+      → IsToldWhole sheets limits source before stored since disk_rose ran P marks halted → IsToldWhole sheets limits source' before stored since disk_rose ran' Q marks halted
+  whole_map P Q halted g t = (told_map P Q g t.0, t.1, t.2, t.3)
+
   -- an outcome, said of other ends
   pub outcome_map : (status : RunStatus) → ((text : List ℕ) → sink status text → sink' status text) → (sink_rose → sink_rose')
-      → Outcome source before stored since sink spared refused disk_rose sink_rose marks status → Outcome source' before stored since sink' spared refused disk_rose sink_rose' marks status
-  outcome_map Done g later o = (told_map source source' before stored since disk_rose (sink Done) (sink' Done) marks f g o.0, o.1, o.2)
-  outcome_map (Usage word) g later o = absurd o
-  outcome_map (BadScript bad) g later o = absurd o
-  outcome_map LogFault g later o = (o.0, ⊎_elim (λ u. inl (u.0, u.1, g [] u.2, (u.3.0, f u.3.0 u.3.1))) (λ t. inr (told_map source source' before stored since disk_rose (sink LogFault) (sink' LogFault) marks f g t.0, t.1, t.2)) o.1)
-  outcome_map (LogRefused why) g later o = (o.0, o.1, o.2, g [] o.3, (o.4.0, f o.4.0 o.4.1))
-  outcome_map ReadFault g later o = absurd o
-  outcome_map WriteFault g later o = (later o.0, told_map source source' before stored since disk_rose (sink WriteFault) (sink' WriteFault) marks f g o.1)
-  outcome_map (JournalFull bytes) g later o = absurd o
-  outcome_map Memory g later o = ⊎_elim (λ u. inl (u.0, u.1, g [] u.2)) (λ t. inr (told_map source source' before stored since disk_rose (sink Memory) (sink' Memory) marks f g t)) o
+      → Outcome sheets limits source before stored since sink spared refused disk_rose sink_rose ran marks status
+      → Outcome sheets limits source' before stored since sink' spared refused disk_rose sink_rose' ran' marks status
+  outcome_map Done g later o = whole_map (sink Done) (sink' Done) None g o
+  outcome_map LogFault g later o =
+      (o.0, ⊎_elim (λ u. inl (u.0, u.1, g [] u.2, (u.3.0, f u.3.0 u.3.1))) (λ t. inr (whole_map (sink LogFault) (sink' LogFault) (Some halt_is.LogFault) g t)) o.1)
+  outcome_map (JournalFull bytes) g later o = whole_map (sink (JournalFull bytes)) (sink' (JournalFull bytes)) (Some (halt_is.JournalFull bytes)) g o
+  outcome_map (LogRefused why) g later o = (o.0, o.1, g [] o.2, (o.3.0, f o.3.0 o.3.1))
+  outcome_map WriteFault g later o = (later o.0, (told_map (sink WriteFault) (sink' WriteFault) g o.1.0, o.1.1))
+  outcome_map Memory g later o = ⊎_elim (λ u. inl (u.0, u.1, g [] u.2)) (λ t. inr (told_map (sink Memory) (sink' Memory) g t)) o
+  outcome_map status g later o = absurd o
 
   -- an outcome where there was no memory for the last line
-  pub outcome_unfinished : (status : RunStatus) → ((text : List ℕ) → sink status text → sink' Memory text) → (refused → spared)
-      → Outcome source before stored since sink spared refused disk_rose sink_rose marks status → Outcome source' before stored since sink' spared refused disk_rose sink_rose' marks Memory
-  outcome_unfinished Done g spares o = inr (told_map source source' before stored since disk_rose (sink Done) (sink' Memory) marks f g o.0)
-  outcome_unfinished (Usage word) g spares o = absurd o
-  outcome_unfinished (BadScript bad) g spares o = absurd o
-  outcome_unfinished LogFault g spares o = ⊎_elim (λ u. inl (u.0, u.1, g [] u.2)) (λ t. inr (told_map source source' before stored since disk_rose (sink LogFault) (sink' Memory) marks f g t.0)) o.1
-  outcome_unfinished (LogRefused why) g spares o = inl (o.1, spares o.2, g [] o.3)
-  outcome_unfinished ReadFault g spares o = absurd o
-  outcome_unfinished WriteFault g spares o = inr (told_map source source' before stored since disk_rose (sink WriteFault) (sink' Memory) marks f g o.1)
-  outcome_unfinished (JournalFull bytes) g spares o = absurd o
-  outcome_unfinished Memory g spares o = ⊎_elim (λ u. inl (u.0, u.1, g [] u.2)) (λ t. inr (told_map source source' before stored since disk_rose (sink Memory) (sink' Memory) marks f g t)) o
+  pub outcome_unfinished : (status : RunStatus) → ((text : List ℕ) → sink status text → sink' Memory text) → ((why : LogWhy) (cause : JournalWhy) → status ≡ LogRefused why → refused cause → spared)
+      → Outcome sheets limits source before stored since sink spared refused disk_rose sink_rose ran marks status
+      → Outcome sheets limits source' before stored since sink' spared refused disk_rose sink_rose' ran' marks Memory
+  outcome_unfinished Done g spares o = inr (told_map (sink Done) (sink' Memory) g o.0)
+  outcome_unfinished LogFault g spares o = ⊎_elim (λ u. inl (u.0, u.1, g [] u.2)) (λ t. inr (told_map (sink LogFault) (sink' Memory) g t.0)) o.1
+  outcome_unfinished (JournalFull bytes) g spares o = inr (told_map (sink (JournalFull bytes)) (sink' Memory) g o.0)
+  outcome_unfinished (LogRefused why) g spares o = inl (o.1, spares why o.0.0 refl o.0.2, g [] o.2)
+  outcome_unfinished WriteFault g spares o = inr (told_map (sink WriteFault) (sink' Memory) g o.1.0)
+  outcome_unfinished Memory g spares o = ⊎_elim (λ u. inl (u.0, u.1, g [] u.2)) (λ t. inr (told_map (sink Memory) (sink' Memory) g t)) o
+  outcome_unfinished status g spares o = absurd o
 
-module _ (misfit : Option ℕ) (script : Bad → Type 0) (read_rose unread same : Type 0) (source : List Command → Type 0) (before : List Entry → Type 0) (stored : List Entry → Bool → Type 0) (since : List Entry → Type 0)
-    (sink sink' : RunStatus → List ℕ → Type 0) (spared refused disk_rose sink_rose sink_rose' : Type 0) (marks : List ℕ) where
-  -- the end of a run, said of what the sink has behind the last line
-  pub ends_finished : (status : RunStatus) → ((text : List ℕ) → sink status text → sink' status text) → (sink_rose → sink_rose')
-      → Ends misfit script read_rose unread same sink (Outcome source before stored since sink spared refused disk_rose sink_rose marks) marks status
-      → Ends misfit script read_rose unread same sink' (Outcome source before stored since sink' spared refused disk_rose sink_rose' marks) marks status
-  ends_finished Done g later e = (e.0, outcome_map source source before stored since sink sink' spared refused disk_rose sink_rose sink_rose' marks (λ c s. s) Done g later e.1)
-  ends_finished (Usage word) g later e = (e.0, e.1, e.2, e.3, g [] e.4)
-  ends_finished (BadScript bad) g later e = (e.0, e.1, e.2, e.3, g [] e.4)
-  ends_finished LogFault g later e = (e.0, outcome_map source source before stored since sink sink' spared refused disk_rose sink_rose sink_rose' marks (λ c s. s) LogFault g later e.1)
-  ends_finished (LogRefused why) g later e = (e.0, outcome_map source source before stored since sink sink' spared refused disk_rose sink_rose sink_rose' marks (λ c s. s) (LogRefused why) g later e.1)
-  ends_finished ReadFault g later e = (e.0, e.1, e.2, e.3, g [] e.4)
-  ends_finished WriteFault g later e = (e.0, outcome_map source source before stored since sink sink' spared refused disk_rose sink_rose sink_rose' marks (λ c s. s) WriteFault g later e.1)
-  ends_finished (JournalFull bytes) g later e = absurd e.1
-  ends_finished Memory g later e = outcome_map source source before stored since sink sink' spared refused disk_rose sink_rose sink_rose' marks (λ c s. s) Memory g later e
+module _ (misfit : Option ℕ) (script : Bad → Type 0) (read_rose unread same : Type 0) (sink : RunStatus → List ℕ → Type 0) (outcome : RunStatus → Type 0) (marks : List ℕ) where
+  -- the end of a run, said of other ends
+  pub ends_map : (sink' : RunStatus → List ℕ → Type 0) (outcome' : RunStatus → Type 0) (status : RunStatus) → (sink status [] → sink' status []) → (outcome status → outcome' status)
+      → Ends misfit script read_rose unread same sink outcome marks status → Ends misfit script read_rose unread same sink' outcome' marks status
+  ends_map sink' outcome' (Usage word) g f e = (e.0, e.1, e.2, e.3, g e.4)
+  ends_map sink' outcome' (BadScript bad) g f e = (e.0, e.1, e.2, e.3, g e.4)
+  ends_map sink' outcome' ReadFault g f e = (e.0, e.1, e.2, e.3, g e.4)
+  ends_map sink' outcome' Memory g f e = f e
+  ends_map sink' outcome' status g f e = (e.0, f e.1)
 
-  -- the end of a run where there was no memory for the last line
-  pub ends_unfinished : (status : RunStatus) → ((text : List ℕ) → sink status text → sink' Memory text) → (same → spared) → (refused → spared)
-      → Ends misfit script read_rose unread same sink (Outcome source before stored since sink spared refused disk_rose sink_rose marks) marks status
-      → Ends misfit script read_rose unread same sink' (Outcome source before stored since sink' spared refused disk_rose sink_rose' marks) marks Memory
-  ends_unfinished Done g unchanged spares e = outcome_unfinished source source before stored since sink sink' spared refused disk_rose sink_rose sink_rose' marks (λ c s. s) Done g spares e.1
-  ends_unfinished (Usage word) g unchanged spares e = inl (e.3, unchanged e.2, g [] e.4)
-  ends_unfinished (BadScript bad) g unchanged spares e = inl (e.3, unchanged e.2, g [] e.4)
-  ends_unfinished LogFault g unchanged spares e = outcome_unfinished source source before stored since sink sink' spared refused disk_rose sink_rose sink_rose' marks (λ c s. s) LogFault g spares e.1
-  ends_unfinished (LogRefused why) g unchanged spares e = outcome_unfinished source source before stored since sink sink' spared refused disk_rose sink_rose sink_rose' marks (λ c s. s) (LogRefused why) g spares e.1
-  ends_unfinished ReadFault g unchanged spares e = inl (e.3, unchanged e.2, g [] e.4)
-  ends_unfinished WriteFault g unchanged spares e = outcome_unfinished source source before stored since sink sink' spared refused disk_rose sink_rose sink_rose' marks (λ c s. s) WriteFault g spares e.1
-  ends_unfinished (JournalFull bytes) g unchanged spares e = absurd e.1
-  ends_unfinished Memory g unchanged spares e = outcome_unfinished source source before stored since sink sink' spared refused disk_rose sink_rose sink_rose' marks (λ c s. s) Memory g spares e
+  -- what follows at each end of a run: the words or the script were bad, or it came to an outcome
+  pub ends_either : (A : Type 0) (status : RunStatus) → (marks ≡ [] → same → sink status [] → A) → (outcome status → A) → Ends misfit script read_rose unread same sink outcome marks status → A
+  ends_either A (Usage word) early late e = early e.3 e.2 e.4
+  ends_either A (BadScript bad) early late e = early e.3 e.2 e.4
+  ends_either A ReadFault early late e = early e.3 e.2 e.4
+  ends_either A Memory early late e = late e
+  ends_either A status early late e = late e.1
 
--- words that fit, and a script
-pub ends_from_outcome : (misfit : Option ℕ) (script : Bad → Type 0) (read_rose unread same : Type 0) (source : List Command → Type 0) (before : List Entry → Type 0) (stored : List Entry → Bool → Type 0) (since : List Entry → Type 0)
-    (sink : RunStatus → List ℕ → Type 0) (spared refused disk_rose sink_rose : Type 0) (marks : List ℕ) (status : RunStatus) → misfit ≡ None
-    → Outcome source before stored since sink spared refused disk_rose sink_rose marks status
-    → Ends misfit script read_rose unread same sink (Outcome source before stored since sink spared refused disk_rose sink_rose marks) marks status
-ends_from_outcome misfit script read_rose unread same source before stored since sink spared refused disk_rose sink_rose marks Done fit o = (fit, o)
-ends_from_outcome misfit script read_rose unread same source before stored since sink spared refused disk_rose sink_rose marks (Usage word) fit o = absurd o
-ends_from_outcome misfit script read_rose unread same source before stored since sink spared refused disk_rose sink_rose marks (BadScript bad) fit o = absurd o
-ends_from_outcome misfit script read_rose unread same source before stored since sink spared refused disk_rose sink_rose marks LogFault fit o = (fit, o)
-ends_from_outcome misfit script read_rose unread same source before stored since sink spared refused disk_rose sink_rose marks (LogRefused why) fit o = (fit, o)
-ends_from_outcome misfit script read_rose unread same source before stored since sink spared refused disk_rose sink_rose marks ReadFault fit o = absurd o
-ends_from_outcome misfit script read_rose unread same source before stored since sink spared refused disk_rose sink_rose marks WriteFault fit o = (fit, o)
-ends_from_outcome misfit script read_rose unread same source before stored since sink spared refused disk_rose sink_rose marks (JournalFull bytes) fit o = absurd o
-ends_from_outcome misfit script read_rose unread same source before stored since sink spared refused disk_rose sink_rose marks Memory fit o = o
+module _ (sheets : List Sheet) (limits : Limits) (before : List Entry → Type 0) (stored : List Entry → Option Halt → Type 0) (since : List Entry → Type 0)
+    (spared : Type 0) (refused : JournalWhy → Type 0) (disk_rose : Type 0) (marks : List ℕ) (source : List Command → Type 0) (ran : ℕ → Type 0) (sink : RunStatus → List ℕ → Type 0) (sink_rose : Type 0)
+    (misfit : Option ℕ) (script : Bad → Type 0) (read_rose unread same : Type 0) (said : RunStatus → List ℕ → Type 0) (fit : misfit ≡ None) where
+  -- words that fit, and a script
+  pub ends_fit : (status : RunStatus) → Outcome sheets limits source before stored since sink spared refused disk_rose sink_rose ran marks status
+      → Ends misfit script read_rose unread same said (Outcome sheets limits source before stored since sink spared refused disk_rose sink_rose ran marks) marks status
+  ends_fit (Usage word) o = absurd o
+  ends_fit (BadScript bad) o = absurd o
+  ends_fit ReadFault o = absurd o
+  ends_fit Memory o = o
+  ends_fit status o = (fit, o)
 
--- what a sink has of a text or of a front of it, by the status
-pub talked_whole : (old new : List ℕ) (status : RunStatus) (text : List ℕ) → (status ≡ Done) ⊎ (status ≡ LogFault) → new ≡ old ++ text → Talked old new status text
-talked_whole old new status text (inl is) e = subst (λ s. Talked old new s text) (sym is) e
-talked_whole old new status text (inr is) e = subst (λ s. Talked old new s text) (sym is) e
+-- What a conversation from `was` on says and leaves, by how it ended: all, or a part, or less than all.
+pub record IsTalk (tells : Type 0) (got0 got1 : List ℕ) (commands : List Command) (marks : List ℕ) (talked : Result (Unit {0}) Cut) (new : Said) (limits : Limits) (was : Said) : Type 0 where
+  pub done : OnOk talked (Conversation limits (λ text. tells → got1 ≡ got0 ++ (answer_text (Opened (length was.journal)) ++ text)) commands was marks new)
+  pub part : IsBrokenOffIn limits (λ text. tells → IsFront got0 got1 (answer_text (Opened (length was.journal)) ++ text)) commands was marks new
+  pub short : talked ≡ Err cut_is.WriteFault → Conversation limits (λ text. tells → IsShort got0 got1 (answer_text (Opened (length was.journal)) ++ text)) (take (length marks) commands) was marks new
 
-pub talked_short : (old new : List ℕ) (status : RunStatus) (text : List ℕ) → status ≡ WriteFault → IsShort old new text → Talked old new status text
-talked_short old new status text is short = subst (λ s. Talked old new s text) (sym is) short
+-- what ran for the entries behind a journal
+ran_behind : (old new added : List Entry) (runs now : ℕ) → Ran old new runs now → new ≡ old ++ added → RisesBy (steps_in added) runs now
+ran_behind old new added runs now ran grown =
+    subst (λ l. RisesBy (steps_in l) runs now) (append_cancel_left old ran.0 added (sym ran.1 ∙ grown)) ran.2
 
-pub talked_front : (old new : List ℕ) (status : RunStatus) (text : List ℕ) → status ≡ Memory → IsFront old new text → Talked old new status text
-talked_front old new status text is front = subst (λ s. Talked old new s text) (sym is) front
+-- entries without a step in front
+steps_behind : (first more last : List Entry) → steps_in first ≡ 0 → steps_in (more ++ last) ≡ steps_in ((first ++ more) ++ last)
+steps_behind first more last none =
+    let all = steps_more first (more ++ last) in
+    rw append_assoc (omega arith)
 
--- each front of a legal journal used each nonce once
-single_use_at : (journal : List Entry) → IsLegal (back journal) → (mark : ℕ) → IsSingleUse (back (take mark journal))
-single_use_at journal legal mark =
-    single_use (back (take mark journal)) (legal_front (take mark journal) (drop mark journal) (subst (λ j. IsLegal (back j)) (sym (take-append-drop mark journal)) legal))
+module _ (sheets : List Sheet) (limits : Limits) (source : List Command → Type 0) (before : List Entry → Type 0) (stored : List Entry → Option Halt → Type 0) (since : List Entry → Type 0)
+    (spared : Type 0) (refused : JournalWhy → Type 0) (disk_rose sink_rose tells : Type 0) (got0 got1 : List ℕ) (commands : List Command) (marks : List ℕ) where
+  -- the outcome of a conversation
+  module _ (old : List Entry) (new : Said) (runs now : ℕ) (source_is : source commands) (before_is : before old) (legal : IsLegal (back new.journal)) (stored_is : stored new.journal new.halted)
+      (since_is : since old) (cause : new.halted ≡ Some halt_is.LogFault → disk_rose) (ran : Ran (opened sheets old) new.journal runs now) where
+    abbrev told_of : (P Q : List ℕ → Type 0) (answered rest : List Command) (mid : Said) (unsaid : List Entry) → commands ≡ answered ++ rest → new ≡ record { journal = mid.journal ++ unsaid; halted = mid.halted }
+        → AreUnsaid limits mid rest unsaid → ((text : List ℕ) → P text → Q (answer_text (Opened (length (opened sheets old))) ++ text))
+        → Conversation limits P answered (begun sheets old) marks mid → IsTold sheets limits source before stored since disk_rose (λ count. RisesBy count runs now) Q marks
+    told_of P Q answered rest mid unsaid parts grown unsaid_are f c =
+        let first = opened_grows sheets old in
+        let more = transcript_grows limits answered (begun sheets old) marks c.text mid c.transcript in
+        let entries : new.journal ≡ mid.journal ++ unsaid = ap (λ (s : Said). s.journal) grown in
+        let halts : new.halted ≡ mid.halted = ap (λ (s : Said). s.halted) grown in
+        let behind : new.journal ≡ opened sheets old ++ (more.0 ++ unsaid) = entries ∙ ap (λ l. l ++ unsaid) more.1 ∙ append_assoc (opened sheets old) more.0 unsaid in
+        let steps : steps_in (more.0 ++ unsaid) ≡ steps_in ((first.0 ++ more.0) ++ unsaid) = steps_behind first.0 more.0 unsaid first.2 in
+        record {
+          commands = commands;
+          answered = answered;
+          rest = rest;
+          old = old;
+          new = mid;
+          added = first.0 ++ more.0;
+          unsaid = unsaid;
+          text = c.text;
+          source_is = source_is;
+          parts = parts;
+          before_is = before_is;
+          transcript = c.transcript;
+          longer = more.1 ∙ ap (λ l. l ++ more.0) first.1 ∙ append_assoc old first.0 more.0;
+          unsaid_are = unsaid_are;
+          faith = λ mark. faith_of (back (take mark (mid.journal ++ unsaid))) (legal_cut mark (mid.journal ++ unsaid) (subst (λ j. IsLegal (back j)) entries legal));
+          stored_is = subst (λ j. stored j mid.halted) entries (subst (λ h. stored new.journal h) halts stored_is);
+          since_is = since_is;
+          cause = λ is. cause (halts ∙ is);
+          ran_is = subst (λ n. RisesBy n runs now) steps (ran_behind (opened sheets old) new.journal (more.0 ++ unsaid) runs now ran behind);
+          sink_is = f c.text c.said;
+        }
 
-module _ (source : List Command → Type 0) (before : List Entry → Type 0) (stored : List Entry → Bool → Type 0) (since : List Entry → Type 0) (sink : RunStatus → List ℕ → Type 0)
-    (spared refused disk_rose sink_rose : Type 0) (commands : List Command) (old : List Entry) (new : Said) (marks : List ℕ)
-    (source_is : source commands) (before_is : before old) (legal : IsLegal (back new.journal)) (stored_is : stored new.journal new.halted) (since_is : since old) (cause : new.halted ≡ true → disk_rose) where
-  abbrev told_of : (P Q : List ℕ → Type 0) (answered rest : List Command) → commands ≡ answered ++ rest → ((text : List ℕ) → P text → Q (answer_text (Opened (length (opened old))) ++ text))
-      → Conversation P answered (begun old) marks new → IsTold source before stored since disk_rose Q marks
-  told_of P Q answered rest parts f c =
-      let grown = run_grows answered old marks c.text new c.transcript in
-      record {
-        commands = commands;
-        answered = answered;
-        rest = rest;
-        old = old;
-        new = new;
-        added = grown.0;
-        text = c.text;
-        source_is = source_is;
-        parts = parts;
-        before_is = before_is;
-        transcript = c.transcript;
-        longer = grown.1;
-        legal = legal;
-        single_use = single_use_at new.journal legal;
-        stored_is = stored_is;
-        since_is = since_is;
-        cause = cause;
-        sink_is = f c.text c.said;
-      }
+    -- all commands were answered
+    told_whole : (Q : List ℕ → Type 0) (halted : Option Halt) → new.halted ≡ halted → ((text : List ℕ) → (tells → got1 ≡ got0 ++ text) → Q text)
+        → Conversation limits (λ text. tells → got1 ≡ got0 ++ (answer_text (Opened (length (opened sheets old))) ++ text)) commands (begun sheets old) marks new
+        → IsToldWhole sheets limits source before stored since disk_rose (λ count. RisesBy count runs now) Q marks halted
+    told_whole Q halted is f c = (
+      told_of (λ text. tells → got1 ≡ got0 ++ (answer_text (Opened (length (opened sheets old))) ++ text)) Q commands [] new [] (sym (append-nil commands))
+          (ap (λ (j : List Entry). record { journal = j; halted = new.halted }) (sym (append-nil new.journal))) (inl refl) (λ text. f (answer_text (Opened (length (opened sheets old))) ++ text)) c,
+      refl,
+      refl,
+      is,
+    )
 
-  -- the outcome of a conversation that ended
-  pub outcome_talked : (P Q R : List ℕ → Type 0) (talked : Result (Unit {0}) Cut) (halted : Bool) → new.halted ≡ halted
-      → ((status : RunStatus) (text : List ℕ) → (status ≡ Done) ⊎ (status ≡ LogFault) → P text → sink status (answer_text (Opened (length (opened old))) ++ text))
-      → ((status : RunStatus) (text : List ℕ) → status ≡ Memory → Q text → sink status (answer_text (Opened (length (opened old))) ++ text))
-      → ((status : RunStatus) (text : List ℕ) → status ≡ WriteFault → R text → sink status (answer_text (Opened (length (opened old))) ++ text))
-      → (talked ≡ Err C.WriteFault → sink_rose)
-      → OnOk talked (Conversation P commands (begun old) marks new) → Conversation Q (take (length marks) commands) (begun old) marks new
-      → (talked ≡ Err C.WriteFault → Conversation R (take (length marks) commands) (begun old) marks new)
-      → Outcome source before stored since sink spared refused disk_rose sink_rose marks (talked_status talked halted)
-  outcome_talked P Q R (Ok done) true is whole front short fails all part less =
-      (cause is, inr (told_of P (sink LogFault) commands [] (sym (append-nil commands)) (λ text. whole LogFault text (inr refl)) all, refl, is))
-  outcome_talked P Q R (Ok done) false is whole front short fails all part less =
-      (told_of P (sink Done) commands [] (sym (append-nil commands)) (λ text. whole Done text (inl refl)) all, refl, is)
-  outcome_talked P Q R (Err C.WriteFault) halted is whole front short fails all part less =
-      (fails refl, told_of R (sink WriteFault) (take (length marks) commands) (drop (length marks) commands) (sym (take-append-drop (length marks) commands)) (λ text. short WriteFault text refl) (less refl))
-  outcome_talked P Q R (Err C.Memory) halted is whole front short fails all part less =
-      inr (told_of Q (sink Memory) (take (length marks) commands) (drop (length marks) commands) (sym (take-append-drop (length marks) commands)) (λ text. front Memory text refl) part)
+    -- the outcome of a conversation
+    pub outcome_talked : (talked : Result (Unit {0}) Cut) (halted : Option Halt) → new.halted ≡ halted → (talked ≡ Err cut_is.WriteFault → sink_rose) → IsTalk tells got0 got1 commands marks talked new limits (begun sheets old)
+        → Outcome sheets limits source before stored since (λ status text. tells → Talked got0 got1 status text) spared refused disk_rose sink_rose (λ count. RisesBy count runs now) marks (talked_status talked halted)
+    outcome_talked (Ok done) None is fails talk = told_whole (λ text. tells → Talked got0 got1 Done text) None is (λ text t. t) talk.done
+    outcome_talked (Ok done) (Some halt_is.LogFault) is fails talk = (cause is, inr (told_whole (λ text. tells → Talked got0 got1 LogFault text) (Some halt_is.LogFault) is (λ text t. t) talk.done))
+    outcome_talked (Ok done) (Some (halt_is.JournalFull bytes)) is fails talk = told_whole (λ text. tells → Talked got0 got1 (JournalFull bytes) text) (Some (halt_is.JournalFull bytes)) is (λ text t. t) talk.done
+    outcome_talked (Err cut_is.WriteFault) halted is fails talk = (
+      fails refl,
+      (
+        told_of (λ text. tells → IsShort got0 got1 (answer_text (Opened (length (opened sheets old))) ++ text)) (λ text. tells → Talked got0 got1 WriteFault text)
+            (take (length marks) commands) (drop (length marks) commands) new [] (sym (take-append-drop (length marks) commands))
+            (ap (λ (j : List Entry). record { journal = j; halted = new.halted }) (sym (append-nil new.journal))) (inl refl) (λ text t. t) (talk.short refl),
+        refl,
+      ),
+    )
+    outcome_talked (Err cut_is.Memory) halted is fails talk =
+        inr (told_of (λ text. tells → IsFront got0 got1 (answer_text (Opened (length (opened sheets old))) ++ text)) (λ text. tells → Talked got0 got1 Memory text)
+        (take (length marks) commands) (drop (length marks) commands) talk.part.mid talk.part.unsaid (sym (take-append-drop (length marks) commands)) talk.part.grown talk.part.unsaid_are (λ text t. t) talk.part.said)
 
--- where nothing was said, the sink has what it had
-pub talked_none : (old : List ℕ) (why : OpeningWhy) → Talked old old (unopened_status why) []
-talked_none old O.Fault = sym (append-nil old)
-talked_none old O.Refused = sym (append-nil old)
-talked_none old O.Memory = (0, sym (append-nil old))
+  -- a refusal of the disk
+  refusal : (ran : ℕ → Type 0) (cause : JournalWhy) (why : LogWhy) → log_why_of cause ≡ Some why → source commands → marks ≡ [] → refused cause → (tells → got1 ≡ got0)
+      → Outcome sheets limits source before stored since (λ status text. tells → Talked got0 got1 status text) spared refused disk_rose sink_rose ran marks (LogRefused why)
+  refusal ran cause why is read none holds same = ((cause, is, holds), none, (λ told. same told ∙ sym (append-nil got0)), (commands, read))
 
--- the outcome of an opening that failed
-pub outcome_unopened : (source : List Command → Type 0) (before : List Entry → Type 0) (stored : List Entry → Bool → Type 0) (since : List Entry → Type 0) (sink : RunStatus → List ℕ → Type 0)
-    (spared refused disk_rose sink_rose : Type 0) (commands : List Command) (marks : List ℕ) (why : OpeningWhy) → source commands → marks ≡ [] → (why ≡ O.Fault → disk_rose) → spared → (why ≡ O.Refused → refused)
-    → sink (unopened_status why) [] → Outcome source before stored since sink spared refused disk_rose sink_rose marks (unopened_status why)
-outcome_unopened source before stored since sink spared refused disk_rose sink_rose commands marks O.Fault is none fault spares holds said = (fault refl, inl (none, spares, said, (commands, is)))
-outcome_unopened source before stored since sink spared refused disk_rose sink_rose commands marks O.Refused is none fault spares holds said = (refl, none, holds refl, said, (commands, is))
-outcome_unopened source before stored since sink spared refused disk_rose sink_rose commands marks O.Memory is none fault spares holds said = inl (none, spares, said)
+  -- the outcome of an opening that failed
+  pub outcome_unopened : (ran : ℕ → Type 0) (why : JournalWhy) → source commands → marks ≡ [] → (why ≡ why_is.Fault → disk_rose) → spared → ((IsUnjudged why → ⊥) → refused why) → (tells → got1 ≡ got0)
+      → Outcome sheets limits source before stored since (λ status text. tells → Talked got0 got1 status text) spared refused disk_rose sink_rose ran marks (unopened_status why)
+  outcome_unopened ran why_is.Fault read none fault spares holds same = (fault refl, inl (none, spares, (λ told. same told ∙ sym (append-nil got0)), (commands, read)))
+  outcome_unopened ran why_is.Memory read none fault spares holds same = inl (none, spares, (λ told. (0, same told ∙ sym (append-nil got0))))
+  outcome_unopened ran why read none fault spares holds same = refusal ran why _ refl read none (holds (⊎_elim (λ e. absurd (cc)) (λ e. absurd (cc)))) same

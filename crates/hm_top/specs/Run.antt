@@ -1,30 +1,39 @@
 -- What a run says where the outside tells its content, and how each status comes.
-use Rattle.std.specs.Prelude.{◌≡◌, ◌⊎◌, ◌<◌, ◌≤◌, ℕ, List, [], ◌++◌, length, take, Bool, true, false, Option, Some, None, Result, Ok, Err}
-use Rattle.hm_top.specs.declared.entry.Entry.{Entry}
+use Rattle.std.specs.Prelude.{◌≡◌, ◌⊎◌, ◌<◌, ◌≤◌, ℕ, List, [], ◌∷◌, ◌++◌, length, take, drop, Option, Some, None, Result, Ok, Err}
+use Rattle.hm_data.specs.declared.entry.Entry.{Entry}
+use Rattle.hm_data.specs.declared.sheet.Sheet.{Sheet}
+use Rattle.hm_model.specs.Journal.{back}
+use Rattle.hm_hall.specs.declared.fault.Halt.{Halt}
+use Rattle.hm_hall.specs.declared.fault.Halt.TheVariants as halt_is
+use Rattle.hm_journal.specs.declared.limits.Limits.{Limits}
+use Rattle.hm_journal.specs.declared.why.JournalWhy.{JournalWhy}
+use Rattle.hm_journal.specs.declared.why.JournalWhy.TheVariants as journal_why_is
+use Rattle.hm_journal.specs.Stored.{opened}
 use Rattle.hm_top.specs.declared.command.Command.{Command}
+use Rattle.hm_top.specs.declared.command.Command.TheVariants as command_is
 use Rattle.hm_top.specs.declared.answer.Answer.TheVariants.{Opened}
 use Rattle.hm_top.specs.declared.status.Bad.{Bad}
-use Rattle.hm_top.specs.declared.opening.OpeningWhy.{OpeningWhy}
-use Rattle.hm_top.specs.declared.opening.OpeningWhy.TheVariants as O
 use Rattle.hm_top.specs.declared.status.Cut.{Cut}
-use Rattle.hm_top.specs.declared.status.Cut.TheVariants as C
-use Rattle.hm_top.specs.declared.status.LogWhy.TheVariants.{NotALog}
+use Rattle.hm_top.specs.declared.status.Cut.TheVariants as cut_is
+use Rattle.hm_top.specs.declared.status.LogWhy.{LogWhy}
+use Rattle.hm_top.specs.declared.status.LogWhy.TheVariants as log_why_is
 use Rattle.hm_top.specs.declared.status.RunStatus.{RunStatus}
-use Rattle.hm_top.specs.declared.status.RunStatus.TheVariants.{Done, Usage, BadScript, LogFault, LogRefused, ReadFault, WriteFault, Memory}
+use Rattle.hm_top.specs.declared.status.RunStatus.TheVariants.{Done, Usage, BadScript, LogFault, LogRefused, ReadFault, WriteFault, JournalFull, Memory}
 use Rattle.hm_top.specs.declared.status.Why.{Why}
-use Rattle.hm_top.specs.declared.status.Why.TheVariants as W
+use Rattle.hm_top.specs.declared.status.Why.TheVariants as why_is
 use Rattle.hm_top.specs.Answer.{answer_text}
-use Rattle.hm_top.specs.Journal.{back, IsLegal}
-use Rattle.hm_top.specs.Nonces.{IsSingleUse}
-use Rattle.hm_top.specs.Said.{Said, opened, begun}
+use Rattle.hm_top.specs.Faith.{KeepsFaith}
+use Rattle.hm_top.specs.Hands.{steps_in}
+use Rattle.hm_top.specs.Said.{Said, begun}
 use Rattle.hm_top.specs.Script.{lines_of, IsScript, IsFirstWrong}
+use Rattle.hm_top.specs.Settling.{AreSteps}
 use Rattle.hm_top.specs.Status.{last_line}
-use Rattle.hm_top.specs.Transcript.{Transcript}
+use Rattle.hm_top.specs.Transcript.{Transcript, Conversation}
 
 -- why bytes are no script: there are too many, or a line says nothing
 abbrev pub IsBadAt : List ℕ → ℕ → Why → Type 0
-IsBadAt input line W.TooLong = (line ≡ 0) × (1048576 < length input)
-IsBadAt input line (W.Word at) = (at ≡ 0) × (0 < line) × (length input ≤ 1048576) × IsFirstWrong (lines_of input) line
+IsBadAt input line why_is.TooLong = (line ≡ 0) × (1048576 < length input)
+IsBadAt input line (why_is.Word at) = (at ≡ 0) × (0 < line) × (length input ≤ 1048576) × IsFirstWrong (lines_of input) line
 IsBadAt input line _ = ⊥
 
 -- the same, of a fault
@@ -33,51 +42,86 @@ IsBad input bad = IsBadAt input bad.line bad.why
 
 -- a refusal of a script: it is too long, or a line of it says nothing
 abbrev pub IsRefusal : Bad → Type 0
-IsRefusal bad = ((bad.line ≡ 0) × (bad.why ≡ W.TooLong)) ⊎ ((0 < bad.line) × (bad.why ≡ W.Word 0))
+IsRefusal bad = ((bad.line ≡ 0) × (bad.why ≡ why_is.TooLong)) ⊎ ((0 < bad.line) × (bad.why ≡ why_is.Word 0))
+
+-- A script was refused for this, and all of it was read where it isn't too long.
+abbrev pub IsRefused : (tells : Type 0) (before after : List ℕ) → Bad → Type 0
+IsRefused tells before after bad = IsRefusal bad × (tells → IsBad before bad × (bad.why ≡ why_is.Word 0 → after ≡ []))
 
 -- The words fit, and the source's bytes, within the limit, are the script of these commands. All of them were read.
 abbrev pub IsRead : (misfit : Option ℕ) (tells : Type 0) (before after : List ℕ) → List Command → Type 0
 IsRead misfit tells before after commands = (misfit ≡ None) × (tells → (length before ≤ 1048576) × IsScript (lines_of before) commands × (after ≡ []))
 
--- The log was opened, and commands were answered, perhaps not all. The parameters say what the source's bytes are, what the disk held, what
--- it holds and what a stop since may have left of it, that it failed, and what the sink got, each as far as it tells.
-pub record IsTold (source : List Command → Type 0) (before : List Entry → Type 0) (stored : List Entry → Bool → Type 0) (since : List Entry → Type 0) (disk_rose : Type 0) (sink : List ℕ → Type 0) (marks : List ℕ) : Type 0 where
+-- Entries that were recorded for the next command, which was not answered any more: none, or steps of a settling where
+-- nothing had halted the run.
+abbrev pub AreUnsaid : Limits → Said → List Command → List Entry → Type 0
+AreUnsaid limits said rest unsaid =
+    (unsaid ≡ []) ⊎ ((more : List Command) × (rest ≡ command_is.Settle ∷ more) × (said.halted ≡ None) × AreSteps limits said.journal unsaid)
+
+-- The log was opened, and commands were answered, perhaps not all. The parameters say what the source's bytes are, what
+-- the disk held, what it holds and what a stop since may have left of it, that it failed, how often handlers ran at
+-- least, and what the sink got, each as far as it tells.
+pub record IsTold (sheets : List Sheet) (limits : Limits) (source : List Command → Type 0) (before : List Entry → Type 0) (stored : List Entry → Option Halt → Type 0)
+    (since : List Entry → Type 0) (disk_rose : Type 0) (ran : ℕ → Type 0) (sink : List ℕ → Type 0) (marks : List ℕ) : Type 0 where
   pub commands : List Command
   pub answered : List Command
   pub rest : List Command
   pub old : List Entry
   pub new : Said
   pub added : List Entry
+  pub unsaid : List Entry
   pub text : List ℕ
   pub source_is : source commands
   pub parts : commands ≡ answered ++ rest
   pub before_is : before old
-  pub transcript : Transcript answered (begun old) marks text new
+  pub transcript : Transcript limits answered (begun sheets old) marks text new
   pub longer : new.journal ≡ old ++ added
-  pub legal : IsLegal (back new.journal)
-  pub single_use : (mark : ℕ) → IsSingleUse (back (take mark new.journal))
-  pub stored_is : stored new.journal new.halted
+  pub unsaid_are : AreUnsaid limits new rest unsaid
+  pub faith : (mark : ℕ) → KeepsFaith (back (take mark (new.journal ++ unsaid)))
+  pub stored_is : stored (new.journal ++ unsaid) new.halted
   pub since_is : since old
-  pub cause : new.halted ≡ true → disk_rose
-  pub sink_is : sink (answer_text (Opened (length (opened old))) ++ text)
+  pub cause : new.halted ≡ Some halt_is.LogFault → disk_rose
+  pub ran_is : ran (steps_in (added ++ unsaid))
+  pub sink_is : sink (answer_text (Opened (length (opened sheets old))) ++ text)
 
--- How a run ended behind the words and the script. `spared` says that the disk still holds its journal, `refused` that it holds none.
-abbrev pub Outcome : (source : List Command → Type 0) (before : List Entry → Type 0) (stored : List Entry → Bool → Type 0) (since : List Entry → Type 0) (sink : RunStatus → List ℕ → Type 0)
-    (spared refused disk_rose sink_rose : Type 0) (marks : List ℕ) → RunStatus → Type 0
-Outcome source before stored since sink spared refused disk_rose sink_rose marks Done =
-    (told : IsTold source before stored since disk_rose (sink Done) marks) × (told.rest ≡ []) × (told.new.halted ≡ false)
-Outcome source before stored since sink spared refused disk_rose sink_rose marks LogFault =
+-- how a refusal of the journal is told
+abbrev pub log_why_of : JournalWhy → Option LogWhy
+log_why_of journal_why_is.Fault = None
+log_why_of (journal_why_is.NotALog place) = Some (log_why_is.NotALog place)
+log_why_of (journal_why_is.BadFrame place) = Some (log_why_is.BadFrame place)
+log_why_of (journal_why_is.BadEntry number at) = Some (log_why_is.BadEntry number at)
+log_why_of (journal_why_is.Illegal number rule) = Some (log_why_is.Illegal number rule)
+log_why_of (journal_why_is.SheetsDiffer kind) = Some (log_why_is.SheetsDiffer kind)
+log_why_of journal_why_is.Memory = None
+
+-- all commands were answered, nothing was recorded beyond, and this halted the run
+abbrev pub IsToldWhole : (sheets : List Sheet) (limits : Limits) (source : List Command → Type 0) (before : List Entry → Type 0) (stored : List Entry → Option Halt → Type 0)
+    (since : List Entry → Type 0) (disk_rose : Type 0) (ran : ℕ → Type 0) (sink : List ℕ → Type 0) (marks : List ℕ) → Option Halt → Type 0
+IsToldWhole sheets limits source before stored since disk_rose ran sink marks halted =
+    (told : IsTold sheets limits source before stored since disk_rose ran sink marks) × (told.rest ≡ []) × (told.unsaid ≡ []) × (told.new.halted ≡ halted)
+
+-- How a run ended behind the words and the script. `spared` says that the disk still holds its journal, `refused` why it
+-- holds none.
+abbrev pub Outcome : (sheets : List Sheet) (limits : Limits) (source : List Command → Type 0) (before : List Entry → Type 0) (stored : List Entry → Option Halt → Type 0)
+    (since : List Entry → Type 0) (sink : RunStatus → List ℕ → Type 0) (spared : Type 0) (refused : JournalWhy → Type 0) (disk_rose sink_rose : Type 0) (ran : ℕ → Type 0)
+    (marks : List ℕ) → RunStatus → Type 0
+Outcome sheets limits source before stored since sink spared refused disk_rose sink_rose ran marks Done =
+    IsToldWhole sheets limits source before stored since disk_rose ran (sink Done) marks None
+Outcome sheets limits source before stored since sink spared refused disk_rose sink_rose ran marks LogFault =
     disk_rose × (((marks ≡ []) × spared × sink LogFault [] × ((commands : List Command) × source commands))
-    ⊎ ((told : IsTold source before stored since disk_rose (sink LogFault) marks) × (told.rest ≡ []) × (told.new.halted ≡ true)))
-Outcome source before stored since sink spared refused disk_rose sink_rose marks (LogRefused why) =
-    (why ≡ NotALog 0) × (marks ≡ []) × refused × sink (LogRefused why) [] × ((commands : List Command) × source commands)
-Outcome source before stored since sink spared refused disk_rose sink_rose marks WriteFault = sink_rose × IsTold source before stored since disk_rose (sink WriteFault) marks
-Outcome source before stored since sink spared refused disk_rose sink_rose marks Memory =
-    ((marks ≡ []) × spared × sink Memory []) ⊎ IsTold source before stored since disk_rose (sink Memory) marks
-Outcome source before stored since sink spared refused disk_rose sink_rose marks _ = ⊥
+    ⊎ IsToldWhole sheets limits source before stored since disk_rose ran (sink LogFault) marks (Some halt_is.LogFault))
+Outcome sheets limits source before stored since sink spared refused disk_rose sink_rose ran marks (JournalFull bytes) =
+    IsToldWhole sheets limits source before stored since disk_rose ran (sink (JournalFull bytes)) marks (Some (halt_is.JournalFull bytes))
+Outcome sheets limits source before stored since sink spared refused disk_rose sink_rose ran marks (LogRefused why) =
+    ((cause : JournalWhy) × (log_why_of cause ≡ Some why) × refused cause) × (marks ≡ []) × sink (LogRefused why) [] × ((commands : List Command) × source commands)
+Outcome sheets limits source before stored since sink spared refused disk_rose sink_rose ran marks WriteFault =
+    sink_rose × ((told : IsTold sheets limits source before stored since disk_rose ran (sink WriteFault) marks) × (told.unsaid ≡ []))
+Outcome sheets limits source before stored since sink spared refused disk_rose sink_rose ran marks Memory =
+    ((marks ≡ []) × spared × sink Memory []) ⊎ IsTold sheets limits source before stored since disk_rose ran (sink Memory) marks
+Outcome sheets limits source before stored since sink spared refused disk_rose sink_rose ran marks _ = ⊥
 
--- How a run ended, judged in this order: words, script, and then the rest, which `outcome` says. `unread` says that the source is as handed in, `same` that
--- the disk is.
+-- How a run ended, judged in this order: words, script, and then the rest, which `outcome` says. `unread` says that the
+-- source is as handed in, `same` that the disk is.
 abbrev pub Ends : (misfit : Option ℕ) (script : Bad → Type 0) (read_rose unread same : Type 0) (sink : RunStatus → List ℕ → Type 0) (outcome : RunStatus → Type 0) (marks : List ℕ) → RunStatus → Type 0
 Ends misfit script read_rose unread same sink outcome marks (Usage word) = (misfit ≡ Some word) × unread × same × (marks ≡ []) × sink (Usage word) []
 Ends misfit script read_rose unread same sink outcome marks (BadScript bad) = (misfit ≡ None) × script bad × same × (marks ≡ []) × sink (BadScript bad) []
@@ -112,14 +156,32 @@ Got rose old new Memory text = IsFront old new text
 Got rose old new status text = IsLast rose (old ++ text) new (last_line status)
 
 -- the status of an opening that failed
-abbrev pub unopened_status : OpeningWhy → RunStatus
-unopened_status O.Fault = LogFault
-unopened_status O.Refused = LogRefused (NotALog 0)
-unopened_status O.Memory = Memory
+abbrev pub unopened_status : JournalWhy → RunStatus
+unopened_status journal_why_is.Fault = LogFault
+unopened_status (journal_why_is.NotALog place) = LogRefused (log_why_is.NotALog place)
+unopened_status (journal_why_is.BadFrame place) = LogRefused (log_why_is.BadFrame place)
+unopened_status (journal_why_is.BadEntry number at) = LogRefused (log_why_is.BadEntry number at)
+unopened_status (journal_why_is.Illegal number rule) = LogRefused (log_why_is.Illegal number rule)
+unopened_status (journal_why_is.SheetsDiffer kind) = LogRefused (log_why_is.SheetsDiffer kind)
+unopened_status journal_why_is.Memory = Memory
+
+-- the status of a run that was halted by this, or by nothing
+abbrev pub halted_status : Option Halt → RunStatus
+halted_status None = Done
+halted_status (Some halt_is.LogFault) = LogFault
+halted_status (Some (halt_is.JournalFull bytes)) = JournalFull bytes
 
 -- the status of a conversation that ended
-abbrev pub talked_status : Result (Unit {0}) Cut → Bool → RunStatus
-talked_status (Ok done) true = LogFault
-talked_status (Ok done) false = Done
-talked_status (Err C.WriteFault) halted = WriteFault
-talked_status (Err C.Memory) halted = Memory
+abbrev pub talked_status : Result (Unit {0}) Cut → Option Halt → RunStatus
+talked_status (Ok done) halted = halted_status halted
+talked_status (Err cut_is.WriteFault) halted = WriteFault
+talked_status (Err cut_is.Memory) halted = Memory
+
+-- The first of these commands were answered, one for each mark; the one behind them, if it was begun, left what it
+-- leaves where memory runs out.
+pub record IsBrokenOffIn (limits : Limits) (sink : List ℕ → Type 0) (commands : List Command) (old : Said) (marks : List ℕ) (new : Said) : Type 0 where
+  pub mid : Said
+  pub said : Conversation limits sink (take (length marks) commands) old marks mid
+  pub unsaid : List Entry
+  pub grown : new ≡ record { journal = mid.journal ++ unsaid; halted = mid.halted }
+  pub unsaid_are : AreUnsaid limits mid (drop (length marks) commands) unsaid

@@ -4,7 +4,7 @@ use Rattle.std.specs.List.{slice_split}
 use Rattle.hm_names.specs.Names.{read_ns}
 use Rattle.hm_names.specs.Nonces.{read_nonce}
 use Rattle.hm_top.specs.declared.command.Command.{Command}
-use Rattle.hm_top.specs.declared.command.Command.TheVariants.{Namespace, Procs}
+use Rattle.hm_top.specs.declared.command.Command.TheVariants.{Namespace, Settle, Procs}
 
 -- the byte before the first line
 abbrev pub onto_first : ℕ → List (List ℕ) → List (List ℕ)
@@ -38,6 +38,7 @@ words_of line = filter (λ word. not (length word == 0)) (slice_split (λ b. b =
 abbrev pub Says : List ℕ → Command → Type 0
 Says line (Namespace nonce ns) =
     (first : List ℕ) × (second : List ℕ) × (words_of line ≡ codes "namespace" ∷ first ∷ second ∷ []) × (read_nonce first ≡ Ok nonce) × (read_ns second ≡ Ok ns)
+Says line Settle = words_of line ≡ codes "settle" ∷ []
 Says line Procs = words_of line ≡ codes "procs" ∷ []
 
 -- the lines say these commands, in order

@@ -1,6 +1,7 @@
 //! What the run answers.
 ghost use Rattle.std.specs.Prelude.{Some};
 
+use hm_hall::Halt;
 use std::fmt;
 
 /// The lines that the run writes for the opening and for each command.
@@ -14,10 +15,16 @@ pub enum Answer {
     Repeated(u64),
     /// The nonce was used by this procedure, for another request.
     NonceClash(u64),
+    /// The journal has reached its soft mark at this many bytes, and takes no submission.
+    JournalFull(u64),
+    /// All roots have ended, with so many entries in the journal.
+    Settled(u64),
+    /// Nothing can go on, with so many entries in the journal, and so many roots haven't ended.
+    Waiting(u64, u64),
     /// A table, whole.
     Table(String),
-    /// The log failed, now or before: nothing is recorded any more.
-    Halted,
+    /// Nothing is recorded any more, for this reason, which came now or before.
+    Halted(Halt),
 }
 
 impl fmt::Display for Answer {
@@ -27,12 +34,16 @@ impl fmt::Display for Answer {
 
     fn fmt<W: fmt::Write>(&self, f: &mut fmt::Formatter<W>) -> fmt::Result {
         match self {
-            Answer::Opened(entries) => write!(f, "opened at {entries}\n"),
+            Answer::Opened(at) => write!(f, "opened at {at}\n"),
             Answer::Pid(pid) => write!(f, "pid {pid}\n"),
             Answer::Repeated(pid) => write!(f, "pid {pid} repeated\n"),
             Answer::NonceClash(pid) => write!(f, "refused NonceClash {pid}\n"),
+            Answer::JournalFull(bytes) => write!(f, "refused JournalFull {bytes}\n"),
+            Answer::Settled(at) => write!(f, "settled at {at}\n"),
+            Answer::Waiting(at, roots) => write!(f, "waiting at {at}: {roots}\n"),
             Answer::Table(text) => f.write_str(text.as_str()),
-            Answer::Halted => f.write_str("halted LogFault\n"),
+            Answer::Halted(Halt::LogFault) => f.write_str("halted LogFault\n"),
+            Answer::Halted(Halt::JournalFull(bytes)) => write!(f, "halted JournalFull {bytes}\n"),
         }
     }
 }

@@ -6,6 +6,8 @@ use hm_names::{Nonce, Ns};
 pub enum Command {
     /// Creates a namespace.
     Namespace { nonce: Nonce, ns: Ns },
+    /// Works until nothing is left that can go on.
+    Settle,
     /// Prints the procedures.
     Procs,
 }

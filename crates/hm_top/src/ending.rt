@@ -1,36 +1,54 @@
 //! A run, from its words to its last line.
-ghost use Rattle.std.specs.Prelude.{◌≡◌, ◌⊎◌, ◌≤◌, List, [], length, map, None, string_bytes, IfOk, IfErr, OnOk};
+ghost use Rattle.std.specs.Prelude.{◌≡◌, ◌⊎◌, ◌≤◌, List, ℕ, [], length, map, Option, Some, None, string_bytes, IfOk, IfErr, OnOk, All};
+ghost use Rattle.std.specs.List.{flat_map};
+ghost use Rattle.hm_model.specs.Rules.{AreSheets};
 ghost use Rattle.hm_ports.specs.Faults.{Rose};
-ghost use Rattle.hm_top.specs.Run.{IsBad, IsRead, IsRefusal, Outcome, Ends, IsLast, Talked, Got, unopened_status, talked_status};
 ghost use Rattle.hm_disk.specs.Disk.{LeavesOnly, Settles};
 ghost use Rattle.hm_log.specs.Opening.{IsMaking};
+ghost use Rattle.hm_data.specs.declared.entry.Entry.{Entry as EntryValue};
+ghost use Rattle.hm_sheet.specs.Words.{HasAll};
+ghost use Rattle.hm_journal.specs.Stored.{IsOnDisk, SameFrames, Spares, IsOpening};
+ghost use Rattle.hm_journal.specs.Verdict.{Refuses};
 ghost use Rattle.hm_top.specs.declared.command.Command.{Command as CommandValue};
-ghost use Rattle.hm_top.specs.declared.entry.Entry.{Entry as EntryValue};
 ghost use Rattle.hm_top.specs.declared.status.Bad.{Bad as BadValue};
+ghost use Rattle.hm_top.specs.declared.status.LogWhy.{LogWhy as LogWhyValue};
+ghost use Rattle.hm_top.specs.Hands.{AgreeOn, HandsAgree, RisesBy, SumRisesBy, first_sheets, own_sheets};
+ghost use Rattle.hm_top.specs.Run.{IsBad, IsRead, IsRefusal, IsRefused, Outcome, Ends, IsLast, Talked, Got, unopened_status, talked_status};
 ghost use Rattle.hm_top.specs.Script.{lines_of, IsScript};
 ghost use Rattle.hm_top.specs.Status.{last_line};
-ghost use Rattle.hm_top.specs.Stored.{IsOnDisk, AllStored, Continues, Spares, IsRefused, IsOpening};
+ghost use Rattle.hm_top.specs.Stored.{AllStored, IsRun};
 ghost use Rattle.hm_top.specs.Words.{misfit_of};
 
 use crate::command::Command;
-use crate::opening::{OpeningWhy, open};
 use crate::script::{ScriptWhy, parse};
 use crate::status::{Bad, Cut, LogWhy, RunStatus, Why};
 use crate::talking::talk;
 use crate::words::misfit;
+use crate::world::World;
+use hm_data::Sheet;
 use hm_disk::Disk;
+use hm_hall::Halt;
+use hm_journal::{JournalWhy, Limits};
 use hm_ports::{ReadWhy, Sink, Source, read_all, write_all};
+use hm_sheet::{Handler, Registry};
 use std::alloc::Global;
+
+// The marks of a run's journal.
+const LIMITS: Limits = Limits {
+    soft: 50_331_648,
+    hard: 67_108_864,
+};
 
 const MAX_SCRIPT: usize = 1_048_576;
 
-/// What a run leaves: how it ended, the disk, and for each command that was answered the length of
-/// the journal when its answer was written.
+/// What a run leaves: how it ended, the disk, for each command that was answered the length of the
+/// journal when its answer was written, and the registries.
 #[derive(Drop)]
 pub struct Ended<D: Disk> {
     pub status: RunStatus,
     pub disk: D,
     pub marks: Vec<u64>,
+    pub hands: Vec<Registry>,
 }
 
 // Why a script isn't read.
@@ -48,6 +66,7 @@ fn read_script<S: Source>(alloc: Global, script: &mut S) -> Result<Vec<Command>,
     ensures few { IfOk result (λ commands. length commands.items ≤ 1048576) }
     ensures refusal { IfErr result (λ why. (bad : BadValue) → why ≡ ScriptEnd.Bad bad → IsRefusal bad) }
     ensures bad { S.tells → IfErr result (λ why. (bad : BadValue) → why ≡ ScriptEnd.Bad bad → IsBad (S.left script.old) bad) }
+    ensures whole { S.tells → IfErr result (λ why. (bad : BadValue) → why ≡ ScriptEnd.Bad bad → bad.why ≡ Why.Word 0 → S.left script.new ≡ []) }
     ensures fault { IfErr result (λ why. why ≡ ScriptEnd.ReadFault → Rose (S.faults script.old) (S.faults script.new)) }
 {
     let bytes = match read_all(alloc, script, MAX_SCRIPT) {
@@ -71,22 +90,33 @@ fn read_script<S: Source>(alloc: Global, script: &mut S) -> Result<Vec<Command>,
     }
 }
 
-fn status_of(why: OpeningWhy) -> RunStatus
+fn status_of(why: JournalWhy) -> RunStatus
     ensures { result ≡ unopened_status why }
 {
     match why {
-        OpeningWhy::Fault => RunStatus::LogFault,
-        OpeningWhy::Refused => RunStatus::LogRefused(LogWhy::NotALog(0)),
-        OpeningWhy::Memory => RunStatus::Memory,
+        JournalWhy::Fault => RunStatus::LogFault,
+        JournalWhy::NotALog(at) => RunStatus::LogRefused(LogWhy::NotALog(at)),
+        JournalWhy::BadFrame(at) => RunStatus::LogRefused(LogWhy::BadFrame(at)),
+        JournalWhy::BadEntry { number, at } => {
+            RunStatus::LogRefused(LogWhy::BadEntry { number, at })
+        }
+        JournalWhy::Illegal { number, rule } => {
+            RunStatus::LogRefused(LogWhy::Illegal { number, rule })
+        }
+        JournalWhy::SheetsDiffer(kind) => RunStatus::LogRefused(LogWhy::SheetsDiffer(kind)),
+        JournalWhy::Memory => RunStatus::Memory,
     }
 }
 
-fn status_of_talk(talked: Result<(), Cut>, halted: bool) -> RunStatus
+fn status_of_talk(talked: Result<(), Cut>, halted: Option<Halt>) -> RunStatus
     ensures { result ≡ talked_status talked halted }
 {
     match talked {
-        Ok(()) if halted => RunStatus::LogFault,
-        Ok(()) => RunStatus::Done,
+        Ok(()) => match halted {
+            None => RunStatus::Done,
+            Some(Halt::LogFault) => RunStatus::LogFault,
+            Some(Halt::JournalFull(bytes)) => RunStatus::JournalFull(bytes),
+        },
         Err(Cut::WriteFault) => RunStatus::WriteFault,
         Err(Cut::Memory) => RunStatus::Memory,
     }
@@ -98,28 +128,37 @@ fn converse<D: Disk, K: Sink>(
     commands: &[Command],
     out: &mut K,
     disk: D,
+    hands: &mut Registry,
+    sheets: &[Sheet],
+    limits: Limits,
     marks: &mut Vec<u64>,
 ) -> (RunStatus, D)
-    requires few { length commands.now ≤ 1048576 }
     requires fresh { marks.old.items ≡ [] }
-    ensures outcome { Outcome
+    requires agree { AgreeOn (flat_map (λ h. (⟦<dyn Handler as Handler>⟧ h.vtable).sheets_are h.value) hands.old.handlers.items) sheets.now }
+    requires sheets { AreSheets sheets.now }
+    requires hard { 65551 ≤ limits.hard }
+    ensures outcome { Outcome sheets.now limits
         (λ read. read ≡ commands.now)
-        (λ journal. D.tells → IsOnDisk (D.seen disk) journal)
+        (λ journal. D.tells → IsOnDisk sheets.now (D.seen disk) journal)
         (λ journal halted. D.tells → AllStored (D.image result.1) journal halted)
-        (λ journal. D.tells → Settles D.moment D.left_since disk result.1 (λ c. D.image disk c ⊎ IsMaking (D.seen disk) c) (Continues journal))
+        (λ journal. D.tells → Settles D.moment D.left_since disk result.1 (λ c. D.image disk c ⊎ IsMaking (D.seen disk) c) (IsRun sheets.now journal))
         (λ status text. K.tells → Talked (K.got out.old) (K.got out.new) status text)
-        (D.tells → Spares (D.seen disk) (D.image disk) (D.seen result.1) (D.image result.1) × LeavesOnly D.moment D.left_since disk result.1 (IsOpening (D.seen disk) (D.image disk)))
-        (D.tells → IsRefused (D.seen disk) (D.seen result.1) (D.image result.1) × LeavesOnly D.moment D.left_since disk result.1 (IsOpening (D.seen disk) (D.image disk)))
+        (D.tells → Spares sheets.now (D.seen disk) (D.image disk) (D.seen result.1) (D.image result.1) × LeavesOnly D.moment D.left_since disk result.1 (IsOpening sheets.now (D.seen disk) (D.image disk)))
+        (λ why. D.tells → Refuses sheets.now (D.seen disk) why × SameFrames (D.seen disk) (D.seen result.1) (D.image result.1) × LeavesOnly D.moment D.left_since disk result.1 (IsOpening sheets.now (D.seen disk) (D.image disk)))
         (Rose (D.faults disk) (D.faults result.1))
         (Rose (K.faults out.old) (K.faults out.new))
+        (λ count. RisesBy count hands.old.runs hands.new.runs)
         marks.new.items result.0 }
+    ensures exact { D.tells → (journal : List EntryValue) → IsOnDisk sheets.now (D.seen disk) journal → (why : LogWhyValue) → result.0 ≡ RunStatus.LogRefused why → ⊥ }
     ensures later { K.faults out.old ≤ K.faults out.new }
+    ensures sheets { flat_map (λ h. (⟦<dyn Handler as Handler>⟧ h.vtable).sheets_are h.value) hands.new.handlers.items
+        ≡ flat_map (λ h. (⟦<dyn Handler as Handler>⟧ h.vtable).sheets_are h.value) hands.old.handlers.items }
 {
-    let mut world = match open(alloc, disk) {
+    let mut world = match World::open(alloc, disk, sheets, limits) {
         Ok(world) => world,
         Err((disk, why)) => return (status_of(why), disk),
     };
-    let talked = talk(alloc, &mut world, commands, out, marks);
+    let talked = talk(alloc, &mut world, hands, commands, out, marks);
     let halted = world.halted();
     (status_of_talk(talked, halted), world.into_disk())
 }
@@ -131,35 +170,45 @@ fn judge<S: Source, K: Sink, D: Disk>(
     script: &mut S,
     out: &mut K,
     disk: D,
+    hands: &mut Registry,
+    sheets: &[Sheet],
+    limits: Limits,
     marks: &mut Vec<u64>,
 ) -> (RunStatus, D)
-    requires { marks.old.items ≡ [] }
+    requires fresh { marks.old.items ≡ [] }
+    requires agree { AgreeOn (flat_map (λ h. (⟦<dyn Handler as Handler>⟧ h.vtable).sheets_are h.value) hands.old.handlers.items) sheets.now }
+    requires sheets { AreSheets sheets.now }
+    requires hard { 65551 ≤ limits.hard }
     ensures ends { Ends
         (misfit_of (map string_bytes words.now))
-        (λ bad. IsRefusal bad × (S.tells → IsBad (S.left script.old) bad))
+        (IsRefused S.tells (S.left script.old) (S.left script.new))
         (Rose (S.faults script.old) (S.faults script.new))
         (script.new ≡ script.old)
         (result.1 ≡ disk)
         (λ status text. K.tells → Talked (K.got out.old) (K.got out.new) status text)
-        (Outcome
+        (Outcome sheets.now limits
         (IsRead (misfit_of (map string_bytes words.now)) S.tells (S.left script.old) (S.left script.new))
-        (λ journal. D.tells → IsOnDisk (D.seen disk) journal)
+        (λ journal. D.tells → IsOnDisk sheets.now (D.seen disk) journal)
         (λ journal halted. D.tells → AllStored (D.image result.1) journal halted)
-        (λ journal. D.tells → Settles D.moment D.left_since disk result.1 (λ c. D.image disk c ⊎ IsMaking (D.seen disk) c) (Continues journal))
+        (λ journal. D.tells → Settles D.moment D.left_since disk result.1 (λ c. D.image disk c ⊎ IsMaking (D.seen disk) c) (IsRun sheets.now journal))
         (λ status text. K.tells → Talked (K.got out.old) (K.got out.new) status text)
-        (D.tells → Spares (D.seen disk) (D.image disk) (D.seen result.1) (D.image result.1) × LeavesOnly D.moment D.left_since disk result.1 (IsOpening (D.seen disk) (D.image disk)))
-        (D.tells → IsRefused (D.seen disk) (D.seen result.1) (D.image result.1) × LeavesOnly D.moment D.left_since disk result.1 (IsOpening (D.seen disk) (D.image disk)))
+        (D.tells → Spares sheets.now (D.seen disk) (D.image disk) (D.seen result.1) (D.image result.1) × LeavesOnly D.moment D.left_since disk result.1 (IsOpening sheets.now (D.seen disk) (D.image disk)))
+        (λ why. D.tells → Refuses sheets.now (D.seen disk) why × SameFrames (D.seen disk) (D.seen result.1) (D.image result.1) × LeavesOnly D.moment D.left_since disk result.1 (IsOpening sheets.now (D.seen disk) (D.image disk)))
         (Rose (D.faults disk) (D.faults result.1))
         (Rose (K.faults out.old) (K.faults out.new))
+        (λ count. RisesBy count hands.old.runs hands.new.runs)
         marks.new.items)
         marks.new.items result.0 }
+    ensures exact { D.tells → (journal : List EntryValue) → IsOnDisk sheets.now (D.seen disk) journal → (why : LogWhyValue) → result.0 ≡ RunStatus.LogRefused why → ⊥ }
     ensures later { K.faults out.old ≤ K.faults out.new }
+    ensures sheets { flat_map (λ h. (⟦<dyn Handler as Handler>⟧ h.vtable).sheets_are h.value) hands.new.handlers.items
+        ≡ flat_map (λ h. (⟦<dyn Handler as Handler>⟧ h.vtable).sheets_are h.value) hands.old.handlers.items }
 {
     if let Some(word) = misfit(words) {
         return (RunStatus::Usage(word), disk);
     }
     match read_script(alloc, script) {
-        Ok(commands) => converse(alloc, &commands, out, disk, marks),
+        Ok(commands) => converse(alloc, &commands, out, disk, hands, sheets, limits, marks),
         Err(ScriptEnd::Bad(bad)) => (RunStatus::BadScript(bad), disk),
         Err(ScriptEnd::ReadFault) => (RunStatus::ReadFault, disk),
         Err(ScriptEnd::Memory) => (RunStatus::Memory, disk),
@@ -179,47 +228,123 @@ fn finish<K: Sink>(alloc: Global, out: &mut K, status: RunStatus) -> RunStatus
     status
 }
 
-/// Runs a script over the log on a disk. It judges in this order: the words, the script, the opening
-/// of the log, the commands. It waits for nobody, and returns.
+/// Runs a script over the log on a disk, whose journal may have 67,108,864 bytes, and takes submissions
+/// below 50,331,648. It judges in this order: the words, the script, the opening of the log, the
+/// commands. It waits for nobody, and returns. The first of the registries runs all steps.
 pub fn run<S: Source, K: Sink, D: Disk>(
     alloc: Global,
     words: &[String],
     script: &mut S,
     out: &mut K,
     disk: D,
+    hands: Vec<Registry>,
 ) -> Ended<D>
+    requires agree { HandsAgree (map (λ r. flat_map (λ h. (⟦<dyn Handler as Handler>⟧ h.vtable).sheets_are h.value) r.handlers.items) hands.items) }
+    requires all { All HasAll (map (λ r. flat_map (λ h. (⟦<dyn Handler as Handler>⟧ h.vtable).sheets_are h.value) r.handlers.items) hands.items) }
     ensures ends { Ends
         (misfit_of (map string_bytes words.now))
-        (λ bad. IsRefusal bad × (S.tells → IsBad (S.left script.old) bad))
+        (IsRefused S.tells (S.left script.old) (S.left script.new))
         (Rose (S.faults script.old) (S.faults script.new))
         (script.new ≡ script.old)
         (result.disk ≡ disk)
         (λ status text. K.tells → Got (Rose (K.faults out.old) (K.faults out.new)) (K.got out.old) (K.got out.new) status text)
-        (Outcome
+        (Outcome (own_sheets (first_sheets (map (λ r. flat_map (λ h. (⟦<dyn Handler as Handler>⟧ h.vtable).sheets_are h.value) r.handlers.items) hands.items))) (record { soft = 50331648; hard = 67108864 })
         (IsRead (misfit_of (map string_bytes words.now)) S.tells (S.left script.old) (S.left script.new))
-        (λ journal. D.tells → IsOnDisk (D.seen disk) journal)
+        (λ journal. D.tells → IsOnDisk (own_sheets (first_sheets (map (λ r. flat_map (λ h. (⟦<dyn Handler as Handler>⟧ h.vtable).sheets_are h.value) r.handlers.items) hands.items))) (D.seen disk) journal)
         (λ journal halted. D.tells → AllStored (D.image result.disk) journal halted)
-        (λ journal. D.tells → Settles D.moment D.left_since disk result.disk (λ c. D.image disk c ⊎ IsMaking (D.seen disk) c) (Continues journal))
+        (λ journal. D.tells → Settles D.moment D.left_since disk result.disk (λ c. D.image disk c ⊎ IsMaking (D.seen disk) c) (IsRun (own_sheets (first_sheets (map (λ r. flat_map (λ h. (⟦<dyn Handler as Handler>⟧ h.vtable).sheets_are h.value) r.handlers.items) hands.items))) journal))
         (λ status text. K.tells → Got (Rose (K.faults out.old) (K.faults out.new)) (K.got out.old) (K.got out.new) status text)
-        (D.tells → Spares (D.seen disk) (D.image disk) (D.seen result.disk) (D.image result.disk) × LeavesOnly D.moment D.left_since disk result.disk (IsOpening (D.seen disk) (D.image disk)))
-        (D.tells → IsRefused (D.seen disk) (D.seen result.disk) (D.image result.disk) × LeavesOnly D.moment D.left_since disk result.disk (IsOpening (D.seen disk) (D.image disk)))
+        (D.tells → Spares (own_sheets (first_sheets (map (λ r. flat_map (λ h. (⟦<dyn Handler as Handler>⟧ h.vtable).sheets_are h.value) r.handlers.items) hands.items))) (D.seen disk) (D.image disk) (D.seen result.disk) (D.image result.disk) × LeavesOnly D.moment D.left_since disk result.disk (IsOpening (own_sheets (first_sheets (map (λ r. flat_map (λ h. (⟦<dyn Handler as Handler>⟧ h.vtable).sheets_are h.value) r.handlers.items) hands.items))) (D.seen disk) (D.image disk)))
+        (λ why. D.tells → Refuses (own_sheets (first_sheets (map (λ r. flat_map (λ h. (⟦<dyn Handler as Handler>⟧ h.vtable).sheets_are h.value) r.handlers.items) hands.items))) (D.seen disk) why × SameFrames (D.seen disk) (D.seen result.disk) (D.image result.disk) × LeavesOnly D.moment D.left_since disk result.disk (IsOpening (own_sheets (first_sheets (map (λ r. flat_map (λ h. (⟦<dyn Handler as Handler>⟧ h.vtable).sheets_are h.value) r.handlers.items) hands.items))) (D.seen disk) (D.image disk)))
         (Rose (D.faults disk) (D.faults result.disk))
         (Rose (K.faults out.old) (K.faults out.new))
+        (λ count. SumRisesBy count (map (λ r. r.runs) hands.items) (map (λ r. r.runs) result.hands.items))
         result.marks.items)
         result.marks.items result.status }
 
-    // Where nothing is wrong and nothing failed it is done, unless memory ran out.
+    // Where nothing is wrong and nothing failed it is done, unless the journal is full or memory ran out.
     ensures complete { S.tells → D.tells → (commands : List CommandValue) (journal : List EntryValue)
-        → misfit_of (map string_bytes words.now) ≡ None → length (S.left script.old) ≤ 1048576 → IsScript (lines_of (S.left script.old)) commands → IsOnDisk (D.seen disk) journal
+        → misfit_of (map string_bytes words.now) ≡ None → length (S.left script.old) ≤ 1048576 → IsScript (lines_of (S.left script.old)) commands
+        → IsOnDisk (own_sheets (first_sheets (map (λ r. flat_map (λ h. (⟦<dyn Handler as Handler>⟧ h.vtable).sheets_are h.value) r.handlers.items) hands.items))) (D.seen disk) journal
         → ¬ Rose (S.faults script.old) (S.faults script.new) → ¬ Rose (K.faults out.old) (K.faults out.new) → ¬ Rose (D.faults disk) (D.faults result.disk)
-        → (result.status ≡ RunStatus.Done) ⊎ (result.status ≡ RunStatus.Memory) }
+        → (result.status ≡ RunStatus.Done) ⊎ (((bytes : ℕ) × (result.status ≡ RunStatus.JournalFull bytes)) ⊎ (result.status ≡ RunStatus.Memory)) }
+
+    // The registries have the sheets that they had.
+    ensures hands { map (λ r. flat_map (λ h. (⟦<dyn Handler as Handler>⟧ h.vtable).sheets_are h.value) r.handlers.items) result.hands.items ≡ map (λ r. flat_map (λ h. (⟦<dyn Handler as Handler>⟧ h.vtable).sheets_are h.value) r.handlers.items) hands.items }
 {
+    run_within(alloc, words, script, out, disk, hands, LIMITS)
+}
+
+/// The same with other marks.
+pub fn run_within<S: Source, K: Sink, D: Disk>(
+    alloc: Global,
+    words: &[String],
+    script: &mut S,
+    out: &mut K,
+    disk: D,
+    hands: Vec<Registry>,
+    limits: Limits,
+) -> Ended<D>
+    requires agree { HandsAgree (map (λ r. flat_map (λ h. (⟦<dyn Handler as Handler>⟧ h.vtable).sheets_are h.value) r.handlers.items) hands.items) }
+    requires all { All HasAll (map (λ r. flat_map (λ h. (⟦<dyn Handler as Handler>⟧ h.vtable).sheets_are h.value) r.handlers.items) hands.items) }
+    requires hard { 65551 ≤ limits.hard }
+    ensures ends { Ends
+        (misfit_of (map string_bytes words.now))
+        (IsRefused S.tells (S.left script.old) (S.left script.new))
+        (Rose (S.faults script.old) (S.faults script.new))
+        (script.new ≡ script.old)
+        (result.disk ≡ disk)
+        (λ status text. K.tells → Got (Rose (K.faults out.old) (K.faults out.new)) (K.got out.old) (K.got out.new) status text)
+        (Outcome (own_sheets (first_sheets (map (λ r. flat_map (λ h. (⟦<dyn Handler as Handler>⟧ h.vtable).sheets_are h.value) r.handlers.items) hands.items))) limits
+        (IsRead (misfit_of (map string_bytes words.now)) S.tells (S.left script.old) (S.left script.new))
+        (λ journal. D.tells → IsOnDisk (own_sheets (first_sheets (map (λ r. flat_map (λ h. (⟦<dyn Handler as Handler>⟧ h.vtable).sheets_are h.value) r.handlers.items) hands.items))) (D.seen disk) journal)
+        (λ journal halted. D.tells → AllStored (D.image result.disk) journal halted)
+        (λ journal. D.tells → Settles D.moment D.left_since disk result.disk (λ c. D.image disk c ⊎ IsMaking (D.seen disk) c) (IsRun (own_sheets (first_sheets (map (λ r. flat_map (λ h. (⟦<dyn Handler as Handler>⟧ h.vtable).sheets_are h.value) r.handlers.items) hands.items))) journal))
+        (λ status text. K.tells → Got (Rose (K.faults out.old) (K.faults out.new)) (K.got out.old) (K.got out.new) status text)
+        (D.tells → Spares (own_sheets (first_sheets (map (λ r. flat_map (λ h. (⟦<dyn Handler as Handler>⟧ h.vtable).sheets_are h.value) r.handlers.items) hands.items))) (D.seen disk) (D.image disk) (D.seen result.disk) (D.image result.disk) × LeavesOnly D.moment D.left_since disk result.disk (IsOpening (own_sheets (first_sheets (map (λ r. flat_map (λ h. (⟦<dyn Handler as Handler>⟧ h.vtable).sheets_are h.value) r.handlers.items) hands.items))) (D.seen disk) (D.image disk)))
+        (λ why. D.tells → Refuses (own_sheets (first_sheets (map (λ r. flat_map (λ h. (⟦<dyn Handler as Handler>⟧ h.vtable).sheets_are h.value) r.handlers.items) hands.items))) (D.seen disk) why × SameFrames (D.seen disk) (D.seen result.disk) (D.image result.disk) × LeavesOnly D.moment D.left_since disk result.disk (IsOpening (own_sheets (first_sheets (map (λ r. flat_map (λ h. (⟦<dyn Handler as Handler>⟧ h.vtable).sheets_are h.value) r.handlers.items) hands.items))) (D.seen disk) (D.image disk)))
+        (Rose (D.faults disk) (D.faults result.disk))
+        (Rose (K.faults out.old) (K.faults out.new))
+        (λ count. SumRisesBy count (map (λ r. r.runs) hands.items) (map (λ r. r.runs) result.hands.items))
+        result.marks.items)
+        result.marks.items result.status }
+
+    // Where nothing is wrong and nothing failed it is done, unless the journal is full or memory ran out.
+    ensures complete { S.tells → D.tells → (commands : List CommandValue) (journal : List EntryValue)
+        → misfit_of (map string_bytes words.now) ≡ None → length (S.left script.old) ≤ 1048576 → IsScript (lines_of (S.left script.old)) commands
+        → IsOnDisk (own_sheets (first_sheets (map (λ r. flat_map (λ h. (⟦<dyn Handler as Handler>⟧ h.vtable).sheets_are h.value) r.handlers.items) hands.items))) (D.seen disk) journal
+        → ¬ Rose (S.faults script.old) (S.faults script.new) → ¬ Rose (K.faults out.old) (K.faults out.new) → ¬ Rose (D.faults disk) (D.faults result.disk)
+        → (result.status ≡ RunStatus.Done) ⊎ (((bytes : ℕ) × (result.status ≡ RunStatus.JournalFull bytes)) ⊎ (result.status ≡ RunStatus.Memory)) }
+
+    // The registries have the sheets that they had.
+    ensures hands { map (λ r. flat_map (λ h. (⟦<dyn Handler as Handler>⟧ h.vtable).sheets_are h.value) r.handlers.items) result.hands.items ≡ map (λ r. flat_map (λ h. (⟦<dyn Handler as Handler>⟧ h.vtable).sheets_are h.value) r.handlers.items) hands.items }
+{
+    let mut hands = hands;
     let mut marks = Vec::new(alloc);
-    let (status, disk) = judge(alloc, words, script, out, disk, &mut marks);
+    let Ok(sheets) = hands[0].sheets(alloc) else {
+        return Ended {
+            status: RunStatus::Memory,
+            disk,
+            marks,
+            hands,
+        };
+    };
+    let (status, disk) = judge(
+        alloc,
+        words,
+        script,
+        out,
+        disk,
+        &mut hands[0],
+        sheets.as_slice(),
+        limits,
+        &mut marks,
+    );
     let status = finish(alloc, out, status);
     Ended {
         status,
         disk,
         marks,
+        hands,
     }
 }

@@ -4,19 +4,17 @@
 mod answer;
 mod command;
 mod ending;
-mod entry;
+mod hands;
 mod laws;
-mod opening;
 mod script;
-mod spelling;
-mod state;
 mod status;
+mod table;
 mod talking;
-mod used;
 mod words;
 mod world;
 
-pub use ending::{Ended, run};
-pub use laws::{nonces_act_once, one_entry, right_or_wrong};
+pub use ending::{Ended, run, run_within};
+pub use hands::hands_agree;
+pub use laws::right_or_wrong;
 pub use status::{Bad, LogWhy, RunStatus, Why};
 pub use words::log_path;

@@ -126,10 +126,16 @@ fn parse_line(alloc: Global, line: &[u8]) -> Result<Command, LineWhy>
     if first == b"namespace".as_slice() {
         return parse_namespace(alloc, rest);
     }
-    if first != b"procs".as_slice() || next_word(rest).is_some() {
+    if next_word(rest).is_some() {
         return Err(LineWhy::Wrong);
     }
-    Ok(Command::Procs)
+    if first == b"settle".as_slice() {
+        return Ok(Command::Settle);
+    }
+    if first == b"procs".as_slice() {
+        return Ok(Command::Procs);
+    }
+    Err(LineWhy::Wrong)
 }
 
 /// The commands of a script, or the number of its first line that says nothing. Lines are numbered

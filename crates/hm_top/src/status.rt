@@ -60,7 +60,7 @@ pub struct Bad {
 /// Why a log is refused.
 #[derive(Clone, Copy, Debug, PartialEq, Eq)]
 pub enum LogWhy {
-    /// The bytes are no log. For now every disk without a journal is refused so, at place 0.
+    /// The bytes are no log, which this place of them shows.
     NotALog(u64),
     /// The frame at this place is bad.
     BadFrame(u64),
@@ -121,13 +121,13 @@ pub enum RunStatus {
     BadScript(Bad),
     /// A call on the disk failed.
     LogFault,
-    /// The disk holds no journal.
+    /// The disk holds no journal of these handlers' sheets.
     LogRefused(LogWhy),
     /// The source failed.
     ReadFault,
     /// The sink failed.
     WriteFault,
-    /// The bytes of the log. No run ends so yet.
+    /// The next entry would have passed the hard mark; the log has this many bytes.
     JournalFull(u64),
     /// Memory ran out.
     Memory,

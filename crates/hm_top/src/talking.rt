@@ -1,13 +1,18 @@
 //! Answers commands, one after another.
-ghost use Rattle.std.specs.Prelude.{◌≡◌, ◌+◌, ◌*◌, ◌-◌, ◌<◌, ◌≤◌, ◌^◌, ◌++◌, [], ℕ, length, take, OnOk, OnErr, IsErrOf, true, false};
+ghost use Rattle.std.specs.Prelude.{◌≡◌, ◌≢◌, ◌+◌, ◌<◌, ◌≤◌, ◌++◌, [], ℕ, length, take, drop, OnOk, OnErr, IsErrOf, Some, None};
+ghost use Rattle.std.specs.List.{flat_map};
 ghost use Rattle.hm_ports.specs.Faults.{Rose};
 ghost use Rattle.hm_disk.specs.Disk.{LeavesOnly};
+ghost use Rattle.hm_model.specs.Journal.{back};
+ghost use Rattle.hm_model.specs.Sheets.{sheets_of};
+ghost use Rattle.hm_hall.specs.declared.fault.Halt.TheVariants as halt_is;
 ghost use Rattle.hm_top.specs.declared.answer.Answer.{Answer as AnswerValue};
 ghost use Rattle.hm_top.specs.Answer.{answer_text};
-ghost use Rattle.hm_top.specs.Run.{IsFront, IsShort};
-ghost use Rattle.hm_top.specs.Stored.{AllStored, Continues};
+ghost use Rattle.hm_top.specs.Hands.{AgreeOn, Ran};
+ghost use Rattle.hm_top.specs.Run.{IsFront, IsShort, IsBrokenOffIn};
+ghost use Rattle.hm_top.specs.Stored.{Continues};
 ghost use Rattle.hm_top.specs.Transcript.{Conversation};
-ghost use Rattle.hm_top.specs.View.{said_of};
+ghost use Rattle.hm_top.specs.View.{limits_of, said_of};
 
 use crate::answer::Answer;
 use crate::command::Command;
@@ -15,6 +20,7 @@ use crate::status::Cut;
 use crate::world::World;
 use hm_disk::Disk;
 use hm_ports::{Sink, write_all};
+use hm_sheet::{Handler, Registry};
 use std::alloc::Global;
 
 // Writes an answer's lines.
@@ -32,60 +38,39 @@ fn say<K: Sink>(alloc: Global, out: &mut K, answer: &Answer) -> Result<(), Cut>
     Ok(())
 }
 
-// Answers the commands in turn. A mark is the length of the journal, and stands before its answer is written.
-fn answer_all<D: Disk, K: Sink>(
+/// Says how long the journal is, and then answers the commands in turn. A mark is the length of the journal, and stands
+/// before its answer is written.
+pub(crate) fn talk<D: Disk, K: Sink>(
     alloc: Global,
     world: &mut World<D>,
+    hands: &mut Registry,
     commands: &[Command],
     out: &mut K,
     marks: &mut Vec<u64>,
 ) -> Result<(), Cut>
-    requires room { world.old.bytes + 256 * length commands.now < 2 ^ 64 - 256 }
     requires fresh { marks.old.items ≡ [] }
-    requires stored { D.tells → AllStored (D.image world.old.disk) world.old.journal world.old.halted }
-    ensures done { OnOk result (Conversation (λ text. K.tells → K.got out.new ≡ K.got out.old ++ text)
+    requires agree { AgreeOn (flat_map (λ h. (⟦<dyn Handler as Handler>⟧ h.vtable).sheets_are h.value) hands.old.handlers.items) (sheets_of (back world.old.kept.entries)) }
+    ensures done { OnOk result (Conversation (limits_of world.old) (λ text. K.tells → K.got out.new ≡ K.got out.old ++ (answer_text (AnswerValue.Opened (length world.old.kept.entries)) ++ text))
         commands.now (said_of world.old) marks.new.items (said_of world.new)) }
-    ensures part { Conversation (λ text. K.tells → IsFront (K.got out.old) (K.got out.new) text)
+    ensures part { IsBrokenOffIn (limits_of world.old) (λ text. K.tells → IsFront (K.got out.old) (K.got out.new) (answer_text (AnswerValue.Opened (length world.old.kept.entries)) ++ text))
+        commands.now (said_of world.old) marks.new.items (said_of world.new) }
+    ensures short { IsErrOf result Cut.WriteFault → Conversation (limits_of world.old) (λ text. K.tells → IsShort (K.got out.old) (K.got out.new) (answer_text (AnswerValue.Opened (length world.old.kept.entries)) ++ text))
         (take (length marks.new.items) commands.now) (said_of world.old) marks.new.items (said_of world.new) }
-    ensures short { IsErrOf result Cut.WriteFault → Conversation (λ text. K.tells → IsShort (K.got out.old) (K.got out.new) text)
-        (take (length marks.new.items) commands.now) (said_of world.old) marks.new.items (said_of world.new) }
-    ensures moments { D.tells → LeavesOnly D.moment D.left_since world.old.disk world.new.disk (Continues world.old.journal) }
+    ensures moments { D.tells → LeavesOnly D.moment D.left_since world.old.disk world.new.disk (Continues world.old.kept.entries) }
     ensures disk_later { D.faults world.old.disk ≤ D.faults world.new.disk }
-    ensures halts { world.old.halted ≡ false → world.new.halted ≡ true → Rose (D.faults world.old.disk) (D.faults world.new.disk) }
-    ensures later { K.faults out.old ≤ K.faults out.new }
-    ensures fault { IsErrOf result Cut.WriteFault → Rose (K.faults out.old) (K.faults out.new) }
-{
-    for command in commands {
-        marks.reserve(1)?;
-        let answer = world.answer(alloc, command)?;
-        marks.push(world.entries()).unwrap();
-        say(alloc, out, &answer)?;
-    }
-    Ok(())
-}
-
-/// Says how long the journal is, and then answers the commands.
-pub fn talk<D: Disk, K: Sink>(
-    alloc: Global,
-    world: &mut World<D>,
-    commands: &[Command],
-    out: &mut K,
-    marks: &mut Vec<u64>,
-) -> Result<(), Cut>
-    requires room { world.old.bytes + 256 * length commands.now < 2 ^ 64 - 256 }
-    requires fresh { marks.old.items ≡ [] }
-    ensures done { OnOk result (Conversation (λ text. K.tells → K.got out.new ≡ K.got out.old ++ (answer_text (AnswerValue.Opened (length world.old.journal)) ++ text))
-        commands.now (said_of world.old) marks.new.items (said_of world.new)) }
-    ensures part { Conversation (λ text. K.tells → IsFront (K.got out.old) (K.got out.new) (answer_text (AnswerValue.Opened (length world.old.journal)) ++ text))
-        (take (length marks.new.items) commands.now) (said_of world.old) marks.new.items (said_of world.new) }
-    ensures short { IsErrOf result Cut.WriteFault → Conversation (λ text. K.tells → IsShort (K.got out.old) (K.got out.new) (answer_text (AnswerValue.Opened (length world.old.journal)) ++ text))
-        (take (length marks.new.items) commands.now) (said_of world.old) marks.new.items (said_of world.new) }
-    ensures moments { D.tells → LeavesOnly D.moment D.left_since world.old.disk world.new.disk (Continues world.old.journal) }
-    ensures disk_later { D.faults world.old.disk ≤ D.faults world.new.disk }
-    ensures halts { world.old.halted ≡ false → world.new.halted ≡ true → Rose (D.faults world.old.disk) (D.faults world.new.disk) }
+    ensures halts { world.old.kept.halted ≡ None → world.new.kept.halted ≡ Some halt_is.LogFault → Rose (D.faults world.old.disk) (D.faults world.new.disk) }
+    ensures sheets { flat_map (λ h. (⟦<dyn Handler as Handler>⟧ h.vtable).sheets_are h.value) hands.new.handlers.items
+        ≡ flat_map (λ h. (⟦<dyn Handler as Handler>⟧ h.vtable).sheets_are h.value) hands.old.handlers.items }
+    ensures ran { Ran world.old.kept.entries world.new.kept.entries hands.old.runs hands.new.runs }
     ensures later { K.faults out.old ≤ K.faults out.new }
     ensures fault { IsErrOf result Cut.WriteFault → Rose (K.faults out.old) (K.faults out.new) }
 {
     say(alloc, out, &Answer::Opened(world.entries()))?;
-    answer_all(alloc, world, commands, out, marks)
+    for command in commands {
+        marks.reserve(1)?;
+        let answer = world.answer(alloc, hands, command)?;
+        marks.push(world.entries()).unwrap();
+        say(alloc, out, &answer)?;
+    }
+    Ok(())
 }

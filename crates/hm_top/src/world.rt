@@ -1,31 +1,49 @@
-//! A journal, and the log that keeps it.
-ghost use Rattle.std.specs.Prelude.{◌≡◌, ◌+◌, ◌-◌, ◌<◌, ◌≤◌, ◌^◌, IfOk, OnOk, OnErr, None, false, true, length};
+//! A journal, its state, and what is done with them.
+ghost use Rattle.std.specs.Prelude.{◌≡◌, ◌≢◌, ◌⊎◌, ◌+◌, ◌≤◌, ◌^◌, ◌↔◌, List, [], ◌∷◌, ◌++◌, ℕ, length, All, IfOk, IfErr, IfSome, IfNone, OnOk, OnErr, MatchOption, MatchResult, IsTrue, Some, None};
+ghost use Rattle.std.specs.List.{flat_map};
 ghost use Rattle.hm_ports.specs.Faults.{Rose};
-ghost use Rattle.hm_disk.specs.Disk.{LeavesOnly};
+ghost use Rattle.hm_disk.specs.Disk.{LeavesOnly, Settles};
+ghost use Rattle.hm_log.specs.Opening.{IsMaking};
+ghost use Rattle.hm_data.specs.declared.entry.Entry.{Entry as EntryValue};
+ghost use Rattle.hm_model.specs.Journal.{back};
+ghost use Rattle.hm_model.specs.Nonces.{by_nonce};
+ghost use Rattle.hm_model.specs.Rest.{IsAtRest, IsAvailable};
+ghost use Rattle.hm_model.specs.Rules.{Allowed, AreSheets, IsLegal};
+ghost use Rattle.hm_model.specs.Sheets.{sheets_of};
+ghost use Rattle.hm_sheet.specs.Words.{CanRun, answer_of};
+ghost use Rattle.hm_state.specs.State.{IsFirst};
+ghost use Rattle.hm_hall.specs.declared.fault.Halt.TheVariants as halt_is;
+ghost use Rattle.hm_hall.specs.Recording.{CanBeRecorded};
+ghost use Rattle.hm_entry.specs.Fits.{EntryFits};
+ghost use Rattle.hm_entry.specs.Spelling.{entry as spelling};
+ghost use Rattle.hm_journal.specs.Stored.{IsStored as IsKept, frames_of, IsJournal, IsOnDisk, Spares, SameFrames, IsOpening, opened};
+ghost use Rattle.hm_journal.specs.Verdict.{Refuses, IsUnjudged};
 ghost use Rattle.hm_top.specs.declared.command.Command.{Command as CommandValue};
-ghost use Rattle.hm_top.specs.Answer.{Answers, AnswersAt};
-ghost use Rattle.hm_top.specs.Journal.{back, by_nonce, IsLegal};
-ghost use Rattle.hm_top.specs.Stored.{AllStored, Continues};
-ghost use Rattle.hm_top.specs.View.{said_of};
+ghost use Rattle.hm_top.specs.Answer.{Adds, Answers, AnswersAt, IsAsked, IsSoftFull, IsUnanswered, IsWorked, submission as submitted};
+ghost use Rattle.hm_top.specs.Hands.{AgreeOn, Ran, RisesBy};
+ghost use Rattle.hm_top.specs.Said.{begun};
+ghost use Rattle.hm_top.specs.Settling.{IsNextStep};
+ghost use Rattle.hm_top.specs.Stored.{AllStored, Continues, IsRun};
+ghost use Rattle.hm_top.specs.View.{limits_of, said_of, Keeps};
 
 use crate::answer::Answer;
 use crate::command::Command;
-use crate::entry::Entry;
-use crate::spelling::encode;
-use crate::state::State;
+use crate::table::procs;
+use hm_data::{Answer as StepAnswer, Args, Entry, Request, Sheet, StepIn, StepOut};
 use hm_disk::Disk;
-use hm_log::Log;
-use hm_names::{Copied, Nonce, Ns};
+use hm_hall::{Halt, RecordFault};
+use hm_journal::{Journal, JournalWhy, Limits};
+use hm_names::{Copied, List, Nonce, Ns, Pid, Same};
+use hm_sheet::{Handler, Registry};
+use hm_state::State;
 use std::alloc::{AllocError, Global};
 use std::marker::Model;
 
-/// A journal in memory and on a disk. Once the log has failed the world is halted: it answers `Halted`
-/// to every command, and records nothing.
+/// A journal on a disk, and the state that it is in. Contracts see the disk and what was recorded.
 #[derive(Drop)]
 pub struct World<D: Disk> {
-    pub(crate) log: Log<D>,
-    pub(crate) state: State,
-    pub(crate) halted: bool,
+    journal: Journal<D>,
+    state: State,
 }
 
 impl<D: Disk> Model for World<D> {
@@ -33,99 +51,387 @@ impl<D: Disk> Model for World<D> {
 
     ghost Value = { WorldView D };
 
-    ghost view = { λ w. record { disk = w.log.disk; journal = w.state.entries; halted = w.halted; bytes = w.log.bytes } };
+    ghost view = { λ w. record { disk = w.journal.disk; kept = w.journal.kept } };
 
-    ghost invariant = { λ w. IsSound D.tells (D.image w.log.disk) w.log.frames w.log.stalled w.state.entries w.halted };
+    ghost invariant = { λ w. IsSound w.state.entries w.journal.kept };
+}
+
+// The entry that asks for a namespace.
+fn submission(alloc: Global, nonce: &Nonce, ns: &Ns) -> Result<Entry, AllocError>
+    ensures entry { IfOk result (λ entry. entry ≡ submitted nonce.now ns.now) }
+    ensures fits { IfOk result CanBeRecorded }
+{
+    let _named = ns.as_bytes();
+    Ok(Entry::Submit {
+        nonce: *nonce,
+        request: Request::CreateNamespace {
+            ns: ns.copy(alloc)?,
+        },
+    })
+}
+
+// Whether this is a request to create this namespace.
+fn creates(args: &Args, ns: &Ns) -> bool
+    ensures { IsTrue result ↔ ((first : ℕ) × (args.now ≡ Args.Root (Request.CreateNamespace ns.now) first)) }
+{
+    match args {
+        Args::Root {
+            request: Request::CreateNamespace { ns: asked },
+            first: _,
+        } => asked.same(ns),
+        _ => false,
+    }
+}
+
+// What a run of a handler replaces.
+fn nothing(alloc: Global) -> StepOut {
+    StepOut {
+        answer: StepAnswer::Undone,
+        edits: List::of(Vec::new(alloc)),
+        children: List::of(Vec::new(alloc)),
+        call: None,
+        place: None,
+        followers: List::of(Vec::new(alloc)),
+    }
+}
+
+// Runs the handler for an input, and gives what it answers.
+fn run_once(alloc: Global, hands: &mut Registry, at: &StepIn) -> Result<StepOut, AllocError>
+    requires { CanRun (flat_map (λ h. (⟦<dyn Handler as Handler>⟧ h.vtable).sheets_are h.value) hands.old.handlers.items) at.now }
+    ensures out { IfOk result (λ out. answer_of (flat_map (λ h. (⟦<dyn Handler as Handler>⟧ h.vtable).sheets_are h.value) hands.old.handlers.items) at.now ≡ Some out) }
+    ensures sheets { flat_map (λ h. (⟦<dyn Handler as Handler>⟧ h.vtable).sheets_are h.value) hands.new.handlers.items
+        ≡ flat_map (λ h. (⟦<dyn Handler as Handler>⟧ h.vtable).sheets_are h.value) hands.old.handlers.items }
+    ensures runs { OnOk result (RisesBy 1 hands.old.runs hands.new.runs) }
+    ensures later { hands.old.runs ≤ hands.new.runs }
+{
+    let _before = hands.runs();
+    let mut out = nothing(alloc);
+    hands.run(alloc, at, &mut out)?;
+    Ok(out)
 }
 
 impl<D: Disk> World<D> {
-    /// The length of the journal.
-    pub fn entries(&self) -> u64
-        ensures length { result ≡ length self.now.journal }
-        ensures stored { D.tells → AllStored (D.image self.now.disk) self.now.journal self.now.halted }
+    /// Opens a disk as a journal of these sheets. An error gives the disk back.
+    pub fn open(
+        alloc: Global,
+        disk: D,
+        sheets: &[Sheet],
+        limits: Limits,
+    ) -> Result<World<D>, (D, JournalWhy)>
+        requires sheets { AreSheets sheets.now }
+        requires hard { 65551 ≤ limits.hard }
+        ensures journal { IfOk result (λ world. (old : List EntryValue) × IsJournal sheets.now old × (said_of world ≡ begun sheets.now old)
+            × (D.tells → IsOnDisk sheets.now (D.seen disk) old
+            × Settles D.moment D.left_since disk world.disk (λ c. D.image disk c ⊎ IsMaking (D.seen disk) c) (IsRun sheets.now old))) }
+        ensures sheets { IfOk result (λ world. sheets_of (back world.kept.entries) ≡ sheets.now) }
+        ensures limits { IfOk result (λ world. limits_of world ≡ limits) }
+        ensures why { D.tells → IfErr result (λ e. Refuses sheets.now (D.seen disk) e.1) }
+        ensures exact { D.tells → (journal : List EntryValue) → IsOnDisk sheets.now (D.seen disk) journal → IfErr result (λ e. IsUnjudged e.1) }
+        ensures fault { IfErr result (λ e. e.1 ≡ JournalWhy.Fault → Rose (D.faults disk) (D.faults e.0)) }
+        ensures same { D.tells → IfErr result (λ e. (IsUnjudged e.1 → ⊥) → SameFrames (D.seen disk) (D.seen e.0) (D.image e.0)) }
+        ensures spared { D.tells → IfErr result (λ e. Spares sheets.now (D.seen disk) (D.image disk) (D.seen e.0) (D.image e.0)) }
+        ensures any_moment { D.tells → IfErr result (λ e. LeavesOnly D.moment D.left_since disk e.0 (IsOpening sheets.now (D.seen disk) (D.image disk))) }
+        ensures later { MatchResult result (λ world. D.faults disk ≤ D.faults world.disk) (λ e. D.faults disk ≤ D.faults e.0) }
     {
-        // The clause on the disk is the world's invariant, which speaks of the log.
-        let _log = &self.log;
-        self.state.count()
+        let (journal, state) = Journal::open(alloc, disk, sheets, limits)?;
+        let _legal = state.entries();
+        let _durable = journal.durable();
+        Ok(World { journal, state })
     }
 
-    /// Whether the log has failed.
-    pub fn halted(&self) -> bool
-        ensures halted { result ≡ self.now.halted }
-        ensures legal { IsLegal (back self.now.journal) }
+    /// The length of the journal.
+    pub fn entries(&self) -> u64
+        ensures length { result ≡ length self.now.kept.entries }
+        ensures stored { D.tells → AllStored (D.image self.now.disk) self.now.kept.entries self.now.kept.halted }
     {
-        self.halted
+        let _legal = self.state.entries();
+        let _halted = self.journal.halted();
+        self.journal.durable()
+    }
+
+    /// What halted it.
+    pub fn halted(&self) -> Option<Halt>
+        ensures halted { result ≡ self.now.kept.halted }
+        ensures legal { IsLegal (back self.now.kept.entries) }
+    {
+        let _legal = self.state.entries();
+        self.journal.halted()
     }
 
     /// Gives the disk back.
     pub fn into_disk(self) -> D
         ensures disk { result ≡ self.disk }
-        ensures stored { D.tells → AllStored (D.image result) self.journal self.halted }
+        ensures stored { D.tells → AllStored (D.image result) self.kept.entries self.kept.halted }
     {
-        self.log.into_disk()
+        let _length = self.entries();
+        let World { journal, state } = self;
+        drop(state);
+        journal.into_disk()
     }
 
-    // Records a submission with a nonce that is none or new.
-    fn record(&mut self, alloc: Global, nonce: &Nonce, ns: &Ns) -> Result<Answer, AllocError>
-        requires going { self.old.halted ≡ false }
-        requires room { self.old.bytes < 2 ^ 64 - 256 }
-        requires new { by_nonce (back self.old.journal) nonce.now ≡ None }
-        ensures answers { IfOk result (λ answer. AnswersAt (CommandValue.Namespace nonce.now ns.now) self.old.journal answer (said_of self.new)) }
-        ensures moments { D.tells → OnOk result (LeavesOnly D.moment D.left_since self.old.disk self.new.disk (Continues self.old.journal)) }
-        ensures err { OnErr result (self.new ≡ self.old) }
-        ensures longer { self.new.halted ≡ false → self.new.bytes ≤ self.old.bytes + 256 }
-        ensures later { D.faults self.old.disk ≤ D.faults self.new.disk }
-        ensures halts { self.new.halted ≡ true → Rose (D.faults self.old.disk) (D.faults self.new.disk) }
+    // Records an entry, and tells what halts the journal there.
+    fn record(
+        journal: &mut Journal<D>,
+        alloc: Global,
+        entry: &Entry,
+    ) -> Result<Option<Halt>, AllocError>
+        requires going { journal.old.kept.halted ≡ None }
+        requires fits { CanBeRecorded entry.now }
+        ensures adds { IfOk result (λ halt. Keeps journal.old.kept entry.now halt journal.new.kept) }
+        ensures err { OnErr result (journal.new ≡ journal.old) }
+        ensures spelled { All EntryFits journal.old.kept.entries }
+        ensures whole { journal.old.kept.tail ≡ None }
+        ensures moments { D.tells → LeavesOnly D.moment D.left_since journal.old.disk journal.new.disk (IsKept (record journal.old.kept { tail = Some entry.now })) }
+        ensures later { D.faults journal.old.disk ≤ D.faults journal.new.disk }
+        ensures halts { IfOk result (λ halt. halt ≡ Some halt_is.LogFault → Rose (D.faults journal.old.disk) (D.faults journal.new.disk)) }
     {
+        let _halted = journal.halted();
+        let _durable = journal.durable();
+        journal.ready(alloc, entry)?;
+        match journal.record_entry() {
+            Ok(_) => Ok(None),
+            Err(RecordFault::LogFault) => Ok(Some(Halt::LogFault)),
+            Err(RecordFault::JournalFull(bytes)) => Ok(Some(Halt::JournalFull(bytes))),
+            Err(RecordFault::Halted(_)) => unreachable!(),
+        }
+    }
+
+    // Adds an entry that may stand behind the journal, and tells what halts it there.
+    fn add(&mut self, alloc: Global, entry: &Entry) -> Result<Option<Halt>, AllocError>
+        requires going { self.old.kept.halted ≡ None }
+        requires allowed { Allowed (back self.old.kept.entries) entry.now }
+        requires fits { CanBeRecorded entry.now }
+        ensures adds { IfOk result (λ halt. Adds (limits_of self.old) self.old.kept.entries entry.now halt (said_of self.new)) }
+        ensures limits { limits_of self.new ≡ limits_of self.old }
+        ensures err { OnErr result (said_of self.new ≡ said_of self.old) }
+        ensures moments { D.tells → LeavesOnly D.moment D.left_since self.old.disk self.new.disk (Continues self.old.kept.entries) }
+        ensures later { D.faults self.old.disk ≤ D.faults self.new.disk }
+        ensures halts { IfOk result (λ halt. halt ≡ Some halt_is.LogFault → Rose (D.faults self.old.disk) (D.faults self.new.disk)) }
+    {
+        self.is_sound();
+        let _legal = self.state.entries();
+        let ready = self.state.prepare(alloc, entry)?;
+        match World::record(&mut self.journal, alloc, entry) {
+            Ok(None) => {
+                self.state.apply(ready);
+                Ok(None)
+            }
+            Ok(Some(why)) => {
+                drop(ready);
+                Ok(Some(why))
+            }
+            Err(fault) => {
+                drop(ready);
+                Err(fault)
+            }
+        }
+    }
+
+    // Whether a procedure was asked to create this namespace.
+    fn is_asked(&self, pid: Pid, ns: &Ns) -> bool
+        ensures { IsTrue result ↔ IsAsked (back self.now.kept.entries) pid.0 ns.now }
+    {
+        let _legal = self.state.entries();
+        match self.state.find(pid) {
+            Some(found) => creates(&found.args, ns),
+            None => false,
+        }
+    }
+
+    // The answer to a submission that records nothing: its nonce was used, or the journal is full.
+    fn known(&self, nonce: &Nonce, ns: &Ns) -> Option<Answer>
+        requires { self.now.kept.halted ≡ None }
+        ensures { MatchOption result
+            ((by_nonce (back self.now.kept.entries) nonce.now ≡ None) × (IsSoftFull (limits_of self.now) self.now.kept.entries → ⊥))
+            (λ answer. AnswersAt (limits_of self.now) (CommandValue.Namespace nonce.now ns.now) self.now.kept.entries answer (said_of self.now)) }
+    {
+        match self.state.by_nonce(nonce) {
+            Some(pid) if self.is_asked(pid, ns) => Some(Answer::Repeated(pid.0)),
+            Some(pid) => Some(Answer::NonceClash(pid.0)),
+            None => {
+                let bytes = self.journal.soft_full()?;
+                Some(Answer::JournalFull(bytes))
+            }
+        }
+    }
+
+    // Records a submission under a new nonce.
+    fn ask(&mut self, alloc: Global, nonce: &Nonce, ns: &Ns) -> Result<Answer, AllocError>
+        requires going { self.old.kept.halted ≡ None }
+        requires new { by_nonce (back self.old.kept.entries) nonce.now ≡ None }
+        requires room { IsSoftFull (limits_of self.old) self.old.kept.entries → ⊥ }
+        ensures answers { IfOk result (λ answer. AnswersAt (limits_of self.old) (CommandValue.Namespace nonce.now ns.now) self.old.kept.entries answer (said_of self.new)) }
+        ensures limits { limits_of self.new ≡ limits_of self.old }
+        ensures err { OnErr result (said_of self.new ≡ said_of self.old) }
+        ensures moments { D.tells → LeavesOnly D.moment D.left_since self.old.disk self.new.disk (Continues self.old.kept.entries) }
+        ensures later { D.faults self.old.disk ≤ D.faults self.new.disk }
+        ensures halts { self.new.kept.halted ≡ Some halt_is.LogFault → Rose (D.faults self.old.disk) (D.faults self.new.disk) }
+    {
+        self.is_sound();
+        let _begun = self.state.entries();
         let pid = self.state.last_pid() + 1;
-        let entry = Entry::Submit {
-            nonce: *nonce,
-            ns: ns.copy(alloc)?,
-        };
-        let frame = encode(alloc, &entry)?;
-        self.state.reserve()?;
-        let Ok(_) = self.log.append(&frame) else {
-            self.halted = true;
-            return Ok(Answer::Halted);
-        };
-        self.state.push(entry);
-        Ok(Answer::Pid(pid))
+        let entry = submission(alloc, nonce, ns)?;
+        let added = self.add(alloc, &entry);
+        drop(entry);
+        match added? {
+            None => Ok(Answer::Pid(pid)),
+            Some(why) => Ok(Answer::Halted(why)),
+        }
     }
 
     // Answers a submission.
     fn submit(&mut self, alloc: Global, nonce: &Nonce, ns: &Ns) -> Result<Answer, AllocError>
-        requires going { self.old.halted ≡ false }
-        requires room { self.old.bytes < 2 ^ 64 - 256 }
-        ensures answers { IfOk result (λ answer. AnswersAt (CommandValue.Namespace nonce.now ns.now) self.old.journal answer (said_of self.new)) }
-        ensures moments { D.tells → OnOk result (LeavesOnly D.moment D.left_since self.old.disk self.new.disk (Continues self.old.journal)) }
-        ensures err { OnErr result (self.new ≡ self.old) }
-        ensures longer { self.new.halted ≡ false → self.new.bytes ≤ self.old.bytes + 256 }
+        requires going { self.old.kept.halted ≡ None }
+        ensures answers { IfOk result (λ answer. AnswersAt (limits_of self.old) (CommandValue.Namespace nonce.now ns.now) self.old.kept.entries answer (said_of self.new)) }
+        ensures limits { limits_of self.new ≡ limits_of self.old }
+        ensures err { OnErr result (said_of self.new ≡ said_of self.old) }
+        ensures moments { D.tells → LeavesOnly D.moment D.left_since self.old.disk self.new.disk (Continues self.old.kept.entries) }
         ensures later { D.faults self.old.disk ≤ D.faults self.new.disk }
-        ensures halts { self.new.halted ≡ true → Rose (D.faults self.old.disk) (D.faults self.new.disk) }
+        ensures halts { self.new.kept.halted ≡ Some halt_is.LogFault → Rose (D.faults self.old.disk) (D.faults self.new.disk) }
     {
-        match self.state.by_nonce(nonce) {
-            None => self.record(alloc, nonce, ns),
-            Some(pid) if self.state.asked(pid, ns) => Ok(Answer::Repeated(pid)),
-            Some(pid) => Ok(Answer::NonceClash(pid)),
+        self.is_sound();
+        match self.known(nonce, ns) {
+            Some(answer) => Ok(answer),
+            None => self.ask(alloc, nonce, ns),
         }
     }
 
-    /// Answers a command. After an error all is as before.
-    pub fn answer(&mut self, alloc: Global, command: &Command) -> Result<Answer, AllocError>
-        requires room { self.old.halted ≡ false → self.old.bytes < 2 ^ 64 - 256 }
-        ensures answers { IfOk result (λ answer. Answers command.now (said_of self.old) answer (said_of self.new)) }
-        ensures moments { D.tells → OnOk result (LeavesOnly D.moment D.left_since self.old.disk self.new.disk (Continues self.old.journal)) }
-        ensures err { OnErr result (self.new ≡ self.old) }
-        ensures longer { self.new.halted ≡ false → (self.old.halted ≡ false) × (self.new.bytes ≤ self.old.bytes + 256) }
-        ensures later { D.faults self.old.disk ≤ D.faults self.new.disk }
-        ensures halts { self.old.halted ≡ false → self.new.halted ≡ true → Rose (D.faults self.old.disk) (D.faults self.new.disk) }
+    // The entries are a legal journal that has begun, and have spellings. A disk that isn't called holds them.
+    fn is_sound(&self)
+        ensures legal { IsLegal (back self.now.kept.entries) }
+        ensures begun { back self.now.kept.entries ≢ [] }
+        ensures fits { All EntryFits self.now.kept.entries }
+        ensures quiet { D.tells → LeavesOnly D.moment D.left_since self.now.disk self.now.disk (Continues self.now.kept.entries) }
     {
-        if self.halted {
-            return Ok(Answer::Halted);
+        let _ = self.state.entries();
+        let _ = self.journal.durable();
+        let _ = self.entries();
+    }
+
+    // The step that a procedure makes next, by its handler.
+    fn evaluate(&self, alloc: Global, hands: &mut Registry, pid: Pid) -> Result<Entry, AllocError>
+        requires agree { AgreeOn (flat_map (λ h. (⟦<dyn Handler as Handler>⟧ h.vtable).sheets_are h.value) hands.old.handlers.items) (sheets_of (back self.now.kept.entries)) }
+        requires available { IsAvailable (back self.now.kept.entries) pid.0 }
+        requires first { IsFirst (back self.now.kept.entries) pid.0 }
+        ensures step { IfOk result (IsNextStep (back self.now.kept.entries)) }
+        ensures fits { IfOk result CanBeRecorded }
+        ensures sheets { flat_map (λ h. (⟦<dyn Handler as Handler>⟧ h.vtable).sheets_are h.value) hands.new.handlers.items
+            ≡ flat_map (λ h. (⟦<dyn Handler as Handler>⟧ h.vtable).sheets_are h.value) hands.old.handlers.items }
+        ensures runs { OnOk result (RisesBy 1 hands.old.runs hands.new.runs) }
+        ensures later { hands.old.runs ≤ hands.new.runs }
+    {
+        self.is_sound();
+        let at = self.state.step_in(alloc, pid, None)?;
+        let out = run_once(alloc, hands, &at);
+        drop(at);
+        Ok(Entry::Step {
+            pid,
+            pick: None,
+            out: out?,
+        })
+    }
+
+    // Makes the next step of a procedure, and tells what halts it there.
+    fn step(
+        &mut self,
+        alloc: Global,
+        hands: &mut Registry,
+        pid: Pid,
+    ) -> Result<Option<Halt>, AllocError>
+        requires going { self.old.kept.halted ≡ None }
+        requires agree { AgreeOn (flat_map (λ h. (⟦<dyn Handler as Handler>⟧ h.vtable).sheets_are h.value) hands.old.handlers.items) (sheets_of (back self.old.kept.entries)) }
+        requires available { IsAvailable (back self.old.kept.entries) pid.0 }
+        requires first { IsFirst (back self.old.kept.entries) pid.0 }
+        ensures adds { IfOk result (λ halt. (entry : EntryValue) × IsNextStep (back self.old.kept.entries) entry × Adds (limits_of self.old) self.old.kept.entries entry halt (said_of self.new)) }
+        ensures limits { limits_of self.new ≡ limits_of self.old }
+        ensures err { OnErr result (said_of self.new ≡ said_of self.old) }
+        ensures moments { D.tells → LeavesOnly D.moment D.left_since self.old.disk self.new.disk (Continues self.old.kept.entries) }
+        ensures later { D.faults self.old.disk ≤ D.faults self.new.disk }
+        ensures halts { IfOk result (λ halt. halt ≡ Some halt_is.LogFault → Rose (D.faults self.old.disk) (D.faults self.new.disk)) }
+        ensures sheets { flat_map (λ h. (⟦<dyn Handler as Handler>⟧ h.vtable).sheets_are h.value) hands.new.handlers.items
+            ≡ flat_map (λ h. (⟦<dyn Handler as Handler>⟧ h.vtable).sheets_are h.value) hands.old.handlers.items }
+        ensures ran { Ran self.old.kept.entries self.new.kept.entries hands.old.runs hands.new.runs }
+    {
+        self.is_sound();
+        let entry = self.evaluate(alloc, hands, pid)?;
+        let added = self.add(alloc, &entry);
+        drop(entry);
+        added
+    }
+
+    // The procedure that goes on next.
+    fn next(&self) -> Option<Pid>
+        ensures available { IfSome result (λ pid. IsAvailable (back self.now.kept.entries) pid.0) }
+        ensures first { IfSome result (λ pid. IsFirst (back self.now.kept.entries) pid.0) }
+        ensures rest { IfNone result (IsAtRest (back self.now.kept.entries)) }
+    {
+        self.state.next()
+    }
+
+    // What settling answers at rest.
+    fn rested(&self) -> Answer
+        requires going { self.now.kept.halted ≡ None }
+        requires rest { IsAtRest (back self.now.kept.entries) }
+        ensures { (old : List EntryValue) → IsWorked (limits_of self.now) old self.now.kept.entries → AnswersAt (limits_of self.now) CommandValue.Settle old result (said_of self.now) }
+    {
+        let at = self.entries();
+        match self.state.unfinished() {
+            0 => Answer::Settled(at),
+            roots => Answer::Waiting(at, roots),
+        }
+    }
+
+    // Works until nothing is left that can go on: the root that has a step and hasn't ended, then the others in the order
+    // of their numbers, each to its end.
+    fn settle(&mut self, alloc: Global, hands: &mut Registry) -> Result<Answer, AllocError>
+        requires going { self.old.kept.halted ≡ None }
+        requires agree { AgreeOn (flat_map (λ h. (⟦<dyn Handler as Handler>⟧ h.vtable).sheets_are h.value) hands.old.handlers.items) (sheets_of (back self.old.kept.entries)) }
+        ensures answers { IfOk result (λ answer. AnswersAt (limits_of self.old) CommandValue.Settle self.old.kept.entries answer (said_of self.new)) }
+        ensures limits { limits_of self.new ≡ limits_of self.old }
+        ensures err { OnErr result ((self.new.kept.halted ≡ None) × IsWorked (limits_of self.old) self.old.kept.entries self.new.kept.entries) }
+        ensures moments { D.tells → LeavesOnly D.moment D.left_since self.old.disk self.new.disk (Continues self.old.kept.entries) }
+        ensures later { D.faults self.old.disk ≤ D.faults self.new.disk }
+        ensures halts { self.new.kept.halted ≡ Some halt_is.LogFault → Rose (D.faults self.old.disk) (D.faults self.new.disk) }
+        ensures sheets { flat_map (λ h. (⟦<dyn Handler as Handler>⟧ h.vtable).sheets_are h.value) hands.new.handlers.items
+            ≡ flat_map (λ h. (⟦<dyn Handler as Handler>⟧ h.vtable).sheets_are h.value) hands.old.handlers.items }
+        ensures ran { Ran self.old.kept.entries self.new.kept.entries hands.old.runs hands.new.runs }
+    {
+        self.is_sound();
+        while let Some(pid) = self.next() {
+            if let Some(why) = self.step(alloc, hands, pid)? {
+                return Ok(Answer::Halted(why));
+            }
+        }
+        Ok(self.rested())
+    }
+
+    /// Answers a command. Where memory runs out all is as before, but for the steps of a settling that were recorded.
+    pub fn answer(
+        &mut self,
+        alloc: Global,
+        hands: &mut Registry,
+        command: &Command,
+    ) -> Result<Answer, AllocError>
+        requires agree { AgreeOn (flat_map (λ h. (⟦<dyn Handler as Handler>⟧ h.vtable).sheets_are h.value) hands.old.handlers.items) (sheets_of (back self.old.kept.entries)) }
+        ensures answers { IfOk result (λ answer. Answers (limits_of self.old) command.now (said_of self.old) answer (said_of self.new)) }
+        ensures limits { limits_of self.new ≡ limits_of self.old }
+        ensures begun { sheets_of (back self.new.kept.entries) ≡ sheets_of (back self.old.kept.entries) }
+        ensures err { OnErr result (IsUnanswered (limits_of self.old) command.now (said_of self.old) (said_of self.new)) }
+        ensures moments { D.tells → LeavesOnly D.moment D.left_since self.old.disk self.new.disk (Continues self.old.kept.entries) }
+        ensures later { D.faults self.old.disk ≤ D.faults self.new.disk }
+        ensures halts { self.old.kept.halted ≡ None → self.new.kept.halted ≡ Some halt_is.LogFault → Rose (D.faults self.old.disk) (D.faults self.new.disk) }
+        ensures sheets { flat_map (λ h. (⟦<dyn Handler as Handler>⟧ h.vtable).sheets_are h.value) hands.new.handlers.items
+            ≡ flat_map (λ h. (⟦<dyn Handler as Handler>⟧ h.vtable).sheets_are h.value) hands.old.handlers.items }
+        ensures ran { Ran self.old.kept.entries self.new.kept.entries hands.old.runs hands.new.runs }
+    {
+        self.is_sound();
+        if let Some(why) = self.halted() {
+            return Ok(Answer::Halted(why));
         }
         match command {
             Command::Namespace { nonce, ns } => self.submit(alloc, nonce, ns),
-            Command::Procs => Ok(Answer::Table(self.state.table(alloc)?)),
+            Command::Settle => self.settle(alloc, hands),
+            Command::Procs => Ok(Answer::Table(procs(alloc, &self.state)?)),
         }
     }
 }

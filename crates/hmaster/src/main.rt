@@ -10,7 +10,9 @@ ghost use Rattle.hmaster.specs.Program.{Fits};
 
 use hm_disk::{Disk, FileDisk, MemDisk};
 use hm_ports::{StdSink, StdSource, write_all};
-use hm_top::{RunStatus, log_path, run};
+use hm_sheet::{Handler, Registry};
+use hm_tables::TableHands;
+use hm_top::{RunStatus, hands_agree, log_path, run};
 use std::alloc::AllocError;
 use std::process::ExitCode;
 use std::{env, io};
@@ -24,13 +26,54 @@ fn program_words(rt: &HostRuntime) -> Result<Vec<String>, AllocError> {
     }
 }
 
-// Runs the script on standard input over a disk.
+// Runs the script on standard input over a disk, with a registry for each of these handlers. It runs nothing where they
+// don't agree; those that `run_over` makes are all alike.
+fn run_with<D: Disk>(
+    rt: &HostRuntime,
+    words: &[String],
+    disk: D,
+    handlers: Vec<Box<dyn Handler>>,
+) -> RunStatus
+    ensures { Fits (misfit_of (map string_bytes words.now)) result }
+{
+    let mut hands = Vec::new(rt.alloc());
+    for handler in handlers {
+        let mut one = Vec::new(rt.alloc());
+        let Ok(()) = one.push(handler) else {
+            return RunStatus::Memory;
+        };
+        let Ok(registry) = Registry::new(rt.alloc(), one) else {
+            return RunStatus::Memory;
+        };
+        let Ok(()) = hands.push(registry) else {
+            return RunStatus::Memory;
+        };
+    }
+    if !hands_agree(&hands) {
+        return RunStatus::Memory;
+    }
+    let mut script = StdSource::new(rt.reader());
+    let mut out = StdSink::new(io::writer(rt));
+    run(rt.alloc(), words, &mut script, &mut out, disk, hands).status
+}
+
+// Runs the script on standard input over a disk, with a handler for the caller and one for each of sixteen workers.
 fn run_over<D: Disk>(rt: &HostRuntime, words: &[String], disk: D) -> RunStatus
     ensures { Fits (misfit_of (map string_bytes words.now)) result }
 {
-    let mut script = StdSource::new(rt.reader());
-    let mut out = StdSink::new(io::writer(rt));
-    run(rt.alloc(), words, &mut script, &mut out, disk).status
+    let mut handlers: Vec<Box<dyn Handler>> = Vec::new(rt.alloc());
+    for _ in 0..17 {
+        let Ok(tables) = TableHands::new(rt.alloc()) else {
+            return RunStatus::Memory;
+        };
+        let Ok(handler) = Box::new(rt.alloc(), tables) else {
+            return RunStatus::Memory;
+        };
+        let Ok(()) = handlers.push(handler) else {
+            return RunStatus::Memory;
+        };
+    }
+    run_with(rt, words, disk, handlers)
 }
 
 // Says that the log's file can't be opened. As every last line, it is tried once.

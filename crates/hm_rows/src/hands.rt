@@ -1,0 +1,78 @@
+//! How often a run calls its handlers.
+use crate::play::{NONE, Played, RUN, devices_of, play_with, says};
+use hm_data::{StepIn, StepOut};
+use hm_sheet::{Handler, Valid};
+use hm_tables::TableHands;
+use hm_top::RunStatus;
+use std::alloc::{AllocError, Global};
+use std::test::Fail;
+
+// Answers so many calls as its tables do, and from then on that memory ran out.
+#[derive(Drop)]
+struct Counted {
+    tables: TableHands,
+    left: u64,
+}
+
+impl Handler for Counted {
+    ghost sheets_are = { λ hands. ⟦<TableHands as Handler>⟧.sheets_are hands.tables };
+
+    ghost calls_are = { λ hands. ⟦<TableHands as Handler>⟧.calls_are hands.tables };
+
+    fn sheets(&self) -> &[Valid] {
+        self.tables.sheets()
+    }
+
+    fn calls(&self) -> u64 {
+        self.tables.calls()
+    }
+
+    fn step(&mut self, alloc: Global, at: &StepIn, out: &mut StepOut) -> Result<(), AllocError> {
+        if self.left == 0 {
+            return Err(AllocError);
+        }
+        self.left -= 1;
+        self.tables.step(alloc, at, out)
+    }
+
+    fn undo(&mut self, alloc: Global, at: &StepIn, out: &mut StepOut) -> Result<(), AllocError> {
+        self.tables.undo(alloc, at, out)
+    }
+}
+
+// A run of a settling, where each handler answers so many calls.
+fn play_counted(alloc: Global, left: u64) -> Result<Played, AllocError> {
+    let mut handlers: Vec<Box<dyn Handler>> = Vec::new(alloc);
+    for _ in 0..17 {
+        let tables = TableHands::new(alloc)?;
+        handlers.push(Box::new(alloc, Counted { tables, left })?)?;
+    }
+    let script = b"namespace 1:1 shop\nsettle\n";
+    play_with(
+        alloc,
+        devices_of(alloc, &RUN, script, b"", NONE)?,
+        handlers,
+        None,
+    )
+}
+
+#[test]
+fn run_calls_a_handler_at_each_step(rt: HostRuntime) -> Result<(), Fail> {
+    // How many calls are answered, how the run ends, and how many steps it then has recorded.
+    let cases = [
+        (0, RunStatus::Memory, 0),
+        (1, RunStatus::Memory, 1),
+        (2, RunStatus::Done, 2),
+        (3, RunStatus::Done, 2),
+    ];
+    for (left, status, steps) in cases {
+        let played = play_counted(rt.alloc(), left)?;
+        assert_eq!(rt; played.status, status, "{left} calls");
+        let mut runs = [0; 17];
+        runs[0] = steps;
+        assert_eq!(rt; played.runs.as_slice(), runs.as_slice(), "{left} calls");
+        let text = format!(in rt.alloc(); "opened at {}\n", 2 + steps)?;
+        says(&rt, b"", played.disk.bytes(), RunStatus::Done, &text)?;
+    }
+    Ok(())
+}

@@ -1,0 +1,78 @@
+-- The first of some registries, and its sheets.
+use Rattle.std.proofs.Common.{◌≡◌, ◌<◌, ◌||◌, ◌==◌, ℕ, List, [], ◌∷◌, ◌++◌, if◌then◌else◌, length, map, get_or, set, Option, Some, Bool, true, false, All, refl, sym, ap, ◌∙◌, subst, inl, inr, arith}
+use Rattle.std.specs.Prelude.{IsTrue}
+use Rattle.std.specs.List.{flat_map, list_any}
+use Rattle.std.proofs.lemmas.Bool.Decides.{nat_tests}
+use Rattle.std.proofs.lemmas.List.{length-map}
+use Rattle.std.proofs.lemmas.List.Elements.{All-head}
+use Rattle.std.proofs.lemmas.List.Sums.{sum_by-cons}
+use Rattle.hm_data.specs.declared.sheet.Sheet.{Sheet}
+use Rattle.hm_model.specs.Kinds.{running_kinds}
+use Rattle.hm_model.specs.Rules.{AreSheets}
+use Rattle.hm_model.specs.Sheets.{sheet_for}
+use Rattle.hm_top.specs.Hands.{AgreeOn, HandsAgree, RisesBy, SumRisesBy, first_sheets, listed, own_sheets}
+
+module _ {R : Type 0} (f : R → List Sheet) (hands : List R) (agree : HandsAgree (map f hands)) where
+  -- there is a first
+  pub some_hands : 0 < length hands
+  some_hands = let all : length (map f hands) ≡ length hands = length-map hands f in omega (arith, agree.seventeen)
+
+  -- the first sheets are those of the first
+  pub first_is : (x : R) → x ≡ get_or hands 0 x → first_sheets (map f hands) ≡ f x
+  first_is x = at hands some_hands
+    where
+      at : (rs : List R) → 0 < length rs → x ≡ get_or rs 0 x → first_sheets (map f rs) ≡ f x
+      at [] some e = absurd (omega arith)
+      at (r ∷ rs) some e = ap f (sym e)
+
+  -- what all have the first has
+  pub all_first : (P : List Sheet → Type 0) (x : R) → x ≡ get_or hands 0 x → All P (map f hands) → P (f x)
+  all_first P x = at hands some_hands
+    where
+      at : (rs : List R) → 0 < length rs → x ≡ get_or rs 0 x → All P (map f rs) → P (f x)
+      at [] some e all = absurd (omega arith)
+      at (r ∷ rs) some e all = subst (λ y. P (f y)) (sym e) (All-head P (f r) (map f rs) all)
+
+-- the sum of counts, of which the first rose
+pub sum_rises : {R : Type 0} (runs : R → ℕ) (hands : List R) (x y : R) (count : ℕ) → 0 < length hands → x ≡ get_or hands 0 x → RisesBy count (runs x) (runs y) → SumRisesBy count (map runs hands) (map runs (set hands 0 y))
+sum_rises runs [] x y count some first rises = absurd (omega arith)
+sum_rises runs (r ∷ rs) x y count some first (inl more) = let same : runs x ≡ runs r = ap runs first in inl (omega (arith, sum_by-cons (λ n. n) (runs r) (map runs rs), sum_by-cons (λ n. n) (runs y) (map runs rs)))
+sum_rises runs (r ∷ rs) x y count some first (inr full) = inr (0, runs y, omega arith, refl, full)
+
+-- sheets that are found under kinds are those that are listed
+listed_are : (f : ℕ → Option Sheet) (kinds : List ℕ) (sheets : List Sheet) → map Some sheets ≡ map f kinds → flat_map (λ kind. listed (f kind)) kinds ≡ sheets
+listed_are f [] [] found = refl
+listed_are f [] (sheet ∷ sheets) found = absurd (cc)
+listed_are f (kind ∷ kinds) [] found = absurd (cc)
+listed_are f (kind ∷ kinds) (sheet ∷ sheets) found =
+    let head : f kind ≡ Some sheet = cc in
+    let rest : map Some sheets ≡ map f kinds = cc in
+    ap (λ o. listed o ++ flat_map (λ k. listed (f k)) kinds) head ∙ ap (λ l. sheet ∷ l) (listed_are f kinds sheets rest)
+
+by_test : (f : ℕ → Option Sheet) (first kind : ℕ) (sheet : Sheet) (rest : Option Sheet) (others is : Bool) → (first == kind) ≡ is → f first ≡ Some sheet → (IsTrue others → f kind ≡ rest)
+    → IsTrue (is || others) → f kind ≡ (if is then Some sheet else rest)
+by_test f first kind sheet rest others true test head more runs = let same : first ≡ kind = grind (arith, nat_tests) in ap f (sym same) ∙ head
+by_test f first kind sheet rest others false test head more runs = more runs
+
+-- a kind among those of some sheets has there the sheet that is found under it
+found_same : (f : ℕ → Option Sheet) (kinds : List ℕ) (sheets : List Sheet) → map Some sheets ≡ map f kinds → map (λ sheet. sheet.kind) sheets ≡ kinds
+    → (kind : ℕ) → IsTrue (list_any (λ k. k == kind) kinds) → f kind ≡ sheet_for sheets kind
+found_same f [] [] found same kind runs = absurd (cc)
+found_same f [] (sheet ∷ sheets) found same kind runs = absurd (cc)
+found_same f (first ∷ kinds) [] found same kind runs = absurd (cc)
+found_same f (first ∷ kinds) (sheet ∷ sheets) found same kind runs =
+    let head : f first ≡ Some sheet = cc in
+    let its : sheet.kind ≡ first = cc in
+    let rest : map Some sheets ≡ map f kinds = cc in
+    let more : map (λ sheet. sheet.kind) sheets ≡ kinds = cc in
+    subst (λ k. f kind ≡ (if k == kind then Some sheet else sheet_for sheets kind)) (sym its)
+    (by_test f first kind sheet (sheet_for sheets kind) (list_any (λ k. k == kind) kinds) (first == kind) refl head (found_same f kinds sheets rest more kind) runs)
+
+-- the own sheets of some registries are those of the first
+pub own_is : {R : Type 0} (f : R → List Sheet) (hands : List R) → HandsAgree (map f hands) → (x : R) → x ≡ get_or hands 0 x → (sheets : List Sheet)
+    → map Some sheets ≡ map (λ kind. sheet_for (f x) kind) running_kinds → own_sheets (first_sheets (map f hands)) ≡ sheets
+own_is f hands agree x first sheets found = ap own_sheets (first_is f hands agree x first) ∙ listed_are (sheet_for (f x)) running_kinds sheets found
+
+-- the handlers agree with their own sheets
+pub agree_own : (first sheets : List Sheet) → map Some sheets ≡ map (λ kind. sheet_for first kind) running_kinds → AreSheets sheets → AgreeOn first sheets
+agree_own first sheets found valid = found_same (sheet_for first) running_kinds sheets found valid.0

@@ -1,0 +1,59 @@
+-- The handlers of a run, as their sheets, and how often they were run.
+use Rattle.std.specs.Prelude.{◌≡◌, ◌⊎◌, ℕ, ◌+◌, ◌-◌, ◌^◌, ◌≤◌, List, [], ◌∷◌, ◌++◌, length, sum, Any, All, Option, Some, None, IsTrue}
+use Rattle.std.specs.List.{flat_map}
+use Rattle.hm_data.specs.declared.sheet.Sheet.{Sheet}
+use Rattle.hm_data.specs.declared.entry.Entry.{Entry}
+use Rattle.hm_data.specs.declared.entry.Entry.TheVariants as entry_is
+use Rattle.hm_model.specs.Kinds.{running_kinds, is_running_kind}
+use Rattle.hm_model.specs.Sheets.{sheet_for}
+
+-- a sheet that is there, as a list
+abbrev pub listed : Option Sheet → List Sheet
+listed None = []
+listed (Some sheet) = sheet ∷ []
+
+-- the sheets of the kinds that the master runs, in the order of the kinds
+abbrev pub own_sheets : List Sheet → List Sheet
+own_sheets sheets = flat_map (λ kind. listed (sheet_for sheets kind)) running_kinds
+
+-- two handlers have the same sheets for the kinds that the master runs
+abbrev pub AgreeOn : List Sheet → List Sheet → Type 0
+AgreeOn one other = (kind : ℕ) → IsTrue (is_running_kind kind) → sheet_for one kind ≡ sheet_for other kind
+
+-- the sheets of the first registry
+abbrev pub first_sheets : List (List Sheet) → List Sheet
+first_sheets [] = []
+first_sheets (first ∷ others) = first
+
+-- there are seventeen registries, one for the caller and sixteen for workers, and their sheets are equal
+pub record HandsAgree (hands : List (List Sheet)) : Type 0 where
+  pub seventeen : length hands ≡ 17
+  pub alike : All (AgreeOn (first_sheets hands)) hands
+
+-- a count rose by at least so many, or stands at its end
+abbrev pub RisesBy : ℕ → ℕ → ℕ → Type 0
+RisesBy count before now = (before + count ≤ now) ⊎ (2 ^ 64 - 1 ≤ now)
+
+-- the sum of counts rose by at least so many, or one of them stands at its end
+abbrev pub SumRisesBy : ℕ → List ℕ → List ℕ → Type 0
+SumRisesBy count before now = (sum before + count ≤ sum now) ⊎ Any (λ n. 2 ^ 64 - 1 ≤ n) now
+
+-- 1 for a step
+abbrev pub one_step : Entry → ℕ
+one_step (entry_is.Start sheets) = 0
+one_step (entry_is.Submit nonce request) = 0
+one_step (entry_is.Step pid pick out) = 1
+one_step (entry_is.Undo pid row out) = 1
+one_step (entry_is.Report call told) = 0
+one_step (entry_is.Up server) = 0
+one_step (entry_is.Down server) = 0
+one_step (entry_is.Abort pid) = 0
+
+-- how many of these entries are steps, or undo one
+abbrev pub steps_in : List Entry → ℕ
+steps_in [] = 0
+steps_in (entry ∷ more) = one_step entry + steps_in more
+
+-- the journal grew, and the count rose by at least as many steps as it gained
+abbrev pub Ran : List Entry → List Entry → ℕ → ℕ → Type 0
+Ran old new before now = (added : List Entry) × (new ≡ old ++ added) × RisesBy (steps_in added) before now
