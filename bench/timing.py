@@ -1,0 +1,41 @@
+"""What the benches share: runs of the program over a log, timed."""
+import os
+import resource
+import subprocess
+import sys
+
+PROGRAM = "crates/hmaster/out/hmaster"
+FOLDER = "/dev/shm"
+
+
+def arguments():
+    """The program and the folder that the command line names."""
+    program = os.path.abspath(sys.argv[1] if len(sys.argv) > 1 else PROGRAM)
+    return program, sys.argv[2] if len(sys.argv) > 2 else FOLDER
+
+
+def processor_time():
+    used = resource.getrusage(resource.RUSAGE_CHILDREN)
+    return used.ru_utime + used.ru_stime
+
+
+def run(program, log, script, last):
+    """The processor time of a run whose last line has to be `last`."""
+    before = processor_time()
+    done = subprocess.run([program, "run", log], input=script, stdout=subprocess.PIPE, check=True)
+    took = processor_time() - before
+    said = done.stdout.decode().splitlines()[-1]
+    if said != last:
+        sys.exit("expected the last line %r and got %r" % (last, said))
+    return took
+
+
+def submissions(numbers):
+    """A script that asks for a namespace under each of these nonces."""
+    return "".join("namespace 7:%d n%d\n" % (number, number) for number in numbers).encode()
+
+
+def verdict(what, ratio, most):
+    """Says how a ratio stands to its bound; the exit status of the bench."""
+    print("%s is %.2f, at most %.1f is wanted" % (what, ratio, most))
+    return 1 if ratio > most else 0
