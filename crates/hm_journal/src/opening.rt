@@ -1,5 +1,5 @@
 //! Opens a disk as a journal.
-ghost use Rattle.std.specs.Prelude.{◌≡◌, ◌⊎◌, ◌<◌, ◌≤◌, ◌+◌, List, ℕ, [], ◌∷◌, length, IsErrOf, IfOk, IfErr, OnOk, OnErr, MatchResult, All, None, false};
+ghost use Rattle.std.specs.Prelude.{◌≡◌, ◌≢◌, ◌⊎◌, ◌<◌, ◌≤◌, ◌+◌, List, ℕ, [], ◌∷◌, length, IsErrOf, IfOk, IfErr, OnOk, OnErr, MatchResult, All, None, false};
 ghost use Rattle.hm_ports.specs.Faults.{Rose};
 ghost use Rattle.hm_disk.specs.Disk.{LeavesOnly, Only, Settles};
 ghost use Rattle.hm_log.specs.Format.{BeforeOrAfter, HoldsFrames, Reads, size_with};
@@ -98,6 +98,7 @@ fn record_start<D: Disk>(
     requires durable { D.tells → (c : List ℕ) → D.image journal.old.disk c → Reads c [] }
     ensures kept { OnOk result (journal.new.kept ≡ record journal.old.kept { entries = Entry.Start sheets.now ∷ []; next = None }) }
     ensures why { IfErr result IsUnjudged }
+    ensures untaken { IfErr result (λ why. why ≢ JournalWhy.Fault → journal.new.disk ≡ journal.old.disk) }
     ensures fault { IsErrOf result JournalWhy.Fault → Rose (D.faults journal.old.disk) (D.faults journal.new.disk) }
     ensures any_moment { D.tells → LeavesOnly D.moment D.left_since journal.old.disk journal.new.disk (BeforeOrAfter [] (spelling (Entry.Start sheets.now))) }
     ensures faults { D.faults journal.old.disk ≤ D.faults journal.new.disk }
@@ -124,6 +125,7 @@ fn start<D: Disk>(
     requires durable { D.tells → (c : List ℕ) → D.image journal.disk c → Reads c [] }
     ensures kept { IfOk result (λ started. started.kept ≡ record journal.kept { entries = Entry.Start sheets.now ∷ []; next = None }) }
     ensures why { IfErr result (λ e. IsUnjudged e.1) }
+    ensures untaken { IfErr result (λ e. e.1 ≢ JournalWhy.Fault → e.0 ≡ journal.disk) }
     ensures fault { IfErr result (λ e. e.1 ≡ JournalWhy.Fault → Rose (D.faults journal.disk) (D.faults e.0)) }
     ensures any_moment { D.tells → MatchResult result
         (λ started. LeavesOnly D.moment D.left_since journal.disk started.disk (BeforeOrAfter [] (spelling (Entry.Start sheets.now))))
@@ -152,7 +154,7 @@ fn open_log<D: Disk>(alloc: Global, disk: D) -> Result<(Log<D>, Frames), (D, Jou
     ensures why { D.tells → IfErr result (λ e. (sheets : List SheetValue) → Refuses sheets (D.seen disk) e.1) }
     ensures exact { D.tells → (frames : List (List ℕ)) → HoldsFrames (D.seen disk) frames → MatchResult result (λ r. r.1 ≡ frames) (λ e. IsUnjudged e.1) }
     ensures fault { IfErr result (λ e. e.1 ≡ JournalWhy.Fault → Rose (D.faults disk) (D.faults e.0)) }
-    ensures same { IfErr result (λ e. (IsUnjudged e.1 → ⊥) → D.seen e.0 ≡ D.seen disk) }
+    ensures same { IfErr result (λ e. e.1 ≢ JournalWhy.Fault → D.seen e.0 ≡ D.seen disk) }
     ensures left { D.tells → IfErr result (λ e. (frames : List (List ℕ)) → 0 < length (D.seen disk) → HoldsFrames (D.seen disk) frames → Reads (D.seen e.0) frames) }
     ensures spared { D.tells → IfErr result (λ e. (frames : List (List ℕ)) → 0 < length (D.seen disk) → Only (D.seen disk) (D.image disk) → HoldsFrames (D.seen disk) frames
         → (c : List ℕ) → D.image e.0 c → Reads c frames) }
@@ -186,6 +188,7 @@ fn begin<D: Disk>(
     ensures state { IfOk result (λ r. r.1.entries ≡ opened sheets.now journal.kept.entries) }
     ensures empty { OnErr result (journal.kept.entries ≡ []) }
     ensures why { IfErr result (λ e. IsUnjudged e.1) }
+    ensures untaken { IfErr result (λ e. e.1 ≢ JournalWhy.Fault → e.0 ≡ journal.disk) }
     ensures fault { IfErr result (λ e. e.1 ≡ JournalWhy.Fault → Rose (D.faults journal.disk) (D.faults e.0)) }
     ensures any_moment { D.tells → MatchResult result
         (λ r. LeavesOnly D.moment D.left_since journal.disk r.0.disk (Keeps sheets.now journal.kept.entries))
@@ -226,7 +229,7 @@ fn of_frames<D: Disk>(
     ensures limits { IfOk result (λ r. (r.0.kept.soft ≡ limits.soft) × (r.0.kept.hard ≡ limits.hard)) }
     ensures why { IfErr result (λ e. IsUnjudged e.1 ⊎ IsNoJournalIn sheets.now frames.now e.1) }
     ensures fault { IfErr result (λ e. e.1 ≡ JournalWhy.Fault → Rose (D.faults log.disk) (D.faults e.0)) }
-    ensures same { D.tells → IfErr result (λ e. (IsUnjudged e.1 → ⊥) → (c : List ℕ) → D.image e.0 c → Reads c frames.now) }
+    ensures same { D.tells → IfErr result (λ e. e.1 ≢ JournalWhy.Fault → (c : List ℕ) → D.image e.0 c → Reads c frames.now) }
     ensures spared { D.tells → IfErr result (λ e. (journal : List EntryValue) → frames_of journal ≡ frames.now → (c : List ℕ) → D.image e.0 c → Keeps sheets.now journal c) }
     ensures any_moment { D.tells → IfErr result (λ e. LeavesOnly D.moment D.left_since log.disk e.0 (λ c. Reads c frames.now ⊎ GetsFirst sheets.now frames.now c)) }
     ensures faults { MatchResult result (λ r. D.faults log.disk ≤ D.faults r.0.disk) (λ e. D.faults log.disk ≤ D.faults e.0) }
@@ -243,7 +246,7 @@ fn of_frames<D: Disk>(
 
 impl<D: Disk> Journal<D> {
     /// Opens a disk as a journal of these sheets, and gives its state too. A disk of size 0, and a log without frames,
-    /// gets its first entry. An error gives the disk back; where it is a refusal the disk reads as before, or as the same
+    /// gets its first entry. An error gives the disk back; unless it is a fault the disk reads as before, or as the same
     /// frames with nothing behind them.
     pub fn open(
         alloc: Global,
@@ -269,7 +272,7 @@ impl<D: Disk> Journal<D> {
         ensures fault { IfErr result (λ e. e.1 ≡ JournalWhy.Fault → Rose (D.faults disk) (D.faults e.0)) }
 
         // What an error leaves.
-        ensures same { D.tells → IfErr result (λ e. (IsUnjudged e.1 → ⊥) → SameFrames (D.seen disk) (D.seen e.0) (D.image e.0)) }
+        ensures same { D.tells → IfErr result (λ e. e.1 ≢ JournalWhy.Fault → SameFrames (D.seen disk) (D.seen e.0) (D.image e.0)) }
         ensures spared { D.tells → IfErr result (λ e. Spares sheets.now (D.seen disk) (D.image disk) (D.seen e.0) (D.image e.0)) }
         ensures any_moment { D.tells → IfErr result (λ e. LeavesOnly D.moment D.left_since disk e.0 (IsOpening sheets.now (D.seen disk) (D.image disk))) }
 

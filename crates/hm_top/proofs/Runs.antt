@@ -1,5 +1,5 @@
 -- How a run ends, of a disk and a sink.
-use Rattle.std.proofs.Common.{◌≡◌, ◌⊎◌, ◌≤◌, ℕ, List, [], length, Option, Some, None, Result, Err, refl, sym, ap, ◌∙◌, subst, inl, inr, ⊎_elim, arith}
+use Rattle.std.proofs.Common.{◌≡◌, ◌≢◌, ◌⊎◌, ◌≤◌, ℕ, List, [], length, Option, Some, None, Result, Err, refl, sym, ap, ◌∙◌, subst, inl, inr, ⊎_elim, arith}
 use Rattle.hm_ports.specs.Faults.{Rose}
 use Rattle.hm_disk.specs.Disk.{LeavesOnly, Settles}
 use Rattle.hm_disk.proofs.Moments.{stays_settled, weaker}
@@ -9,7 +9,7 @@ use Rattle.hm_data.specs.declared.sheet.Sheet.{Sheet}
 use Rattle.hm_hall.specs.declared.fault.Halt.{Halt}
 use Rattle.hm_hall.specs.declared.fault.Halt.TheVariants as halt_is
 use Rattle.hm_journal.specs.Stored.{IsJournal, IsOnDisk, IsOpening, SameFrames, Spares}
-use Rattle.hm_journal.specs.Verdict.{IsUnjudged, Refuses}
+use Rattle.hm_journal.specs.Verdict.{Refuses}
 use Rattle.hm_journal.specs.declared.limits.Limits.{Limits}
 use Rattle.hm_journal.specs.declared.why.JournalWhy.{JournalWhy}
 use Rattle.hm_journal.specs.declared.why.JournalWhy.TheVariants as why_is
@@ -99,14 +99,14 @@ module _ {D : Type 0} (tells : Type 0) (moment : D → ℕ) (left_since : D → 
 
   -- the outcome of an opening that failed
   pub converse_unopened : (why : JournalWhy) (status : RunStatus) (ran : ℕ → Type 0) → status ≡ unopened_status why → marks ≡ [] → (tells → Refuses sheets (seen disk) why) → (why ≡ why_is.Fault → Rose (faults disk) (faults new))
-      → (tells → (IsUnjudged why → ⊥) → SameFrames (seen disk) (seen new) (image new)) → (tells → Spares sheets (seen disk) (image disk) (seen new) (image new))
+      → (tells → why ≢ why_is.Fault → SameFrames (seen disk) (seen new) (image new)) → (tells → Spares sheets (seen disk) (image disk) (seen new) (image new))
       → (tells → LeavesOnly moment left_since disk new (IsOpening sheets (seen disk) (image disk))) → (heard → got1 ≡ got0)
       → OutcomeOn tells moment left_since seen image disk new faults limits (λ read. read ≡ commands) (λ status text. heard → Talked got0 got1 status text) sink_rose ran marks status sheets
   converse_unopened why status ran ends none refuses fault frames spares moments said =
       subst (λ e. OutcomeOn tells moment left_since seen image disk new faults limits (λ read. read ≡ commands) (λ s text. heard → Talked got0 got1 s text) sink_rose ran marks e sheets) (sym ends)
       (outcome_unopened sheets limits (λ read. read ≡ commands) (λ journal. tells → IsOnDisk sheets (seen disk) journal) (λ journal halted. tells → AllStored (image new) journal halted)
       (Since tells moment left_since seen image disk new sheets) (Spared tells moment left_since seen image disk new sheets) (Refused tells moment left_since seen image disk new sheets)
-      (Rose (faults disk) (faults new)) sink_rose heard got0 got1 commands marks ran why refl none fault (λ told. (spares told, moments told)) (λ judged told. (refuses told, frames told judged, moments told)) said)
+      (Rose (faults disk) (faults new)) sink_rose heard got0 got1 commands marks ran why refl none fault (λ told. (spares told, moments told)) (λ judged told. (refuses told, frames told (λ failed. judged (inl failed)), moments told)) said)
 
 module _ {D : Type 0} (tells : Type 0) (moment : D → ℕ) (left_since : D → ℕ → List ℕ → Type 0) (seen : D → List ℕ) (image : D → List ℕ → Type 0) (faults : D → ℕ)
     (limits : Limits) (heard : Type 0) (got0 got1 : List ℕ) (misfit : Option ℕ) (script : Bad → Type 0) (read_rose unread : Type 0) (marks : List ℕ) (disk new : D) (status : RunStatus) where

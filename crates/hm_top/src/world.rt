@@ -128,7 +128,7 @@ impl<D: Disk> World<D> {
         ensures why { D.tells → IfErr result (λ e. Refuses sheets.now (D.seen disk) e.1) }
         ensures exact { D.tells → (journal : List EntryValue) → IsOnDisk sheets.now (D.seen disk) journal → IfErr result (λ e. IsUnjudged e.1) }
         ensures fault { IfErr result (λ e. e.1 ≡ JournalWhy.Fault → Rose (D.faults disk) (D.faults e.0)) }
-        ensures same { D.tells → IfErr result (λ e. (IsUnjudged e.1 → ⊥) → SameFrames (D.seen disk) (D.seen e.0) (D.image e.0)) }
+        ensures same { D.tells → IfErr result (λ e. e.1 ≢ JournalWhy.Fault → SameFrames (D.seen disk) (D.seen e.0) (D.image e.0)) }
         ensures spared { D.tells → IfErr result (λ e. Spares sheets.now (D.seen disk) (D.image disk) (D.seen e.0) (D.image e.0)) }
         ensures any_moment { D.tells → IfErr result (λ e. LeavesOnly D.moment D.left_since disk e.0 (IsOpening sheets.now (D.seen disk) (D.image disk))) }
         ensures later { MatchResult result (λ world. D.faults disk ≤ D.faults world.disk) (λ e. D.faults disk ≤ D.faults e.0) }

@@ -26,7 +26,10 @@ returns-in-Ok-clause-journal g c =
     c.begin.ensures.kept c.begin.ensures.any_moment
 
 pub returns-in-Ok-clause-same : goal.returns-in-Ok-clause-same
-returns-in-Ok-clause-same g c tells = IfErr-weaker c.begin.result _ _ (λ e unjudged judged. absurd (judged unjudged)) c.begin.ensures.why
+returns-in-Ok-clause-same g c tells =
+    IfErr-weaker c.begin.result _ _
+    (λ e untaken works bytes is. c.requires.durable tells bytes (subst (λ disk. g.D.Disk.image disk bytes) (untaken works ∙ c.journal_of.ensures.disk) is))
+    c.begin.ensures.untaken
 
 pub returns-in-Ok-clause-spared : goal.returns-in-Ok-clause-spared
 returns-in-Ok-clause-spared g c tells =
