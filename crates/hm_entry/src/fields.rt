@@ -4,7 +4,7 @@ ghost use Rattle.hm_entry.specs.Reading.{Gives, GivesBy, byte_at, u16_at, u64_at
 use crate::fault::EntryFault;
 use hm_wire::{Reader, WireFault};
 
-// A fault of a field, as one of an entry. A text that is too long is no value.
+// A number in one byte.
 #[tactic(auto, unfolding(crate::specs::Reading::byte_at))]
 pub(crate) fn byte(r: &mut Reader) -> Result<u8, EntryFault>
     ensures { Gives result (byte_at r.old) r.new }

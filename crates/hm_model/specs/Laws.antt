@@ -144,7 +144,7 @@ abbrev pub count_below : (ℕ → Bool) → ℕ → ℕ
 count_below test zero = 0
 count_below test (suc n) = count_below test n + one_if (test n)
 
--- no two procedures that hold what they ask for conflict, in no legal journal
+-- no two procedures that hold what they ask for conflict, in any legal journal
 abbrev pub NoneEverConflict : Type 0
 NoneEverConflict = (J : Past) → IsLegal J → NoneConflict J
 

@@ -45,7 +45,7 @@ lines_of kind =
     else (if kind == 21 then late act_is.DropRegionRows ∷ []
     else []))))))))))
 
--- a row with its number's follower
+-- a row as a kind of exact rows has it: its act, the row that follows, whether it is after the point; no undo
 abbrev pub fixed : Act → ℕ → Bool → Row
 fixed act next after = record { act = act; next = next; after = after; undo = back_is.Nothing }
 

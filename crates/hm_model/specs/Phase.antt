@@ -72,7 +72,7 @@ ended_node before p (Some node) =
 abbrev pub ended : Past → ℕ → Bool
 ended before p = ended_node before p (node_of before p)
 
--- the nearest of some ancestors
+-- it is the nearest of some ancestors
 abbrev pub is_parent : ℕ → List ℕ → Bool
 is_parent p [] = false
 is_parent p (up ∷ above) = up == p

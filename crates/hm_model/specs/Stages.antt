@@ -140,7 +140,7 @@ pub record IsStep (pid : Pid) (pick : Option Server) (out : StepOut) (before : P
   pub undo : row.undo ≡ back_is.Nothing
   pub does : FindsFree before pid.0 ns out ⊎ (FindsTaken before pid.0 ns out ⊎ AddsIt before pid.0 ns out)
 
--- what the last answer says of the phase, where nothing can be undone
+-- what the last answer says of the phase, where nothing can be undone and no procedure has children
 abbrev pub simple_phase : Option Answer → Phase
 simple_phase None = phase_is.Runnable
 simple_phase (Some (answer_is.More next)) = phase_is.Runnable

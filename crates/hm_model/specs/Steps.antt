@@ -86,7 +86,7 @@ abbrev pub with_namespace : Option (List ℕ) → ℕ → (List ℕ → StepOut)
 with_namespace None next act = gives (on_to next) []
 with_namespace (Some ns) next act = act ns
 
--- what an act answers. The acts of kinds that the master doesn't run yet go on; no row that is led through has one.
+-- what an act answers. The acts of kinds that the master doesn't run yet go on; no row that its own kinds lead through has one.
 abbrev pub act_out : Act → ℕ → Args → List (CatKey × CatRow) → StepOut
 act_out act_is.CheckNamespaceFree next args rows =
     with_namespace (namespace_of args) next (λ ns. check_namespace_free next (row_at rows (key_is.Ns ns)))
@@ -183,7 +183,7 @@ eval_row (Some row) at = Some (eval row at)
 abbrev pub evaluation : Sheet → StepIn → Option StepOut
 evaluation sheet at = eval_row (slice_get sheet.rows at.row) at
 
--- a step at this input needs a server to be picked. No act that does so is there yet.
+-- a step at this input needs a server to be picked. No kind that the master runs has an act that does.
 abbrev pub needs_pick : Sheet → StepIn → Bool
 needs_pick sheet at = false
 

@@ -14,8 +14,8 @@ use Rattle.hm_model.specs.Journal.{Past}
 use Rattle.hm_model.specs.Keys.{same_table}
 use Rattle.hm_model.specs.Kinds.{table_of_request}
 
--- a procedure: its ancestors, the nearest first; its root; what it works on; and the first region id that was drawn
--- for its root, 1 where none could be
+-- a procedure: its ancestors, the nearest first; its root; what it works on; and the lowest region id not yet
+-- drawn for the table of its root's request before it was submitted, 1 where the request has no table
 pub record Node : Type 0 where
   pub above : List ℕ
   pub root : ℕ

@@ -7,7 +7,8 @@ use crate::valid::Valid;
 use hm_data::{Cause, Row, StepIn, StepOut, Turn};
 use std::alloc::{AllocError, Global};
 
-/// Whether a step of the sheet needs a server to be picked. No act that does so is there yet.
+/// Whether a step of the sheet needs a server to be picked. No kind that the master runs has an
+/// act that does.
 pub fn needs_pick(sheet: &Valid, at: &StepIn) -> bool
     requires { CanStep sheet.now at.now }
     ensures { result ≡ needs sheet.now at.now }

@@ -1,4 +1,4 @@
-//! The handler of namespaces and tables.
+//! The handler of requests for namespaces.
 #![tactic(auto)]
 
 mod hands;
