@@ -31,8 +31,8 @@ fn run_takes_no_submission_at_the_soft_mark(rt: HostRuntime) -> Result<(), Fail>
     Ok(())
 }
 
-// The log of a script of 800 submissions.
-fn long_log(alloc: Global) -> Result<Vec<u8>, AllocError> {
+/// The log of a script of 800 submissions.
+pub fn long_log(alloc: Global) -> Result<Vec<u8>, AllocError> {
     let mut script = String::new(alloc);
     for number in 0..800u64 {
         write!(script, "namespace 7:{number} {LONGEST}\n")?;

@@ -9,6 +9,8 @@ mod full;
 #[cfg(test)]
 mod hands;
 #[cfg(test)]
+mod journal;
+#[cfg(test)]
 mod lines;
 #[cfg(test)]
 mod logs;

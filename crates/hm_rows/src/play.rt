@@ -53,8 +53,8 @@ fn strings(alloc: Global, words: &[&str]) -> Result<Vec<String>, AllocError> {
     Ok(strings)
 }
 
-// A log with much room behind it.
-fn disk(alloc: Global, log: &[u8], fails: &[u64]) -> Result<MemDisk, AllocError> {
+/// A log with much room behind it.
+pub fn disk(alloc: Global, log: &[u8], fails: &[u64]) -> Result<MemDisk, AllocError> {
     let bytes = log.to_vec(alloc)?;
     let room = (bytes.len() as u64).saturating_add(131_072);
     MemDisk::new(alloc, room, bytes, fails.to_vec(alloc)?)
