@@ -2,7 +2,9 @@
 #![tactic(auto)]
 
 mod fault;
+mod laws;
 mod recorder;
 
 pub use fault::{Halt, RecordFault};
+pub use laws::recording_is_decided;
 pub use recorder::Recorder;

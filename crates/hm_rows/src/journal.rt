@@ -20,8 +20,8 @@ use std::test::Fail;
 // What recording an entry answers.
 type Recorded = Result<u64, RecordFault>;
 
-// The sheets of the tables.
-fn sheets_of_tables(alloc: Global) -> Result<List<Sheet>, AllocError>
+/// The sheets of the tables.
+pub fn sheets_of_tables(alloc: Global) -> Result<List<Sheet>, AllocError>
     ensures valid { IfOk result AreSheets }
 {
     let mut handlers: Vec<Box<dyn Handler>> = Vec::new(alloc);
@@ -64,8 +64,8 @@ fn check_judges_as_open_does(rt: HostRuntime) -> Result<(), Fail> {
     Ok(())
 }
 
-// The entry that asks for a namespace `more`.
-fn submission(alloc: Global) -> Result<Entry, AllocError>
+/// The entry that asks for a namespace `more`.
+pub fn submission(alloc: Global) -> Result<Entry, AllocError>
     ensures fits { IfOk result CanBeRecorded }
 {
     let Ok(ns) = Ns::of(alloc, b"more") else {

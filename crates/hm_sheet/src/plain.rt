@@ -10,7 +10,6 @@ use std::alloc::{AllocError, Global};
 /// Whether a step of the sheet needs a server to be picked. No kind that the master runs has an
 /// act that does.
 pub fn needs_pick(sheet: &Valid, at: &StepIn) -> bool
-    requires { CanStep sheet.now at.now }
     ensures { result ≡ needs sheet.now at.now }
 {
     let _ = sheet;

@@ -1,0 +1,27 @@
+-- What decides the answer of a recording.
+use Rattle.std.proofs.Common.{◌≡◌, ℕ, Result, Ok, Err, Some, None, ap, sym, ◌∙◌}
+use Rattle.std.proofs.lemmas.Option.{none-some}
+use Rattle.hm_data.specs.declared.entry.Entry.{Entry}
+use Rattle.hm_hall.specs.Recording.{Recording, Passes, Records, bytes_of}
+use Rattle.hm_hall.specs.declared.fault.Halt.{Halt}
+use Rattle.hm_hall.specs.declared.fault.RecordFault.{RecordFault}
+use Rattle.hm_hall.specs.declared.fault.RecordFault.TheVariants as fault_is
+
+same_halt : (why other : Halt) → Some why ≡ Some other → why ≡ other
+same_halt why other e = cc
+
+-- a recorder that was halted says so
+pub halted_first : (old : Recording) (entry : Entry) (answer : Result ℕ RecordFault) (new : Recording) (why : Halt) → Records old entry answer new → old.halted ≡ Some why
+    → answer ≡ Err (fault_is.Halted why)
+halted_first old entry (Ok number) new why is halted = absurd (none-some why (sym is.0 ∙ halted))
+halted_first old entry (Err (fault_is.Halted other)) new why is halted = ap (λ (h : Halt). Err (fault_is.Halted h)) (same_halt other why (sym is.0 ∙ halted))
+halted_first old entry (Err (fault_is.JournalFull bytes)) new why is halted = absurd (none-some why (sym is.0 ∙ halted))
+halted_first old entry (Err fault_is.LogFault) new why is halted = absurd (none-some why (sym is.0 ∙ halted))
+
+-- where it wasn't, an entry that passes the hard mark isn't recorded
+pub full_next : (old : Recording) (entry : Entry) (answer : Result ℕ RecordFault) (new : Recording) → Records old entry answer new → old.halted ≡ None → Passes old entry
+    → answer ≡ Err (fault_is.JournalFull (bytes_of old.entries))
+full_next old entry (Ok number) new is going passes = absurd (is.1 passes)
+full_next old entry (Err (fault_is.Halted why)) new is going passes = absurd (none-some why (sym going ∙ is.0))
+full_next old entry (Err (fault_is.JournalFull bytes)) new is going passes = ap (λ (b : ℕ). Err (fault_is.JournalFull b)) is.2
+full_next old entry (Err fault_is.LogFault) new is going passes = absurd (is.1 passes)
