@@ -2,11 +2,11 @@
 use Rattle.std.proofs.Common.{◌≡◌, ◌≢◌, ℕ, zero, suc, ◌+◌, ◌<◌, ◌≤◌, List, [], ◌∷◌, ◌++◌, length, get_or, set, take, drop, slice_get, Option, Some, None, Result, Ok, Err, IfOk, IfErr, refl, inl, inr, arith, ap, sym, ◌∙◌, length-append}
 use Rattle.std.specs.Cmp.{IsTotalOrder}
 use Rattle.std.specs.List.{All, insert}
-use Rattle.std.specs.List.Sorted.{IsSearchInRange, IsBinarySearchResult}
+use Rattle.std.specs.List.Sorted.{IsSearchInRange, IsBinarySearchResult, IsNonDecreasingBy}
 use Rattle.std.specs.Option.{MatchOption, unwrap_or}
 use Rattle.std.specs.Ordering.{ordering_index}
 use Rattle.std.specs.declared.cmp.Ordering.{Ordering}
-use Rattle.std.specs.declared.cmp.Ordering.TheVariants.{Less, Equal, Greater}
+use Rattle.std.specs.declared.cmp.Ordering.TheVariants.{Less}
 use Rattle.std.proofs.Math.ListN.{length-set}
 use Rattle.std.proofs.lemmas.Bool.{cases_lt, cases_eq}
 use Rattle.std.proofs.lemmas.Bool.Decides.{nat_tests}
@@ -120,15 +120,19 @@ module _ {K V : Type 0} (cmp : K → K → Ordering) where
     rank_is : (key : K) (i n : ℕ) (d : K × V) → i < length order → rank (slice_get pairs (get_or order i n)) key ≡ compared cmp (picked pairs order) i d key
     rank_is key i n d lt = ap (λ o. rank o key) (pair_is i n d lt)
 
+    -- where the pairs' answers don't fall, those of their places don't
+    places_rise : (key : K) → IsNonDecreasingBy (λ (pair : K × V). ordering_index (cmp pair.0 key)) (picked pairs order) → IsNonDecreasingBy (λ place. ordering_index (rank (slice_get pairs place) key)) order
+    places_rise key rises i j n up lt =
+        let d = item pairs (get_or order j n) (within j n lt) in
+        rw (rank_is key i n d.0 (omega arith), rank_is key j n d.0 lt) (rises i j d.0 up (omega (arith, length-picked pairs order within)))
+
     -- a binary search of the places is one of the pairs at them
     search_among : (key : K) (r : Result ℕ ℕ) → IsSearchInRange r (length order) → IsBinarySearchResult (λ place. rank (slice_get pairs place) key) order r
         → IsBinarySearchResult (λ (pair : K × V). cmp pair.0 key) (picked pairs order) r
     search_among key (Ok i) lt equal = λ d. sym (rank_is key i 0 d lt) ∙ equal 0
     search_among key (Err i) le split = λ rises.
         let size = length-picked pairs order within in
-        let parts = split (λ j k n up lt.
-          let d = item pairs (get_or order k n) (within k n lt) in
-          rw (rank_is key j n d.0 (omega arith), rank_is key k n d.0 lt) (rises j k d.0 up (omega (arith, size)))) in
+        let parts = split (places_rise key rises) in
         (λ k d low lt. sym (rank_is key k 0 d (omega arith)) ∙ parts.0 k 0 low lt, λ k d low lt. sym (rank_is key k 0 d (omega (arith, size))) ∙ parts.1 k 0 low (omega (arith, size)))
 
     -- the pair at the place that stands at one place of the order

@@ -1,4 +1,4 @@
-use Rattle.std.proofs.Common.{◌≡◌, length, ap, sym, ◌∙◌, arith}
+use Rattle.std.proofs.Common.{◌≡◌, length, ap, arith}
 use Rattle.hm_state.specs.Index.{Table, picked}
 use Rattle.hm_state.proofs.Pairs.{find-set, find-insert, rising-set, rising-insert}
 use Rattle.hm_state.proofs.Picked.{has_within, gap_within, in-set, in-insert, picked-insert, written_over}
