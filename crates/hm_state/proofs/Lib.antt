@@ -1,4 +1,5 @@
 mod Pairs
+mod Picked
 mod Places
 mod Readings
 mod Keeps

@@ -1,5 +1,6 @@
 -- A map as a list of pairs of a key and a value.
-use Rattle.std.specs.Prelude.{◌≡◌, ℕ, ◌<◌, ◌≤◌, List, [], ◌∷◌, length, Option, Some, None, if◌then◌else◌, slice_index_or}
+use Rattle.std.specs.Prelude.{◌≡◌, ℕ, ◌<◌, ◌≤◌, List, [], ◌∷◌, length, Option, Some, None, if◌then◌else◌, slice_get, slice_index_or}
+use Rattle.std.specs.List.{filter_map}
 use Rattle.std.specs.Ordering.{is_eq}
 use Rattle.std.specs.declared.cmp.Ordering.{Ordering}
 use Rattle.std.specs.declared.cmp.Ordering.TheVariants.{Less, Equal, Greater}
@@ -8,6 +9,10 @@ use Rattle.std.specs.declared.cmp.Ordering.TheVariants.{Less, Equal, Greater}
 pub record Table (K V : Type 0) : Type 0 where
   pub pairs : List (K × V)
   pub spare : ℕ
+
+-- the items at these places, one after another
+abbrev pub picked : {X : Type 0} → List X → List ℕ → List X
+picked items places = filter_map (slice_get items) places
 
 -- the value of the first pair whose key ties with this one
 abbrev pub find : {K V : Type 0} → (K → K → Ordering) → List (K × V) → K → Option V
