@@ -14,19 +14,18 @@ use Rattle.hm_data.specs.declared.catalog.CatRow.{CatRow}
 use Rattle.hm_data.specs.declared.entry.Entry.TheVariants as entry_is
 use Rattle.hm_data.specs.declared.record.Record.{Record}
 use Rattle.hm_data.specs.declared.request.Request.{Request}
-use Rattle.hm_data.specs.declared.sheet.Sheet.{Sheet}
 use Rattle.hm_data.specs.declared.step.StepOut.{StepOut}
 use Rattle.hm_model.specs.Answers.{last_answer, is_stop, is_stopped}
-use Rattle.hm_model.specs.Catalog.{at_start, edited}
+use Rattle.hm_model.specs.Catalog.{edited}
 use Rattle.hm_model.specs.Journal.{Past}
 use Rattle.hm_model.specs.Laws.{one_if}
 use Rattle.hm_model.specs.Locks.{Holds}
 use Rattle.hm_model.specs.Nonces.{by_nonce, is_same}
 use Rattle.hm_model.specs.Phase.{ended}
 use Rattle.hm_model.specs.Records.{pid_of, record_of, unfinished}
-use Rattle.hm_model.specs.Rules.{Allowed, AreSheets, IsLegal}
+use Rattle.hm_model.specs.Rules.{Allowed, IsLegal}
 use Rattle.hm_model.specs.Tree.{Node, made, node_of, submitted}
-use Rattle.hm_model.proofs.Counting.{begins_alone, steps_unstopped, unfinished_on, unfinished_start}
+use Rattle.hm_model.proofs.Counting.{begins_alone, steps_unstopped, unfinished_on}
 use Rattle.hm_model.proofs.Grown.{grown_all, step_made, step_node, step_plain, stepped as stepped_to, not_stepped, submit_old, submit_new, submits_one}
 use Rattle.hm_model.proofs.Holders.{one_holds}
 use Rattle.hm_model.proofs.Stages.{flat_all, step_all, shaped}
@@ -36,23 +35,6 @@ use Rattle.hm_state.specs.Rows.{row_in}
 use Rattle.hm_state.specs.State.{Beside, IsIndexed, goes_on, is_this}
 use Rattle.hm_state.proofs.Places.{slice_get-push, slice_get-set}
 use Rattle.hm_state.proofs.Readings.{simple_record, record_by, there_by, over_ended, is_root_there, going_holds, not_true_false}
-
--- what is kept beside the first entry
-pub indexed_start : (sheets : List Sheet) (rows : List (CatKey × Option CatRow)) → AreSheets sheets → ((key : CatKey) → row_in rows key ≡ at_start key)
-    → IsIndexed (entry_is.Start sheets ∷ []) (record { records = []; nonces = []; rows = rows; sheets = sheets; running = None; ended_below = 0; unfinished = 0 })
-indexed_start sheets rows are rows_are = record {
-  legal = (tt, ((refl, are), tt));
-  begun = λ e. cc;
-  records_are = λ p. refl;
-  count_is = refl;
-  nonces_are = λ nonce. refl;
-  rows_are = rows_are;
-  sheets_are = refl;
-  running_is = λ p. refl;
-  ended_are = λ p ge le. absurd (omega (arith, ge, le));
-  next_open = refl;
-  unfinished_is = sym (unfinished_start sheets [] (tt, ((refl, are), tt)));
-}
 
 nonce_found : (o : Bool) (pid : Pid) (p : ℕ) (old : Option ℕ) → pid.0 ≡ p → (if o then Some pid else option_map pid_of old) ≡ option_map pid_of (if o then Some p else old)
 nonce_found true pid p old is = ap (λ q. Some (pid_of q)) is
