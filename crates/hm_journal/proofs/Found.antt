@@ -24,16 +24,3 @@ found_journal sheets frames own journal entries is spelled entries_is are =
       count = sym (length-map own (λ (f : Vec ℕ). f.items)) ∙ ap length (are ∙ sym spelled) ∙ length-map journal spelling ∙ ap length same;
       entries_are = entries_is ∙ ap (opened sheets) same;
     }
-
--- where there are no frames, the journal has no entries, and gets its first
-pub new_journal : (sheets own : List Sheet) (frames : List (List ℕ)) (entries : List Entry) → length frames ≡ 0 → own ≡ sheets → entries ≡ entry_is.Start own ∷ []
-    → (journal : List Entry) × IsJournal sheets journal × (frames_of journal ≡ frames) × (entries ≡ opened sheets journal)
-new_journal sheets own [] entries none same is =
-    ([], record { legal = tt; fits = All-nil EntryFits; begins = λ some. absurd (some refl) }, refl, is ∙ ap (λ (s : List Sheet). entry_is.Start s ∷ []) same)
-new_journal sheets own (frame ∷ frames) entries none same is = absurd (omega arith)
-
--- where there are some, it has begun
-pub begun_journal : (sheets : List Sheet) (frames : List (List ℕ)) (entries : List Entry) → length frames ≢ 0 → IsJournal sheets entries → frames_of entries ≡ frames
-    → (journal : List Entry) × IsJournal sheets journal × (frames_of journal ≡ frames) × (entries ≡ opened sheets journal)
-begun_journal sheets frames [] some is are = absurd (some (sym (ap length are)))
-begun_journal sheets frames (first ∷ more) some is are = (first ∷ more, is, are, refl)

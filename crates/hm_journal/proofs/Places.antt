@@ -14,41 +14,24 @@ use Rattle.hm_model.specs.Rules.{Breaks, IsLegal}
 use Rattle.hm_model.specs.Sheets.{sheets_of}
 use Rattle.hm_journal.specs.Stored.{frames_of}
 use Rattle.hm_journal.specs.Judged.{IsBadFrom, IsNotAdded, IsNotAddedFrom, Spells, SpellsAt}
-use Rattle.hm_journal.specs.Verdict.{FailsAt, IsNoEntry, IsNoJournal}
+use Rattle.hm_journal.specs.Verdict.{FailsAt, IsNoJournal}
 use Rattle.hm_journal.specs.declared.why.JournalWhy.{JournalWhy}
 use Rattle.hm_journal.specs.declared.why.JournalWhy.TheVariants as why_is
 use Rattle.hm_journal.proofs.Judging.{IsFront}
 use Rattle.hm_journal.proofs.Refusing.{frame_reads, same_entries}
 
 -- where the frames spell entries, only memory that runs out keeps one from being read
-none_read : (sheets : List Sheet) (frames : List (List ℕ)) (entries : List Entry) (number : ℕ) (why : JournalWhy) → Spells frames entries → IsBadFrom frames number why → IsNoJournal sheets entries why
-none_read sheets frames entries number why_is.Fault spells bad = bad
-none_read sheets frames entries number (why_is.NotALog place) spells bad = bad
-none_read sheets frames entries number (why_is.BadFrame place) spells bad = bad
+pub none_read : (sheets : List Sheet) (frames : List (List ℕ)) (entries : List Entry) (number : ℕ) (why : JournalWhy) → Spells frames entries → IsBadFrom frames number why → IsNoJournal sheets entries why
+none_read sheets frames entries number why_is.Fault spells bad = absurd bad
+none_read sheets frames entries number (why_is.NotALog place) spells bad = absurd bad
+none_read sheets frames entries number (why_is.BadFrame place) spells bad = absurd bad
 none_read sheets frames entries number (why_is.BadEntry n at) spells bad =
-    let read = frame_reads entries number bad.1 spells.fits (ap (λ fs. slice_get fs number) spells.are ∙ bad.2) in
+    let read = frame_reads entries number bad.1.0 spells.fits (ap (λ fs. slice_get fs number) spells.are ∙ bad.1.1) in
     let P : Result Entry EntryFault → Type 0 = λ r. FailsAt r at in
-    subst P read.1 bad.3
-none_read sheets frames entries number (why_is.Illegal n rule) spells bad = bad
-none_read sheets frames entries number (why_is.SheetsDiffer kind) spells bad = bad
+    subst P read.1 bad.1.2
+none_read sheets frames entries number (why_is.Illegal n rule) spells bad = absurd bad
+none_read sheets frames entries number (why_is.SheetsDiffer kind) spells bad = absurd bad
 none_read sheets frames entries number why_is.Memory spells bad = tt
-
--- a frame that spells no entry is the first where each before it spells one
-pub first_bad : (frames : List (List ℕ)) (number : ℕ) (entries : List Entry) (why : JournalWhy) → Spells (take number frames) entries → IsBadFrom frames number why → IsNoEntry frames why
-first_bad frames number entries why_is.Fault so_far bad = bad
-first_bad frames number entries (why_is.NotALog place) so_far bad = bad
-first_bad frames number entries (why_is.BadFrame place) so_far bad = bad
-first_bad frames number entries (why_is.BadEntry n at) so_far bad = record {
-  entries = entries;
-  fits = so_far.fits;
-  before = ap (λ k. take k frames) bad.0 ∙ sym so_far.are;
-  frame = bad.1;
-  there = ap (slice_get frames) bad.0 ∙ bad.2;
-  fails = bad.3;
-}
-first_bad frames number entries (why_is.Illegal n rule) so_far bad = bad
-first_bad frames number entries (why_is.SheetsDiffer kind) so_far bad = bad
-first_bad frames number entries why_is.Memory so_far bad = tt
 
 -- the entry that a frame spells stands at its place
 entry_at : (entries : List Entry) (number : ℕ) (entry : Entry) → All EntryFits entries → EntryFits entry → slice_get (frames_of entries) number ≡ Some (spelling entry) → slice_get entries number ≡ Some entry
@@ -68,10 +51,10 @@ front_is frames number front entries so_far spells =
 -- an entry that isn't added is the first that may not stand where it does
 not_added : (sheets : List Sheet) (frames : List (List ℕ)) (number : ℕ) (front entries : List Entry) (entry : Entry) (why : JournalWhy) → Spells (take number frames) front → IsFront sheets front → Spells frames entries
     → SpellsAt frames number entry → IsNotAdded front entry why → IsNoJournal sheets entries why
-not_added sheets frames number front entries entry why_is.Fault so_far legal spells here none = none
-not_added sheets frames number front entries entry (why_is.NotALog place) so_far legal spells here none = none
-not_added sheets frames number front entries entry (why_is.BadFrame place) so_far legal spells here none = none
-not_added sheets frames number front entries entry (why_is.BadEntry n at) so_far legal spells here none = none
+not_added sheets frames number front entries entry why_is.Fault so_far legal spells here none = absurd none
+not_added sheets frames number front entries entry (why_is.NotALog place) so_far legal spells here none = absurd none
+not_added sheets frames number front entries entry (why_is.BadFrame place) so_far legal spells here none = absurd none
+not_added sheets frames number front entries entry (why_is.BadEntry n at) so_far legal spells here none = absurd none
 not_added sheets frames number front entries entry (why_is.Illegal n rule) so_far legal spells here none =
     let within : number < length frames = slice_get_within frames number (spelling entry) here.1 in
     let long : length front ≡ number = sym (length-map front spelling) ∙ ap length so_far.are ∙ length-take-le number frames (omega (arith, within)) in
@@ -84,7 +67,7 @@ not_added sheets frames number front entries entry (why_is.Illegal n rule) so_fa
       begins = λ some. ap (λ (es : List Entry). sheets_of (back es)) cut ∙ legal.begins;
       breaks = subst (λ (es : List Entry). Breaks (back es) entry rule) (sym cut) none.1;
     }
-not_added sheets frames number front entries entry (why_is.SheetsDiffer kind) so_far legal spells here none = none
+not_added sheets frames number front entries entry (why_is.SheetsDiffer kind) so_far legal spells here none = absurd none
 not_added sheets frames number front entries entry why_is.Memory so_far legal spells here none = tt
 
 pub not_added_from : (sheets : List Sheet) (frames : List (List ℕ)) (number : ℕ) (front entries : List Entry) (why : JournalWhy) → Spells (take number frames) front → IsFront sheets front → Spells frames entries
@@ -96,10 +79,6 @@ not_added_from sheets frames number front entries why so_far legal spells (inr n
 first_of : (entries : List Entry) (first : Entry) → slice_get entries 0 ≡ Some first → (more : List Entry) × (entries ≡ first ∷ more)
 first_of [] first here = absurd (none-some first here)
 first_of (entry ∷ more) first here = (more, ap (λ e. e ∷ more) (same_Some entry first here))
-
--- where the first frame can't be read
-pub first_unread : (sheets : List Sheet) (frames : List (List ℕ)) (why : JournalWhy) → IsBadFrom frames 0 why → (entries : List Entry) → Spells frames entries → IsNoJournal sheets entries why
-first_unread sheets frames why bad entries spells = none_read sheets frames entries 0 why spells bad
 
 -- where its entry begins no journal
 pub first_refused : (sheets : List Sheet) (frames : List (List ℕ)) (first : Entry) (why : JournalWhy) → SpellsAt frames 0 first → ((more : List Entry) → IsNoJournal sheets (first ∷ more) why)

@@ -21,16 +21,3 @@ spells_more frames number entries more entry so_far here is = record {
   are = ap frames_of is ∙ map-append spelling entries (entry ∷ []) ∙ ap (λ fs. fs ++ spelling entry ∷ []) so_far.are ∙ sym (take_item frames number (spelling entry) here.1);
   fits = subst (All EntryFits) (sym is) (All-push EntryFits entries entry so_far.fits here.0);
 }
-
--- the first frames, of which there are none, spell no entry
-pub spells_none : (frames : List (List ℕ)) → Spells (take 0 frames) []
-spells_none frames = record { are = refl; fits = All-nil EntryFits }
-
--- the one entry of the first frame
-pub spells_first : (frames : List (List ℕ)) (entries : List Entry) (first : Entry) → entries ≡ first ∷ [] → SpellsAt frames 0 first → Spells (take (length entries) frames) entries
-spells_first frames entries first is here =
-    subst (λ (es : List Entry). Spells (take (length es) frames) es) (sym is) (spells_more frames 0 [] (first ∷ []) first (spells_none frames) here refl)
-
--- so many frames are all of them
-pub spells_all : (frames : List (List ℕ)) (number : ℕ) (entries : List Entry) → length frames ≤ number → Spells (take number frames) entries → Spells frames entries
-spells_all frames number entries all so_far = subst (λ (fs : List (List ℕ)). Spells fs entries) (take_all number frames all) so_far
