@@ -1,12 +1,9 @@
 -- The journals of frames.
-use Rattle.std.proofs.Common.{◌≡◌, ◌≢◌, ℕ, List, [], ◌∷◌, map, length, refl, sym, ap, ◌∙◌, subst, arith}
+use Rattle.std.proofs.Common.{◌≡◌, ℕ, List, map, length, sym, ap, ◌∙◌, subst}
 use Rattle.std.specs.Global.{Vec}
 use Rattle.std.proofs.lemmas.List.{length-map}
-use Rattle.std.proofs.lemmas.List.Elements.{All-nil}
 use Rattle.hm_data.specs.declared.entry.Entry.{Entry}
-use Rattle.hm_data.specs.declared.entry.Entry.TheVariants as entry_is
 use Rattle.hm_data.specs.declared.sheet.Sheet.{Sheet}
-use Rattle.hm_entry.specs.Fits.{EntryFits}
 use Rattle.hm_entry.specs.Spelling.{entry as spelling}
 use Rattle.hm_journal.specs.Stored.{IsJournal, frames_of, opened}
 use Rattle.hm_journal.specs.Judged.{IsFound}

@@ -1,7 +1,7 @@
 -- Entries and the frames that spell them.
-use Rattle.std.proofs.Common.{◌≡◌, ℕ, ◌+◌, ◌≤◌, List, [], ◌∷◌, ◌++◌, take, length, slice_get, Some, All, refl, sym, ap, ◌∙◌, subst}
-use Rattle.std.proofs.lemmas.List.{take_all, take_more, map-append}
-use Rattle.std.proofs.lemmas.List.Elements.{All-nil, All-push}
+use Rattle.std.proofs.Common.{◌≡◌, ℕ, ◌+◌, List, [], ◌∷◌, ◌++◌, take, slice_get, Some, All, sym, ap, ◌∙◌, subst}
+use Rattle.std.proofs.lemmas.List.{take_more, map-append}
+use Rattle.std.proofs.lemmas.List.Elements.{All-push}
 use Rattle.std.proofs.lemmas.Option.{slice_get_within, get_or_from_slice_get}
 use Rattle.hm_data.specs.declared.entry.Entry.{Entry}
 use Rattle.hm_entry.specs.Fits.{EntryFits}

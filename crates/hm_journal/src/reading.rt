@@ -41,7 +41,8 @@ fn read_entry(alloc: Global, frames: &Frames, number: u64) -> Result<Entry, Jour
     }
 }
 
-// Whether each frame spells an entry.
+// Whether each frame spells an entry. Each is read and let go, so that no other copy of the entries stands beside the
+// state that they are read anew for.
 fn check_entries(alloc: Global, frames: &Frames) -> Result<(), JournalWhy>
     ensures entries { OnOk result ((entries : List EntryValue) × Spells frames.now entries) }
     ensures why { IfErr result (IsNoEntry frames.now) }
@@ -120,7 +121,7 @@ fn add_frame(
     added
 }
 
-// Adds the entries of the frames that stand behind those of the entries that are there, if they may stand there.
+// Adds the entries of the frames behind those of the entries that are there, if they may stand there.
 fn add_others(alloc: Global, state: &mut State, frames: &Frames) -> Result<(), JournalWhy>
     requires { Spells (take (length state.old.entries) frames.now) state.old.entries }
     ensures spelled { OnOk result (Spells frames.now state.new.entries) }
@@ -135,8 +136,8 @@ fn add_others(alloc: Global, state: &mut State, frames: &Frames) -> Result<(), J
     Ok(())
 }
 
-// The state of the journal that frames spell, if it has begun and is one of these sheets. Of frames that spell entries
-// it is told why they are no journal.
+// The state of the journal that frames spell, which has begun, if it is one of these sheets. Its errors are those of
+// frames that spell entries.
 fn judge(alloc: Global, frames: &Frames, sheets: &[Sheet]) -> Result<State, JournalWhy>
     requires sheets { AreSheets sheets.now }
     requires begun { 0 < length frames.now }

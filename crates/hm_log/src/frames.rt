@@ -34,7 +34,7 @@ impl Frames {
         &self.all[number as usize]
     }
 
-    /// The frames themselves, in order, each as it was read.
+    /// The frames themselves, in order.
     pub fn into_vec(self) -> Vec<Vec<u8>>
         ensures { map (λ frame. frame.items) result.items ≡ self }
     {
