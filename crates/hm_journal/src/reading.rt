@@ -41,8 +41,7 @@ fn read_entry(alloc: Global, frames: &Frames, number: u64) -> Result<Entry, Jour
     }
 }
 
-// Whether each frame spells an entry. Each is read and let go, so that no other copy of the entries stands beside the
-// state that they are read anew for.
+// Whether each frame spells an entry. None is kept: `judge` reads each anew, so that its state alone has them.
 fn check_entries(alloc: Global, frames: &Frames) -> Result<(), JournalWhy>
     ensures entries { OnOk result ((entries : List EntryValue) × Spells frames.now entries) }
     ensures why { IfErr result (IsNoEntry frames.now) }
