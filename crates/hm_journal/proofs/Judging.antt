@@ -1,11 +1,12 @@
 -- What judges entries, one after another.
-use Rattle.std.proofs.Common.{◌≡◌, ◌≢◌, List, [], ◌∷◌, get_or, refl, sym, ap, inl}
+use Rattle.std.proofs.Common.{◌≡◌, ◌≢◌, List, [], ◌∷◌, ◌++◌, refl, sym, ap, ◌∙◌, subst, inl}
 use Rattle.hm_data.specs.declared.entry.Entry.{Entry}
 use Rattle.hm_data.specs.declared.entry.Entry.TheVariants as entry_is
 use Rattle.hm_data.specs.declared.sheet.Sheet.{Sheet}
 use Rattle.hm_model.specs.Journal.{Past, back}
 use Rattle.hm_model.specs.Rules.{Allowed, AreSheets, Breaks, IsLegal}
 use Rattle.hm_model.specs.Sheets.{sheets_of}
+use Rattle.hm_model.proofs.Prefixes.{back-push}
 use Rattle.hm_journal.specs.Verdict.{IsFirstIllegal}
 
 -- nothing but a start is a first entry
@@ -51,7 +52,12 @@ pub record IsFront (sheets : List Sheet) (front : List Entry) : Type 0 where
   pub some : back front ≢ []
   pub begins : sheets_of (back front) ≡ sheets
 
--- what stands first, and the others
-pub first_of : (entries : List Entry) (first : Entry) → entries ≢ [] → first ≡ get_or entries 0 first → (more : List Entry) × (entries ≡ first ∷ more)
-first_of [] first some is = absurd (some refl)
-first_of (entry ∷ more) first some is = (more, ap (λ e. e ∷ more) (sym is))
+-- one entry more that may stand behind them
+pub front_more : (sheets : List Sheet) (front more : List Entry) (entry : Entry) → IsFront sheets front → more ≡ front ++ entry ∷ [] → Allowed (back front) entry → IsFront sheets more
+front_more sheets front more entry was is allowed =
+    let pushed : back more ≡ entry ∷ back front = ap back is ∙ back-push front entry in
+    record {
+      legal = subst IsLegal (sym pushed) (was.legal, allowed);
+      some = λ none. absurd (let e : entry ∷ back front ≡ [] = sym pushed ∙ none in cc);
+      begins = ap sheets_of pushed ∙ sheets_stay (back front) entry was.some allowed ∙ was.begins;
+    }

@@ -4,6 +4,7 @@ pub mod Differing
 pub mod Valid
 pub mod Kept
 pub mod Refusing
+pub mod Places
 pub mod Images
 pub mod Sizes
 pub mod Recorded

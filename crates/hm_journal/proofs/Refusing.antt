@@ -64,7 +64,7 @@ same_entries (entry ∷ entries) (other ∷ others) fit other_fit are =
     cc
 
 -- each frame is read as an entry
-frame_reads : (entries : List Entry) (number : ℕ) (frame : List ℕ) → All EntryFits entries → slice_get (frames_of entries) number ≡ Some frame → (entry : Entry) × (all_of frame ≡ Ok entry)
+pub frame_reads : (entries : List Entry) (number : ℕ) (frame : List ℕ) → All EntryFits entries → slice_get (frames_of entries) number ≡ Some frame → (entry : Entry) × (all_of frame ≡ Ok entry)
 frame_reads [] number frame fit here = absurd (none-some frame here)
 frame_reads (entry ∷ entries) zero frame fit here = (entry, ap (λ (f : List ℕ). all_of f) (sym (same_Some (spelling entry) frame here)) ∙ all_again entry (All-head EntryFits entry entries fit))
 frame_reads (entry ∷ entries) (suc number) frame fit here = frame_reads entries number frame (All-tail EntryFits entry entries fit) here

@@ -7,6 +7,7 @@ use Rattle.hm_data.specs.declared.entry.Entry.{Entry}
 use Rattle.hm_entry.specs.Fits.{EntryFits}
 use Rattle.hm_entry.specs.Spelling.{entry as spelling}
 use Rattle.hm_journal.specs.Stored.{frames_of}
+use Rattle.hm_journal.specs.Judged.{Spells, SpellsAt}
 
 -- one item more
 pub take_item : {A : Type 0} (items : List A) (place : ℕ) (item : A) → slice_get items place ≡ Some item → take (place + 1) items ≡ take place items ++ item ∷ []
@@ -14,16 +15,9 @@ take_item items place item here =
     take_more items place item (slice_get_within items place item here) ∙ ap (λ i. take place items ++ i ∷ []) (get_or_from_slice_get items place item item here)
 
 -- one entry more spells one frame more
-pub spelled_more : (entries : List Entry) (frames : List (List ℕ)) (place : ℕ) (entry : Entry) → frames_of entries ≡ take place frames → slice_get frames place ≡ Some (spelling entry)
-    → frames_of (entries ++ entry ∷ []) ≡ take (place + 1) frames
-spelled_more entries frames place entry so_far here =
-    map-append spelling entries (entry ∷ []) ∙ ap (λ fs. fs ++ spelling entry ∷ []) so_far ∙ sym (take_item frames place (spelling entry) here)
-
--- entries that frames spell, and one more
-pub all_more : (entries more : List Entry) (frames : List (List ℕ)) (place : ℕ) (entry : Entry) → frames_of entries ≡ take place frames → All EntryFits entries
-    → EntryFits entry × (slice_get frames place ≡ Some (spelling entry)) → more ≡ entries ++ entry ∷ []
-    → (frames_of more ≡ take (place + 1) frames) × All EntryFits more
-all_more entries more frames place entry so_far fits read is = (
-  ap frames_of is ∙ spelled_more entries frames place entry so_far read.1,
-  subst (All EntryFits) (sym is) (All-push EntryFits entries entry fits read.0),
-)
+pub spells_more : (frames : List (List ℕ)) (number : ℕ) (entries more : List Entry) (entry : Entry) → Spells (take number frames) entries → SpellsAt frames number entry
+    → more ≡ entries ++ entry ∷ [] → Spells (take (number + 1) frames) more
+spells_more frames number entries more entry so_far here is = record {
+  are = ap frames_of is ∙ map-append spelling entries (entry ∷ []) ∙ ap (λ fs. fs ++ spelling entry ∷ []) so_far.are ∙ sym (take_item frames number (spelling entry) here.1);
+  fits = subst (All EntryFits) (sym is) (All-push EntryFits entries entry so_far.fits here.0);
+}

@@ -7,6 +7,7 @@ use Rattle.hm_data.specs.declared.entry.Entry.{Entry}
 use Rattle.hm_data.specs.declared.sheet.Sheet.{Sheet}
 use Rattle.hm_entry.specs.Fits.{EntryFits}
 use Rattle.hm_entry.specs.Reading.{all_of}
+use Rattle.hm_entry.specs.Spelling.{entry as spelling}
 use Rattle.hm_entry.specs.declared.fault.EntryFault.{EntryFault}
 use Rattle.hm_entry.specs.declared.fault.EntryFault.TheVariants as entry_fault_is
 use Rattle.hm_model.specs.Journal.{back}
@@ -31,6 +32,15 @@ bad_entry number (entry_fault_is.Field place) = why_is.BadEntry number place
 bad_entry number (entry_fault_is.Rest place) = why_is.BadEntry number place
 bad_entry number entry_fault_is.Memory = why_is.Memory
 
+-- the frame of this number spells this entry
+abbrev pub SpellsAt : List (List ℕ) → ℕ → Entry → Type 0
+SpellsAt frames number entry = EntryFits entry × (slice_get frames number ≡ Some (spelling entry))
+
+-- the frames spell these entries, one each
+pub record Spells (frames : List (List ℕ)) (entries : List Entry) : Type 0 where
+  pub are : frames_of entries ≡ frames
+  pub fits : All EntryFits entries
+
 -- why the frame of this number spells no entry
 abbrev pub IsBadFrom : List (List ℕ) → ℕ → JournalWhy → Type 0
 IsBadFrom frames number why_is.Fault = ⊥
@@ -51,14 +61,19 @@ IsNotAdded entries entry (why_is.Illegal number rule) = (number ≡ length entri
 IsNotAdded entries entry (why_is.SheetsDiffer kind) = ⊥
 IsNotAdded entries entry why_is.Memory = Unit {0}
 
+-- why the entry of a frame isn't added behind these
+abbrev pub IsNotAddedFrom : List Entry → List (List ℕ) → ℕ → JournalWhy → Type 0
+IsNotAddedFrom entries frames number why =
+    IsBadFrom frames number why ⊎ ((entry : Entry) × SpellsAt frames number entry × IsNotAdded entries entry why)
+
 -- why frames are no journal of these sheets
 abbrev pub IsNoJournalIn : List Sheet → List (List ℕ) → JournalWhy → Type 0
 IsNoJournalIn sheets frames why =
     IsNoEntry frames why ⊎ ((entries : List Entry) × (frames_of entries ≡ frames) × All EntryFits entries × IsNoJournal sheets entries why)
 
--- A copy of frames that spell a journal of these sheets, and its entries; of none, the first.
-pub record IsFound (sheets : List Sheet) (frames : List (List ℕ)) (copy : List (Vec ℕ)) (entries : List Entry) : Type 0 where
-  pub is : IsJournal sheets (entries_in copy)
-  pub spelled : frames_of (entries_in copy) ≡ frames
-  pub count : length copy ≡ length (entries_in copy)
-  pub entries_are : entries ≡ opened sheets (entries_in copy)
+-- These are the frames, which spell a journal of these sheets, and its entries; of none, the first.
+pub record IsFound (sheets : List Sheet) (frames : List (List ℕ)) (own : List (Vec ℕ)) (entries : List Entry) : Type 0 where
+  pub is : IsJournal sheets (entries_in own)
+  pub spelled : frames_of (entries_in own) ≡ frames
+  pub count : length own ≡ length (entries_in own)
+  pub entries_are : entries ≡ opened sheets (entries_in own)

@@ -212,26 +212,26 @@ fn begin<D: Disk>(
 fn of_frames<D: Disk>(
     alloc: Global,
     log: Log<D>,
-    frames: &Frames,
+    frames: Frames,
     sheets: &[Sheet],
     limits: Limits,
 ) -> Result<(Journal<D>, State), (D, JournalWhy)>
     requires sheets { AreSheets sheets.now }
     requires hard { 65551 ≤ limits.hard }
     requires live { log.stalled ≡ false }
-    requires bytes { log.bytes ≡ size_with frames.now }
-    requires logged { D.tells → log.frames ≡ frames.now }
-    requires durable { D.tells → (c : List ℕ) → D.image log.disk c → Reads c frames.now }
-    ensures journal { IfOk result (λ r. (old : List EntryValue) × IsJournal sheets.now old × (frames_of old ≡ frames.now) × (r.0.kept.entries ≡ opened sheets.now old)
+    requires bytes { log.bytes ≡ size_with frames }
+    requires logged { D.tells → log.frames ≡ frames }
+    requires durable { D.tells → (c : List ℕ) → D.image log.disk c → Reads c frames }
+    ensures journal { IfOk result (λ r. (old : List EntryValue) × IsJournal sheets.now old × (frames_of old ≡ frames) × (r.0.kept.entries ≡ opened sheets.now old)
         × (D.tells → LeavesOnly D.moment D.left_since log.disk r.0.disk (Keeps sheets.now old))) }
     ensures state { IfOk result (λ r. r.1.entries ≡ r.0.kept.entries) }
     ensures fresh { IfOk result (λ r. (r.0.kept.next ≡ None) × (r.0.kept.tail ≡ None) × (r.0.kept.halted ≡ None)) }
     ensures limits { IfOk result (λ r. (r.0.kept.soft ≡ limits.soft) × (r.0.kept.hard ≡ limits.hard)) }
-    ensures why { IfErr result (λ e. IsUnjudged e.1 ⊎ IsNoJournalIn sheets.now frames.now e.1) }
+    ensures why { IfErr result (λ e. IsUnjudged e.1 ⊎ IsNoJournalIn sheets.now frames e.1) }
     ensures fault { IfErr result (λ e. e.1 ≡ JournalWhy.Fault → Rose (D.faults log.disk) (D.faults e.0)) }
-    ensures same { D.tells → IfErr result (λ e. e.1 ≢ JournalWhy.Fault → (c : List ℕ) → D.image e.0 c → Reads c frames.now) }
-    ensures spared { D.tells → IfErr result (λ e. (journal : List EntryValue) → frames_of journal ≡ frames.now → (c : List ℕ) → D.image e.0 c → Keeps sheets.now journal c) }
-    ensures any_moment { D.tells → IfErr result (λ e. LeavesOnly D.moment D.left_since log.disk e.0 (λ c. Reads c frames.now ⊎ GetsFirst sheets.now frames.now c)) }
+    ensures same { D.tells → IfErr result (λ e. e.1 ≢ JournalWhy.Fault → (c : List ℕ) → D.image e.0 c → Reads c frames) }
+    ensures spared { D.tells → IfErr result (λ e. (journal : List EntryValue) → frames_of journal ≡ frames → (c : List ℕ) → D.image e.0 c → Keeps sheets.now journal c) }
+    ensures any_moment { D.tells → IfErr result (λ e. LeavesOnly D.moment D.left_since log.disk e.0 (λ c. Reads c frames ⊎ GetsFirst sheets.now frames c)) }
     ensures faults { MatchResult result (λ r. D.faults log.disk ≤ D.faults r.0.disk) (λ e. D.faults log.disk ≤ D.faults e.0) }
     ensures changes { MatchResult result
         (λ r. (D.changes log.disk ≤ D.changes r.0.disk) × (D.changes r.0.disk ≤ D.changes log.disk + 2))
@@ -239,7 +239,7 @@ fn of_frames<D: Disk>(
     ensures setting { MatchResult result (λ r. D.setting r.0.disk ≡ D.setting log.disk) (λ e. D.setting e.0 ≡ D.setting log.disk) }
 {
     match find_journal(alloc, frames, sheets) {
-        Ok((copy, state)) => begin(alloc, journal_of(log, copy, limits), state, sheets),
+        Ok((frames, state)) => begin(alloc, journal_of(log, frames, limits), state, sheets),
         Err(why) => Err((log.into_disk(), why)),
     }
 }
@@ -284,7 +284,7 @@ impl<D: Disk> Journal<D> {
         ensures setting { MatchResult result (λ r. D.setting r.0.disk ≡ D.setting disk) (λ e. D.setting e.0 ≡ D.setting disk) }
     {
         match open_log(alloc, disk) {
-            Ok((log, frames)) => of_frames(alloc, log, &frames, sheets, limits),
+            Ok((log, frames)) => of_frames(alloc, log, frames, sheets, limits),
             Err(refused) => Err(refused),
         }
     }

@@ -1,13 +1,11 @@
 //! Judges the frames of a log as a journal.
-ghost use Rattle.std.specs.Prelude.{◌≡◌, ◌≢◌, ◌<◌, [], ◌∷◌, ◌++◌, List, length, map, take, slice_get, Some, All, OnOk, IfOk, IfErr};
+ghost use Rattle.std.specs.Prelude.{◌≡◌, ◌<◌, [], ◌∷◌, ◌++◌, List, length, take, OnOk, IfOk, IfErr};
 ghost use Rattle.hm_data.specs.declared.entry.Entry.{Entry as EntryValue};
-ghost use Rattle.hm_entry.specs.Fits.{EntryFits};
-ghost use Rattle.hm_entry.specs.Spelling.{entry as spelling};
 ghost use Rattle.hm_model.specs.Journal.{back};
 ghost use Rattle.hm_model.specs.Rules.{Allowed, AreSheets, IsLegal};
 ghost use Rattle.hm_model.specs.Sheets.{sheets_of};
 ghost use Rattle.hm_journal.specs.Stored.{IsJournal, frames_of, opened};
-ghost use Rattle.hm_journal.specs.Judged.{IsBadFrom, IsFound, IsNoJournalIn, IsNotAdded, bad_entry};
+ghost use Rattle.hm_journal.specs.Judged.{IsBadFrom, IsFound, IsNoJournalIn, IsNotAdded, IsNotAddedFrom, Spells, SpellsAt, bad_entry};
 ghost use Rattle.hm_journal.specs.Verdict.{IsNoEntry, IsNoJournal};
 
 use crate::sheets::{are_sheets, copy_sheets, first_difference};
@@ -17,7 +15,7 @@ use hm_entry::{EntryFault, decode};
 use hm_log::Frames;
 use hm_names::Copied;
 use hm_state::{NotAllowed, State};
-use std::alloc::{AllocError, Global};
+use std::alloc::Global;
 
 // Why the frame of this number spells no entry.
 fn fault_of(number: u64, fault: EntryFault) -> JournalWhy
@@ -34,7 +32,7 @@ fn fault_of(number: u64, fault: EntryFault) -> JournalWhy
 // The entry that the frame of this number spells.
 fn read_entry(alloc: Global, frames: &Frames, number: u64) -> Result<Entry, JournalWhy>
     requires { number < length frames.now }
-    ensures entry { IfOk result (λ entry. EntryFits entry × (slice_get frames.now number ≡ Some (spelling entry))) }
+    ensures entry { IfOk result (SpellsAt frames.now number) }
     ensures why { IfErr result (IsBadFrom frames.now number) }
 {
     match decode(alloc, frames.frame(number)) {
@@ -43,16 +41,15 @@ fn read_entry(alloc: Global, frames: &Frames, number: u64) -> Result<Entry, Jour
     }
 }
 
-/// The entries that frames spell.
-pub fn read_entries(alloc: Global, frames: &Frames) -> Result<Vec<Entry>, JournalWhy>
-    ensures entries { IfOk result (λ entries. (frames_of entries.items ≡ frames.now) × All EntryFits entries.items) }
+// Whether each frame spells an entry. None is kept: `judge` reads each anew, so that its state alone has them.
+fn check_entries(alloc: Global, frames: &Frames) -> Result<(), JournalWhy>
+    ensures entries { OnOk result ((entries : List EntryValue) × Spells frames.now entries) }
     ensures why { IfErr result (IsNoEntry frames.now) }
 {
-    let mut entries = Vec::with_capacity(alloc, frames.count() as usize)?;
     for number in 0..frames.count() {
-        entries.push(read_entry(alloc, frames, number)?)?;
+        drop(read_entry(alloc, frames, number)?);
     }
-    Ok(entries)
+    Ok(())
 }
 
 // The state of a journal that has this entry, if that starts one of these sheets.
@@ -91,42 +88,65 @@ fn add(alloc: Global, state: &mut State, entry: &Entry) -> Result<(), JournalWhy
     Ok(())
 }
 
-// Adds the entries that stand behind those that are there, if they may stand there.
-fn add_others(alloc: Global, state: &mut State, entries: &[Entry]) -> Result<(), JournalWhy>
-    requires { state.old.entries ≡ take (length state.old.entries) entries.now }
-    ensures state { OnOk result (state.new.entries ≡ entries.now) }
-    ensures legal { OnOk result (IsLegal (back entries.now)) }
-    ensures begins { OnOk result (sheets_of (back entries.now) ≡ sheets_of (back state.old.entries)) }
-    ensures why { IfErr result (IsNoJournal (sheets_of (back state.old.entries)) entries.now) }
+// The state of a journal that has the entry of the first frame, if that starts one of these sheets.
+fn begin_frame(alloc: Global, frames: &Frames, sheets: &[Sheet]) -> Result<State, JournalWhy>
+    requires sheets { AreSheets sheets.now }
+    requires begun { 0 < length frames.now }
+    ensures state { IfOk result (λ state. state.entries ≡ Entry.Start sheets.now ∷ []) }
+    ensures starts { OnOk result (SpellsAt frames.now 0 (Entry.Start sheets.now)) }
+    ensures why { (entries : List EntryValue) → Spells frames.now entries → IfErr result (IsNoJournal sheets.now entries) }
 {
-    for number in state.entries() as usize..entries.len() {
-        add(alloc, state, &entries[number])?;
+    let first = read_entry(alloc, frames, 0)?;
+    let begun = begin(alloc, &first, sheets);
+    drop(first);
+    begun
+}
+
+// Adds the entry of the frame of this number, if it may stand behind those that are there.
+fn add_frame(
+    alloc: Global,
+    state: &mut State,
+    frames: &Frames,
+    number: u64,
+) -> Result<(), JournalWhy>
+    requires { number < length frames.now }
+    ensures added { OnOk result ((entry : EntryValue) × SpellsAt frames.now number entry × (state.new.entries ≡ state.old.entries ++ entry ∷ [])
+        × Allowed (back state.old.entries) entry) }
+    ensures why { IfErr result (IsNotAddedFrom state.old.entries frames.now number) }
+{
+    let entry = read_entry(alloc, frames, number)?;
+    let added = add(alloc, state, &entry);
+    drop(entry);
+    added
+}
+
+// Adds the entries of the frames behind those of the entries that are there, if they may stand there.
+fn add_others(alloc: Global, state: &mut State, frames: &Frames) -> Result<(), JournalWhy>
+    requires { Spells (take (length state.old.entries) frames.now) state.old.entries }
+    ensures spelled { OnOk result (Spells frames.now state.new.entries) }
+    ensures legal { OnOk result (IsLegal (back state.new.entries)) }
+    ensures begins { OnOk result (sheets_of (back state.new.entries) ≡ sheets_of (back state.old.entries)) }
+    ensures why { (entries : List EntryValue) → Spells frames.now entries →
+        IfErr result (IsNoJournal (sheets_of (back state.old.entries)) entries) }
+{
+    for number in state.entries()..frames.count() {
+        add_frame(alloc, state, frames, number)?;
     }
     Ok(())
 }
 
-/// The state of a journal that has begun, if it is a journal of these sheets.
-pub fn judge(alloc: Global, entries: &[Entry], sheets: &[Sheet]) -> Result<State, JournalWhy>
+// The state of the journal that frames spell, which has begun, if it is one of these sheets. Its errors are those of
+// frames that spell entries.
+fn judge(alloc: Global, frames: &Frames, sheets: &[Sheet]) -> Result<State, JournalWhy>
     requires sheets { AreSheets sheets.now }
-    requires begun { entries.now ≢ [] }
-    requires fits { All EntryFits entries.now }
-    ensures state { IfOk result (λ state. state.entries ≡ entries.now) }
-    ensures journal { OnOk result (IsJournal sheets.now entries.now) }
-    ensures why { IfErr result (IsNoJournal sheets.now entries.now) }
+    requires begun { 0 < length frames.now }
+    ensures spelled { IfOk result (λ state. frames_of state.entries ≡ frames.now) }
+    ensures journal { IfOk result (λ state. IsJournal sheets.now state.entries) }
+    ensures why { (entries : List EntryValue) → Spells frames.now entries → IfErr result (IsNoJournal sheets.now entries) }
 {
-    let mut state = begin(alloc, &entries[0], sheets)?;
-    add_others(alloc, &mut state, entries)?;
+    let mut state = begin_frame(alloc, frames, sheets)?;
+    add_others(alloc, &mut state, frames)?;
     Ok(state)
-}
-
-fn copy_frames(alloc: Global, frames: &Frames) -> Result<Vec<Vec<u8>>, AllocError>
-    ensures { IfOk result (λ copy. map (λ frame. frame.items) copy.items ≡ frames.now) }
-{
-    let mut copy = Vec::new(alloc);
-    for number in 0..frames.count() {
-        copy.push(Vec::from_slice(alloc, frames.frame(number))?)?;
-    }
-    Ok(copy)
 }
 
 // The state of the journal that frames spell. One without entries gets that of its first.
@@ -136,26 +156,27 @@ fn judge_frames(alloc: Global, frames: &Frames, sheets: &[Sheet]) -> Result<Stat
         × (state.entries ≡ opened sheets.now journal)) }
     ensures why { IfErr result (IsNoJournalIn sheets.now frames.now) }
 {
-    let entries = read_entries(alloc, frames)?;
-    if entries.is_empty() {
+    check_entries(alloc, frames)?;
+    if frames.count() == 0 {
         return Ok(State::start(alloc, copy_sheets(alloc, sheets)?)?);
     }
-    judge(alloc, &entries, sheets)
+    judge(alloc, frames, sheets)
 }
 
-// A copy of the frames, and the state of the journal that they spell.
+// The frames themselves, and the state of the journal that they spell.
 pub(crate) fn find_journal(
     alloc: Global,
-    frames: &Frames,
+    frames: Frames,
     sheets: &[Sheet],
 ) -> Result<(Vec<Vec<u8>>, State), JournalWhy>
     requires { AreSheets sheets.now }
-    ensures found { IfOk result (λ found. IsFound sheets.now frames.now found.0.items found.1.entries) }
-    ensures why { IfErr result (IsNoJournalIn sheets.now frames.now) }
+    ensures found { IfOk result (λ found. IsFound sheets.now frames found.0.items found.1.entries) }
+    ensures why { IfErr result (IsNoJournalIn sheets.now frames) }
 {
-    let copy = copy_frames(alloc, frames)?;
-    let state = judge_frames(alloc, frames, sheets)?;
-    Ok((copy, state))
+    match judge_frames(alloc, &frames, sheets) {
+        Ok(state) => Ok((frames.into_vec(), state)),
+        Err(why) => Err(why),
+    }
 }
 
 // How many entries the journal has that frames spell, if that is one of these sheets.

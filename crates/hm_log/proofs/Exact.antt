@@ -1,5 +1,5 @@
 -- What holds a log is opened as its frames, unless the disk fails or memory runs out.
-use Rattle.std.proofs.Common.{◌≡◌, ◌⊎◌, ℕ, List, [], length, refl, sym, ◌∙◌, inl, inr}
+use Rattle.std.proofs.Common.{◌≡◌, ◌⊎◌, ℕ, List, refl, sym, ◌∙◌, inl, inr}
 use Rattle.hm_log.specs.Format.{HoldsFrames, IsNotALog, IsBadFrame}
 use Rattle.hm_log.specs.Verdict.{Verdict, Judges}
 use Rattle.hm_log.specs.declared.why.OpenWhy.{OpenWhy}

@@ -34,6 +34,13 @@ impl Frames {
         &self.all[number as usize]
     }
 
+    /// The frames themselves, in order.
+    pub fn into_vec(self) -> Vec<Vec<u8>>
+        ensures { map (λ frame. frame.items) result.items ≡ self }
+    {
+        self.all
+    }
+
     pub(crate) fn none(alloc: Global) -> Frames
         ensures { result ≡ [] }
     {

@@ -35,7 +35,7 @@ pub returns-in-Ok-clause-spared : goal.returns-in-Ok-clause-spared
 returns-in-Ok-clause-spared g c tells =
     let d = g.D.Disk in
     let sheets = c.args.sheets.now in
-    let frames = c.args.frames.now in
+    let frames = c.args.frames in
     let kept = c.journal_of.result.kept.entries in
     let are = ap frames_of (ap (λ (kept : Recording). kept.entries) c.journal_of.ensures.kept) ∙ c.in-Ok.ensures.found.spelled in
     err_both c.begin.result _ _ _ _
@@ -48,7 +48,7 @@ pub returns-in-Ok-clause-any_moment : goal.returns-in-Ok-clause-any_moment
 returns-in-Ok-clause-any_moment g c tells =
     let d = g.D.Disk in
     let sheets = c.args.sheets.now in
-    let frames = c.args.frames.now in
+    let frames = c.args.frames in
     let kept = c.journal_of.result.kept.entries in
     let are = ap frames_of (ap (λ (kept : Recording). kept.entries) c.journal_of.ensures.kept) ∙ c.in-Ok.ensures.found.spelled in
     err_both c.begin.result _ _ _ _

@@ -1,7 +1,7 @@
 use Rattle.hm_journal.proofs.Found.{found_journal}
 use Rattle.hm_journal.proofs.reading.find_journal.Goals as goal
 
-pub returns-clause-found : goal.returns-clause-found
-returns-clause-found c =
-    let journal = c.in_ok-state.ensures.state in
-    found_journal c.args.sheets.now c.args.frames.now c.in_ok-copy.copy.items journal.0 c.in_ok-state.state.entries journal.1 journal.2 journal.3 c.in_ok-copy.ensures
+pub returns-in-Ok-clause-found : goal.returns-in-Ok-clause-found
+returns-in-Ok-clause-found c =
+    let journal = c.in-Ok.ensures.state in
+    found_journal c.args.sheets.now c.args.frames c.into_vec.result.items journal.0 c.in-Ok.state.entries journal.1 journal.2 journal.3 c.into_vec.ensures
