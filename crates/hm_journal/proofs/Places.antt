@@ -1,4 +1,4 @@
--- What is told of frames at their places, where others spell entries.
+-- Why entries that frames spell are refused, by what was found at one frame.
 use Rattle.std.proofs.Common.{◌≡◌, ℕ, zero, suc, ◌<◌, List, [], ◌∷◌, take, length, slice_get, Some, Result, All, sym, ap, ◌∙◌, subst, inl, inr, arith}
 use Rattle.std.proofs.lemmas.List.{length-map, length-take-le, take-map}
 use Rattle.std.proofs.lemmas.List.Elements.{All-head, All-tail, All-take}
@@ -51,11 +51,11 @@ front_is frames number front entries so_far spells =
 -- an entry that isn't added is the first that may not stand where it does
 not_added : (sheets : List Sheet) (frames : List (List ℕ)) (number : ℕ) (front entries : List Entry) (entry : Entry) (why : JournalWhy) → Spells (take number frames) front → IsFront sheets front → Spells frames entries
     → SpellsAt frames number entry → IsNotAdded front entry why → IsNoJournal sheets entries why
-not_added sheets frames number front entries entry why_is.Fault so_far legal spells here none = absurd none
-not_added sheets frames number front entries entry (why_is.NotALog place) so_far legal spells here none = absurd none
-not_added sheets frames number front entries entry (why_is.BadFrame place) so_far legal spells here none = absurd none
-not_added sheets frames number front entries entry (why_is.BadEntry n at) so_far legal spells here none = absurd none
-not_added sheets frames number front entries entry (why_is.Illegal n rule) so_far legal spells here none =
+not_added sheets frames number front entries entry why_is.Fault so_far is_front spells here none = absurd none
+not_added sheets frames number front entries entry (why_is.NotALog place) so_far is_front spells here none = absurd none
+not_added sheets frames number front entries entry (why_is.BadFrame place) so_far is_front spells here none = absurd none
+not_added sheets frames number front entries entry (why_is.BadEntry n at) so_far is_front spells here none = absurd none
+not_added sheets frames number front entries entry (why_is.Illegal n rule) so_far is_front spells here none =
     let within : number < length frames = slice_get_within frames number (spelling entry) here.1 in
     let long : length front ≡ number = sym (length-map front spelling) ∙ ap length so_far.are ∙ length-take-le number frames (omega (arith, within)) in
     let at : n ≡ number = none.0 ∙ long in
@@ -63,17 +63,17 @@ not_added sheets frames number front entries entry (why_is.Illegal n rule) so_fa
     record {
       entry = entry;
       there = ap (slice_get entries) at ∙ spelled_at frames entries number entry spells here;
-      legal = subst (λ (es : List Entry). IsLegal (back es)) (sym cut) legal.legal;
-      begins = λ some. ap (λ (es : List Entry). sheets_of (back es)) cut ∙ legal.begins;
+      legal = subst (λ (es : List Entry). IsLegal (back es)) (sym cut) is_front.legal;
+      begins = λ some. ap (λ (es : List Entry). sheets_of (back es)) cut ∙ is_front.begins;
       breaks = subst (λ (es : List Entry). Breaks (back es) entry rule) (sym cut) none.1;
     }
-not_added sheets frames number front entries entry (why_is.SheetsDiffer kind) so_far legal spells here none = absurd none
-not_added sheets frames number front entries entry why_is.Memory so_far legal spells here none = tt
+not_added sheets frames number front entries entry (why_is.SheetsDiffer kind) so_far is_front spells here none = absurd none
+not_added sheets frames number front entries entry why_is.Memory so_far is_front spells here none = tt
 
 pub not_added_from : (sheets : List Sheet) (frames : List (List ℕ)) (number : ℕ) (front entries : List Entry) (why : JournalWhy) → Spells (take number frames) front → IsFront sheets front → Spells frames entries
     → IsNotAddedFrom front frames number why → IsNoJournal sheets entries why
-not_added_from sheets frames number front entries why so_far legal spells (inl bad) = none_read sheets frames entries number why spells bad
-not_added_from sheets frames number front entries why so_far legal spells (inr none) = not_added sheets frames number front entries none.0 why so_far legal spells none.1 none.2
+not_added_from sheets frames number front entries why so_far is_front spells (inl bad) = none_read sheets frames entries number why spells bad
+not_added_from sheets frames number front entries why so_far is_front spells (inr none) = not_added sheets frames number front entries none.0 why so_far is_front spells none.1 none.2
 
 -- the entry of the first frame stands first
 first_of : (entries : List Entry) (first : Entry) → slice_get entries 0 ≡ Some first → (more : List Entry) × (entries ≡ first ∷ more)
