@@ -1,5 +1,5 @@
 -- How a conversation goes on.
-use Rattle.std.proofs.Common.{◌≡◌, ℕ, ◌+◌, List, [], ◌∷◌, ◌++◌, length, take, drop, Option, refl, sym, ap, ◌∙◌, append_assoc, append-nil, subst, inl, inr}
+use Rattle.std.proofs.Common.{◌≡◌, ◌<◌, ℕ, ◌+◌, List, [], ◌∷◌, ◌++◌, length, take, drop, Option, refl, sym, ap, ◌∙◌, append_assoc, append-nil, subst, inl, inr}
 use Rattle.std.proofs.lemmas.Grind.{flat_map-append}
 use Rattle.hm_data.specs.declared.entry.Entry.{Entry}
 use Rattle.hm_hall.specs.declared.fault.Halt.{Halt}
@@ -74,7 +74,7 @@ broken_within limits P commands command more old marks mid new c next (inr worke
 }
 
 -- a front of one answer's text
-one_cut : (before after : List ℕ) (answer : Answer) → IsFront before after (answer_text answer) → IsCutIn before after (answer ∷ [])
+abbrev one_cut : (before after : List ℕ) (answer : Answer) → IsFront before after (answer_text answer) → IsCutIn before after (answer ∷ [])
 one_cut before after answer front = record {
   before = [];
   last = answer;
@@ -82,6 +82,10 @@ one_cut before after answer front = record {
   bytes = front.0;
   got = front.1;
 }
+
+-- less than one answer's text
+pub one_short : (before after : List ℕ) (answer : Answer) → ((n : ℕ) × (n < length (answer_text answer)) × (after ≡ before ++ take n (answer_text answer))) → IsShort before after (answer ∷ [])
+one_short before after answer part = (one_cut before after answer (part.0, part.2), part.1)
 
 module _ (before mid after : List ℕ) (answers : List Answer) (whole : mid ≡ before ++ text_of answers) where
   -- all of one more
@@ -104,14 +108,18 @@ module _ (before mid after : List ℕ) (answers : List Answer) (whole : mid ≡ 
             ∙ ap (λ l. before ++ l) (sym (append_assoc (text_of answers) (text_of cut.before) part) ∙ ap (λ l. l ++ part) (sym (flat_map-append answer_text answers cut.before)));
       }
 
--- the first part wasn't said whole, and no command was answered
-pub none_answered : (limits : Limits) (tells : Type 0) (got0 got1 : List ℕ) (first : Answer) (commands : List Command) (old : Said) (marks : List ℕ) → marks ≡ [] → (tells → IsFront got0 got1 (answer_text first))
+-- no command was answered
+pub none_answered : (limits : Limits) (P : List Answer → Type 0) (commands : List Command) (old : Said) (marks : List ℕ) → marks ≡ [] → P [] → Conversation limits P (take (length marks) commands) old marks old
+none_answered limits P commands old marks none said =
+    let empty : Conversation limits P [] old [] old = record { answers = []; transcript = (refl, refl, refl); said = said } in
+    subst (λ m. Conversation limits P (take (length m) commands) old m old) (sym none) empty
+
+-- the first part wasn't said whole
+pub not_begun : (limits : Limits) (tells : Type 0) (got0 got1 : List ℕ) (first : Answer) (commands : List Command) (old : Said) (marks : List ℕ) → marks ≡ [] → (tells → IsFront got0 got1 (answer_text first))
     → IsBrokenOffIn limits (λ answers. tells → IsNearly got0 got1 (first ∷ answers)) commands old marks old
-none_answered limits tells got0 got1 first commands old marks none front =
-    let said : Type 0 = Conversation limits (λ answers. tells → IsNearly got0 got1 (first ∷ answers)) [] old [] old in
-    let here : said = record { answers = []; transcript = (refl, refl, refl); said = λ told. inr (one_cut got0 got1 first (front told)) } in
-    broken_after limits (λ answers. tells → IsNearly got0 got1 (first ∷ answers)) commands old marks old
-    (subst (λ m. Conversation limits (λ answers. tells → IsNearly got0 got1 (first ∷ answers)) (take (length m) commands) old m old) (sym none) here)
+not_begun limits tells got0 got1 first commands old marks none front =
+    let P : List Answer → Type 0 = λ answers. tells → IsNearly got0 got1 (first ∷ answers) in
+    broken_after limits P commands old marks old (none_answered limits P commands old marks none (λ told. inr (one_cut got0 got1 first (front told))))
 
 -- Behind the first part so many commands were answered, and the sink has all of that.
 module _ (limits : Limits) (tells : Type 0) (got0 got1 : List ℕ) (first : Answer) (commands : List Command) (old mid : Said) (index : ℕ) (before : List ℕ)

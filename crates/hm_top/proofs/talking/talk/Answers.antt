@@ -4,8 +4,9 @@ use Rattle.hm_top.specs.declared.answer.Answer.TheVariants.{Opened}
 use Rattle.hm_top.specs.declared.status.Cut.TheVariants.{WriteFault}
 use Rattle.hm_journal.specs.declared.limits.Limits.{Limits}
 use Rattle.hm_top.specs.Answer.{IsUnanswered}
+use Rattle.hm_top.specs.Run.{IsShort}
 use Rattle.hm_top.specs.View.{said_of, limits_of}
-use Rattle.hm_top.proofs.Conversations.{answered_part, answered_short, answered_whole, none_answered, stopped, stopped_within}
+use Rattle.hm_top.proofs.Conversations.{answered_part, answered_short, answered_whole, none_answered, not_begun, stopped, stopped_within}
 use Rattle.hm_top.proofs.Growth.{ran_on}
 use Rattle.hm_top.proofs.Moments.{moments_on}
 use Rattle.hm_top.proofs.talking.talk.Goals as goal
@@ -14,8 +15,16 @@ pub returns-in_err-say-clause-part : goal.returns-in_err-say-clause-part
 returns-in_err-say-clause-part g c =
     let k = g.K.Sink in
     let was = c.args.world.now in
-    none_answered (limits_of was) k.tells (k.got c.args.out.now) (k.got c.say.new.out) (Opened (length was.kept.entries)) c.args.commands.now (said_of was) c.args.marks.now.items c.requires.fresh
+    not_begun (limits_of was) k.tells (k.got c.args.out.now) (k.got c.say.new.out) (Opened (length was.kept.entries)) c.args.commands.now (said_of was) c.args.marks.now.items c.requires.fresh
     (rw c.entries.ensures.length at c.say.ensures.part)
+
+pub returns-in_err-say-clause-short : goal.returns-in_err-say-clause-short
+returns-in_err-say-clause-short g c is =
+    let k = g.K.Sink in
+    let was = c.args.world.now in
+    let fails : IsErrOf c.say.result WriteFault = grind (arith, common_steps) in
+    none_answered (limits_of was) (λ answers. k.tells → IsShort (k.got c.args.out.now) (k.got c.say.new.out) (Opened (length was.kept.entries) ∷ answers)) c.args.commands.now (said_of was) c.args.marks.now.items c.requires.fresh
+    (rw c.entries.ensures.length at c.say.ensures.short fails)
 
 pub returns-in_err-reserve-clause-part : goal.returns-in_err-reserve-clause-part
 returns-in_err-reserve-clause-part g c =
