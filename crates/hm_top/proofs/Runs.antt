@@ -168,12 +168,12 @@ module _ {D : Type 0} (tells : Type 0) (moment : D → ℕ) (left_since : D → 
       subst (EndsOn tells moment left_since seen image disk new faults limits misfit script read_rose unread source got (Rose faults0 faults2) ran' marks finished) (sym same)
       (⊎_elim
       (λ done.
-      let said : (answers : List Answer) → talked status text → got status text = λ answers t told. got_finished (Rose faults1 faults2) (Rose faults0 faults2) got0 got1 got2 status answers (rose_late faults0 faults1 faults2 first) (t told) (done.1 told) in
+      let said : (answers : List Answer) → talked status answers → got status answers = λ answers t told. got_finished (Rose faults1 faults2) (Rose faults0 faults2) got0 got1 got2 status answers (rose_late faults0 faults1 faults2 first) (t told) (done.1 told) in
       subst ends (sym done.0)
       (ends_map misfit script read_rose unread (new ≡ disk) talked judged marks got outcome status (said [])
       (outcome_map sheets limits before stored since spared refused disk_rose marks source source ran ran' talked got (Rose faults0 faults1) (Rose faults0 faults2) (λ cs c. c) counts status said (rose_early faults0 faults1 faults2 then)) e))
       (λ short.
-      let said : (answers : List Answer) → talked status text → got Memory text = λ answers t told. got_unfinished got0 got1 got2 status answers (t told) (short.1 told) in
+      let said : (answers : List Answer) → talked status answers → got Memory answers = λ answers t told. got_unfinished got0 got1 got2 status answers (t told) (short.1 told) in
       subst ends (sym short.0)
       (ends_either misfit script read_rose unread (new ≡ disk) talked judged marks (ends Memory) status
       (λ none unchanged t. inl (none, unchanged_spared tells moment left_since seen image disk new sheets only unchanged, said [] t))
