@@ -1,6 +1,7 @@
 -- Where nothing is wrong and nothing fails, a run is done, or the journal is full.
 use Rattle.std.proofs.Common.{◌≡◌, ◌⊎◌, ◌≤◌, ℕ, List, Option, None, length, refl, sym, ◌∙◌, inl, inr, arith}
 use Rattle.std.proofs.lemmas.Option.{none-some}
+use Rattle.hm_top.specs.declared.answer.Answer.{Answer}
 use Rattle.hm_top.specs.declared.command.Command.{Command}
 use Rattle.hm_top.specs.declared.status.Bad.{Bad}
 use Rattle.hm_top.specs.declared.status.LogWhy.{LogWhy}
@@ -21,7 +22,7 @@ not_bad_at input commands line why short script bad = bad
 pub not_bad : (input : List ℕ) (commands : List Command) (bad : Bad) → length input ≤ 1048576 → IsScript (lines_of input) commands → IsBad input bad → ⊥
 not_bad input commands bad short script is = not_bad_at input commands bad.line bad.why short script is
 
-module _ (misfit : Option ℕ) (script : Bad → Type 0) (read_rose unread same : Type 0) (sink : RunStatus → List ℕ → Type 0) (outcome : RunStatus → Type 0) (disk_rose sink_rose : Type 0) (marks : List ℕ)
+module _ (misfit : Option ℕ) (script : Bad → Type 0) (read_rose unread same : Type 0) (sink : RunStatus → List Answer → Type 0) (outcome : RunStatus → Type 0) (disk_rose sink_rose : Type 0) (marks : List ℕ)
     (fit : misfit ≡ None) (right : (bad : Bad) → script bad → ⊥) (reads : ¬ read_rose) (works : ¬ disk_rose) (takes : ¬ sink_rose)
     (disk_blamed : outcome LogFault → disk_rose) (sink_blamed : outcome WriteFault → sink_rose) where
   -- the words and the script are right, and nothing failed

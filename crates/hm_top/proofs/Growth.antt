@@ -45,10 +45,10 @@ answer_grows limits command old answer new a = by_halted old.halted a
 grows_on : (a b c : List Entry) → Grows a b → Grows b c → Grows a c
 grows_on a b c first then = (first.0 ++ then.0, then.1 ∙ ap (λ l. l ++ then.0) first.1 ∙ append_assoc a first.0 then.0)
 
-pub transcript_grows : (limits : Limits) (commands : List Command) (old : Said) (marks text : List ℕ) (new : Said) → Transcript limits commands old marks text new → Grows old.journal new.journal
-transcript_grows limits [] old marks text new t = stays old.journal new (ap (λ (s : Said). s.journal) t.2)
-transcript_grows limits (command ∷ commands) old marks text new t =
-    grows_on old.journal t.0.journal new.journal (answer_grows limits command old t.3.answer t.0 t.3.answers) (transcript_grows limits commands t.0 t.1 t.2 new t.4)
+pub transcript_grows : (limits : Limits) (commands : List Command) (old : Said) (marks : List ℕ) (answers : List Answer) (new : Said) → Transcript limits commands old marks answers new → Grows old.journal new.journal
+transcript_grows limits [] old marks answers new t = stays old.journal new (ap (λ (s : Said). s.journal) t.2)
+transcript_grows limits (command ∷ commands) old marks answers new t =
+    grows_on old.journal t.0.journal new.journal (answer_grows limits command old t.3.answer t.0 t.3.fits) (transcript_grows limits commands t.0 t.1 t.2 new t.4)
 
 -- what the opening adds, which is no step
 pub opened_grows : (sheets : List Sheet) (old : List Entry) → (first : List Entry) × (opened sheets old ≡ old ++ first) × (steps_in first ≡ 0)

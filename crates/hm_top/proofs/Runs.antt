@@ -15,6 +15,7 @@ use Rattle.hm_journal.specs.declared.why.JournalWhy.{JournalWhy}
 use Rattle.hm_journal.specs.declared.why.JournalWhy.TheVariants as why_is
 use Rattle.hm_model.specs.Journal.{back}
 use Rattle.hm_model.specs.Rules.{IsLegal}
+use Rattle.hm_top.specs.declared.answer.Answer.{Answer}
 use Rattle.hm_top.specs.declared.command.Command.{Command}
 use Rattle.hm_top.specs.declared.status.Bad.{Bad}
 use Rattle.hm_top.specs.declared.status.Cut.{Cut}
@@ -48,13 +49,13 @@ module _ {D : Type 0} (tells : Type 0) (moment : D → ℕ) (left_since : D → 
       tells → Refuses sheets (seen disk) why × SameFrames (seen disk) (seen new) (image new) × LeavesOnly moment left_since disk new (IsOpening sheets (seen disk) (image disk))
 
   -- how a run ended on the disk
-  abbrev pub OutcomeOn : (faults : D → ℕ) (limits : Limits) (source : List Command → Type 0) (sink : RunStatus → List ℕ → Type 0) (sink_rose : Type 0) (ran : ℕ → Type 0) (marks : List ℕ) (status : RunStatus) (sheets : List Sheet) → Type 0
+  abbrev pub OutcomeOn : (faults : D → ℕ) (limits : Limits) (source : List Command → Type 0) (sink : RunStatus → List Answer → Type 0) (sink_rose : Type 0) (ran : ℕ → Type 0) (marks : List ℕ) (status : RunStatus) (sheets : List Sheet) → Type 0
   OutcomeOn faults limits source sink sink_rose ran marks status sheets =
       Outcome sheets limits source (λ journal. tells → IsOnDisk sheets (seen disk) journal) (λ journal halted. tells → AllStored (image new) journal halted) (Since sheets) sink (Spared sheets) (Refused sheets)
       (Rose (faults disk) (faults new)) sink_rose ran marks status
 
   -- the same, of the whole run
-  abbrev pub EndsOn : (faults : D → ℕ) (limits : Limits) (misfit : Option ℕ) (script : Bad → Type 0) (read_rose unread : Type 0) (source : List Command → Type 0) (sink : RunStatus → List ℕ → Type 0) (sink_rose : Type 0)
+  abbrev pub EndsOn : (faults : D → ℕ) (limits : Limits) (misfit : Option ℕ) (script : Bad → Type 0) (read_rose unread : Type 0) (source : List Command → Type 0) (sink : RunStatus → List Answer → Type 0) (sink_rose : Type 0)
       (ran : ℕ → Type 0) (marks : List ℕ) (status : RunStatus) (sheets : List Sheet) → Type 0
   EndsOn faults limits misfit script read_rose unread source sink sink_rose ran marks status sheets =
       Ends misfit script read_rose unread (new ≡ disk) sink (λ s. OutcomeOn faults limits source sink sink_rose ran marks s sheets) marks status
@@ -79,7 +80,7 @@ module _ {D : Type 0} (tells : Type 0) (moment : D → ℕ) (left_since : D → 
       → (was.kept.halted ≡ None → after.kept.halted ≡ Some halt_is.LogFault → Rose (faults was.disk) (faults after.disk))
       → Ran was.kept.entries after.kept.entries runs now → (talked ≡ Err cut_is.WriteFault → sink_rose)
       → halted ≡ after.kept.halted → IsLegal (back after.kept.entries) → new ≡ after.disk → (tells → AllStored (image new) after.kept.entries after.kept.halted)
-      → OutcomeOn tells moment left_since seen image disk new faults limits (λ read. read ≡ commands) (λ status text. heard → Talked got0 got1 status text) sink_rose (λ count. RisesBy count runs now) marks status sheets
+      → OutcomeOn tells moment left_since seen image disk new faults limits (λ read. read ≡ commands) (λ status answers. heard → Talked got0 got1 status answers) sink_rose (λ count. RisesBy count runs now) marks status sheets
   converse_talked was after talked halted status runs now ends opening same later talk leaves halts ran fails is legal given stored =
       let old = opening.0 in
       let begins : was.kept.entries ≡ (begun sheets old).journal = ap (λ (said : Said). said.journal) opening.2 in
@@ -88,7 +89,7 @@ module _ {D : Type 0} (tells : Type 0) (moment : D → ℕ) (left_since : D → 
       stays_settled moment left_since disk was.disk after.disk (λ c. image disk c ⊎ IsMaking (seen disk) c) (IsRun sheets old) (opening.3 told).1
       (weaker moment left_since was.disk after.disk (Continues was.kept.entries) (IsRun sheets old) (λ bytes is. inr (subst (λ j. Continues j bytes) begins is)) (leaves told)) in
       let rose : after.kept.halted ≡ Some halt_is.LogFault → Rose (faults disk) (faults after.disk) = λ halted_is. rose_late (faults disk) (faults was.disk) (faults after.disk) later (halts going halted_is) in
-      subst (λ e. OutcomeOn tells moment left_since seen image disk new faults limits (λ read. read ≡ commands) (λ s text. heard → Talked got0 got1 s text) sink_rose (λ count. RisesBy count runs now) marks e sheets) (sym ends)
+      subst (λ e. OutcomeOn tells moment left_since seen image disk new faults limits (λ read. read ≡ commands) (λ s answers. heard → Talked got0 got1 s answers) sink_rose (λ count. RisesBy count runs now) marks e sheets) (sym ends)
       (outcome_talked sheets limits (λ read. read ≡ commands) (λ journal. tells → IsOnDisk sheets (seen disk) journal) (λ journal why. tells → AllStored (image new) journal why)
       (Since tells moment left_since seen image disk new sheets) (Spared tells moment left_since seen image disk new sheets) (Refused tells moment left_since seen image disk new sheets)
       (Rose (faults disk) (faults new)) sink_rose heard got0 got1 commands marks old (said_of after) runs now refl (λ told. (opening.3 told).0) legal stored
@@ -101,9 +102,9 @@ module _ {D : Type 0} (tells : Type 0) (moment : D → ℕ) (left_since : D → 
   pub converse_unopened : (why : JournalWhy) (status : RunStatus) (ran : ℕ → Type 0) → status ≡ unopened_status why → marks ≡ [] → (tells → Refuses sheets (seen disk) why) → (why ≡ why_is.Fault → Rose (faults disk) (faults new))
       → (tells → why ≢ why_is.Fault → SameFrames (seen disk) (seen new) (image new)) → (tells → Spares sheets (seen disk) (image disk) (seen new) (image new))
       → (tells → LeavesOnly moment left_since disk new (IsOpening sheets (seen disk) (image disk))) → (heard → got1 ≡ got0)
-      → OutcomeOn tells moment left_since seen image disk new faults limits (λ read. read ≡ commands) (λ status text. heard → Talked got0 got1 status text) sink_rose ran marks status sheets
+      → OutcomeOn tells moment left_since seen image disk new faults limits (λ read. read ≡ commands) (λ status answers. heard → Talked got0 got1 status answers) sink_rose ran marks status sheets
   converse_unopened why status ran ends none refuses fault frames spares moments said =
-      subst (λ e. OutcomeOn tells moment left_since seen image disk new faults limits (λ read. read ≡ commands) (λ s text. heard → Talked got0 got1 s text) sink_rose ran marks e sheets) (sym ends)
+      subst (λ e. OutcomeOn tells moment left_since seen image disk new faults limits (λ read. read ≡ commands) (λ s answers. heard → Talked got0 got1 s answers) sink_rose ran marks e sheets) (sym ends)
       (outcome_unopened sheets limits (λ read. read ≡ commands) (λ journal. tells → IsOnDisk sheets (seen disk) journal) (λ journal halted. tells → AllStored (image new) journal halted)
       (Since tells moment left_since seen image disk new sheets) (Spared tells moment left_since seen image disk new sheets) (Refused tells moment left_since seen image disk new sheets)
       (Rose (faults disk) (faults new)) sink_rose heard got0 got1 commands marks ran why refl none fault (λ told. (spares told, moments told)) (λ judged told. (refuses told, frames told (λ failed. judged (inl failed)), moments told)) said)
@@ -113,11 +114,11 @@ module _ {D : Type 0} (tells : Type 0) (moment : D → ℕ) (left_since : D → 
   -- the end of a run whose script was read
   pub judge_read : (told : Type 0) (left0 left1 : List ℕ) (commands items : List Command) (ran : ℕ → Type 0) (sink_rose : Type 0) (sheets : List Sheet) → misfit ≡ None
       → (told → length left0 ≤ 1048576) → (told → IsScript (lines_of left0) items) → commands ≡ items → (told → left1 ≡ [])
-      → OutcomeOn tells moment left_since seen image disk new faults limits (λ read. read ≡ commands) (λ s text. heard → Talked got0 got1 s text) sink_rose ran marks status sheets
-      → EndsOn tells moment left_since seen image disk new faults limits misfit script read_rose unread (IsRead misfit told left0 left1) (λ s text. heard → Talked got0 got1 s text) sink_rose ran marks status sheets
+      → OutcomeOn tells moment left_since seen image disk new faults limits (λ read. read ≡ commands) (λ s answers. heard → Talked got0 got1 s answers) sink_rose ran marks status sheets
+      → EndsOn tells moment left_since seen image disk new faults limits misfit script read_rose unread (IsRead misfit told left0 left1) (λ s answers. heard → Talked got0 got1 s answers) sink_rose ran marks status sheets
   judge_read told left0 left1 commands items ran sink_rose sheets fit short right same whole o =
       let read : (cs : List Command) → cs ≡ commands → IsRead misfit told left0 left1 cs = λ cs is. (fit, λ t. (short t, subst (IsScript (lines_of left0)) (sym (is ∙ same)) (right t), whole t)) in
-      let talked : RunStatus → List ℕ → Type 0 = λ s text. heard → Talked got0 got1 s text in
+      let talked : RunStatus → List Answer → Type 0 = λ s answers. heard → Talked got0 got1 s answers in
       let before : List Entry → Type 0 = λ journal. tells → IsOnDisk sheets (seen disk) journal in
       let stored : List Entry → Option Halt → Type 0 = λ journal halted. tells → AllStored (image new) journal halted in
       let since = Since tells moment left_since seen image disk new sheets in
@@ -125,7 +126,7 @@ module _ {D : Type 0} (tells : Type 0) (moment : D → ℕ) (left_since : D → 
       let refused = Refused tells moment left_since seen image disk new sheets in
       let disk_rose = Rose (faults disk) (faults new) in
       ends_fit sheets limits before stored since spared refused disk_rose marks (IsRead misfit told left0 left1) ran talked sink_rose misfit script read_rose unread (new ≡ disk) talked fit status
-      (outcome_map sheets limits before stored since spared refused disk_rose marks (λ cs. cs ≡ commands) (IsRead misfit told left0 left1) ran ran talked talked sink_rose sink_rose read (λ count r. r) status (λ text t. t) (λ r. r) o)
+      (outcome_map sheets limits before stored since spared refused disk_rose marks (λ cs. cs ≡ commands) (IsRead misfit told left0 left1) ran ran talked talked sink_rose sink_rose read (λ count r. r) status (λ answers t. t) (λ r. r) o)
 
 -- what the last line leaves of a status: the status, or Memory
 abbrev pub IsFinished : (heard : Type 0) (rose : Type 0) (got1 got2 : List ℕ) (status finished : RunStatus) → Type 0
@@ -149,11 +150,11 @@ module _ {D : Type 0} (tells : Type 0) (moment : D → ℕ) (left_since : D → 
     (exact : tells → (journal : List Entry) → IsOnDisk sheets (seen disk) journal → (why : LogWhy) → status ≡ LogRefused why → ⊥) where
   -- the end of a run behind its last line
   pub run_finished : ((count : ℕ) → ran count → ran' count) → ((c : List ℕ) → left_since disk (moment disk) c → image disk c)
-      → EndsOn tells moment left_since seen image disk new faults limits misfit script read_rose unread source (λ s text. heard → Talked got0 got1 s text) (Rose faults0 faults1) ran marks status sheets
-      → EndsOn tells moment left_since seen image disk new faults limits misfit script read_rose unread source (λ s text. heard → Got (Rose faults0 faults2) got0 got2 s text) (Rose faults0 faults2) ran' marks finished own
+      → EndsOn tells moment left_since seen image disk new faults limits misfit script read_rose unread source (λ s answers. heard → Talked got0 got1 s answers) (Rose faults0 faults1) ran marks status sheets
+      → EndsOn tells moment left_since seen image disk new faults limits misfit script read_rose unread source (λ s answers. heard → Got (Rose faults0 faults2) got0 got2 s answers) (Rose faults0 faults2) ran' marks finished own
   run_finished counts only e =
-      let talked : RunStatus → List ℕ → Type 0 = λ s text. heard → Talked got0 got1 s text in
-      let got : RunStatus → List ℕ → Type 0 = λ s text. heard → Got (Rose faults0 faults2) got0 got2 s text in
+      let talked : RunStatus → List Answer → Type 0 = λ s answers. heard → Talked got0 got1 s answers in
+      let got : RunStatus → List Answer → Type 0 = λ s answers. heard → Got (Rose faults0 faults2) got0 got2 s answers in
       let before : List Entry → Type 0 = λ journal. tells → IsOnDisk sheets (seen disk) journal in
       let stored : List Entry → Option Halt → Type 0 = λ journal halted. tells → AllStored (image new) journal halted in
       let since = Since tells moment left_since seen image disk new sheets in
@@ -167,12 +168,12 @@ module _ {D : Type 0} (tells : Type 0) (moment : D → ℕ) (left_since : D → 
       subst (EndsOn tells moment left_since seen image disk new faults limits misfit script read_rose unread source got (Rose faults0 faults2) ran' marks finished) (sym same)
       (⊎_elim
       (λ done.
-      let said : (text : List ℕ) → talked status text → got status text = λ text t told. got_finished (Rose faults1 faults2) (Rose faults0 faults2) got0 got1 got2 status text (rose_late faults0 faults1 faults2 first) (t told) (done.1 told) in
+      let said : (answers : List Answer) → talked status answers → got status answers = λ answers t told. got_finished (Rose faults1 faults2) (Rose faults0 faults2) got0 got1 got2 status answers (rose_late faults0 faults1 faults2 first) (t told) (done.1 told) in
       subst ends (sym done.0)
       (ends_map misfit script read_rose unread (new ≡ disk) talked judged marks got outcome status (said [])
       (outcome_map sheets limits before stored since spared refused disk_rose marks source source ran ran' talked got (Rose faults0 faults1) (Rose faults0 faults2) (λ cs c. c) counts status said (rose_early faults0 faults1 faults2 then)) e))
       (λ short.
-      let said : (text : List ℕ) → talked status text → got Memory text = λ text t told. got_unfinished got0 got1 got2 status text (t told) (short.1 told) in
+      let said : (answers : List Answer) → talked status answers → got Memory answers = λ answers t told. got_unfinished got0 got1 got2 status answers (t told) (short.1 told) in
       subst ends (sym short.0)
       (ends_either misfit script read_rose unread (new ≡ disk) talked judged marks (ends Memory) status
       (λ none unchanged t. inl (none, unchanged_spared tells moment left_since seen image disk new sheets only unchanged, said [] t))
@@ -180,11 +181,11 @@ module _ {D : Type 0} (tells : Type 0) (moment : D → ℕ) (left_since : D → 
       line)
 
   -- where nothing is wrong and nothing failed
-  pub run_complete : EndsOn tells moment left_since seen image disk new faults limits misfit script read_rose unread source (λ s text. heard → Got (Rose faults0 faults2) got0 got2 s text) (Rose faults0 faults2) ran' marks finished own
+  pub run_complete : EndsOn tells moment left_since seen image disk new faults limits misfit script read_rose unread source (λ s answers. heard → Got (Rose faults0 faults2) got0 got2 s answers) (Rose faults0 faults2) ran' marks finished own
       → (journal : List Entry) → tells → IsOnDisk own (seen disk) journal → misfit ≡ None → ((bad : Bad) → script bad → ⊥) → ¬ read_rose → ¬ Rose faults0 faults2 → ¬ Rose (faults disk) (faults new)
       → (finished ≡ Done) ⊎ (((bytes : ℕ) × (finished ≡ JournalFull bytes)) ⊎ (finished ≡ Memory))
   run_complete e journal told on fit right reads takes works =
-      let got : RunStatus → List ℕ → Type 0 = λ s text. heard → Got (Rose faults0 faults2) got0 got2 s text in
+      let got : RunStatus → List Answer → Type 0 = λ s answers. heard → Got (Rose faults0 faults2) got0 got2 s answers in
       complete misfit script read_rose unread (new ≡ disk) got (λ s. OutcomeOn tells moment left_since seen image disk new faults limits source got (Rose faults0 faults2) ran' marks s own)
       (Rose (faults disk) (faults new)) (Rose faults0 faults2) marks fit right reads works takes (λ o. o.0) (λ o. o.0) finished
       (finished_unrefused heard (Rose faults1 faults2) got1 got2 status finished line (exact told journal (subst (λ s. IsOnDisk s (seen disk) journal) same on))) e

@@ -1,9 +1,8 @@
 -- The steps that settling makes, and what they leave.
 use Rattle.std.proofs.Common.{◌≡◌, ◌≢◌, ℕ, List, [], ◌∷◌, ◌++◌, IsTrue, Option, Some, None, Result, Ok, Err, refl, sym, ap, ◌∙◌, subst, inl, inr, ⊎_elim, append-nil, append_assoc, arith}
-use Rattle.std.specs.Prelude.{All, IfOk, OnErr}
+use Rattle.std.specs.Prelude.{IfOk, OnErr}
 use Rattle.hm_disk.specs.Disk.{LeavesOnly}
-use Rattle.hm_disk.proofs.Moments.{joined, started, weaker}
-use Rattle.hm_log.specs.Format.{Reads}
+use Rattle.hm_disk.proofs.Moments.{joined, weaker}
 use Rattle.hm_names.specs.Server.{Server}
 use Rattle.hm_names.specs.declared.pid.Pid.{Pid}
 use Rattle.hm_data.specs.declared.entry.Entry.{Entry}
@@ -11,9 +10,7 @@ use Rattle.hm_data.specs.declared.entry.Entry.TheVariants as entry_is
 use Rattle.hm_data.specs.declared.sheet.Sheet.{Sheet}
 use Rattle.hm_data.specs.declared.step.StepIn.{StepIn}
 use Rattle.hm_data.specs.declared.step.StepOut.{StepOut}
-use Rattle.hm_entry.specs.Fits.{EntryFits}
 use Rattle.hm_hall.specs.declared.fault.Halt.{Halt}
-use Rattle.hm_journal.specs.Stored.{frames_of}
 use Rattle.hm_journal.specs.declared.limits.Limits.{Limits}
 use Rattle.hm_model.specs.Inputs.{IsEvaluated, input, says}
 use Rattle.hm_model.specs.Journal.{Past, back}
@@ -36,7 +33,8 @@ use Rattle.hm_top.specs.declared.command.Command.TheVariants as command_is
 use Rattle.hm_top.specs.Hands.{AgreeOn, Ran, RisesBy, one_step, steps_in}
 use Rattle.hm_top.specs.Said.{Said}
 use Rattle.hm_top.specs.Settling.{AreSteps, IsNextStep, IsTooLong}
-use Rattle.hm_top.specs.Stored.{AllStored, Continues, IsStored}
+use Rattle.hm_top.specs.Stored.{Continues}
+use Rattle.hm_top.proofs.Moments.{continues_more}
 
 -- what may go on makes a step: nothing is undone yet
 pub may_on : (J : Past) → IsLegal J → (p : ℕ) → IsAvailable J p → MayStep J p
@@ -81,26 +79,6 @@ pub next_step : (J : Past) → IsLegal J → J ≢ [] → (pid : Pid) (at : Step
 next_step J legal begun pid at sheets out agree available first is answered =
     let may = may_on J legal pid.0 available in
     (first, (begun, (may, (available.0, (refl, (evaluated J legal pid.0 None at sheets out agree may is answered, tt))))))
-
--- what is stored of a journal is a log that begins with it
-continues_stored : (journal : List Entry) (halted : Option Halt) (bytes : List ℕ) → IsStored bytes journal halted → Continues journal bytes
-continues_stored journal halted bytes is = record { more = is.more; reads = is.reads; legal = is.legal; fits = is.fits }
-
--- what begins with a longer journal begins with a shorter
-pub continues_more : (old added : List Entry) (bytes : List ℕ) → Continues (old ++ added) bytes → Continues old bytes
-continues_more old added bytes is =
-    let same = append_assoc old added is.more in
-    record {
-      more = added ++ is.more;
-      reads = subst (λ (j : List Entry). Reads bytes (frames_of j)) same is.reads;
-      legal = subst (λ (j : List Entry). IsLegal (back j)) same is.legal;
-      fits = subst (λ (j : List Entry). All EntryFits j) same is.fits;
-    }
-
-module _ {D : Type 0} (moment : D → ℕ) (left_since : D → ℕ → List ℕ → Type 0) (image : D → List ℕ → Type 0) (only : (d : D) (c : List ℕ) → left_since d (moment d) c → image d c) where
-  -- a disk that isn't called
-  pub quiet : (disk : D) (journal : List Entry) (halted : Option Halt) → AllStored (image disk) journal halted → LeavesOnly moment left_since disk disk (Continues journal)
-  quiet disk journal halted stored = started moment left_since disk (Continues journal) (λ c left. continues_stored journal halted c (stored c (only disk c left)))
 
 -- the next step is a step
 one_next : (J : Past) (entry : Entry) → IsNextStep J entry → one_step entry ≡ 1
@@ -202,7 +180,7 @@ module _ {D : Type 0} (moment : D → ℕ) (left_since : D → ℕ → List ℕ 
   worked_moments limits was mid new old journal worked first then =
       joined moment left_since was mid new (Continues old) first
       (weaker moment left_since mid new (Continues journal) (Continues old)
-      (λ c is. continues_more old worked.steps c (subst (λ (j : List Entry). Continues j c) worked.grown is)) then)
+      (λ c is. continues_more old journal c (worked.steps, worked.grown) is) then)
 
 -- a registry that had the journal's sheets has them still
 pub agree_on : (limits : Limits) (one other : List Sheet) (old new : List Entry) → AgreeOn one (sheets_of (back old)) → other ≡ one → IsWorked limits old new → AgreeOn other (sheets_of (back new))

@@ -11,6 +11,7 @@ use Rattle.hm_journal.specs.declared.why.JournalWhy.TheVariants as journal_why_i
 use Rattle.hm_journal.specs.Stored.{opened}
 use Rattle.hm_top.specs.declared.command.Command.{Command}
 use Rattle.hm_top.specs.declared.command.Command.TheVariants as command_is
+use Rattle.hm_top.specs.declared.answer.Answer.{Answer}
 use Rattle.hm_top.specs.declared.answer.Answer.TheVariants.{Opened}
 use Rattle.hm_top.specs.declared.status.Bad.{Bad}
 use Rattle.hm_top.specs.declared.status.Cut.{Cut}
@@ -28,7 +29,7 @@ use Rattle.hm_top.specs.Said.{Said, begun}
 use Rattle.hm_top.specs.Script.{lines_of, IsScript, IsFirstWrong}
 use Rattle.hm_top.specs.Settling.{AreSteps}
 use Rattle.hm_top.specs.Status.{last_line}
-use Rattle.hm_top.specs.Transcript.{Transcript, Conversation}
+use Rattle.hm_top.specs.Transcript.{Transcript, Conversation, text_of}
 
 -- why bytes are no script: there are too many, or a line says nothing
 abbrev pub IsBadAt : List ℕ → ℕ → Why → Type 0
@@ -62,7 +63,7 @@ AreUnsaid limits said rest unsaid =
 -- the disk held, what it holds and what a stop since may have left of it, that it failed, how often handlers ran at
 -- least, and what the sink got, each as far as it tells.
 pub record IsTold (sheets : List Sheet) (limits : Limits) (source : List Command → Type 0) (before : List Entry → Type 0) (stored : List Entry → Option Halt → Type 0)
-    (since : List Entry → Type 0) (disk_rose : Type 0) (ran : ℕ → Type 0) (sink : List ℕ → Type 0) (marks : List ℕ) : Type 0 where
+    (since : List Entry → Type 0) (disk_rose : Type 0) (ran : ℕ → Type 0) (sink : List Answer → Type 0) (marks : List ℕ) : Type 0 where
   pub commands : List Command
   pub answered : List Command
   pub rest : List Command
@@ -70,11 +71,11 @@ pub record IsTold (sheets : List Sheet) (limits : Limits) (source : List Command
   pub new : Said
   pub added : List Entry
   pub unsaid : List Entry
-  pub text : List ℕ
+  pub answers : List Answer
   pub source_is : source commands
   pub parts : commands ≡ answered ++ rest
   pub before_is : before old
-  pub transcript : Transcript limits answered (begun sheets old) marks text new
+  pub transcript : Transcript limits answered (begun sheets old) marks answers new
   pub longer : new.journal ≡ old ++ added
   pub unsaid_are : AreUnsaid limits new rest unsaid
   pub faith : (mark : ℕ) → KeepsFaith (back (take mark (new.journal ++ unsaid)))
@@ -82,7 +83,7 @@ pub record IsTold (sheets : List Sheet) (limits : Limits) (source : List Command
   pub since_is : since old
   pub cause : new.halted ≡ Some halt_is.LogFault → disk_rose
   pub ran_is : ran (steps_in (added ++ unsaid))
-  pub sink_is : sink (answer_text (Opened (length (opened sheets old))) ++ text)
+  pub sink_is : sink (Opened (length (opened sheets old)) ∷ answers)
 
 -- how a refusal of the journal is told
 abbrev pub log_why_of : JournalWhy → Option LogWhy
@@ -96,14 +97,14 @@ log_why_of journal_why_is.Memory = None
 
 -- all commands were answered, nothing was recorded beyond, and this halted the run
 abbrev pub IsToldWhole : (sheets : List Sheet) (limits : Limits) (source : List Command → Type 0) (before : List Entry → Type 0) (stored : List Entry → Option Halt → Type 0)
-    (since : List Entry → Type 0) (disk_rose : Type 0) (ran : ℕ → Type 0) (sink : List ℕ → Type 0) (marks : List ℕ) → Option Halt → Type 0
+    (since : List Entry → Type 0) (disk_rose : Type 0) (ran : ℕ → Type 0) (sink : List Answer → Type 0) (marks : List ℕ) → Option Halt → Type 0
 IsToldWhole sheets limits source before stored since disk_rose ran sink marks halted =
     (told : IsTold sheets limits source before stored since disk_rose ran sink marks) × (told.rest ≡ []) × (told.unsaid ≡ []) × (told.new.halted ≡ halted)
 
 -- How a run ended behind the words and the script. `spared` says that the disk still holds its journal, `refused` why it
 -- holds none.
 abbrev pub Outcome : (sheets : List Sheet) (limits : Limits) (source : List Command → Type 0) (before : List Entry → Type 0) (stored : List Entry → Option Halt → Type 0)
-    (since : List Entry → Type 0) (sink : RunStatus → List ℕ → Type 0) (spared : Type 0) (refused : JournalWhy → Type 0) (disk_rose sink_rose : Type 0) (ran : ℕ → Type 0)
+    (since : List Entry → Type 0) (sink : RunStatus → List Answer → Type 0) (spared : Type 0) (refused : JournalWhy → Type 0) (disk_rose sink_rose : Type 0) (ran : ℕ → Type 0)
     (marks : List ℕ) → RunStatus → Type 0
 Outcome sheets limits source before stored since sink spared refused disk_rose sink_rose ran marks Done =
     IsToldWhole sheets limits source before stored since disk_rose ran (sink Done) marks None
@@ -122,7 +123,7 @@ Outcome sheets limits source before stored since sink spared refused disk_rose s
 
 -- How a run ended, judged in this order: words, script, and then the rest, which `outcome` says. `unread` says that the
 -- source is as handed in, `same` that the disk is.
-abbrev pub Ends : (misfit : Option ℕ) (script : Bad → Type 0) (read_rose unread same : Type 0) (sink : RunStatus → List ℕ → Type 0) (outcome : RunStatus → Type 0) (marks : List ℕ) → RunStatus → Type 0
+abbrev pub Ends : (misfit : Option ℕ) (script : Bad → Type 0) (read_rose unread same : Type 0) (sink : RunStatus → List Answer → Type 0) (outcome : RunStatus → Type 0) (marks : List ℕ) → RunStatus → Type 0
 Ends misfit script read_rose unread same sink outcome marks (Usage word) = (misfit ≡ Some word) × unread × same × (marks ≡ []) × sink (Usage word) []
 Ends misfit script read_rose unread same sink outcome marks (BadScript bad) = (misfit ≡ None) × script bad × same × (marks ≡ []) × sink (BadScript bad) []
 Ends misfit script read_rose unread same sink outcome marks ReadFault = (misfit ≡ None) × read_rose × same × (marks ≡ []) × sink ReadFault []
@@ -133,27 +134,40 @@ Ends misfit script read_rose unread same sink outcome marks status = (misfit ≡
 abbrev pub IsFront : List ℕ → List ℕ → List ℕ → Type 0
 IsFront old new text = (n : ℕ) × (new ≡ old ++ take n text)
 
--- a front of the text, and not all of it
-abbrev pub IsShort : List ℕ → List ℕ → List ℕ → Type 0
-IsShort old new text = (n : ℕ) × (n < length text) × (new ≡ old ++ take n text)
+-- the text of all answers but the last, and so many bytes of the last
+pub record IsCutIn (old new : List ℕ) (answers : List Answer) : Type 0 where
+  pub before : List Answer
+  pub last : Answer
+  pub parts : answers ≡ before ++ last ∷ []
+  pub bytes : ℕ
+  pub got : new ≡ old ++ (text_of before ++ take bytes (answer_text last))
+
+-- the last answer lacks a part
+abbrev pub IsShort : List ℕ → List ℕ → List Answer → Type 0
+IsShort old new answers = (cut : IsCutIn old new answers) × (cut.bytes < length (answer_text cut.last))
+
+-- the text of these answers, of which the last may lack a part
+abbrev pub IsNearly : List ℕ → List ℕ → List Answer → Type 0
+IsNearly old new answers = (new ≡ old ++ text_of answers) ⊎ IsCutIn old new answers
 
 -- a line of which a part may lack only where the sink's faults rose
 abbrev pub IsLast : (rose : Type 0) (old new line : List ℕ) → Type 0
 IsLast rose old new line = IsFront old new line × ((new ≡ old ++ line) ⊎ rose)
 
--- what the sink got before the last line: the text, or less of it where the sink failed, or a front of it where memory ran out
-abbrev pub Talked : (old new : List ℕ) → RunStatus → List ℕ → Type 0
-Talked old new WriteFault text = IsShort old new text
-Talked old new Memory text = IsFront old new text
-Talked old new _ text = new ≡ old ++ text
+-- what the sink got before the last line: the text of the answers, of which the last lacks a part where the sink failed,
+-- and may lack one where memory ran out
+abbrev pub Talked : (old new : List ℕ) → RunStatus → List Answer → Type 0
+Talked old new WriteFault answers = IsShort old new answers
+Talked old new Memory answers = IsNearly old new answers
+Talked old new _ answers = new ≡ old ++ text_of answers
 
--- What the sink got at the end of a run with this status: the text and the last line, which may lack a part only where the sink's faults rose.
--- Where memory ran out it is a front of the text.
-abbrev pub Got : (rose : Type 0) (old new : List ℕ) → RunStatus → List ℕ → Type 0
-Got rose old new Done text = new ≡ old ++ text
-Got rose old new WriteFault text = IsShort old new text
-Got rose old new Memory text = IsFront old new text
-Got rose old new status text = IsLast rose (old ++ text) new (last_line status)
+-- What the sink got at the end of a run with this status: the text of the answers and the last line, which may lack a part
+-- only where the sink's faults rose. Where the sink failed the last answer lacks a part, and where memory ran out it may.
+abbrev pub Got : (rose : Type 0) (old new : List ℕ) → RunStatus → List Answer → Type 0
+Got rose old new Done answers = new ≡ old ++ text_of answers
+Got rose old new WriteFault answers = IsShort old new answers
+Got rose old new Memory answers = IsNearly old new answers
+Got rose old new status answers = IsLast rose (old ++ text_of answers) new (last_line status)
 
 -- the status of an opening that failed
 abbrev pub unopened_status : JournalWhy → RunStatus
@@ -179,7 +193,7 @@ talked_status (Err cut_is.Memory) halted = Memory
 
 -- The first of these commands were answered, one for each mark; the one behind them, if it was begun, left what it
 -- leaves where memory runs out.
-pub record IsBrokenOffIn (limits : Limits) (sink : List ℕ → Type 0) (commands : List Command) (old : Said) (marks : List ℕ) (new : Said) : Type 0 where
+pub record IsBrokenOffIn (limits : Limits) (sink : List Answer → Type 0) (commands : List Command) (old : Said) (marks : List ℕ) (new : Said) : Type 0 where
   pub mid : Said
   pub said : Conversation limits sink (take (length marks) commands) old marks mid
   pub unsaid : List Entry

@@ -1,5 +1,5 @@
 //! Answers commands, one after another.
-ghost use Rattle.std.specs.Prelude.{◌≡◌, ◌≢◌, ◌+◌, ◌<◌, ◌≤◌, ◌++◌, [], ℕ, length, take, drop, OnOk, OnErr, IsErrOf, Some, None};
+ghost use Rattle.std.specs.Prelude.{◌≡◌, ◌≢◌, ◌+◌, ◌<◌, ◌≤◌, ◌++◌, [], ◌∷◌, ℕ, length, take, drop, OnOk, OnErr, IsErrOf, Some, None};
 ghost use Rattle.std.specs.List.{flat_map};
 ghost use Rattle.hm_ports.specs.Faults.{Rose};
 ghost use Rattle.hm_disk.specs.Disk.{LeavesOnly};
@@ -9,9 +9,9 @@ ghost use Rattle.hm_hall.specs.declared.fault.Halt.TheVariants as halt_is;
 ghost use Rattle.hm_top.specs.declared.answer.Answer.{Answer as AnswerValue};
 ghost use Rattle.hm_top.specs.Answer.{answer_text};
 ghost use Rattle.hm_top.specs.Hands.{AgreeOn, Ran};
-ghost use Rattle.hm_top.specs.Run.{IsFront, IsShort, IsBrokenOffIn};
+ghost use Rattle.hm_top.specs.Run.{IsFront, IsNearly, IsShort, IsBrokenOffIn};
 ghost use Rattle.hm_top.specs.Stored.{Continues};
-ghost use Rattle.hm_top.specs.Transcript.{Conversation};
+ghost use Rattle.hm_top.specs.Transcript.{Conversation, text_of};
 ghost use Rattle.hm_top.specs.View.{limits_of, said_of};
 
 use crate::answer::Answer;
@@ -27,7 +27,7 @@ use std::alloc::Global;
 fn say<K: Sink>(alloc: Global, out: &mut K, answer: &Answer) -> Result<(), Cut>
     ensures all { K.tells → OnOk result (K.got out.new ≡ K.got out.old ++ answer_text answer.now) }
     ensures part { K.tells → IsFront (K.got out.old) (K.got out.new) (answer_text answer.now) }
-    ensures short { IsErrOf result Cut.WriteFault → K.tells → IsShort (K.got out.old) (K.got out.new) (answer_text answer.now) }
+    ensures short { IsErrOf result Cut.WriteFault → K.tells → IsShort (K.got out.old) (K.got out.new) (answer.now ∷ []) }
     ensures later { K.faults out.old ≤ K.faults out.new }
     ensures fault { IsErrOf result Cut.WriteFault → Rose (K.faults out.old) (K.faults out.new) }
 {
@@ -50,11 +50,11 @@ pub(crate) fn talk<D: Disk, K: Sink>(
 ) -> Result<(), Cut>
     requires fresh { marks.old.items ≡ [] }
     requires agree { AgreeOn (flat_map (λ h. (⟦<dyn Handler as Handler>⟧ h.vtable).sheets_are h.value) hands.old.handlers.items) (sheets_of (back world.old.kept.entries)) }
-    ensures done { OnOk result (Conversation (limits_of world.old) (λ text. K.tells → K.got out.new ≡ K.got out.old ++ (answer_text (AnswerValue.Opened (length world.old.kept.entries)) ++ text))
+    ensures done { OnOk result (Conversation (limits_of world.old) (λ answers. K.tells → K.got out.new ≡ K.got out.old ++ text_of (AnswerValue.Opened (length world.old.kept.entries) ∷ answers))
         commands.now (said_of world.old) marks.new.items (said_of world.new)) }
-    ensures part { IsBrokenOffIn (limits_of world.old) (λ text. K.tells → IsFront (K.got out.old) (K.got out.new) (answer_text (AnswerValue.Opened (length world.old.kept.entries)) ++ text))
+    ensures part { IsBrokenOffIn (limits_of world.old) (λ answers. K.tells → IsNearly (K.got out.old) (K.got out.new) (AnswerValue.Opened (length world.old.kept.entries) ∷ answers))
         commands.now (said_of world.old) marks.new.items (said_of world.new) }
-    ensures short { IsErrOf result Cut.WriteFault → Conversation (limits_of world.old) (λ text. K.tells → IsShort (K.got out.old) (K.got out.new) (answer_text (AnswerValue.Opened (length world.old.kept.entries)) ++ text))
+    ensures short { IsErrOf result Cut.WriteFault → Conversation (limits_of world.old) (λ answers. K.tells → IsShort (K.got out.old) (K.got out.new) (AnswerValue.Opened (length world.old.kept.entries) ∷ answers))
         (take (length marks.new.items) commands.now) (said_of world.old) marks.new.items (said_of world.new) }
     ensures moments { D.tells → LeavesOnly D.moment D.left_since world.old.disk world.new.disk (Continues world.old.kept.entries) }
     ensures disk_later { D.faults world.old.disk ≤ D.faults world.new.disk }

@@ -3,9 +3,10 @@ use Rattle.std.proofs.lemmas.Grind.{common_steps}
 use Rattle.hm_top.specs.declared.answer.Answer.TheVariants.{Opened}
 use Rattle.hm_top.specs.declared.status.Cut.TheVariants.{WriteFault}
 use Rattle.hm_journal.specs.declared.limits.Limits.{Limits}
-use Rattle.hm_top.specs.Answer.{answer_text, IsUnanswered}
+use Rattle.hm_top.specs.Answer.{IsUnanswered}
+use Rattle.hm_top.specs.Run.{IsShort}
 use Rattle.hm_top.specs.View.{said_of, limits_of}
-use Rattle.hm_top.proofs.Conversations.{answered_part, answered_short, answered_whole, none_answered, stopped, stopped_within}
+use Rattle.hm_top.proofs.Conversations.{answered_part, answered_short, answered_whole, none_answered, not_begun, stopped, stopped_within}
 use Rattle.hm_top.proofs.Growth.{ran_on}
 use Rattle.hm_top.proofs.Moments.{moments_on}
 use Rattle.hm_top.proofs.talking.talk.Goals as goal
@@ -14,8 +15,16 @@ pub returns-in_err-say-clause-part : goal.returns-in_err-say-clause-part
 returns-in_err-say-clause-part g c =
     let k = g.K.Sink in
     let was = c.args.world.now in
-    none_answered (limits_of was) k.tells (k.got c.args.out.now) (k.got c.say.new.out) (answer_text (Opened (length was.kept.entries))) c.args.commands.now (said_of was) c.args.marks.now.items c.requires.fresh
+    not_begun (limits_of was) k.tells (k.got c.args.out.now) (k.got c.say.new.out) (Opened (length was.kept.entries)) c.args.commands.now (said_of was) c.args.marks.now.items c.requires.fresh
     (rw c.entries.ensures.length at c.say.ensures.part)
+
+pub returns-in_err-say-clause-short : goal.returns-in_err-say-clause-short
+returns-in_err-say-clause-short g c is =
+    let k = g.K.Sink in
+    let was = c.args.world.now in
+    let fails : IsErrOf c.say.result WriteFault = grind (arith, common_steps) in
+    none_answered (limits_of was) (λ answers. k.tells → IsShort (k.got c.args.out.now) (k.got c.say.new.out) (Opened (length was.kept.entries) ∷ answers)) c.args.commands.now (said_of was) c.args.marks.now.items c.requires.fresh
+    (rw c.entries.ensures.length at c.say.ensures.short fails)
 
 pub returns-in_err-reserve-clause-part : goal.returns-in_err-reserve-clause-part
 returns-in_err-reserve-clause-part g c =
@@ -24,7 +33,7 @@ returns-in_err-reserve-clause-part g c =
     let so_far = c.loop-command in
     let marks = c.reserve.new.self.items in
     let counted : so_far.command-index ≡ length marks = grind (arith, common_steps) in
-    stopped (limits_of was) k.tells (k.got c.args.out.now) (k.got so_far.out) (answer_text (Opened (length was.kept.entries))) c.args.commands.now (said_of was) (said_of so_far.world) so_far.command-index so_far.marks.items
+    stopped (limits_of was) k.tells (k.got c.args.out.now) (k.got so_far.out) (Opened (length was.kept.entries)) c.args.commands.now (said_of was) (said_of so_far.world) so_far.command-index so_far.marks.items
     so_far.invariant.answered marks counted c.reserve.ensures.items
 
 pub returns-in_err-answer-clause-part : goal.returns-in_err-answer-clause-part
@@ -38,7 +47,7 @@ returns-in_err-answer-clause-part g c =
     let index = so_far.command-index in
     let counted : index ≡ length marks = grind (arith, common_steps) in
     let next : drop index commands ≡ command ∷ drop (index + 1) commands = grind (arith, common_steps) in
-    stopped_within (limits_of was) k.tells (k.got c.args.out.now) (k.got so_far.out) (answer_text (Opened (length was.kept.entries))) commands (said_of was) (said_of so_far.world) index so_far.marks.items
+    stopped_within (limits_of was) k.tells (k.got c.args.out.now) (k.got so_far.out) (Opened (length was.kept.entries)) commands (said_of was) (said_of so_far.world) index so_far.marks.items
     so_far.invariant.answered marks command (drop (index + 1) commands) (said_of c.answer.new.self) counted c.reserve.ensures.items next
     (subst (λ (l : Limits). IsUnanswered l command (said_of so_far.world) (said_of c.answer.new.self)) so_far.invariant.limits c.in_err-answer.ensures.err)
 
@@ -65,7 +74,7 @@ returns-in_err-say-2-clause-part g c =
     let command = c.command-item.result in
     let marked : marks ≡ so_far.marks.items ++ length c.answer.new.self.kept.entries ∷ [] = grind (arith, common_steps) in
     let next : take (length marks) commands ≡ take so_far.command-index commands ++ command ∷ [] = grind (arith, common_steps) in
-    answered_part (limits_of was) k.tells (k.got c.args.out.now) (k.got so_far.out) (answer_text (Opened (length was.kept.entries))) commands (said_of was) (said_of so_far.world) so_far.command-index so_far.marks.items
+    answered_part (limits_of was) k.tells (k.got c.args.out.now) (k.got so_far.out) (Opened (length was.kept.entries)) commands (said_of was) (said_of so_far.world) so_far.command-index so_far.marks.items
     so_far.invariant.answered (limits_of so_far.world) command c.in_ok-answer.answer (said_of c.answer.new.self) (k.got c.say-in-loop-command.new.out) marks c.in_ok-answer.ensures.answers so_far.invariant.limits
     marked next c.say-in-loop-command.ensures.part
 
@@ -80,7 +89,7 @@ returns-in_err-say-2-clause-short g c is =
     let marked : marks ≡ so_far.marks.items ++ length c.answer.new.self.kept.entries ∷ [] = grind (arith, common_steps) in
     let next : take (length marks) commands ≡ take so_far.command-index commands ++ command ∷ [] = grind (arith, common_steps) in
     let fails : IsErrOf c.say-in-loop-command.result WriteFault = grind (arith, common_steps) in
-    answered_short (limits_of was) k.tells (k.got c.args.out.now) (k.got so_far.out) (answer_text (Opened (length was.kept.entries))) commands (said_of was) (said_of so_far.world) so_far.command-index so_far.marks.items
+    answered_short (limits_of was) k.tells (k.got c.args.out.now) (k.got so_far.out) (Opened (length was.kept.entries)) commands (said_of was) (said_of so_far.world) so_far.command-index so_far.marks.items
     so_far.invariant.answered (limits_of so_far.world) command c.in_ok-answer.answer (said_of c.answer.new.self) (k.got c.say-in-loop-command.new.out) marks c.in_ok-answer.ensures.answers so_far.invariant.limits
     marked next (c.say-in-loop-command.ensures.short fails)
 
@@ -109,7 +118,7 @@ loop-command-preserved g c =
     let marked : marks ≡ so_far.marks.items ++ length c.answer.new.self.kept.entries ∷ [] = grind (arith, common_steps) in
     let next : take (so_far.command-index + 1) commands ≡ take so_far.command-index commands ++ command ∷ [] = grind (arith, common_steps) in
     record {
-      answered = answered_whole (limits_of was) k.tells (k.got c.args.out.now) (k.got so_far.out) (answer_text (Opened (length was.kept.entries))) commands (said_of was) (said_of so_far.world) so_far.command-index so_far.marks.items
+      answered = answered_whole (limits_of was) k.tells (k.got c.args.out.now) (k.got so_far.out) (Opened (length was.kept.entries)) commands (said_of was) (said_of so_far.world) so_far.command-index so_far.marks.items
           so_far.invariant.answered (limits_of so_far.world) command c.in_ok-answer.answer (said_of c.answer.new.self) (k.got c.say-in-loop-command.new.out) marks c.in_ok-answer.ensures.answers so_far.invariant.limits
           marked next c.in_ok-say-2.ensures.all;
       limits = c.answer.ensures.limits ∙ so_far.invariant.limits;
@@ -129,5 +138,5 @@ returns-clause-part g c =
     let k = g.K.Sink in
     let was = c.args.world.now in
     let so_far = c.loop-command in
-    stopped (limits_of was) k.tells (k.got c.args.out.now) (k.got so_far.out) (answer_text (Opened (length was.kept.entries))) c.args.commands.now (said_of was) (said_of so_far.world) so_far.command-index so_far.marks.items
+    stopped (limits_of was) k.tells (k.got c.args.out.now) (k.got so_far.out) (Opened (length was.kept.entries)) c.args.commands.now (said_of was) (said_of so_far.world) so_far.command-index so_far.marks.items
     so_far.invariant.answered so_far.marks.items (sym so_far.invariant.count) refl

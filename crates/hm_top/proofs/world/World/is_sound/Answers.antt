@@ -1,4 +1,4 @@
-use Rattle.hm_top.proofs.Steps.{quiet}
+use Rattle.hm_top.proofs.Stores.{quiet}
 use Rattle.hm_top.proofs.world.World.is_sound.Goals as goal
 
 pub returns-clause-quiet : goal.returns-clause-quiet
