@@ -66,10 +66,6 @@ rises_on i j before mid now (inl some) (inr full) = inr full
 rises_on i j before mid now (inr full) (inl more) = inr (omega arith)
 rises_on i j before mid now (inr full) (inr end) = inr end
 
--- nothing was recorded and nothing ran
-pub ran_none : (journal : List Entry) (runs : ℕ) → Ran journal journal runs runs
-ran_none journal runs = ([], sym (append-nil journal), inl (omega arith))
-
 -- one after another
 pub ran_on : (old mid new : List Entry) (before between now : ℕ) → Ran old mid before between → Ran mid new between now → Ran old new before now
 ran_on old mid new before between now first then =

@@ -5,12 +5,11 @@ use Rattle.std.specs.Fmt.{decimal}
 use Rattle.hm_data.specs.declared.entry.Entry.{Entry}
 use Rattle.hm_model.specs.Journal.{Past, back}
 use Rattle.hm_model.specs.Laws.{IsGrown, count_below, one_if}
-use Rattle.hm_model.specs.Records.{record_of}
 use Rattle.hm_model.specs.Rules.{IsLegal}
 use Rattle.hm_model.specs.Stages.{IsSimple}
 use Rattle.hm_model.specs.Tree.{is_root, is_root_in, is_top, made}
 use Rattle.hm_model.proofs.Grown.{grown_all, simple_all}
-use Rattle.hm_top.specs.Table.{line_of, lines_to, procs_table}
+use Rattle.hm_top.specs.Table.{lines_to, procs_table}
 
 -- a procedure that was made is a root
 made_root : (before : Past) → IsGrown before → IsSimple before → (p : ℕ) → 1 ≤ p → p ≤ made before → is_root before p ≡ true
@@ -37,10 +36,6 @@ roots_are_made before legal =
 -- what stands above the lines
 abbrev pub table_head : ℕ → ℕ → List ℕ
 table_head entries count = codes "procs at " ++ decimal entries ++ codes ": " ++ decimal count ++ codes "\n"
-
--- a line more
-pub line_more : (before : Past) (n : ℕ) → lines_to before (n + 1) ≡ lines_to before n ++ line_of (record_of before (n + 1))
-line_more before n = let next : n + 1 ≡ suc n = omega arith in ap (lines_to before) next
 
 joined : (a b c d e f : List ℕ) → (a ++ b ++ c ++ d ++ e) ++ f ≡ a ++ b ++ c ++ d ++ e ++ f
 joined a b c d e f = simp append_assoc refl

@@ -6,10 +6,6 @@ use Rattle.std.proofs.lemmas.Bool.Decides.{nat_tests}
 use Rattle.std.specs.List.{AllByRecursion, slice_split}
 use Rattle.hm_top.specs.Script.{words_of}
 
--- a space in front
-pub words_space : (line : List ℕ) → words_of (32 ∷ line) ≡ words_of line
-words_space line = refl
-
 split_front : (word rest : List ℕ) → AllByRecursion (λ b. b ≢ 32) word → slice_split (λ b. b == 32) (word ++ 32 ∷ rest) ≡ word ∷ slice_split (λ b. b == 32) rest
 split_front [] rest n = refl
 split_front (b ∷ word) rest n = let no_space = n.0 in rw (split_front word rest n.1) (grind (arith, nat_tests))
