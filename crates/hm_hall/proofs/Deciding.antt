@@ -1,5 +1,5 @@
 -- What decides the answer of a recording.
-use Rattle.std.proofs.Common.{◌≡◌, ℕ, Result, Ok, Err, Some, None, ap, sym, ◌∙◌}
+use Rattle.std.proofs.Common.{◌≡◌, ◌⊎◌, ℕ, length, Result, Ok, Err, Some, None, refl, ap, sym, ◌∙◌, inl, inr}
 use Rattle.std.proofs.lemmas.Option.{none-some}
 use Rattle.hm_data.specs.declared.entry.Entry.{Entry}
 use Rattle.hm_hall.specs.Recording.{Recording, Passes, Records, bytes_of}
@@ -25,3 +25,11 @@ full_next old entry (Ok number) new is going passes = absurd (is.1 passes)
 full_next old entry (Err (fault_is.Halted why)) new is going passes = absurd (none-some why (sym going ∙ is.0))
 full_next old entry (Err (fault_is.JournalFull bytes)) new is going passes = ap (λ (b : ℕ). Err (fault_is.JournalFull b)) is.2
 full_next old entry (Err fault_is.LogFault) new is going passes = absurd (is.1 passes)
+
+-- else it is, or the log failed
+pub recorded_else : (old : Recording) (entry : Entry) (answer : Result ℕ RecordFault) (new : Recording) → Records old entry answer new → old.halted ≡ None → (Passes old entry → ⊥)
+    → (answer ≡ Ok (length old.entries)) ⊎ (answer ≡ Err fault_is.LogFault)
+recorded_else old entry (Ok number) new is going within = inl (ap (λ (n : ℕ). Ok n) is.2)
+recorded_else old entry (Err (fault_is.Halted why)) new is going within = absurd (none-some why (sym going ∙ is.0))
+recorded_else old entry (Err (fault_is.JournalFull bytes)) new is going within = absurd (within is.1)
+recorded_else old entry (Err fault_is.LogFault) new is going within = inr refl

@@ -41,7 +41,7 @@ pub record Spells (frames : List (List ℕ)) (entries : List Entry) : Type 0 whe
   pub are : frames_of entries ≡ frames
   pub fits : All EntryFits entries
 
--- why the frame of this number spells no entry
+-- why no entry was read from the frame of this number: it spells none, or memory ran out
 abbrev pub IsBadFrom : List (List ℕ) → ℕ → JournalWhy → Type 0
 IsBadFrom frames number why_is.Fault = ⊥
 IsBadFrom frames number (why_is.NotALog place) = ⊥
@@ -71,7 +71,7 @@ abbrev pub IsNoJournalIn : List Sheet → List (List ℕ) → JournalWhy → Typ
 IsNoJournalIn sheets frames why =
     IsNoEntry frames why ⊎ ((entries : List Entry) × (frames_of entries ≡ frames) × All EntryFits entries × IsNoJournal sheets entries why)
 
--- These are the frames, which spell a journal of these sheets, and its entries; of none, the first.
+-- `own` are the frames, which spell a journal of these sheets, and `entries` its entries; of none, the first.
 pub record IsFound (sheets : List Sheet) (frames : List (List ℕ)) (own : List (Vec ℕ)) (entries : List Entry) : Type 0 where
   pub is : IsJournal sheets (entries_in own)
   pub spelled : frames_of (entries_in own) ≡ frames

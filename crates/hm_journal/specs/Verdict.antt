@@ -76,7 +76,7 @@ Refuses sheets bytes why_is.Memory = Unit {0}
 abbrev pub IsUnjudged : JournalWhy → Type 0
 IsUnjudged why = (why ≡ why_is.Fault) ⊎ (why ≡ why_is.Memory)
 
--- why frames spell no entries
+-- why not each frame was read as an entry: one spells none, or memory ran out
 abbrev pub IsNoEntry : List (List ℕ) → JournalWhy → Type 0
 IsNoEntry frames why_is.Fault = ⊥
 IsNoEntry frames (why_is.NotALog place) = ⊥
@@ -86,7 +86,7 @@ IsNoEntry frames (why_is.Illegal number rule) = ⊥
 IsNoEntry frames (why_is.SheetsDiffer kind) = ⊥
 IsNoEntry frames why_is.Memory = Unit {0}
 
--- why entries are no journal of these sheets
+-- why entries weren't found to be a journal of these sheets: they are none, or memory ran out
 abbrev pub IsNoJournal : List Sheet → List Entry → JournalWhy → Type 0
 IsNoJournal sheets entries why_is.Fault = ⊥
 IsNoJournal sheets entries (why_is.NotALog place) = ⊥

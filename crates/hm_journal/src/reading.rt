@@ -179,7 +179,8 @@ pub(crate) fn find_journal(
     }
 }
 
-// How many entries the journal has that frames spell, if that is one of these sheets.
+// How many entries the journal has that frames spell, if that is one of these sheets. Each is judged by the state of those
+// before it, so a state is made for that, and dropped.
 pub(crate) fn count_entries(
     alloc: Global,
     frames: &Frames,

@@ -5,8 +5,8 @@ use Rattle.std.specs.Ordering.{is_eq}
 use Rattle.std.specs.declared.cmp.Ordering.{Ordering}
 use Rattle.std.specs.declared.cmp.Ordering.TheVariants.{Less, Equal, Greater}
 
--- pairs, and for how many more there is room
-pub record Table (K V : Type 0) : Type 0 where
+-- the pairs in the order of their keys, and for how many more there is room
+pub record IndexView (K V : Type 0) : Type 0 where
   pub pairs : List (K × V)
   pub spare : ℕ
 

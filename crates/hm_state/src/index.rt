@@ -10,7 +10,7 @@ use std::alloc::{AllocError, Global};
 use std::cmp::Ordering;
 use std::marker::Model;
 
-/// Values by their keys. Contracts see the pairs, and for how many more there is room.
+/// Values by their keys. Contracts see the pairs in the order of their keys, and for how many more there is room.
 #[derive(Drop)]
 pub(crate) struct Index<K: Ord, V> {
     // In the order in which they came.
@@ -22,9 +22,9 @@ pub(crate) struct Index<K: Ord, V> {
 impl<K: Ord, V> Model for Index<K, V> {
     ghost use Rattle.std.specs.Prelude.{◌-◌, ◌<◌, min, length, vec_len, vec_capacity};
     ghost use Rattle.std.specs.List.{All};
-    ghost use Rattle.hm_state.specs.Index.{Table, IsRising, picked};
+    ghost use Rattle.hm_state.specs.Index.{IndexView, IsRising, picked};
 
-    ghost Value = { Table K V };
+    ghost Value = { IndexView K V };
 
     ghost view = { λ s. record { pairs = picked s.pairs.items s.order.items; spare = min (vec_capacity s.pairs - vec_len s.pairs) (vec_capacity s.order - vec_len s.order) } };
 
@@ -92,7 +92,8 @@ impl<K: Ord + Drop, V: Drop> Index<K, V> {
     }
 }
 
-// How the key of the pair at a place compares with this one.
+// How the key of the pair at a place compares with this one. Each place of an order has a pair; one without would stand
+// lowest.
 fn compare_at<K: Ord, V>(pairs: &[(K, V)], place: usize, key: &K) -> Ordering
     ensures { MatchOption (slice_get pairs.now place) (result ≡ Less) (λ pair. result ≡ K.cmp pair.0 key.now) }
 {

@@ -1,7 +1,5 @@
 //! The procedures of nonces.
-ghost use Rattle.std.specs.Prelude.{◌≡◌, ◌+◌, ◌≤◌, OnOk};
-ghost use Rattle.hm_names.specs.Order.{nonce_cmp};
-ghost use Rattle.hm_state.specs.Index.{find};
+ghost use Rattle.std.specs.Prelude.{◌+◌, ◌≤◌};
 ghost use Rattle.hm_state.specs.Nonces.{AreWith};
 
 use crate::index::Index;

@@ -16,7 +16,7 @@ listed (Some sheet) = sheet ∷ []
 abbrev pub own_sheets : List Sheet → List Sheet
 own_sheets sheets = flat_map (λ kind. listed (sheet_for sheets kind)) running_kinds
 
--- two handlers have the same sheets for the kinds that the master runs
+-- two registries have the same sheets for the kinds that the master runs
 abbrev pub AgreeOn : List Sheet → List Sheet → Type 0
 AgreeOn one other = (kind : ℕ) → IsTrue (is_running_kind kind) → sheet_for one kind ≡ sheet_for other kind
 

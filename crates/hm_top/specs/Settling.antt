@@ -24,7 +24,7 @@ IsNextStep before (entry_is.Abort pid) = ⊥
 abbrev pub IsTooLong : Limits → List Entry → Entry → Type 0
 IsTooLong limits journal entry = limits.hard < bytes_of journal + length (spelling entry) + 5
 
--- behind a journal each of these entries is such a step, and passes no mark
+-- behind a journal each of these entries is such a step, and none passes the hard mark
 abbrev pub AreSteps : Limits → List Entry → List Entry → Type 0
 AreSteps limits journal [] = Unit {0}
 AreSteps limits journal (entry ∷ more) =
