@@ -16,7 +16,7 @@ use Rattle.hm_model.specs.Journal.{Past}
 use Rattle.hm_model.specs.Answers.{last_answer, row_of, row_after, is_stop, is_stopped}
 use Rattle.hm_model.specs.Inputs.{step_input}
 use Rattle.hm_model.specs.Kinds.{kind_of, first_row_of}
-use Rattle.hm_model.specs.Laws.{one_if}
+use Rattle.hm_model.specs.Counts.{one_if}
 use Rattle.hm_model.specs.Lists.{Line, lines_of}
 use Rattle.hm_model.specs.Rules.{IsLegal}
 use Rattle.hm_model.specs.Steps.{eval_row}
