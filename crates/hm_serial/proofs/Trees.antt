@@ -33,7 +33,7 @@ use Rattle.hm_model.specs.Tree.{Node, made, node_of, root_of, root_in, is_top}
 use Rattle.hm_model.specs.Undo.{stack}
 use Rattle.hm_model.proofs.Grown.{grown_all, simple_all, step_plain, step_node, not_stepped, submit_old, sheets_are}
 use Rattle.hm_model.proofs.Stages.{flat_all}
-use Rattle.hm_serial.proofs.Sheets.{Leads, valid_end, sheet_found}
+use Rattle.hm_model.proofs.ValidSheets.{Leads, valid_end, sheet_found}
 use Rattle.hm_serial.proofs.Roots.{IsRootKind}
 use Rattle.hm_serial.proofs.Steps.{root_leads, runs_kind}
 
