@@ -1,8 +1,7 @@
 -- The sheets of the handler.
-use Rattle.std.specs.Prelude.{List, [], ◌∷◌, false}
+use Rattle.std.specs.Prelude.{[], ◌∷◌, false}
 use Rattle.hm_data.specs.declared.act.Act.TheVariants as act_is
 use Rattle.hm_data.specs.declared.act.Back.TheVariants as back_is
-use Rattle.hm_data.specs.declared.sheet.Row.{Row}
 use Rattle.hm_data.specs.declared.sheet.Sheet.{Sheet}
 
 -- the namespace isn't there; then its row is added, and that ends the procedure
