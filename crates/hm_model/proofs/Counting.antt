@@ -14,11 +14,11 @@ use Rattle.hm_model.proofs.Grown.{grown_all, made_up_to, not_stepped, simple_all
 use Rattle.hm_model.proofs.Holders.{root_there}
 use Rattle.hm_model.proofs.Stages.{flat_all, runs_by, shaped, staged_all, step_all}
 use Rattle.hm_model.specs.Answers.{is_stop, is_stopped, last_answer}
+use Rattle.hm_model.specs.Counts.{count_below, one_if}
 use Rattle.hm_model.specs.Journal.{Past}
-use Rattle.hm_model.specs.Laws.{count_below, one_if}
 use Rattle.hm_model.specs.Locks.{Holds}
 use Rattle.hm_model.specs.Phase.{cause, ended}
-use Rattle.hm_model.specs.Records.{unfinished, unfinished_below}
+use Rattle.hm_model.specs.Records.{unfinished}
 use Rattle.hm_model.specs.Rest.{IsAtRest, IsAvailable}
 use Rattle.hm_model.specs.Rules.{IsLegal, MayBegin, MayStep}
 use Rattle.hm_model.specs.Sheets.{sheets_of}
@@ -81,14 +81,9 @@ count_some (suc n) test p lt on = elim (cases_eq p n) [
 abbrev pub is_open : Past → ℕ → Bool
 is_open J q = is_root J q && not (is_stopped (last_answer J q))
 
-counts : (J : Past) (n : ℕ) → unfinished_below J n ≡ count_below (λ q. is_root J q && not (ended J q)) n
-counts J zero = refl
-counts J (suc n) = ap (λ k. k + one_if (is_root J n && not (ended J n))) (counts J n)
-
 pub unfinished_is : (J : Past) → IsLegal J → unfinished J ≡ count_below (is_open J) (made J + 1)
 unfinished_is J legal =
-    counts J (made J + 1)
-    ∙ count_same (made J + 1) (λ q. is_root J q && not (ended J q)) (is_open J) (λ q lt. ap (λ b. is_root J q && not b) ((flat_all J legal).ended_is_stopped q))
+    count_same (made J + 1) (λ q. is_root J q && not (ended J q)) (is_open J) (λ q lt. ap (λ b. is_root J q && not b) ((flat_all J legal).ended_is_stopped q))
 
 open_parts : (J : Past) (q : ℕ) → is_open J q ≡ true → (is_root J q ≡ true) × (is_stopped (last_answer J q) ≡ false)
 open_parts J q on =

@@ -9,13 +9,13 @@ use Rattle.hm_data.specs.declared.catalog.CatRow.{CatRow}
 use Rattle.hm_data.specs.declared.entry.Entry.{Entry}
 use Rattle.hm_data.specs.declared.request.Request.{Request}
 use Rattle.hm_data.specs.declared.sheet.Row.{Row}
-use Rattle.hm_data.specs.declared.sheet.Sheet.{Sheet}
 use Rattle.hm_data.specs.declared.step.StepIn.{StepIn}
 use Rattle.hm_data.specs.declared.step.StepOut.{StepOut}
 use Rattle.hm_data.specs.declared.step.Turn.{Turn}
 use Rattle.hm_names.specs.Server.{Server}
 use Rattle.hm_names.specs.declared.nonce.Nonce.{Nonce}
 use Rattle.hm_names.specs.declared.pid.Pid.{Pid}
+use Rattle.hm_model.proofs.Sheets.{said_by_row}
 use Rattle.hm_model.specs.Answers.{is_aborted, last_answer, report_of}
 use Rattle.hm_model.specs.Catalog.{row_at}
 use Rattle.hm_model.specs.Inputs.{IsEvaluated, input}
@@ -24,9 +24,9 @@ use Rattle.hm_model.specs.Kinds.{is_running_kind, request_kind}
 use Rattle.hm_model.specs.Laws.{IsGrown, IsUnder, StartIsOldest}
 use Rattle.hm_model.specs.Nonces.{by_nonce, is_same}
 use Rattle.hm_model.specs.Rules.{Allowed, AreSheets, IsLegal}
-use Rattle.hm_model.specs.Sheets.{sheet_for, sheets_of}
+use Rattle.hm_model.specs.Sheets.{row_in, sheet_for, sheets_of}
 use Rattle.hm_model.specs.Stages.{IsPlain, IsSimple}
-use Rattle.hm_model.specs.Steps.{act_out, check_namespace_free, eval, eval_row, evaluation, fails, gives, namespace_of, on_to, out_of, set_row, step_out, with_namespace}
+use Rattle.hm_model.specs.Steps.{act_out, check_namespace_free, eval, eval_row, fails, gives, namespace_of, on_to, out_of, set_row, step_out, with_namespace}
 use Rattle.hm_model.specs.Tree.{Node, args_in, children_of, made, node_of, submitted}
 use Rattle.hm_data.specs.declared.entry.Entry.TheVariants as entry_is
 use Rattle.hm_data.specs.declared.answer.Cause.TheVariants as cause_is
@@ -64,13 +64,11 @@ plain_row : (row : Option Row) (at : StepIn) (out : StepOut) → eval_row row at
 plain_row None at out is = absurd (none-some out is)
 plain_row (Some row) at out is = subst IsPlain (same_Some (eval row at) out is) (plain_turn row at at.turn)
 
-plain_says : (sheet : Option Sheet) (at : StepIn) (out : StepOut) → (elim sheet as (λ s. Option StepOut) [ None ↦ None | Some s ↦ evaluation s at ]) ≡ Some out → IsPlain out
-plain_says None at out is = absurd (none-some out is)
-plain_says (Some sheet) at out is = plain_row (slice_get sheet.rows at.row) at out is
-
 -- while no act asks for more: a step makes no procedures, calls nobody and places nothing
 pub evaluated_plain : (before : Past) (p : ℕ) (pick : Option Server) (out : StepOut) → IsEvaluated before p pick out → IsPlain out
-evaluated_plain before p pick out ev = plain_says (sheet_for (sheets_of before) (input before p ev.0 pick).kind) (input before p ev.0 pick) out ev.2
+evaluated_plain before p pick out ev =
+    let at = input before p ev.0 pick in
+    plain_row (row_in (sheet_for (sheets_of before) at.kind) at.row) at out (sym (said_by_row (sheets_of before) at) ∙ ev.2)
 
 pub step_plain : (before : Past) (pid : Pid) (pick : Option Server) (out : StepOut) → Allowed before (entry_is.Step pid pick out) → IsPlain out
 step_plain before pid pick out allowed = evaluated_plain before pid.0 pick out allowed.1.1.1.1.0

@@ -2,6 +2,7 @@ pub mod Worked
 pub mod KeyTests
 pub mod Prefixes
 pub mod Rows
+pub mod Sheets
 pub mod Grown
 pub mod ValidSheets
 pub mod Stages

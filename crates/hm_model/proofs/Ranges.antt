@@ -92,7 +92,7 @@ placed_creating J legal some p ns runs =
       row = row.0;
       row_is = row.1;
       within = within;
-      can = λ pick. subst (CanStep there.0) (sym ((flat_all J legal).sees p ns pick)) (there.2, refl, within);
+      can = λ pick. subst (CanStep there.0) (sym ((flat_all J legal).sees p ns pick)) (there.3, refl, within);
     }
 
 pub placed : (J : Past) → IsLegal J → (p : ℕ) (node : Node) → node_of J p ≡ Some node → is_stopped (last_answer J p) ≡ false → IsPlaced J p node

@@ -1,7 +1,7 @@
 -- How far the procedures of a legal journal are, while the master runs only requests for namespaces.
 use Rattle.std.proofs.Common.{Bool, List, None, Option, Some, [], ap, false, if◌then◌else◌, inl, inr, is_some, not, refl, subst, suc, sym, true, zero, ℕ, ◌&&◌, ◌++◌, ◌+◌, ◌==◌, ◌||◌, ◌∙◌, ◌∷◌, ◌≡◌, ◌⊎◌}
 use Rattle.std.proofs.lemmas.Bool.{and_from, and_right, cases_eq, cond-false, cond-true, eq-eqb, ne_eqb, not_from_false, or_left}
-use Rattle.std.proofs.lemmas.Option.{none-some, same_Some}
+use Rattle.std.proofs.lemmas.Option.{same_Some}
 use Rattle.hm_data.specs.declared.answer.Answer.{Answer}
 use Rattle.hm_data.specs.declared.catalog.CatKey.{CatKey}
 use Rattle.hm_data.specs.declared.catalog.CatRow.{CatRow}
@@ -14,17 +14,18 @@ use Rattle.hm_names.specs.Server.{Server}
 use Rattle.hm_names.specs.declared.pid.Pid.{Pid}
 use Rattle.hm_model.proofs.Grown.{grown_all, not_stepped, sheets_are, simple_all, stepped}
 use Rattle.hm_model.proofs.Rows.{row_of_ns}
+use Rattle.hm_model.proofs.Sheets.{said_by_row}
 use Rattle.hm_model.proofs.ValidSheets.{leads_to_add}
 use Rattle.hm_model.specs.Answers.{done_with, failing, is_aborted, is_stopped, last_answer, no_row, report_of, row_after, row_of}
 use Rattle.hm_model.specs.Catalog.{cat}
-use Rattle.hm_model.specs.Inputs.{input, rows_read, says, step_input, turn_input, undoes}
+use Rattle.hm_model.specs.Inputs.{input, rows_read, step_input, turn_input, undoes}
 use Rattle.hm_model.specs.Journal.{Past}
 use Rattle.hm_model.specs.Laws.{IsGrown}
 use Rattle.hm_model.specs.Phase.{all_below, all_stopped, cause, child_in, children_ended, end_of, ended_node, ends_below, in_tree, is_parent, or_else, own_phase, phase, phase_table, rolled_back, root_ended, root_over, stopped_in}
 use Rattle.hm_model.specs.Rules.{Allowed, IsLegal}
-use Rattle.hm_model.specs.Sheets.{row_in, sheet_for, sheets_of, undo_by, undo_of_next}
+use Rattle.hm_model.specs.Sheets.{sheets_of, undo_by, undo_of_next}
 use Rattle.hm_model.specs.Stages.{AddsIt, FindsFree, FindsTaken, IsAddPlace, IsFlat, IsShaped, IsSimple, IsStaged, IsStep, LeadsToAdd, Stage, adding, create_row, creating, creating_input, failing_in, simple_phase}
-use Rattle.hm_model.specs.Steps.{act_out, check_namespace_free, eval, eval_row, evaluation, gives, on_to, set_row}
+use Rattle.hm_model.specs.Steps.{act_out, answer_of, check_namespace_free, eval_row, gives, on_to, set_row}
 use Rattle.hm_model.specs.Tree.{Node, is_top, made, node_of, root_in, root_of}
 use Rattle.hm_model.specs.Undo.{Undoable, is_empty, pushed, row_if_there, stack}
 use Rattle.hm_data.specs.declared.entry.Entry.TheVariants as entry_is
@@ -145,25 +146,20 @@ runs_by sheets (Some (answer_is.Done told)) stage h = cc
 runs_by sheets (Some (answer_is.Fail cause)) stage h = cc
 runs_by sheets (Some answer_is.Undone) stage h = absurd stage
 
--- what a row of the sheet answers to a procedure that makes a namespace
-said : (sheet : Option Sheet) (at : StepIn) (row : Row) → row_in sheet at.row ≡ Some row → (elim sheet as (λ s. Option StepOut) [ None ↦ None | Some s ↦ evaluation s at ]) ≡ Some (eval row at)
-said None at row is = absurd (none-some row is)
-said (Some sheet) at row is = ap (λ o. eval_row o at) is
-
 module _ (before : Past) (p : ℕ) (ns : List ℕ) (pick : Option Server) (flat : IsFlat before) where
   abbrev rows : List (CatKey × CatRow)
   rows = rows_read before (args_are.Root (request_is.CreateNamespace ns) 1)
 
-  said_row : (row : Row) → create_row (sheets_of before) (row_of before p (creating p ns)) ≡ Some row → says before (input before p (creating p ns) pick) ≡ Some (act_out row.act row.next (args_are.Root (request_is.CreateNamespace ns) 1) rows)
-  said_row row is = ap (says before) (flat.sees p ns pick) ∙ said (sheet_for (sheets_of before) 1) (creating_input before p ns pick) row is
+  said_row : (row : Row) → create_row (sheets_of before) (row_of before p (creating p ns)) ≡ Some row → answer_of (sheets_of before) (input before p (creating p ns) pick) ≡ Some (act_out row.act row.next (args_are.Root (request_is.CreateNamespace ns) 1) rows)
+  said_row row is = ap (answer_of (sheets_of before)) (flat.sees p ns pick) ∙ said_by_row (sheets_of before) (creating_input before p ns pick) ∙ ap (λ o. eval_row o (creating_input before p ns pick)) is
 
-  said_check : (row : Row) → create_row (sheets_of before) (row_of before p (creating p ns)) ≡ Some row → row.act ≡ act_is.CheckNamespaceFree → says before (input before p (creating p ns) pick) ≡ Some (check_namespace_free row.next (cat before (key_is.Ns ns)))
+  said_check : (row : Row) → create_row (sheets_of before) (row_of before p (creating p ns)) ≡ Some row → row.act ≡ act_is.CheckNamespaceFree → answer_of (sheets_of before) (input before p (creating p ns) pick) ≡ Some (check_namespace_free row.next (cat before (key_is.Ns ns)))
   said_check row is act =
       said_row row is
       ∙ ap (λ a. Some (act_out a row.next (args_are.Root (request_is.CreateNamespace ns) 1) rows)) act
       ∙ ap (λ o. Some (check_namespace_free row.next o)) (row_of_ns before ns 1)
 
-  said_add : (row : Row) → create_row (sheets_of before) (row_of before p (creating p ns)) ≡ Some row → row.act ≡ act_is.AddNamespace → row.next ≡ no_row → says before (input before p (creating p ns) pick) ≡ Some (gives (answer_is.Done told_is.Nothing) (adding before ns ∷ []))
+  said_add : (row : Row) → create_row (sheets_of before) (row_of before p (creating p ns)) ≡ Some row → row.act ≡ act_is.AddNamespace → row.next ≡ no_row → answer_of (sheets_of before) (input before p (creating p ns) pick) ≡ Some (gives (answer_is.Done told_is.Nothing) (adding before ns ∷ []))
   said_add row is act ends =
       said_row row is
       ∙ ap (λ a. Some (act_out a row.next (args_are.Root (request_is.CreateNamespace ns) 1) rows)) act
@@ -171,7 +167,7 @@ module _ (before : Past) (p : ℕ) (ns : List ℕ) (pick : Option Server) (flat 
       ∙ ap (λ o. let edit : Edit = record { key = key_is.Ns ns; before = o; after = Some row_is.Ns } in Some (gives (answer_is.Done told_is.Nothing) (edit ∷ []))) (row_of_ns before ns 1)
 
 module _ (pid : Pid) (pick : Option Server) (out : StepOut) (before : Past) (grown : IsGrown before) (simple : IsSimple before) (staged : IsStaged before) (flat : IsFlat before) (leads : LeadsToAdd (sheets_of before)) where
-  module _ (ns : List ℕ) (node_is : node_of before pid.0 ≡ Some (creating pid.0 ns)) (unpicked : pick ≡ None) (gives_out : says before (input before pid.0 (creating pid.0 ns) pick) ≡ Some out) where
+  module _ (ns : List ℕ) (node_is : node_of before pid.0 ≡ Some (creating pid.0 ns)) (unpicked : pick ≡ None) (gives_out : answer_of (sheets_of before) (input before pid.0 (creating pid.0 ns) pick) ≡ Some out) where
     at_check : last_answer before pid.0 ≡ None → IsStep pid pick out before
     at_check none =
         let row_is : create_row (sheets_of before) (row_of before pid.0 (creating pid.0 ns)) ≡ Some leads.0 = ap (λ l. create_row (sheets_of before) (row_after 0 l)) none ∙ leads.1 in
@@ -213,7 +209,7 @@ module _ (pid : Pid) (pick : Option Server) (out : StepOut) (before : Past) (gro
       let c = simple.creates pid.0 may.0 may.1 in
       let node_is : node_of before pid.0 ≡ Some (creating pid.0 c.0) = may.1 ∙ ap Some c.1 in
       let own : ev.0 ≡ creating pid.0 c.0 = same_Some ev.0 (creating pid.0 c.0) (sym ev.1 ∙ node_is) in
-      let gives_out : says before (input before pid.0 (creating pid.0 c.0) pick) ≡ Some out = ap (λ n. says before (input before pid.0 n pick)) (sym own) ∙ ev.2 in
+      let gives_out : answer_of (sheets_of before) (input before pid.0 (creating pid.0 c.0) pick) ≡ Some out = ap (λ n. answer_of (sheets_of before) (input before pid.0 n pick)) (sym own) ∙ ev.2 in
       let runs : simple_phase (last_answer before pid.0) ≡ phase_is.Runnable = elim may.2 [ inl run ↦ sym (flat.phase_is_simple pid.0 may.0 may.1) ∙ run | inr wait ↦ absurd (wait.1 (simple.unreported pid.0)) ] in
       elim (runs_by (sheets_of before) (last_answer before pid.0) (staged.staged pid.0) runs) [
         | inl none ↦ at_check c.0 node_is allowed.1.1.1.0 gives_out none

@@ -1,19 +1,20 @@
--- What the rules of sheets say of the sheet for namespaces.
-use Rattle.std.proofs.Common.{Bool, List, None, Option, Some, [], ap, arith, false, if◌then◌else◌, inl, inr, length, nat_lt, not, refl, slice_get, subst, suc, sym, true, zero, ℕ, ◌&&◌, ◌++◌, ◌<◌, ◌==◌, ◌||◌, ◌∙◌, ◌∷◌, ◌≡◌, ◌≢◌, ◌⊎◌}
-use Rattle.std.proofs.lemmas.Bool.{and_parts, cond-true, eq-eqb, eqb-true, false≢true, ltb-true, not-true, or_cases, true≢false}
+-- What the rules of sheets say of the rows of a valid sheet: they are led through as its kind lists them.
+use Rattle.std.proofs.Common.{Bool, List, None, Option, Some, [], ap, arith, cond, false, if◌then◌else◌, inl, inr, length, map, nat_lt, not, refl, slice_get, subst, suc, sym, true, zero, ℕ, ◌&&◌, ◌++◌, ◌<◌, ◌==◌, ◌||◌, ◌∙◌, ◌∷◌, ◌≡◌, ◌⊎◌}
+use Rattle.std.specs.List.{list_any}
+use Rattle.std.proofs.lemmas.Bool.{and_parts, cases_Bool, cond-false, cond-true, eq-eqb, eqb-true, false≢true, ltb-true, not-true, or_cases, true≢false}
 use Rattle.std.proofs.lemmas.Option.{none-some, same_Some}
 use Rattle.hm_data.proofs.ActNumbers.{act_of-act_number}
-use Rattle.hm_data.specs.Numbers.{act_number, act_of, back_number}
+use Rattle.hm_data.specs.Numbers.{act_number, act_of, back_number, back_of}
 use Rattle.hm_data.specs.declared.act.Act.{Act}
 use Rattle.hm_data.specs.declared.act.Back.{Back}
 use Rattle.hm_data.specs.declared.sheet.Row.{Row}
 use Rattle.hm_data.specs.declared.sheet.Sheet.{Sheet}
 use Rattle.hm_model.specs.Answers.{no_row}
 use Rattle.hm_model.specs.Lists.{Line, exact_rows, lines_of, plain}
-use Rattle.hm_model.specs.Rules.{AreSheets, rules}
+use Rattle.hm_model.specs.Rules.{AreSheets}
 use Rattle.hm_model.specs.Sheets.{row_in, sheet_for}
-use Rattle.hm_model.specs.Stages.{IsAddRow, IsCheckRow, LeadsToAdd}
-use Rattle.hm_model.specs.Validity.{IsValid, astray, first_broken, fits, is_not, misfit, misfit_in, row_rules, rules_of_row, same_flag}
+use Rattle.hm_model.specs.Stages.{LeadsToAdd}
+use Rattle.hm_model.specs.Validity.{AllValid, IsValid, astray, first_broken, fits, is_not, misfit, misfit_in, row_rules, rules_of_row, same_flag}
 use Rattle.hm_data.specs.declared.act.Act.TheVariants as act_is
 use Rattle.hm_data.specs.declared.act.Back.TheVariants as back_is
 
@@ -55,73 +56,146 @@ valid_row sheet valid place row is =
     let two = two_hold (row_rules sheet.kind sheet.rows place row) (subst (λ o. first_broken (rules_of_row sheet.kind sheet.rows place o) ≡ None) is all) in
     (elim (or_cases (row.next == no_row) (nat_lt row.next (length sheet.rows)) two.0) [ inl e ↦ inl (eqb-true row.next no_row e) | inr lt ↦ inr (ltb-true row.next (length sheet.rows) lt) ], ltb-true place 32 two.1)
 
-no_undo : (undo : Back) → back_number undo ≡ 0 → undo ≡ back_is.Nothing
-no_undo back_is.Nothing h = refl
-no_undo back_is.Edits h = absurd (omega (arith, h))
-no_undo back_is.Sweep h = absurd (omega (arith, h))
-no_undo back_is.Reopen h = absurd (omega (arith, h))
+-- a row is as a line lists it, with its undo or none
+abbrev pub Fits : Line → Row → Type 0
+Fits line row =
+    (row.act ≡ line.act) × (row.after ≡ line.after) × ((row.undo ≡ line.undo) ⊎ (row.undo ≡ back_is.Nothing))
 
-not_after : (b : Bool) → same_flag b false ≡ true → b ≡ false
-not_after true h = absurd (false≢true h)
-not_after false h = refl
+abbrev pub is_last : List Line → Bool
+is_last [] = true
+is_last (line ∷ lines) = false
+
+-- the rows from a place on, as each says the next, are as listed, up to the end
+abbrev pub Leads : List Row → ℕ → List Line → Type 0
+Leads rows place [] = place ≡ no_row
+Leads rows place (line ∷ lines) =
+    (row : Row) × (slice_get rows place ≡ Some row) × Fits line row × ((row.next == no_row) ≡ is_last lines) × Leads rows row.next lines
+
+same_flag-is : (a b : Bool) → same_flag a b ≡ true → a ≡ b
+same_flag-is true true h = refl
+same_flag-is true false h = absurd (false≢true h)
+same_flag-is false true h = absurd (false≢true h)
+same_flag-is false false h = refl
 
 same_act : (a b : Act) → act_number a ≡ act_number b → a ≡ b
 same_act a b e = same_Some a b (sym (act_of-act_number a) ∙ ap act_of e ∙ act_of-act_number b)
 
--- a row that is as a line without an undo lists it
-pub fits_plain : (act : Act) (row : Row) → fits (plain act) row ≡ true → (row.act ≡ act) × (row.after ≡ false) × (row.undo ≡ back_is.Nothing)
-fits_plain act row h =
-    let one = and_parts (act_number row.act == act_number act) (same_flag row.after false && ((back_number row.undo == 0) || (back_number row.undo == 0))) h in
-    let two = and_parts (same_flag row.after false) ((back_number row.undo == 0) || (back_number row.undo == 0)) one.1 in
-    (same_act row.act act (eqb-true (act_number row.act) (act_number act) one.0), not_after row.after two.0, no_undo row.undo (elim (or_cases (back_number row.undo == 0) (back_number row.undo == 0) two.1) [ inl e ↦ eqb-true (back_number row.undo) 0 e | inr e ↦ eqb-true (back_number row.undo) 0 e ]))
+back_of-back_number : (undo : Back) → back_of (back_number undo) ≡ Some undo
+back_of-back_number back_is.Nothing = refl
+back_of-back_number back_is.Edits = refl
+back_of-back_number back_is.Sweep = refl
+back_of-back_number back_is.Reopen = refl
 
-test_of : (b : Bool) (on : Option ℕ) (place : ℕ) → (if b then on else Some place) ≡ None → (b ≡ true) × (on ≡ None)
-test_of true on place h = (refl, h)
-test_of false on place h = absurd (none-some place (sym h))
+same_back : (a b : Back) → back_number a ≡ back_number b → a ≡ b
+same_back a b e = same_Some a b (sym (back_of-back_number a) ∙ ap back_of e ∙ back_of-back_number b)
 
-last_line : (rows : List Row) (line : Line) (place : ℕ) (row : Row) (o : Option Row) → o ≡ Some row → (elim o as (λ r. Option ℕ) [ None ↦ None | Some r ↦ if fits line r && (r.next == no_row) then None else Some place ]) ≡ None → (fits line row && (row.next == no_row)) ≡ true
-last_line rows line place row None is h = absurd (none-some row is)
-last_line rows line place row (Some r) is h = ap (λ x. fits line x && (x.next == no_row)) (sym (same_Some r row is)) ∙ (test_of (fits line r && (r.next == no_row)) None place h).0
+fits_is : (line : Line) (row : Row) → fits line row ≡ true → Fits line row
+fits_is line row h =
+    let act = and_parts (act_number row.act == act_number line.act) (same_flag row.after line.after && ((back_number row.undo == back_number line.undo) || (back_number row.undo == 0))) h in
+    let rest = and_parts (same_flag row.after line.after) ((back_number row.undo == back_number line.undo) || (back_number row.undo == 0)) act.1 in (
+      same_act row.act line.act (eqb-true (act_number row.act) (act_number line.act) act.0),
+      same_flag-is row.after line.after rest.0,
+      elim (or_cases (back_number row.undo == back_number line.undo) (back_number row.undo == 0) rest.1) [
+        | inl listed ↦ inl (same_back row.undo line.undo (eqb-true (back_number row.undo) (back_number line.undo) listed))
+        | inr none ↦ inr (same_back row.undo back_is.Nothing (eqb-true (back_number row.undo) 0 none))
+      ],
+    )
 
-there_at : (rows : List Row) (k : ℕ) → k < length rows → (row : Row) × (slice_get rows k ≡ Some row)
-there_at [] k lt = absurd (omega (arith, lt))
-there_at (row ∷ rows) zero lt = (row, refl)
-there_at (row ∷ rows) (suc k) lt = there_at rows k (omega (arith, lt))
+row_there : (rows : List Row) (place : ℕ) → place < length rows → (row : Row) × (slice_get rows place ≡ Some row)
+row_there [] place lt = absurd (omega (arith, lt))
+row_there (row ∷ rows) zero lt = (row, refl)
+row_there (row ∷ rows) (suc place) lt = row_there rows place (omega (arith, lt))
 
-abbrev AddAt : List Row → ℕ → Type 0
-AddAt rows place = (row : Row) × (slice_get rows place ≡ Some row) × IsAddRow row
+if_none : (b : Bool) (o : Option ℕ) (place : ℕ) → cond b o (Some place) ≡ None → (b ≡ true) × (o ≡ None)
+if_none true o place h = (refl, h)
+if_none false o place h = absurd (none-some place (sym h))
 
-led_rows : (rows : List Row) → misfit_in [] (plain act_is.CheckNamespaceFree ∷ plain act_is.AddNamespace ∷ []) rows ≡ None → ((row : Row) → slice_get rows 0 ≡ Some row → (row.next ≡ no_row) ⊎ (row.next < length rows)) → (row : Row) × (slice_get rows 0 ≡ Some row) × IsCheckRow row × AddAt rows row.next
-led_rows [] fit next = absurd (none-some 0 (sym fit))
-led_rows (row ∷ more) fit next =
-    let head = test_of (fits (plain act_is.CheckNamespaceFree) row && not (row.next == no_row)) (astray (row ∷ more) (plain act_is.AddNamespace) [] row.next) 0 fit in
-    let parts = and_parts (fits (plain act_is.CheckNamespaceFree) row) (not (row.next == no_row)) head.0 in
-    let own = fits_plain act_is.CheckNamespaceFree row parts.0 in
-    let goes : row.next ≢ no_row = λ e. true≢false (sym (eq-eqb row.next no_row e) ∙ not-true (row.next == no_row) parts.1) in
-    let within : row.next < length (row ∷ more) = elim (next row refl) [ inl e ↦ absurd (goes e) | inr lt ↦ lt ] in
-    let after = there_at (row ∷ more) row.next within in
-    let ends = and_parts (fits (plain act_is.AddNamespace) after.0) (after.0.next == no_row) (last_line (row ∷ more) (plain act_is.AddNamespace) row.next after.0 (slice_get (row ∷ more) row.next) after.1 head.1) in
-    let add = fits_plain act_is.AddNamespace after.0 ends.0 in
-    (row, refl, record { act = own.0; before_point = own.1; undo = own.2; goes_on = goes }, (after.0, after.1, record { act = add.0; before_point = add.1; undo = add.2; ends = eqb-true after.0.next no_row ends.1 }))
+at_end : (line : Line) (place : ℕ) (o : Option Row) (row : Row) → o ≡ Some row → (elim o as (λ r. Option ℕ) [ None ↦ None | Some x ↦ if fits line x && (x.next == no_row) then None else Some place ]) ≡ None → (fits line row && (row.next == no_row)) ≡ true
+at_end line place None row is h = absurd (none-some row is)
+at_end line place (Some x) row is h = rw (← same_Some x row is) (if_none (fits line x && (x.next == no_row)) None place h).0
 
--- a valid sheet of kind 1 checks at its row 0, and then adds
-led_sheet : (sheet : Sheet) → sheet.kind ≡ 1 → IsValid sheet → (row : Row) × (slice_get sheet.rows 0 ≡ Some row) × IsCheckRow row × AddAt sheet.rows row.next
-led_sheet sheet kind valid =
-    led_rows sheet.rows (ap (λ k. misfit_in (exact_rows k) (lines_of k) sheet.rows) (sym kind) ∙ valid_fits sheet valid) (λ row is. (valid_row sheet valid 0 row is).0)
+at_more : (rows : List Row) (line following : Line) (lines : List Line) (place : ℕ) (o : Option Row) (row : Row) → o ≡ Some row → (elim o as (λ r. Option ℕ) [ None ↦ None | Some x ↦ if fits line x && not (x.next == no_row) then astray rows following lines x.next else Some place ]) ≡ None → ((fits line row && not (row.next == no_row)) ≡ true) × (astray rows following lines row.next ≡ None)
+at_more rows line following lines place None row is h = absurd (none-some row is)
+at_more rows line following lines place (Some x) row is h = rw (← same_Some x row is) (if_none (fits line x && not (x.next == no_row)) (astray rows following lines x.next) place h)
 
-one_sheet : (sheets : List Sheet) → AreSheets sheets → (sheet : Sheet) × (sheets ≡ sheet ∷ []) × (sheet.kind ≡ 1) × IsValid sheet
-one_sheet [] are = cc (are.0)
-one_sheet (sheet ∷ []) are = (sheet, refl, cc (are.0), are.1.0)
-one_sheet (sheet ∷ other ∷ more) are = cc (are.0)
+module _ (rows : List Row) (onward : (place : ℕ) (row : Row) → slice_get rows place ≡ Some row → (row.next ≡ no_row) ⊎ (row.next < length rows)) where
+  led : (line : Line) (lines : List Line) (place : ℕ) → place < length rows → astray rows line lines place ≡ None → Leads rows place (line ∷ lines)
+  led line [] place lt h =
+      let there = row_there rows place lt in
+      let parts = and_parts (fits line there.0) (there.0.next == no_row) (at_end line place (slice_get rows place) there.0 there.1 h) in
+      (there.0, there.1, fits_is line there.0 parts.0, parts.1, eqb-true there.0.next no_row parts.1)
+  led line (following ∷ lines) place lt h =
+      let there = row_there rows place lt in
+      let on = at_more rows line following lines place (slice_get rows place) there.0 there.1 h in
+      let parts = and_parts (fits line there.0) (not (there.0.next == no_row)) on.0 in
+      let off : (there.0.next == no_row) ≡ false = not-true (there.0.next == no_row) parts.1 in (
+        there.0,
+        there.1,
+        fits_is line there.0 parts.0,
+        off,
+        led following lines there.0.next (elim (onward place there.0 there.1) [
+          | inl end ↦ absurd (true≢false (sym (eq-eqb there.0.next no_row end) ∙ off))
+          | inr within ↦ within
+        ]) on.1,
+      )
 
-pub sheet_there : (sheets : List Sheet) → AreSheets sheets → (sheet : Sheet) × (sheet_for sheets 1 ≡ Some sheet) × (sheet.kind ≡ 1) × IsValid sheet
-sheet_there sheets are =
-    let one = one_sheet sheets are in
-    (one.0, ap (λ l. sheet_for l 1) one.1 ∙ cond-true (one.0.kind == 1) (Some one.0) None (eq-eqb one.0.kind 1 one.2), one.2, one.3)
+led_first : (exact : List Row) (line : Line) (lines : List Line) (rows : List Row) → exact ≡ [] → misfit_in exact (line ∷ lines) rows ≡ None → (0 < length rows) × (astray rows line lines 0 ≡ None)
+led_first exact line lines [] none h = absurd (none-some 0 (sym h))
+led_first (x ∷ exact) line lines (row ∷ rows) none h = absurd (cc)
+led_first [] line lines (row ∷ rows) none h = (omega arith, h)
 
+-- the rows of a kind that lists lines lead through them from the first on
+pub valid_leads : (sheet : Sheet) (line : Line) (lines : List Line) → IsValid sheet → exact_rows sheet.kind ≡ [] → lines_of sheet.kind ≡ line ∷ lines → Leads sheet.rows 0 (line ∷ lines)
+valid_leads sheet line lines valid exact listed =
+    let none : misfit_in (exact_rows sheet.kind) (line ∷ lines) sheet.rows ≡ None = ap (λ l. misfit_in (exact_rows sheet.kind) l sheet.rows) (sym listed) ∙ valid_fits sheet valid in
+    let first = led_first (exact_rows sheet.kind) line lines sheet.rows exact none in
+    led sheet.rows (λ place row is. (valid_row sheet valid place row is).0) line lines 0 first.0 first.1
+
+-- no row has the number that ends a procedure
+pub valid_end : (sheet : Sheet) → IsValid sheet → (row : Row) → slice_get sheet.rows no_row ≡ Some row → ⊥
+valid_end sheet valid row is =
+    let low = (valid_row sheet valid no_row row is).1 in
+    omega (arith, low)
+
+-- a kind that sheets are for has one
+pub sheet_found : (sheets : List Sheet) (kind : ℕ) → AllValid sheets → list_any (λ k. k == kind) (map (λ s. s.kind) sheets) ≡ true → (sheet : Sheet) × (sheet_for sheets kind ≡ Some sheet) × IsValid sheet × (sheet.kind ≡ kind)
+sheet_found [] kind valid among = absurd (false≢true among)
+sheet_found (sheet ∷ sheets) kind valid among = elim (cases_Bool (sheet.kind == kind)) [
+  | inl on ↦ (sheet, cond-true (sheet.kind == kind) (Some sheet) (sheet_for sheets kind) on, valid.0, eqb-true sheet.kind kind on)
+  | inr off ↦
+      let later = sheet_found sheets kind valid.1 (elim (or_cases (sheet.kind == kind) (list_any (λ k. k == kind) (map (λ s. s.kind) sheets)) among) [
+        | inl on ↦ absurd (true≢false (sym on ∙ off))
+        | inr rest ↦ rest
+      ]) in
+      (later.0, cond-false (sheet.kind == kind) (Some sheet) (sheet_for sheets kind) off ∙ later.1, later.2, later.3)
+]
+
+-- the sheet for namespaces, by its kind
+pub sheet_there : (sheets : List Sheet) → AreSheets sheets → (sheet : Sheet) × (sheet_for sheets 1 ≡ Some sheet) × IsValid sheet × (sheet.kind ≡ 1)
+sheet_there sheets are = sheet_found sheets 1 are.1 (ap (list_any (λ k. k == 1)) are.0)
+
+no_undo : (undo : Back) → (undo ≡ back_is.Nothing) ⊎ (undo ≡ back_is.Nothing) → undo ≡ back_is.Nothing
+no_undo undo none = elim none [ inl e ↦ e | inr e ↦ e ]
+
+-- it checks, and then adds
 pub leads_to_add : (sheets : List Sheet) → AreSheets sheets → LeadsToAdd sheets
 leads_to_add sheets are =
-    let s = sheet_there sheets are in
-    let led = led_sheet s.0 s.2 s.3 in
-    let place = (valid_row s.0 s.3 led.0.next led.3.0 led.3.1).1 in
-    (led.0, ap (λ o. row_in o 0) s.1 ∙ led.1, led.2, (led.3.0, ap (λ o. row_in o led.0.next) s.1 ∙ led.3.1, led.3.2, place))
+    let there = sheet_there sheets are in
+    let check = valid_leads there.0 (plain act_is.CheckNamespaceFree) (plain act_is.AddNamespace ∷ []) there.2 (ap exact_rows there.3) (ap lines_of there.3) in
+    let add = check.4 in
+    let place = (valid_row there.0 there.2 check.0.next add.0 add.1).1 in (
+      check.0,
+      ap (λ o. row_in o 0) there.1 ∙ check.1,
+      record {
+        act = check.2.0;
+        before_point = check.2.1;
+        undo = no_undo check.0.undo check.2.2;
+        goes_on = λ e. true≢false (sym (eq-eqb check.0.next no_row e) ∙ check.3);
+      },
+      (
+        add.0,
+        ap (λ o. row_in o check.0.next) there.1 ∙ add.1,
+        record { act = add.2.0; before_point = add.2.1; undo = no_undo add.0.undo add.2.2; ends = add.4 },
+        place,
+      ),
+    )

@@ -9,13 +9,14 @@ use Rattle.hm_data.specs.declared.sheet.Sheet.{Sheet}
 use Rattle.hm_data.specs.declared.step.StepOut.{StepOut}
 use Rattle.hm_names.specs.Server.{Server}
 use Rattle.hm_model.specs.Catalog.{cat}
-use Rattle.hm_model.specs.Inputs.{IsEvaluated, input, says}
+use Rattle.hm_model.specs.Inputs.{IsEvaluated, input}
 use Rattle.hm_model.specs.Journal.{Past}
 use Rattle.hm_model.specs.Phase.{ended, phase}
 use Rattle.hm_model.specs.Records.{unfinished}
 use Rattle.hm_model.specs.Rules.{AreSheets, Breaks, IsLegal, MayBegin, MayStep}
 use Rattle.hm_model.specs.Serial.{serial}
-use Rattle.hm_model.specs.Steps.{gives}
+use Rattle.hm_model.specs.Sheets.{sheets_of}
+use Rattle.hm_model.specs.Steps.{answer_of, gives}
 use Rattle.hm_model.specs.Tree.{Node, node_of}
 use Rattle.hm_model.specs.Validity.{IsFirstFault, IsValid, first_broken, sheet_rules}
 use Rattle.hm_data.specs.declared.entry.Entry.TheVariants as entry_is
@@ -80,7 +81,7 @@ shop_by_deed = refl
 shop_not_before : is_none (cat checked (key_is.Ns (codes "shop"))) ≡ true
 shop_not_before = refl
 
-next_says : says checked (input checked 2 (node 2 (codes "shop")) None) ≡ Some (gives (answer_is.Done told_is.Nothing) (shop_added ∷ []))
+next_says : answer_of (sheets_of checked) (input checked 2 (node 2 (codes "shop")) None) ≡ Some (gives (answer_is.Done told_is.Nothing) (shop_added ∷ []))
 next_says = refl
 
 none_unfinished : unfinished added ≡ 0
@@ -135,10 +136,10 @@ pub added_legal : IsLegal added
 added_legal = (checked_legal, ((λ e. cc), ((node 2 (codes "shop"), refl, inl refl), (second_goes_on, (refl, ((node 2 (codes "shop"), refl, refl), tt))))))
 
 -- what a step answers otherwise than its sheet
-not_said : (before : Past) (p : ℕ) (out said : StepOut) (its : Node) → node_of before p ≡ Some its → says before (input before p its None) ≡ Some said → said.answer ≢ out.answer → IsEvaluated before p None out → ⊥
+not_said : (before : Past) (p : ℕ) (out said : StepOut) (its : Node) → node_of before p ≡ Some its → answer_of (sheets_of before) (input before p its None) ≡ Some said → said.answer ≢ out.answer → IsEvaluated before p None out → ⊥
 not_said before p out said its is says_it differs ev =
     let same : its ≡ ev.0 = same_Some its ev.0 (sym is ∙ ev.1) in
-    differs (ap (λ o. o.answer) (same_Some said out (sym says_it ∙ ap (λ n. says before (input before p n None)) same ∙ ev.2)))
+    differs (ap (λ o. o.answer) (same_Some said out (sym says_it ∙ ap (λ n. answer_of (sheets_of before) (input before p n None)) same ∙ ev.2)))
 
 done_at_once : Breaks refused (entry_is.Step (record { 0 = 2 }) None (gives (answer_is.Done told_is.Nothing) [])) 8
 done_at_once = inr (

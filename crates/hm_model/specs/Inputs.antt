@@ -11,12 +11,12 @@ use Rattle.hm_model.specs.Journal.{Past}
 use Rattle.hm_model.specs.Kinds.{kind_of}
 use Rattle.hm_model.specs.Tree.{Node, node_of, is_top}
 use Rattle.hm_model.specs.Answers.{row_of, report_of, is_aborted}
-use Rattle.hm_model.specs.Sheets.{sheets_of, sheet_for}
+use Rattle.hm_model.specs.Sheets.{sheets_of}
 use Rattle.hm_model.specs.Undo.{Undoable, stack, is_empty}
 use Rattle.hm_model.specs.Phase.{cause, all_stopped, ends_of}
 use Rattle.hm_model.specs.Catalog.{cat, keys_of, rows_at}
 use Rattle.hm_model.specs.Locks.{reads}
-use Rattle.hm_model.specs.Steps.{evaluation}
+use Rattle.hm_model.specs.Steps.{answer_of}
 
 -- the rows that a procedure reads and that are there, in key order
 abbrev pub rows_read : Past → Args → List (CatKey × CatRow)
@@ -68,12 +68,7 @@ abbrev pub input : Past → ℕ → Node → Option Server → StepIn
 input before p node pick =
     turn_input before (undoes before p node) (stack before p) (step_input before p node pick)
 
--- what the sheet of the journal says at an input
-abbrev pub says : Past → StepIn → Option StepOut
-says before at =
-    elim (sheet_for (sheets_of before) at.kind) as (λ s. Option StepOut) [ None ↦ None | Some sheet ↦ evaluation sheet at ]
-
 -- this is what the next step of a procedure that is there answers
 abbrev pub IsEvaluated : Past → ℕ → Option Server → StepOut → Type 0
 IsEvaluated before p pick out =
-    (node : Node) × (node_of before p ≡ Some node) × (says before (input before p node pick) ≡ Some out)
+    (node : Node) × (node_of before p ≡ Some node) × (answer_of (sheets_of before) (input before p node pick) ≡ Some out)

@@ -1,6 +1,6 @@
 -- What legal journals keep.
 use Rattle.std.specs.List.{list_any}
-use Rattle.std.specs.Prelude.{Bool, Decides, List, None, Option, Some, [], drop, false, if◌then◌else◌, suc, take, true, zero, ℕ, ◌++◌, ◌+◌, ◌<◌, ◌↔◌, ◌∷◌, ◌≡◌, ◌≢◌, ◌≤◌}
+use Rattle.std.specs.Prelude.{Bool, Decides, List, None, Option, Some, [], drop, false, take, true, ℕ, ◌++◌, ◌+◌, ◌<◌, ◌↔◌, ◌∷◌, ◌≡◌, ◌≢◌, ◌≤◌}
 use Rattle.std.specs.declared.cmp.Ordering.TheVariants.{Equal, Less}
 use Rattle.hm_data.specs.Keys.{key_cmp}
 use Rattle.hm_data.specs.declared.args.Args.{Args}
@@ -134,15 +134,6 @@ KeysAreListed = (J : Past) → AreInOrder (keys_of J) × ((key : CatKey) → cat
 -- one root at a time has a step and hasn't ended
 abbrev pub OneHolds : Past → Type 0
 OneHolds J = (p q : ℕ) → Holds J p → Holds J q → p ≡ q
-
--- 1 for what holds
-abbrev pub one_if : Bool → ℕ
-one_if holds = if holds then 1 else 0
-
--- how many numbers below n pass the test
-abbrev pub count_below : (ℕ → Bool) → ℕ → ℕ
-count_below test zero = 0
-count_below test (suc n) = count_below test n + one_if (test n)
 
 -- no two procedures that hold what they ask for conflict, in any legal journal
 abbrev pub NoneEverConflict : Type 0

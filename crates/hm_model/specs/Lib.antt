@@ -16,6 +16,7 @@ pub mod Nonces
 pub mod Serial
 pub mod Rules
 pub mod Rest
+pub mod Counts
 pub mod Records
 pub mod Stages
 pub mod Laws

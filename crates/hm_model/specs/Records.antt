@@ -1,8 +1,9 @@
 -- A procedure as it is shown.
-use Rattle.std.specs.Prelude.{ℕ, zero, suc, ◌+◌, Option, if◌then◌else◌, not, ◌&&◌}
+use Rattle.std.specs.Prelude.{ℕ, ◌+◌, Option, not, ◌&&◌}
 use Rattle.std.specs.Option.{option_map}
 use Rattle.hm_names.specs.declared.pid.Pid.{Pid}
 use Rattle.hm_data.specs.declared.record.Record.{Record}
+use Rattle.hm_model.specs.Counts.{count_below}
 use Rattle.hm_model.specs.Journal.{Past}
 use Rattle.hm_model.specs.Kinds.{kind_of}
 use Rattle.hm_model.specs.Tree.{Node, made, node_of, is_root, parent_in}
@@ -31,12 +32,6 @@ record_at before p node = record {
 abbrev pub record_of : Past → ℕ → Option Record
 record_of before p = option_map (record_at before p) (node_of before p)
 
--- how many of the procedures below n are roots that haven't ended
-abbrev pub unfinished_below : Past → ℕ → ℕ
-unfinished_below before zero = 0
-unfinished_below before (suc n) =
-    unfinished_below before n + (if is_root before n && not (ended before n) then 1 else 0)
-
 -- how many roots haven't ended
 abbrev pub unfinished : Past → ℕ
-unfinished before = unfinished_below before (made before + 1)
+unfinished before = count_below (λ q. is_root before q && not (ended before q)) (made before + 1)

@@ -14,10 +14,11 @@ use Rattle.hm_names.specs.Server.{Server}
 use Rattle.hm_names.specs.declared.pid.Pid.{Pid}
 use Rattle.hm_model.specs.Answers.{failing, is_aborted, is_stop, is_stopped, last_answer, no_row, report_of, row_of}
 use Rattle.hm_model.specs.Catalog.{cat, row_at}
+use Rattle.hm_model.specs.Counts.{one_if}
 use Rattle.hm_model.specs.Inputs.{input, rows_read, undoes}
 use Rattle.hm_model.specs.Journal.{Past}
 use Rattle.hm_model.specs.Kinds.{kind_of}
-use Rattle.hm_model.specs.Laws.{OneHolds, one_if}
+use Rattle.hm_model.specs.Laws.{OneHolds}
 use Rattle.hm_model.specs.Locks.{Holds}
 use Rattle.hm_model.specs.Phase.{all_stopped, cause, children_ended, ended, ends_of, phase, rolled_back}
 use Rattle.hm_model.specs.Records.{unfinished}

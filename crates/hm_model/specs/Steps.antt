@@ -33,6 +33,7 @@ use Rattle.hm_model.specs.Answers.{no_row}
 use Rattle.hm_model.specs.Catalog.{row_at}
 use Rattle.hm_model.specs.Kinds.{is_running_kind}
 use Rattle.hm_model.specs.Locks.{in_name_order}
+use Rattle.hm_model.specs.Sheets.{sheet_for}
 
 -- an answer with edits, and nothing else
 abbrev pub gives : Answer → List Edit → StepOut
@@ -191,3 +192,17 @@ needs_pick sheet at = false
 abbrev pub CanStep : Sheet → StepIn → Type 0
 CanStep sheet at =
     (sheet.kind ≡ at.kind) × IsTrue (is_running_kind at.kind) × (at.row < length sheet.rows)
+
+-- a sheet is there, and can be asked at the input
+abbrev pub CanBeAsked : Option Sheet → StepIn → Type 0
+CanBeAsked None at = ⊥
+CanBeAsked (Some sheet) at = CanStep sheet at
+
+-- the sheets have one for the input's kind, which can be asked there
+abbrev pub CanRun : List Sheet → StepIn → Type 0
+CanRun sheets at = CanBeAsked (sheet_for sheets at.kind) at
+
+-- what the sheet for the input's kind says there
+abbrev pub answer_of : List Sheet → StepIn → Option StepOut
+answer_of sheets at =
+    elim (sheet_for sheets at.kind) as (λ s. Option StepOut) [ None ↦ None | Some sheet ↦ evaluation sheet at ]

@@ -18,7 +18,7 @@ use Rattle.hm_model.specs.Locks.{covers, reads, guards}
 use Rattle.hm_model.specs.Serial.{set_to, create_namespace}
 use Rattle.hm_model.specs.Steps.{gives, on_to, set_row, check_namespace_free}
 use Rattle.hm_model.proofs.KeyTests.{bytes_eq-refl}
-use Rattle.hm_serial.proofs.Sheets.{Leads}
+use Rattle.hm_model.proofs.ValidSheets.{Leads}
 use Rattle.hm_serial.proofs.Roots.{adds_namespace, RootOut, fails_out, goes_out, ends_out}
 
 module _ (ns : List ℕ) (first : ℕ) where

@@ -1,5 +1,4 @@
 pub mod Local
-pub mod Sheets
 pub mod Roots
 pub mod CreateNamespace
 pub mod Steps

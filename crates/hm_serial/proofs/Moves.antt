@@ -30,7 +30,7 @@ use Rattle.hm_model.specs.Undo.{Undoable, stack, pushed, row_if_there, is_empty}
 use Rattle.hm_model.proofs.Grown.{stepped}
 use Rattle.hm_model.proofs.Rows.{row_read}
 use Rattle.hm_serial.proofs.Local.{within_others}
-use Rattle.hm_serial.proofs.Sheets.{Leads}
+use Rattle.hm_model.proofs.ValidSheets.{Leads}
 use Rattle.hm_serial.proofs.Roots.{Stage, begins, is_after, goes_after, RootOut}
 use Rattle.hm_serial.proofs.Steps.{root_step}
 use Rattle.hm_serial.proofs.Trees.{rows_for, next_row-is, Stepping}

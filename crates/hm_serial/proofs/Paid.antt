@@ -16,7 +16,7 @@ use Rattle.hm_model.specs.Journal.{Past}
 use Rattle.hm_model.specs.Answers.{last_answer, row_of, row_after, is_stop, is_stopped}
 use Rattle.hm_model.specs.Inputs.{step_input}
 use Rattle.hm_model.specs.Kinds.{kind_of, first_row_of}
-use Rattle.hm_model.specs.Laws.{one_if}
+use Rattle.hm_model.specs.Counts.{one_if}
 use Rattle.hm_model.specs.Lists.{Line, lines_of}
 use Rattle.hm_model.specs.Rules.{IsLegal}
 use Rattle.hm_model.specs.Steps.{eval_row}
@@ -24,7 +24,7 @@ use Rattle.hm_model.specs.Tree.{Node, made, node_of, root_of, submitted}
 use Rattle.hm_model.proofs.Grown.{grown_all, step_node, stepped, not_stepped, submit_old, submit_new}
 use Rattle.hm_serial.specs.Costs.{entries_of, cost}
 use Rattle.hm_serial.specs.Theorem.{CostBound}
-use Rattle.hm_serial.proofs.Sheets.{Leads}
+use Rattle.hm_model.proofs.ValidSheets.{Leads}
 use Rattle.hm_serial.proofs.Steps.{root_costs, step_left}
 use Rattle.hm_serial.proofs.Trees.{rows_for, forest_all, Stepping, stepping}
 use Rattle.hm_serial.proofs.Moves.{row_after-some}

@@ -31,7 +31,7 @@ use Rattle.hm_model.specs.Serial.{deed_of}
 use Rattle.hm_model.specs.Sheets.{undo_by}
 use Rattle.hm_model.specs.Steps.{gives, fails, on_to, act_out, step_out, out_of, eval, eval_row}
 use Rattle.hm_serial.proofs.Local.{Within, Tells}
-use Rattle.hm_serial.proofs.Sheets.{Leads, Fits}
+use Rattle.hm_model.proofs.ValidSheets.{Leads, Fits}
 
 -- the lines that are left of a root, from the catalog before its first step, and what its steps did so far, at once
 pub data Stage : Args → Catalog → List Line → List Edit → Type 0 where

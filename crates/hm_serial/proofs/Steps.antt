@@ -32,7 +32,7 @@ use Rattle.hm_model.specs.Steps.{gives, fails, on_to, set_row, act_out, check_na
 use Rattle.hm_model.specs.Validity.{IsValid}
 use Rattle.hm_serial.specs.Costs.{cost}
 use Rattle.hm_serial.proofs.CreateNamespace.{reads_it, guards_it, checks, adds}
-use Rattle.hm_serial.proofs.Sheets.{Leads, valid_leads}
+use Rattle.hm_model.proofs.ValidSheets.{Leads, valid_leads}
 use Rattle.hm_serial.proofs.Roots.{Stage, begins, adds_namespace, IsRootKind, is_after, RootOut, at_row}
 
 -- the sheet of a root leads through the lines of its kind

@@ -17,23 +17,23 @@ use Rattle.hm_data.specs.declared.record.Phase.TheVariants as phase_is
 use Rattle.hm_data.specs.declared.request.Request.{Request}
 use Rattle.hm_data.specs.declared.sheet.Row.{Row}
 use Rattle.hm_data.specs.declared.sheet.Sheet.{Sheet}
-use Rattle.hm_data.specs.declared.step.StepIn.{StepIn}
 use Rattle.hm_data.specs.declared.step.StepOut.{StepOut}
 use Rattle.hm_model.specs.Journal.{Past}
 use Rattle.hm_model.specs.Answers.{no_row, last_answer, row_of, report_of, is_stopped}
 use Rattle.hm_model.specs.Catalog.{was}
-use Rattle.hm_model.specs.Inputs.{step_input, input, turn_input, undoes, says}
+use Rattle.hm_model.specs.Inputs.{step_input, input, turn_input, undoes}
 use Rattle.hm_model.specs.Kinds.{kind_of, first_row_of, running_kinds}
 use Rattle.hm_model.specs.Lists.{lines_of}
 use Rattle.hm_model.specs.Phase.{cause, all_stopped, rolled_back, root_ended, own_phase, phase_table, phase, children_ended}
 use Rattle.hm_model.specs.Rules.{IsLegal}
 use Rattle.hm_model.specs.Sheets.{sheets_of, sheet_for, row_in, next_row}
-use Rattle.hm_model.specs.Steps.{eval_row, evaluation}
+use Rattle.hm_model.specs.Steps.{answer_of, eval_row}
 use Rattle.hm_model.specs.Tree.{Node, made, node_of, root_of, root_in, is_top}
 use Rattle.hm_model.specs.Undo.{stack}
 use Rattle.hm_model.proofs.Grown.{grown_all, simple_all, step_plain, step_node, not_stepped, submit_old, sheets_are}
+use Rattle.hm_model.proofs.Sheets.{said_by_row}
 use Rattle.hm_model.proofs.Stages.{flat_all}
-use Rattle.hm_serial.proofs.Sheets.{Leads, valid_end, sheet_found}
+use Rattle.hm_model.proofs.ValidSheets.{Leads, valid_end, sheet_found}
 use Rattle.hm_serial.proofs.Roots.{IsRootKind}
 use Rattle.hm_serial.proofs.Steps.{root_leads, runs_kind}
 
@@ -129,10 +129,6 @@ steps_input J p node pick sound =
     let off : undoes J p node ≡ false = and_right (is_top node.above) _ (and_left (is_some (cause J p)) _ (ap is_some sound)) in
     ap (λ b. turn_input J b (stack J p) (step_input J p node pick)) off
 
-said : (sheet : Option Sheet) (at : StepIn) → (elim sheet as (λ s. Option StepOut) [ None ↦ None | Some s ↦ evaluation s at ]) ≡ eval_row (slice_get (rows_in sheet) at.row) at
-said None at = refl
-said (Some sheet) at = refl
-
 -- what a legal step is
 pub record Stepping (pid : Pid) (pick : Option Server) (out : StepOut) (before : Past) : Type 0 where
   pub me : Node
@@ -154,7 +150,8 @@ stepping pid pick out before legal =
     let top = forest.tops pid.0 may.0 may.1 in
     let kind = forest.kinds pid.0 may.0 may.1 in
     let can = may_run before pid.0 may.0 top.0 top.1 may.2 in
-    let evaluated : says before (input before pid.0 may.0 pick) ≡ Some out = subst (λ n. says before (input before pid.0 n pick) ≡ Some out) (same_Some ev.0 may.0 (sym ev.1 ∙ may.1)) ev.2 in
+    let evaluated : answer_of (sheets_of before) (input before pid.0 may.0 pick) ≡ Some out = subst (λ n. answer_of (sheets_of before) (input before pid.0 n pick) ≡ Some out) (same_Some ev.0 may.0 (sym ev.1 ∙ may.1)) ev.2 in
+    let at = step_input before pid.0 may.0 pick in
     record {
       me = may.0;
       is_me = may.1;
@@ -165,7 +162,11 @@ stepping pid pick out before legal =
       sound = can.1;
       childless = (step_plain before pid pick out legal.1).0;
       rows = rows_are before legal.0 legal.1.0 may.0.args kind;
-      is_out = sym (said (sheet_for (sheets_of before) (kind_of may.0.args)) (step_input before pid.0 may.0 pick)) ∙ ap (says before) (sym (steps_input before pid.0 may.0 pick can.1)) ∙ evaluated;
+      is_out =
+          ap (λ o. eval_row o at) (sym (next_row-is before pid.0 may.0))
+          ∙ sym (said_by_row (sheets_of before) at)
+          ∙ ap (answer_of (sheets_of before)) (sym (steps_input before pid.0 may.0 pick can.1))
+          ∙ evaluated;
     }
 
 -- what is read of a tree is the same

@@ -9,7 +9,7 @@ use Rattle.hm_data.specs.declared.entry.Entry.TheVariants as entry_is
 use Rattle.hm_data.specs.declared.request.Request.{Request}
 use Rattle.hm_data.specs.declared.request.Request.TheVariants as request_is
 use Rattle.hm_model.specs.Journal.{Past}
-use Rattle.hm_model.specs.Laws.{one_if}
+use Rattle.hm_model.specs.Counts.{one_if}
 use Rattle.hm_model.specs.Tree.{made, node_of, root_of, args_in}
 use Rattle.hm_model.specs.Phase.{ended}
 

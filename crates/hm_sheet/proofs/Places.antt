@@ -1,5 +1,5 @@
 -- One of several things is written over by one whose sheets are the same and whose count rose.
-use Rattle.std.proofs.Common.{◌≡◌, ℕ, zero, suc, ◌+◌, ◌-◌, ◌^◌, ◌<◌, ◌≤◌, List, [], ◌∷◌, ◌++◌, IfSome, map, set, length, get_or, slice_get, refl, ap, ◌∙◌, sym, arith, inl, inr, sum, Option, Some, None}
+use Rattle.std.proofs.Common.{◌≡◌, ℕ, zero, suc, ◌+◌, ◌-◌, ◌^◌, ◌<◌, ◌≤◌, List, [], ◌∷◌, ◌++◌, IfSome, map, set, length, get_or, slice_get, refl, ap, ◌∙◌, sym, arith, inl, inr, sum, Some}
 use Rattle.std.proofs.lemmas.Grind.{common_steps}
 use Rattle.std.proofs.lemmas.Bool.{cases_lt}
 use Rattle.std.proofs.lemmas.Option.{slice_get-get_or}
@@ -7,9 +7,10 @@ use Rattle.std.specs.List.{flat_map}
 use Rattle.hm_data.specs.declared.sheet.Sheet.{Sheet}
 use Rattle.hm_data.specs.declared.step.StepIn.{StepIn}
 use Rattle.hm_data.specs.declared.step.StepOut.{StepOut}
+use Rattle.hm_model.proofs.Sheets.{said_alike}
 use Rattle.hm_model.specs.Sheets.{sheet_for}
-use Rattle.hm_model.specs.Steps.{evaluation}
-use Rattle.hm_sheet.specs.Words.{Rises, CountsRise, answer_of}
+use Rattle.hm_model.specs.Steps.{answer_of}
+use Rattle.hm_sheet.specs.Words.{Rises, CountsRise}
 
 -- x is at place i, and y has the same
 pub flat_map-set_same : {X Y : Type 0} (f : X → List Y) (xs : List X) (i : ℕ) (x y : X) → i < length xs → x ≡ get_or xs i x → f y ≡ f x → flat_map f (set xs i y) ≡ flat_map f xs
@@ -49,12 +50,9 @@ counts_stay f (z ∷ xs) (suc i) x y lt is kept =
     let rest : sum (map f xs) ≤ sum (map f (set xs i y)) = counts_stay f xs i x y (omega arith) is kept in
     rw (sum-cons (f z) (map f xs), sum-cons (f z) (map f (set xs i y))) (omega arith)
 
-abbrev said : Option Sheet → StepIn → Option StepOut
-said sheet at = elim sheet as (λ s. Option StepOut) [ None ↦ None | Some s ↦ evaluation s at ]
-
 -- what the thing at place i says is what all say
 pub ran : {X : Type 0} (f : X → List Sheet) (xs : List X) (i : ℕ) (x : X) (at : StepIn) (out : StepOut) → i < length xs → x ≡ get_or xs i x → IfSome (slice_get xs i) (λ y. sheet_for (f y) at.kind ≡ sheet_for (flat_map f xs) at.kind) → answer_of (f x) at ≡ Some out → answer_of (flat_map f xs) at ≡ Some out
 ran f xs i x at out lt is served says =
     let there : slice_get xs i ≡ Some x = slice_get-get_or xs i x lt ∙ ap (λ y. Some y) (sym is) in
     let same : sheet_for (f x) at.kind ≡ sheet_for (flat_map f xs) at.kind = rw there at served in
-    ap (λ (s : Option Sheet). said s at) (sym same) ∙ says
+    said_alike (flat_map f xs) (f x) at (sym same) ∙ says

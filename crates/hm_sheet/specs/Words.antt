@@ -1,27 +1,10 @@
--- What sheets say at an input, and counts.
-use Rattle.std.specs.Prelude.{ℕ, ◌+◌, ◌-◌, ◌^◌, ◌≤◌, ◌<◌, min, List, [], ◌∷◌, Option, Some, None, sum, ◌⊎◌, Any, IsTrue, IsSome, ◌≡◌, ◌==◌, if◌then◌else◌}
+-- Counts, and why sheets make no registry.
+use Rattle.std.specs.Prelude.{ℕ, ◌+◌, ◌-◌, ◌^◌, ◌≤◌, ◌<◌, min, List, [], ◌∷◌, None, sum, ◌⊎◌, Any, IsTrue, IsSome, ◌≡◌, ◌==◌, if◌then◌else◌}
 use Rattle.hm_data.specs.declared.sheet.Sheet.{Sheet}
-use Rattle.hm_data.specs.declared.step.StepIn.{StepIn}
-use Rattle.hm_data.specs.declared.step.StepOut.{StepOut}
 use Rattle.hm_model.specs.Kinds.{is_running_kind}
 use Rattle.hm_model.specs.Sheets.{sheet_for}
 use Rattle.hm_sheet.specs.declared.fault.RegistryFault.{RegistryFault}
 use Rattle.hm_sheet.specs.declared.fault.RegistryFault.TheVariants as fault_is
-use Rattle.hm_model.specs.Steps.{evaluation, CanStep}
-
--- a sheet is there, and can be asked at the input
-abbrev pub CanBeAsked : Option Sheet → StepIn → Type 0
-CanBeAsked None at = ⊥
-CanBeAsked (Some sheet) at = CanStep sheet at
-
--- the sheets have one for the input's kind, which can be asked there
-abbrev pub CanRun : List Sheet → StepIn → Type 0
-CanRun sheets at = CanBeAsked (sheet_for sheets at.kind) at
-
--- what the sheet for the input's kind says there
-abbrev pub answer_of : List Sheet → StepIn → Option StepOut
-answer_of sheets at =
-    elim (sheet_for sheets at.kind) as (λ s. Option StepOut) [ None ↦ None | Some sheet ↦ evaluation sheet at ]
 
 -- a count rose, or stands at its end
 abbrev pub Rises : ℕ → ℕ → Type 0

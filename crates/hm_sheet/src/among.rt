@@ -2,7 +2,8 @@
 ghost use Rattle.std.specs.Prelude.{◌≡◌, ◌<◌, ◌≤◌, ◌-◌, ◌^◌, min, length, slice_get, option_copied, IsSome, IfSome, IfNone, IfOk, None, Some, is_some};
 ghost use Rattle.std.specs.List.{flat_map};
 ghost use Rattle.hm_model.specs.Sheets.{sheet_for as first_of};
-ghost use Rattle.hm_sheet.specs.Words.{CanRun, answer_of, count_of as counted};
+ghost use Rattle.hm_model.specs.Steps.{CanRun, answer_of};
+ghost use Rattle.hm_sheet.specs.Words.{count_of as counted};
 
 use crate::handler::Handler;
 use crate::plain::plain_step;

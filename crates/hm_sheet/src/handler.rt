@@ -1,6 +1,7 @@
 ghost use Rattle.std.specs.Prelude.{◌≡◌, ℕ, ◌≤◌, List, OnOk, Some};
 ghost use Rattle.hm_data.specs.declared.sheet.Sheet.{Sheet};
-ghost use Rattle.hm_sheet.specs.Words.{CanRun, answer_of, Rises};
+ghost use Rattle.hm_model.specs.Steps.{CanRun, answer_of};
+ghost use Rattle.hm_sheet.specs.Words.{Rises};
 
 use crate::valid::Valid;
 use hm_data::{StepIn, StepOut};

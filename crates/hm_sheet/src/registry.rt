@@ -4,7 +4,8 @@ ghost use Rattle.hm_model.specs.Kinds.{running_kinds as running, is_running_kind
 ghost use Rattle.hm_model.specs.Rules.{AreSheets};
 ghost use Rattle.hm_model.specs.Sheets.{sheet_for as first_of};
 ghost use Rattle.hm_model.specs.Validity.{IsValid};
-ghost use Rattle.hm_sheet.specs.Words.{CanRun, answer_of, Rises, CountsRise, IsLowestTwice, NoneTwice, IsLowestMissing, HasAll, IsNoRegistry};
+ghost use Rattle.hm_model.specs.Steps.{CanRun, answer_of};
+ghost use Rattle.hm_sheet.specs.Words.{Rises, CountsRise, IsLowestTwice, NoneTwice, IsLowestMissing, HasAll, IsNoRegistry};
 
 use crate::among::{count_of, place_of, sheet_for};
 use crate::fault::RegistryFault;

@@ -1,27 +1,22 @@
 -- What a step answers, by the sheet of its kind.
-use Rattle.std.proofs.Common.{◌≡◌, ◌↔◌, ℕ, Bool, false, is_some, IsTrue, IfOk, Result, Ok, Err, Option, Some, None, refl, ap, sym, ◌∙◌, subst}
+use Rattle.std.proofs.Common.{◌≡◌, ◌↔◌, ℕ, Bool, false, is_some, IsTrue, IfOk, Result, Ok, Err, Option, Some, None, refl, ap, sym, ◌∙◌}
 use Rattle.std.proofs.lemmas.Bool.{true≢false}
 use Rattle.hm_names.specs.Server.{Server}
-use Rattle.hm_data.specs.declared.sheet.Sheet.{Sheet}
 use Rattle.hm_data.specs.declared.step.StepIn.{StepIn}
 use Rattle.hm_data.specs.declared.step.StepOut.{StepOut}
-use Rattle.hm_model.specs.Inputs.{IsEvaluated, says}
+use Rattle.hm_model.specs.Inputs.{IsEvaluated}
 use Rattle.hm_model.specs.Journal.{Past}
 use Rattle.hm_model.specs.Rules.{MayStep}
 use Rattle.hm_model.specs.Sheets.{sheets_of}
-use Rattle.hm_sheet.specs.Words.{CanBeAsked, CanRun, answer_of}
-use Rattle.hm_state.specs.State.{IsInput, HasSheet}
-
--- a sheet that can be asked is there
-pub can_run : (before : Past) (at : StepIn) → HasSheet before at → CanRun (sheets_of before) at
-can_run before at has = subst (λ (o : Option Sheet). CanBeAsked o at) (sym has.1) has.2
+use Rattle.hm_model.specs.Steps.{answer_of}
+use Rattle.hm_state.specs.State.{IsInput}
 
 -- a step answers what the sheets say at what it sees
 pub evaluated_if : {E : Type 0} (before : Past) (p : ℕ) (pick : Option Server) (at : StepIn) (out : StepOut) (r : Result Bool E) → MayStep before p → IsInput before p pick at
     → IfOk r (λ same. IsTrue same ↔ (answer_of (sheets_of before) at ≡ Some out)) → IfOk r (λ same. IsTrue same ↔ IsEvaluated before p pick out)
 evaluated_if before p pick at out (Ok same) may is said = (
-  λ t. (may.0, may.1, ap (says before) (sym (is may.0 may.1)) ∙ said.0 t),
-  λ ev. said.1 (ap (says before) (is ev.0 ev.1) ∙ ev.2),
+  λ t. (may.0, may.1, ap (answer_of (sheets_of before)) (sym (is may.0 may.1)) ∙ said.0 t),
+  λ ev. said.1 (ap (answer_of (sheets_of before)) (is ev.0 ev.1) ∙ ev.2),
 )
 evaluated_if before p pick at out (Err e) may is said = tt
 

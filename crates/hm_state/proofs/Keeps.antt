@@ -18,7 +18,7 @@ use Rattle.hm_data.specs.declared.step.StepOut.{StepOut}
 use Rattle.hm_model.specs.Answers.{last_answer, is_stop, is_stopped}
 use Rattle.hm_model.specs.Catalog.{edited}
 use Rattle.hm_model.specs.Journal.{Past}
-use Rattle.hm_model.specs.Laws.{one_if}
+use Rattle.hm_model.specs.Counts.{one_if}
 use Rattle.hm_model.specs.Locks.{Holds}
 use Rattle.hm_model.specs.Nonces.{by_nonce, is_same}
 use Rattle.hm_model.specs.Phase.{ended}

@@ -13,7 +13,7 @@ use Rattle.hm_data.specs.declared.record.Record.{Record}
 use Rattle.hm_model.specs.Answers.{last_answer, row_after, is_stop, is_stopped}
 use Rattle.hm_model.specs.Journal.{Past}
 use Rattle.hm_model.specs.Kinds.{kind_of, first_row_of}
-use Rattle.hm_model.specs.Laws.{count_below}
+use Rattle.hm_model.specs.Counts.{count_below}
 use Rattle.hm_model.specs.Locks.{Holds}
 use Rattle.hm_model.specs.Phase.{ended, phase}
 use Rattle.hm_model.specs.Records.{pid_of, record_at, record_of, unfinished}

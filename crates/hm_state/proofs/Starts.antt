@@ -25,6 +25,7 @@ use Rattle.hm_model.specs.Records.{record_of}
 use Rattle.hm_model.specs.Rules.{AreSheets, IsLegal, MayStep}
 use Rattle.hm_model.specs.Sheets.{sheets_of, sheet_for}
 use Rattle.hm_model.specs.Stages.{creating}
+use Rattle.hm_model.specs.Steps.{CanBeAsked, CanRun}
 use Rattle.hm_model.specs.Tree.{Node, node_of}
 use Rattle.hm_model.specs.Validity.{IsValid, AllValid}
 use Rattle.hm_model.proofs.Counting.{steps_unstopped}
@@ -33,7 +34,7 @@ use Rattle.hm_model.proofs.Ranges.{placed}
 use Rattle.hm_model.proofs.Rows.{read_none, read_one}
 use Rattle.hm_model.proofs.Stages.{flat_all}
 use Rattle.hm_state.specs.Rows.{row_in}
-use Rattle.hm_state.specs.State.{IsIndexed, IsInput, IsSimpleArgs, HasSheet}
+use Rattle.hm_state.specs.State.{IsIndexed, IsInput, IsSimpleArgs}
 use Rattle.hm_state.proofs.Readings.{simple_record, there_by}
 
 -- each of valid sheets is valid
@@ -139,11 +140,12 @@ kind_seen J legal p node pick is =
     ∙ sym (ap (λ (n : Node). kind_of n.args) c.1)
 
 -- what may make a step has a sheet that can be asked
-pub sheet_by : (J : Past) → IsLegal J → (p : ℕ) (pick : Option Server) (at : StepIn) → IsInput J p pick at → MayStep J p → HasSheet J at
+pub sheet_by : (J : Past) → IsLegal J → (p : ℕ) (pick : Option Server) (at : StepIn) → IsInput J p pick at → MayStep J p → CanRun (sheets_of J) at
 sheet_by J legal p pick at sees may =
     let place = placed J legal p may.0 may.1 (steps_unstopped J legal p may) in
-    let here : HasSheet J (input J p may.0 pick) = (place.sheet, ap (sheet_for (sheets_of J)) (kind_seen J legal p may.0 pick may.1) ∙ place.sheet_is, place.can pick) in
-    subst (HasSheet J) (sym (sees may.0 may.1)) here
+    let there = ap (sheet_for (sheets_of J)) (kind_seen J legal p may.0 pick may.1) ∙ place.sheet_is in
+    let here : CanRun (sheets_of J) (input J p may.0 pick) = subst (λ o. CanBeAsked o (input J p may.0 pick)) (sym there) (place.can pick) in
+    subst (CanRun (sheets_of J)) (sym (sees may.0 may.1)) here
 
 -- both, of an input that is made of a record and what was read
 module _ (J : Past) (legal : IsLegal J) (pid : Pid) (found : Record) (pick : Option Server) (found_is : record_of J pid.0 ≡ Some found) where
@@ -154,6 +156,6 @@ module _ (J : Past) (legal : IsLegal J) (pid : Pid) (found : Record) (pick : Opt
   inputs_by (Ok at) at_is = input_by at at_is
   inputs_by (Err e) at_is = tt
 
-  pub asks_by : {E : Type 0} (r : Result StepIn E) → IfOk r (λ at. at ≡ seen pid found found.args (rows_read J found.args) pick [] []) → IfOk r (λ at. MayStep J pid.0 → HasSheet J at)
+  pub asks_by : {E : Type 0} (r : Result StepIn E) → IfOk r (λ at. at ≡ seen pid found found.args (rows_read J found.args) pick [] []) → IfOk r (λ at. MayStep J pid.0 → CanRun (sheets_of J) at)
   asks_by (Ok at) at_is = λ may. sheet_by J legal pid.0 pick at (input_by at at_is) may
   asks_by (Err e) at_is = tt

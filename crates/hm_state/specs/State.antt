@@ -24,8 +24,7 @@ use Rattle.hm_model.specs.Nonces.{by_nonce}
 use Rattle.hm_model.specs.Phase.{ended}
 use Rattle.hm_model.specs.Records.{pid_of, record_of, unfinished}
 use Rattle.hm_model.specs.Rules.{IsLegal, Breaks}
-use Rattle.hm_model.specs.Sheets.{sheets_of, sheet_for}
-use Rattle.hm_model.specs.Steps.{CanStep}
+use Rattle.hm_model.specs.Sheets.{sheets_of}
 use Rattle.hm_model.specs.Tree.{Node, made, node_of, is_root}
 use Rattle.hm_state.specs.Index.{find}
 use Rattle.hm_state.specs.Rows.{row_in}
@@ -80,10 +79,6 @@ IsWhy before entry not_allowed.Memory = Unit {0}
 -- what the next step of a procedure sees, by its number
 abbrev pub IsInput : Past → ℕ → Option Server → StepIn → Type 0
 IsInput before p pick at = (node : Node) → node_of before p ≡ Some node → at ≡ input before p node pick
-
--- the sheet of the journal for an input can be asked
-abbrev pub HasSheet : Past → StepIn → Type 0
-HasSheet before at = (sheet : Sheet) × (sheet_for (sheets_of before) at.kind ≡ Some sheet) × CanStep sheet at
 
 -- the root that has a step and hasn't ended; where there is none, the lowest root that hasn't ended
 abbrev pub IsFirst : Past → ℕ → Type 0

@@ -13,7 +13,7 @@ ghost use Rattle.hm_model.specs.Rules.{Allowed, AreSheets, IsLegal, IsFresh, May
 ghost use Rattle.hm_model.specs.Sheets.{sheets_of};
 ghost use Rattle.hm_model.specs.Tree.{made, node_of};
 ghost use Rattle.hm_model.specs.Validity.{IsValid, AllValid};
-ghost use Rattle.hm_sheet.specs.Words.{CanRun, answer_of};
+ghost use Rattle.hm_model.specs.Steps.{CanRun, answer_of};
 
 use crate::index::Index;
 use crate::nonces::add_nonce;
@@ -125,7 +125,7 @@ fn reserve_each(
 }
 
 impl State {
-    ghost use Rattle.hm_state.specs.State.{IsWhy, IsInput, HasSheet, IsFirst, IsSimpleArgs};
+    ghost use Rattle.hm_state.specs.State.{IsWhy, IsInput, IsFirst, IsSimpleArgs};
 
     /// The state of the journal that starts with these sheets.
     pub fn start(alloc: Global, sheets: List<Sheet>) -> Result<State, AllocError>
@@ -335,7 +335,7 @@ impl State {
     ) -> Result<StepIn, AllocError>
         requires { node_of (back self.now.entries) pid.0 ≢ None }
         ensures input { IfOk result (IsInput (back self.now.entries) pid.0 (option_copied pick.entry)) }
-        ensures runs { IfOk result (λ at. MayStep (back self.now.entries) pid.0 → HasSheet (back self.now.entries) at) }
+        ensures runs { IfOk result (λ at. MayStep (back self.now.entries) pid.0 → CanRun (sheets_of (back self.now.entries)) at) }
     {
         let found = self.made(pid);
         self.step_of(alloc, pid, found, pick)

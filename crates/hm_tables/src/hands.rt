@@ -1,5 +1,6 @@
 ghost use Rattle.std.specs.Prelude.{◌≡◌, ◌≤◌, [], ◌∷◌, IfOk, OnOk, Some};
-ghost use Rattle.hm_sheet.specs.Words.{CanRun, answer_of, Rises};
+ghost use Rattle.hm_model.specs.Steps.{CanRun, answer_of};
+ghost use Rattle.hm_sheet.specs.Words.{Rises};
 ghost use Rattle.hm_tables.specs.Tables.{create_namespace_sheet as create};
 
 use hm_data::{Act, Back, Row, Sheet, StepIn, StepOut};

@@ -4,7 +4,8 @@ use Rattle.std.proofs.lemmas.List.{length-reverse}
 use Rattle.std.specs.Fmt.{decimal}
 use Rattle.hm_data.specs.declared.entry.Entry.{Entry}
 use Rattle.hm_model.specs.Journal.{Past, back}
-use Rattle.hm_model.specs.Laws.{IsGrown, count_below, one_if}
+use Rattle.hm_model.specs.Counts.{count_below, one_if}
+use Rattle.hm_model.specs.Laws.{IsGrown}
 use Rattle.hm_model.specs.Rules.{IsLegal}
 use Rattle.hm_model.specs.Stages.{IsSimple}
 use Rattle.hm_model.specs.Tree.{is_root, is_root_in, is_top, made}

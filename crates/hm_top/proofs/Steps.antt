@@ -12,20 +12,20 @@ use Rattle.hm_data.specs.declared.step.StepIn.{StepIn}
 use Rattle.hm_data.specs.declared.step.StepOut.{StepOut}
 use Rattle.hm_hall.specs.declared.fault.Halt.{Halt}
 use Rattle.hm_journal.specs.declared.limits.Limits.{Limits}
-use Rattle.hm_model.specs.Inputs.{IsEvaluated, input, says}
+use Rattle.hm_model.specs.Inputs.{IsEvaluated, input}
 use Rattle.hm_model.specs.Journal.{Past, back}
 use Rattle.hm_model.specs.Kinds.{is_running_kind}
 use Rattle.hm_model.specs.Rest.{IsAvailable}
 use Rattle.hm_model.specs.Rules.{Allowed, IsLegal, MayStep}
 use Rattle.hm_model.specs.Sheets.{sheet_for, sheets_of}
-use Rattle.hm_model.specs.Steps.{evaluation}
+use Rattle.hm_model.specs.Steps.{CanBeAsked, CanRun, answer_of}
 use Rattle.hm_model.specs.Tree.{Node}
 use Rattle.hm_model.proofs.Counting.{available_unstopped, may_step}
 use Rattle.hm_model.proofs.Grown.{simple_all}
 use Rattle.hm_model.proofs.Prefixes.{back-push}
+use Rattle.hm_model.proofs.Sheets.{said_alike}
 use Rattle.hm_model.proofs.Stages.{flat_all}
-use Rattle.hm_sheet.specs.Words.{CanBeAsked, CanRun, answer_of}
-use Rattle.hm_state.specs.State.{HasSheet, IsFirst, IsInput}
+use Rattle.hm_state.specs.State.{IsFirst, IsInput}
 use Rattle.hm_top.specs.Answer.{Adds, AnswersAt, IsWorked}
 use Rattle.hm_top.specs.declared.answer.Answer.{Answer}
 use Rattle.hm_top.specs.declared.answer.Answer.TheVariants as answer_is
@@ -56,11 +56,10 @@ same_sheet J legal p pick at sheets agree may is = agree at.kind (kind_runs J le
 
 -- the registry can be run there
 pub runs_there : (J : Past) → IsLegal J → (p : ℕ) (pick : Option Server) (at : StepIn) (sheets : List Sheet) → AgreeOn sheets (sheets_of J) → IsAvailable J p → IsInput J p pick at
-    → (MayStep J p → HasSheet J at) → CanRun sheets at
+    → (MayStep J p → CanRun (sheets_of J) at) → CanRun sheets at
 runs_there J legal p pick at sheets agree available is runs =
     let may = may_on J legal p available in
-    let has = runs may in
-    subst (λ (o : Option Sheet). CanBeAsked o at) (sym (same_sheet J legal p pick at sheets agree may is ∙ has.1)) has.2
+    subst (λ (o : Option Sheet). CanBeAsked o at) (sym (same_sheet J legal p pick at sheets agree may is)) (runs may)
 
 -- what the registry answers is what the journal's sheet says
 evaluated : (J : Past) → IsLegal J → (p : ℕ) (pick : Option Server) (at : StepIn) (sheets : List Sheet) (out : StepOut) → AgreeOn sheets (sheets_of J) → MayStep J p → IsInput J p pick at
@@ -68,8 +67,8 @@ evaluated : (J : Past) → IsLegal J → (p : ℕ) (pick : Option Server) (at : 
 evaluated J legal p pick at sheets out agree may is answered = (
   may.0,
   may.1,
-  ap (says J) (sym (is may.0 may.1))
-      ∙ ap (λ (o : Option Sheet). elim o as (λ s. Option StepOut) [ None ↦ None | Some sheet ↦ evaluation sheet at ]) (sym (same_sheet J legal p pick at sheets agree may is))
+  ap (answer_of (sheets_of J)) (sym (is may.0 may.1))
+      ∙ said_alike (sheets_of J) sheets at (sym (same_sheet J legal p pick at sheets agree may is))
       ∙ answered,
 )
 

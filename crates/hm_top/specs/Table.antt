@@ -10,7 +10,7 @@ use Rattle.hm_data.specs.declared.record.Phase.TheVariants as phase_is
 use Rattle.hm_data.specs.declared.record.Record.{Record}
 use Rattle.hm_data.specs.declared.request.Request.TheVariants as request_is
 use Rattle.hm_model.specs.Journal.{Past}
-use Rattle.hm_model.specs.Laws.{count_below}
+use Rattle.hm_model.specs.Counts.{count_below}
 use Rattle.hm_model.specs.Records.{record_of}
 use Rattle.hm_model.specs.Tree.{made, is_root}
 

@@ -10,7 +10,7 @@ ghost use Rattle.hm_model.specs.Nonces.{by_nonce};
 ghost use Rattle.hm_model.specs.Rest.{IsAtRest, IsAvailable};
 ghost use Rattle.hm_model.specs.Rules.{Allowed, AreSheets, IsLegal};
 ghost use Rattle.hm_model.specs.Sheets.{sheets_of};
-ghost use Rattle.hm_sheet.specs.Words.{CanRun, answer_of};
+ghost use Rattle.hm_model.specs.Steps.{CanRun, answer_of};
 ghost use Rattle.hm_state.specs.State.{IsFirst};
 ghost use Rattle.hm_hall.specs.declared.fault.Halt.TheVariants as halt_is;
 ghost use Rattle.hm_hall.specs.Recording.{CanBeRecorded};

@@ -3,15 +3,15 @@ use Rattle.hm_names.specs.Server.{Server}
 use Rattle.hm_data.specs.declared.sheet.Sheet.{Sheet}
 use Rattle.hm_model.specs.Journal.{back}
 use Rattle.std.specs.Prelude.{◌≡◌, ◌↔◌, IfOk, IsTrue, Some}
-use Rattle.hm_sheet.specs.Words.{CanRun, answer_of}
+use Rattle.hm_model.specs.Steps.{CanRun, answer_of}
 use Rattle.hm_state.specs.State.{IsInput}
-use Rattle.hm_state.proofs.JudgedMore.{can_run, evaluated_if}
+use Rattle.hm_state.proofs.JudgedMore.{evaluated_if}
 use Rattle.hm_state.proofs.state.State.is_evaluated.Goals as goal
 
 pub is_said-said-requires : goal.is_said-said-requires
 is_said-said-requires c =
     subst (λ (sheets : List Sheet). CanRun sheets c.in_ok-at.at) (sym c.sheets.ensures)
-    (can_run (back c.args.self.now.entries) c.in_ok-at.at (c.in_ok-at.ensures.runs c.requires))
+    (c.in_ok-at.ensures.runs c.requires)
 
 pub returns : goal.returns
 returns c =

@@ -5,7 +5,7 @@ use Rattle.hm_data.specs.declared.entry.Entry.{Entry}
 use Rattle.hm_data.specs.declared.entry.Entry.TheVariants as entry_is
 use Rattle.hm_model.specs.Answers.{is_stop}
 use Rattle.hm_model.specs.Journal.{back}
-use Rattle.hm_model.specs.Laws.{one_if}
+use Rattle.hm_model.specs.Counts.{one_if}
 use Rattle.hm_model.specs.Rules.{Allowed}
 use Rattle.hm_model.proofs.Counting.{unfinished_on}
 use Rattle.hm_state.specs.State.{Kept, Beside}

@@ -2,7 +2,9 @@ use Rattle.std.proofs.Common.{List, None, ap, subst, ◌∙◌}
 use Rattle.hm_data.specs.declared.entry.Entry.{Entry}
 use Rattle.hm_model.specs.Journal.{back}
 use Rattle.hm_model.specs.Rules.{MayStep}
-use Rattle.hm_state.specs.State.{HasSheet, IsInput}
+use Rattle.hm_model.specs.Sheets.{sheets_of}
+use Rattle.hm_model.specs.Steps.{CanRun}
+use Rattle.hm_state.specs.State.{IsInput}
 use Rattle.hm_top.specs.View.{WorldView}
 use Rattle.std.proofs.lemmas.List.Sorted.{All-permutation, IsPermutation-reverse}
 use Rattle.hm_entry.specs.Fits.{EntryFits}
@@ -14,7 +16,7 @@ pub run_once-out-requires : goal.run_once-out-requires
 run_once-out-requires g c =
     let same = c.self.invariant.same ∙ ap (λ (w : WorldView _). w.kept.entries) c.self.view_is in
     let is = subst (λ (es : List Entry). IsInput (back es) c.args.pid.0 None c.in_ok-at.at) same c.in_ok-at.ensures.input in
-    let runs = subst (λ (es : List Entry). MayStep (back es) c.args.pid.0 → HasSheet (back es) c.in_ok-at.at) same c.in_ok-at.ensures.runs in
+    let runs = subst (λ (es : List Entry). MayStep (back es) c.args.pid.0 → CanRun (sheets_of (back es)) c.in_ok-at.at) same c.in_ok-at.ensures.runs in
     runs_there (back c.args.self.now.kept.entries) c.is_sound.ensures.legal c.args.pid.0 None c.in_ok-at.at _ c.requires.agree c.requires.available is runs
 
 pub returns-clause-step : goal.returns-clause-step
