@@ -1,5 +1,5 @@
 // Sheets by kind: among checked ones, and among those of boxed handlers.
-ghost use Rattle.std.specs.Prelude.{◌≡◌, ◌<◌, ◌≤◌, ◌-◌, ◌^◌, min, length, slice_get, option_copied, IsSome, IfSome, IfNone, IfOk, None, Some, is_some};
+ghost use Rattle.std.specs.Prelude.{◌≡◌, ◌<◌, ◌-◌, ◌^◌, min, length, slice_get, option_copied, IsSome, IfSome, IfNone, IfOk, None, Some, is_some};
 ghost use Rattle.std.specs.List.{flat_map};
 ghost use Rattle.hm_model.specs.Sheets.{sheet_for as first_of};
 ghost use Rattle.hm_model.specs.Steps.{CanRun, answer_of};

@@ -1,4 +1,4 @@
-ghost use Rattle.std.specs.Prelude.{◌≡◌, ◌≢◌, ℕ, ◌+◌, ◌-◌, ◌<◌, ◌≤◌, ◌^◌, ◌↔◌, List, [], ◌∷◌, ◌++◌, length, vec_len, vec_capacity, Option, Some, None, IsTrue, true, OnOk, IfOk, IfErr, IfSome, IfNone, false};
+ghost use Rattle.std.specs.Prelude.{◌≡◌, ◌≢◌, ◌+◌, ◌-◌, ◌<◌, ◌≤◌, ◌^◌, ◌↔◌, List, [], ◌∷◌, ◌++◌, length, vec_len, vec_capacity, Option, Some, None, IsTrue, true, OnOk, IfOk, IfErr, IfSome, IfNone, false};
 ghost use Rattle.std.specs.Option.{option_copied, option_map};
 ghost use Rattle.hm_data.specs.declared.entry.Entry.{Entry};
 ghost use Rattle.hm_data.specs.declared.catalog.CatKey.{CatKey};

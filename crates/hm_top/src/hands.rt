@@ -1,5 +1,5 @@
 //! The registries of a run.
-ghost use Rattle.std.specs.Prelude.{◌≡◌, ◌↔◌, map, IsTrue, All, option_copied};
+ghost use Rattle.std.specs.Prelude.{◌≡◌, ◌↔◌, map, IsTrue};
 ghost use Rattle.std.specs.List.{flat_map};
 ghost use Rattle.hm_model.specs.Sheets.{sheet_for};
 ghost use Rattle.hm_top.specs.Hands.{AgreeOn, HandsAgree};

@@ -1,5 +1,5 @@
 //! Answers commands, one after another.
-ghost use Rattle.std.specs.Prelude.{◌≡◌, ◌≢◌, ◌+◌, ◌<◌, ◌≤◌, ◌++◌, [], ◌∷◌, ℕ, length, take, drop, OnOk, OnErr, IsErrOf, Some, None};
+ghost use Rattle.std.specs.Prelude.{◌≡◌, ◌+◌, ◌<◌, ◌≤◌, ◌++◌, [], ◌∷◌, length, take, OnOk, IsErrOf, Some, None};
 ghost use Rattle.std.specs.List.{flat_map};
 ghost use Rattle.hm_ports.specs.Faults.{Rose};
 ghost use Rattle.hm_disk.specs.Disk.{LeavesOnly};

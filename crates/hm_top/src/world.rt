@@ -1,5 +1,5 @@
 //! A journal, its state, and what is done with them.
-ghost use Rattle.std.specs.Prelude.{◌≡◌, ◌≢◌, ◌⊎◌, ◌+◌, ◌≤◌, ◌^◌, ◌↔◌, List, [], ◌∷◌, ◌++◌, ℕ, length, All, IfOk, IfErr, IfSome, IfNone, OnOk, OnErr, MatchOption, MatchResult, IsTrue, Some, None};
+ghost use Rattle.std.specs.Prelude.{◌≡◌, ◌≢◌, ◌⊎◌, ◌+◌, ◌≤◌, ◌↔◌, List, [], ℕ, length, All, IfOk, IfErr, IfSome, IfNone, OnOk, OnErr, MatchOption, MatchResult, IsTrue, Some, None};
 ghost use Rattle.std.specs.List.{flat_map};
 ghost use Rattle.hm_ports.specs.Faults.{Rose};
 ghost use Rattle.hm_disk.specs.Disk.{LeavesOnly, Settles};
@@ -15,8 +15,7 @@ ghost use Rattle.hm_state.specs.State.{IsFirst};
 ghost use Rattle.hm_hall.specs.declared.fault.Halt.TheVariants as halt_is;
 ghost use Rattle.hm_hall.specs.Recording.{CanBeRecorded};
 ghost use Rattle.hm_entry.specs.Fits.{EntryFits};
-ghost use Rattle.hm_entry.specs.Spelling.{entry as spelling};
-ghost use Rattle.hm_journal.specs.Stored.{IsStored as IsKept, frames_of, IsJournal, IsOnDisk, Spares, SameFrames, IsOpening, opened};
+ghost use Rattle.hm_journal.specs.Stored.{IsStored as IsKept, IsJournal, IsOnDisk, Spares, SameFrames, IsOpening};
 ghost use Rattle.hm_journal.specs.Verdict.{Refuses, IsUnjudged};
 ghost use Rattle.hm_top.specs.declared.command.Command.{Command as CommandValue};
 ghost use Rattle.hm_top.specs.Answer.{Adds, Answers, AnswersAt, IsAsked, IsSoftFull, IsUnanswered, IsWorked, submission as submitted};
