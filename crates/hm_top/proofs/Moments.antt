@@ -1,17 +1,16 @@
 -- What a stop leaves of a disk whose journal grows.
-use Rattle.std.proofs.Common.{◌≡◌, List, ℕ, ◌++◌, sym, ap, ◌∙◌, subst, inl, inr, append_assoc, arith}
+use Rattle.std.proofs.Common.{◌≡◌, List, ℕ, ◌++◌, ap, ◌∙◌, subst, append_assoc}
 use Rattle.std.specs.Prelude.{All}
 use Rattle.hm_data.specs.declared.entry.Entry.{Entry}
 use Rattle.hm_entry.specs.Fits.{EntryFits}
-use Rattle.hm_data.specs.declared.sheet.Sheet.{Sheet}
-use Rattle.hm_journal.specs.Stored.{IsOpening, Spares, frames_of}
-use Rattle.hm_log.specs.Format.{HoldsFrames, Reads}
+use Rattle.hm_journal.specs.Stored.{frames_of}
+use Rattle.hm_log.specs.Format.{Reads}
 use Rattle.hm_model.specs.Journal.{back}
 use Rattle.hm_model.specs.Rules.{IsLegal}
 use Rattle.hm_top.specs.Hands.{Ran}
 use Rattle.hm_top.specs.Stored.{Continues}
 use Rattle.hm_disk.specs.Disk.{LeavesOnly}
-use Rattle.hm_disk.proofs.Moments.{joined, started, weaker}
+use Rattle.hm_disk.proofs.Moments.{joined, weaker}
 use Rattle.hm_top.proofs.Growth.{Grows}
 
 -- a log of more of a journal
@@ -31,16 +30,3 @@ pub moments_on : {D : Type 0} (moment : D → ℕ) (left_since : D → ℕ → L
 moments_on moment left_since old mid new first then before now ran one more =
     joined moment left_since old mid new (Continues first) one
     (weaker moment left_since mid new (Continues then) (Continues first) (λ bytes is. continues_more first then bytes (ran.0, ran.1) is) more)
-
--- a disk that is as handed in holds what it held
-pub spares_self : (sheets : List Sheet) (seen : List ℕ) (image : List ℕ → Type 0) → Spares sheets seen image seen image
-spares_self sheets seen image journal some on = (inl (still on.opens), λ only bytes is. inl (subst (λ b. Reads b (frames_of journal)) (sym (only bytes is)) (still on.opens)))
-  where
-    still : HoldsFrames seen (frames_of journal) → Reads seen (frames_of journal)
-    still (inl blank) = let none = blank.0 in absurd (omega arith)
-    still (inr reads) = reads
-
--- a stop leaves of a disk that isn't called what it could before
-pub quiet_opening : {D : Type 0} (moment : D → ℕ) (left_since : D → ℕ → List ℕ → Type 0) (image : D → List ℕ → Type 0) (sheets : List Sheet) (seen : List ℕ) (disk : D)
-    → ((c : List ℕ) → left_since disk (moment disk) c → image disk c) → LeavesOnly moment left_since disk disk (IsOpening sheets seen (image disk))
-quiet_opening moment left_since image sheets seen disk only = started moment left_since disk (IsOpening sheets seen (image disk)) (λ c left. inl (only c left))

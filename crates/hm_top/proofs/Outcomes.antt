@@ -1,5 +1,5 @@
 -- How a run ends.
-use Rattle.std.proofs.Common.{◌≡◌, ℕ, List, [], ◌++◌, length, take, drop, Option, Some, None, Result, Ok, Err, refl, sym, ap, ◌∙◌, subst, inl, inr, ⊎_elim, append-nil, append_assoc, arith, ◌∷◌}
+use Rattle.std.proofs.Common.{◌≡◌, ◌⊎◌, ℕ, List, [], ◌++◌, length, take, drop, Option, Some, None, Result, Ok, Err, refl, sym, ap, ◌∙◌, subst, inl, inr, ⊎_elim, append-nil, append_assoc, arith, ◌∷◌}
 use Rattle.std.specs.Prelude.{OnOk}
 use Rattle.std.proofs.lemmas.List.{append_cancel_left, take-append-drop, take_all}
 use Rattle.hm_data.specs.declared.entry.Entry.{Entry}
@@ -68,7 +68,7 @@ faith_of J legal = record {
 }
 
 module _ (sheets : List Sheet) (limits : Limits) (before : List Entry → Type 0) (stored : List Entry → Option Halt → Type 0) (since : List Entry → Type 0)
-    (spared : Type 0) (refused : JournalWhy → Type 0) (disk_rose : Type 0) (marks : List ℕ) (source source' : List Command → Type 0) (ran ran' : ℕ → Type 0)
+    (same spared : Type 0) (refused : JournalWhy → Type 0) (disk_rose : Type 0) (marks : List ℕ) (source source' : List Command → Type 0) (ran ran' : ℕ → Type 0)
     (sink sink' : RunStatus → List Answer → Type 0) (sink_rose sink_rose' : Type 0)
     (f : (commands : List Command) → source commands → source' commands) (h : (count : ℕ) → ran count → ran' count) where
   -- a conversation, said of other ends
@@ -100,29 +100,34 @@ module _ (sheets : List Sheet) (limits : Limits) (before : List Entry → Type 0
       → IsToldWhole sheets limits source before stored since disk_rose ran P marks halted → IsToldWhole sheets limits source' before stored since disk_rose ran' Q marks halted
   whole_map P Q halted g t = (told_map P Q g t.0, t.1, t.2, t.3)
 
+  -- the disk is as handed in, or a script was read
+  kept_or_read : same ⊎ (spared × ((commands : List Command) × source commands)) → same ⊎ (spared × ((commands : List Command) × source' commands))
+  kept_or_read (inl kept) = inl kept
+  kept_or_read (inr read) = inr (read.0, (read.1.0, f read.1.0 read.1.1))
+
   -- an outcome, said of other ends
   pub outcome_map : (status : RunStatus) → ((answers : List Answer) → sink status answers → sink' status answers) → (sink_rose → sink_rose')
-      → Outcome sheets limits source before stored since sink spared refused disk_rose sink_rose ran marks status
-      → Outcome sheets limits source' before stored since sink' spared refused disk_rose sink_rose' ran' marks status
+      → Outcome sheets limits source before stored since sink same spared refused disk_rose sink_rose ran marks status
+      → Outcome sheets limits source' before stored since sink' same spared refused disk_rose sink_rose' ran' marks status
   outcome_map Done g later o = whole_map (sink Done) (sink' Done) None g o
   outcome_map LogFault g later o =
       (o.0, ⊎_elim (λ u. inl (u.0, u.1, g [] u.2, (u.3.0, f u.3.0 u.3.1))) (λ t. inr (whole_map (sink LogFault) (sink' LogFault) (Some halt_is.LogFault) g t)) o.1)
   outcome_map (JournalFull bytes) g later o = whole_map (sink (JournalFull bytes)) (sink' (JournalFull bytes)) (Some (halt_is.JournalFull bytes)) g o
   outcome_map (LogRefused why) g later o = (o.0, o.1, g [] o.2, (o.3.0, f o.3.0 o.3.1))
   outcome_map WriteFault g later o = (later o.0, (told_map (sink WriteFault) (sink' WriteFault) g o.1.0, o.1.1))
-  outcome_map Memory g later o = ⊎_elim (λ u. inl (u.0, u.1, g [] u.2)) (λ t. inr (told_map (sink Memory) (sink' Memory) g t)) o
+  outcome_map Memory g later o = ⊎_elim (λ u. inl (u.0, g [] u.1, kept_or_read u.2)) (λ t. inr (told_map (sink Memory) (sink' Memory) g t)) o
   outcome_map status g later o = absurd o
 
   -- an outcome where there was no memory for the last line
   pub outcome_unfinished : (status : RunStatus) → ((answers : List Answer) → sink status answers → sink' Memory answers) → ((why : LogWhy) (cause : JournalWhy) → status ≡ LogRefused why → refused cause → spared)
-      → Outcome sheets limits source before stored since sink spared refused disk_rose sink_rose ran marks status
-      → Outcome sheets limits source' before stored since sink' spared refused disk_rose sink_rose' ran' marks Memory
+      → Outcome sheets limits source before stored since sink same spared refused disk_rose sink_rose ran marks status
+      → Outcome sheets limits source' before stored since sink' same spared refused disk_rose sink_rose' ran' marks Memory
   outcome_unfinished Done g spares o = inr (told_map (sink Done) (sink' Memory) g o.0)
-  outcome_unfinished LogFault g spares o = ⊎_elim (λ u. inl (u.0, u.1, g [] u.2)) (λ t. inr (told_map (sink LogFault) (sink' Memory) g t.0)) o.1
+  outcome_unfinished LogFault g spares o = ⊎_elim (λ u. inl (u.0, g [] u.2, inr (u.1, (u.3.0, f u.3.0 u.3.1)))) (λ t. inr (told_map (sink LogFault) (sink' Memory) g t.0)) o.1
   outcome_unfinished (JournalFull bytes) g spares o = inr (told_map (sink (JournalFull bytes)) (sink' Memory) g o.0)
-  outcome_unfinished (LogRefused why) g spares o = inl (o.1, spares why o.0.0 refl o.0.2, g [] o.2)
+  outcome_unfinished (LogRefused why) g spares o = inl (o.1, g [] o.2, inr (spares why o.0.0 refl o.0.2, (o.3.0, f o.3.0 o.3.1)))
   outcome_unfinished WriteFault g spares o = inr (told_map (sink WriteFault) (sink' Memory) g o.1.0)
-  outcome_unfinished Memory g spares o = ⊎_elim (λ u. inl (u.0, u.1, g [] u.2)) (λ t. inr (told_map (sink Memory) (sink' Memory) g t)) o
+  outcome_unfinished Memory g spares o = ⊎_elim (λ u. inl (u.0, g [] u.1, kept_or_read u.2)) (λ t. inr (told_map (sink Memory) (sink' Memory) g t)) o
   outcome_unfinished status g spares o = absurd o
 
 module _ (misfit : Option ℕ) (script : Bad → Type 0) (read_rose unread same : Type 0) (sink : RunStatus → List Answer → Type 0) (outcome : RunStatus → Type 0) (marks : List ℕ) where
@@ -144,11 +149,11 @@ module _ (misfit : Option ℕ) (script : Bad → Type 0) (read_rose unread same 
   ends_either A status early late e = late e.1
 
 module _ (sheets : List Sheet) (limits : Limits) (before : List Entry → Type 0) (stored : List Entry → Option Halt → Type 0) (since : List Entry → Type 0)
-    (spared : Type 0) (refused : JournalWhy → Type 0) (disk_rose : Type 0) (marks : List ℕ) (source : List Command → Type 0) (ran : ℕ → Type 0) (sink : RunStatus → List Answer → Type 0) (sink_rose : Type 0)
-    (misfit : Option ℕ) (script : Bad → Type 0) (read_rose unread same : Type 0) (said : RunStatus → List Answer → Type 0) (fit : misfit ≡ None) where
+    (same spared : Type 0) (refused : JournalWhy → Type 0) (disk_rose : Type 0) (marks : List ℕ) (source : List Command → Type 0) (ran : ℕ → Type 0) (sink : RunStatus → List Answer → Type 0) (sink_rose : Type 0)
+    (misfit : Option ℕ) (script : Bad → Type 0) (read_rose unread unchanged : Type 0) (said : RunStatus → List Answer → Type 0) (fit : misfit ≡ None) where
   -- words that fit, and a script
-  pub ends_fit : (status : RunStatus) → Outcome sheets limits source before stored since sink spared refused disk_rose sink_rose ran marks status
-      → Ends misfit script read_rose unread same said (Outcome sheets limits source before stored since sink spared refused disk_rose sink_rose ran marks) marks status
+  pub ends_fit : (status : RunStatus) → Outcome sheets limits source before stored since sink same spared refused disk_rose sink_rose ran marks status
+      → Ends misfit script read_rose unread unchanged said (Outcome sheets limits source before stored since sink same spared refused disk_rose sink_rose ran marks) marks status
   ends_fit (Usage word) o = absurd o
   ends_fit (BadScript bad) o = absurd o
   ends_fit ReadFault o = absurd o
@@ -173,7 +178,7 @@ steps_behind first more last none =
     rw append_assoc (omega arith)
 
 module _ (sheets : List Sheet) (limits : Limits) (source : List Command → Type 0) (before : List Entry → Type 0) (stored : List Entry → Option Halt → Type 0) (since : List Entry → Type 0)
-    (spared : Type 0) (refused : JournalWhy → Type 0) (disk_rose sink_rose tells : Type 0) (got0 got1 : List ℕ) (commands : List Command) (marks : List ℕ) where
+    (same spared : Type 0) (refused : JournalWhy → Type 0) (disk_rose sink_rose tells : Type 0) (got0 got1 : List ℕ) (commands : List Command) (marks : List ℕ) where
   -- the outcome of a conversation
   module _ (old : List Entry) (new : Said) (runs now : ℕ) (source_is : source commands) (before_is : before old) (legal : IsLegal (back new.journal)) (stored_is : stored new.journal new.halted)
       (since_is : since old) (cause : new.halted ≡ Some halt_is.LogFault → disk_rose) (ran : Ran (opened sheets old) new.journal runs now) where
@@ -224,7 +229,7 @@ module _ (sheets : List Sheet) (limits : Limits) (source : List Command → Type
 
     -- the outcome of a conversation
     pub outcome_talked : (talked : Result (Unit {0}) Cut) (halted : Option Halt) → new.halted ≡ halted → (talked ≡ Err cut_is.WriteFault → sink_rose) → IsTalk tells got0 got1 commands marks talked new limits (begun sheets old)
-        → Outcome sheets limits source before stored since (λ status answers. tells → Talked got0 got1 status answers) spared refused disk_rose sink_rose (λ count. RisesBy count runs now) marks (talked_status talked halted)
+        → Outcome sheets limits source before stored since (λ status answers. tells → Talked got0 got1 status answers) same spared refused disk_rose sink_rose (λ count. RisesBy count runs now) marks (talked_status talked halted)
     outcome_talked (Ok done) None is fails talk = told_whole (λ answers. tells → Talked got0 got1 Done answers) None is (λ answers t. t) talk.done
     outcome_talked (Ok done) (Some halt_is.LogFault) is fails talk = (cause is, inr (told_whole (λ answers. tells → Talked got0 got1 LogFault answers) (Some halt_is.LogFault) is (λ answers t. t) talk.done))
     outcome_talked (Ok done) (Some (halt_is.JournalFull bytes)) is fails talk = told_whole (λ answers. tells → Talked got0 got1 (JournalFull bytes) answers) (Some (halt_is.JournalFull bytes)) is (λ answers t. t) talk.done
@@ -243,12 +248,12 @@ module _ (sheets : List Sheet) (limits : Limits) (source : List Command → Type
 
   -- a refusal of the disk
   refusal : (ran : ℕ → Type 0) (cause : JournalWhy) (why : LogWhy) → log_why_of cause ≡ Some why → source commands → marks ≡ [] → refused cause → (tells → got1 ≡ got0)
-      → Outcome sheets limits source before stored since (λ status answers. tells → Talked got0 got1 status answers) spared refused disk_rose sink_rose ran marks (LogRefused why)
-  refusal ran cause why is read none holds same = ((cause, is, holds), none, (λ told. same told ∙ sym (append-nil got0)), (commands, read))
+      → Outcome sheets limits source before stored since (λ status answers. tells → Talked got0 got1 status answers) same spared refused disk_rose sink_rose ran marks (LogRefused why)
+  refusal ran cause why is read none holds quiet = ((cause, is, holds), none, (λ told. quiet told ∙ sym (append-nil got0)), (commands, read))
 
   -- the outcome of an opening that failed
   pub outcome_unopened : (ran : ℕ → Type 0) (why : JournalWhy) → source commands → marks ≡ [] → (why ≡ why_is.Fault → disk_rose) → spared → ((IsUnjudged why → ⊥) → refused why) → (tells → got1 ≡ got0)
-      → Outcome sheets limits source before stored since (λ status answers. tells → Talked got0 got1 status answers) spared refused disk_rose sink_rose ran marks (unopened_status why)
-  outcome_unopened ran why_is.Fault read none fault spares holds same = (fault refl, inl (none, spares, (λ told. same told ∙ sym (append-nil got0)), (commands, read)))
-  outcome_unopened ran why_is.Memory read none fault spares holds same = inl (none, spares, (λ told. inl (same told ∙ sym (append-nil got0))))
-  outcome_unopened ran why read none fault spares holds same = refusal ran why _ refl read none (holds (⊎_elim (λ e. absurd (cc)) (λ e. absurd (cc)))) same
+      → Outcome sheets limits source before stored since (λ status answers. tells → Talked got0 got1 status answers) same spared refused disk_rose sink_rose ran marks (unopened_status why)
+  outcome_unopened ran why_is.Fault read none fault spares holds quiet = (fault refl, inl (none, spares, (λ told. quiet told ∙ sym (append-nil got0)), (commands, read)))
+  outcome_unopened ran why_is.Memory read none fault spares holds quiet = inl (none, (λ told. inl (quiet told ∙ sym (append-nil got0))), inr (spares, (commands, read)))
+  outcome_unopened ran why read none fault spares holds quiet = refusal ran why _ refl read none (holds (⊎_elim (λ e. absurd (cc)) (λ e. absurd (cc)))) quiet

@@ -68,10 +68,9 @@ found_same f (first ∷ kinds) (sheet ∷ sheets) found same kind runs =
     subst (λ k. f kind ≡ (if k == kind then Some sheet else sheet_for sheets kind)) (sym its)
     (by_test f first kind sheet (sheet_for sheets kind) (list_any (λ k. k == kind) kinds) (first == kind) refl head (found_same f kinds sheets rest more kind) runs)
 
--- the own sheets of some registries are those of the first
-pub own_is : {R : Type 0} (f : R → List Sheet) (hands : List R) → HandsAgree (map f hands) → (x : R) → x ≡ get_or hands 0 x → (sheets : List Sheet)
-    → map Some sheets ≡ map (λ kind. sheet_for (f x) kind) running_kinds → own_sheets (first_sheets (map f hands)) ≡ sheets
-own_is f hands agree x first sheets found = ap own_sheets (first_is f hands agree x first) ∙ listed_are (sheet_for (f x)) running_kinds sheets found
+-- the sheets that are found under the kinds are the own sheets
+pub own_is : (first sheets : List Sheet) → map Some sheets ≡ map (λ kind. sheet_for first kind) running_kinds → own_sheets first ≡ sheets
+own_is first sheets found = listed_are (sheet_for first) running_kinds sheets found
 
 -- the handlers agree with their own sheets
 pub agree_own : (first sheets : List Sheet) → map Some sheets ≡ map (λ kind. sheet_for first kind) running_kinds → AreSheets sheets → AgreeOn first sheets

@@ -31,7 +31,6 @@ use Rattle.hm_top.specs.Status.{last_line}
 use Rattle.hm_top.specs.Stored.{AllStored, Continues, IsRun}
 use Rattle.hm_top.specs.View.{WorldView, limits_of, said_of}
 use Rattle.hm_top.proofs.Complete.{complete}
-use Rattle.hm_top.proofs.Moments.{quiet_opening, spares_self}
 use Rattle.hm_top.proofs.Outcomes.{IsTalk, ends_either, ends_fit, ends_map, got_finished, got_unfinished, outcome_map, outcome_talked, outcome_unfinished, outcome_unopened}
 
 module _ {D : Type 0} (tells : Type 0) (moment : D → ℕ) (left_since : D → ℕ → List ℕ → Type 0) (seen : D → List ℕ) (image : D → List ℕ → Type 0) (disk new : D) where
@@ -51,7 +50,7 @@ module _ {D : Type 0} (tells : Type 0) (moment : D → ℕ) (left_since : D → 
   -- how a run ended on the disk
   abbrev pub OutcomeOn : (faults : D → ℕ) (limits : Limits) (source : List Command → Type 0) (sink : RunStatus → List Answer → Type 0) (sink_rose : Type 0) (ran : ℕ → Type 0) (marks : List ℕ) (status : RunStatus) (sheets : List Sheet) → Type 0
   OutcomeOn faults limits source sink sink_rose ran marks status sheets =
-      Outcome sheets limits source (λ journal. tells → IsOnDisk sheets (seen disk) journal) (λ journal halted. tells → AllStored (image new) journal halted) (Since sheets) sink (Spared sheets) (Refused sheets)
+      Outcome sheets limits source (λ journal. tells → IsOnDisk sheets (seen disk) journal) (λ journal halted. tells → AllStored (image new) journal halted) (Since sheets) sink (new ≡ disk) (Spared sheets) (Refused sheets)
       (Rose (faults disk) (faults new)) sink_rose ran marks status
 
   -- the same, of the whole run
@@ -60,17 +59,11 @@ module _ {D : Type 0} (tells : Type 0) (moment : D → ℕ) (left_since : D → 
   EndsOn faults limits misfit script read_rose unread source sink sink_rose ran marks status sheets =
       Ends misfit script read_rose unread (new ≡ disk) sink (λ s. OutcomeOn faults limits source sink sink_rose ran marks s sheets) marks status
 
-  -- a disk that is as handed in still holds its journal
-  unchanged_spared : (sheets : List Sheet) → ((c : List ℕ) → left_since disk (moment disk) c → image disk c) → new ≡ disk → Spared sheets
-  unchanged_spared sheets only unchanged told =
-      subst (λ d. Spares sheets (seen disk) (image disk) (seen d) (image d) × LeavesOnly moment left_since disk d (IsOpening sheets (seen disk) (image disk))) (sym unchanged)
-      (spares_self sheets (seen disk) (image disk), quiet_opening moment left_since image sheets (seen disk) disk only)
-
 rose_late : (old mid new : ℕ) → old ≤ mid → Rose mid new → Rose old new
 rose_late old mid new later rose = omega arith
 
 module _ {D : Type 0} (tells : Type 0) (moment : D → ℕ) (left_since : D → ℕ → List ℕ → Type 0) (seen : D → List ℕ) (image : D → List ℕ → Type 0) (faults : D → ℕ)
-    (sheets : List Sheet) (limits : Limits) (heard sink_rose : Type 0) (got0 got1 : List ℕ) (commands : List Command) (marks : List ℕ) (disk new : D) where
+    (own sheets : List Sheet) (listed : own ≡ sheets) (limits : Limits) (heard sink_rose : Type 0) (got0 got1 : List ℕ) (commands : List Command) (marks : List ℕ) (disk new : D) where
   -- the outcome of a conversation with a world that was opened
   pub converse_talked : (was after : WorldView D) (talked : Result (Unit {0}) Cut) (halted : Option Halt) (status : RunStatus) (runs now : ℕ) → status ≡ talked_status talked halted
       → ((old : List Entry) × IsJournal sheets old × (said_of was ≡ begun sheets old) × (tells → IsOnDisk sheets (seen disk) old × Settles moment left_since disk was.disk (λ c. image disk c ⊎ IsMaking (seen disk) c) (IsRun sheets old)))
@@ -80,7 +73,7 @@ module _ {D : Type 0} (tells : Type 0) (moment : D → ℕ) (left_since : D → 
       → (was.kept.halted ≡ None → after.kept.halted ≡ Some halt_is.LogFault → Rose (faults was.disk) (faults after.disk))
       → Ran was.kept.entries after.kept.entries runs now → (talked ≡ Err cut_is.WriteFault → sink_rose)
       → halted ≡ after.kept.halted → IsLegal (back after.kept.entries) → new ≡ after.disk → (tells → AllStored (image new) after.kept.entries after.kept.halted)
-      → OutcomeOn tells moment left_since seen image disk new faults limits (λ read. read ≡ commands) (λ status answers. heard → Talked got0 got1 status answers) sink_rose (λ count. RisesBy count runs now) marks status sheets
+      → OutcomeOn tells moment left_since seen image disk new faults limits (λ read. read ≡ commands) (λ status answers. heard → Talked got0 got1 status answers) sink_rose (λ count. RisesBy count runs now) marks status own
   converse_talked was after talked halted status runs now ends opening same later talk leaves halts ran fails is legal given stored =
       let old = opening.0 in
       let begins : was.kept.entries ≡ (begun sheets old).journal = ap (λ (said : Said). said.journal) opening.2 in
@@ -89,25 +82,27 @@ module _ {D : Type 0} (tells : Type 0) (moment : D → ℕ) (left_since : D → 
       stays_settled moment left_since disk was.disk after.disk (λ c. image disk c ⊎ IsMaking (seen disk) c) (IsRun sheets old) (opening.3 told).1
       (weaker moment left_since was.disk after.disk (Continues was.kept.entries) (IsRun sheets old) (λ bytes is. inr (subst (λ j. Continues j bytes) begins is)) (leaves told)) in
       let rose : after.kept.halted ≡ Some halt_is.LogFault → Rose (faults disk) (faults after.disk) = λ halted_is. rose_late (faults disk) (faults was.disk) (faults after.disk) later (halts going halted_is) in
-      subst (λ e. OutcomeOn tells moment left_since seen image disk new faults limits (λ read. read ≡ commands) (λ s answers. heard → Talked got0 got1 s answers) sink_rose (λ count. RisesBy count runs now) marks e sheets) (sym ends)
+      subst (λ e. OutcomeOn tells moment left_since seen image disk new faults limits (λ read. read ≡ commands) (λ s answers. heard → Talked got0 got1 s answers) sink_rose (λ count. RisesBy count runs now) marks e own) (sym ends)
+      (subst (OutcomeOn tells moment left_since seen image disk new faults limits (λ read. read ≡ commands) (λ s answers. heard → Talked got0 got1 s answers) sink_rose (λ count. RisesBy count runs now) marks (talked_status talked halted)) (sym listed)
       (outcome_talked sheets limits (λ read. read ≡ commands) (λ journal. tells → IsOnDisk sheets (seen disk) journal) (λ journal why. tells → AllStored (image new) journal why)
-      (Since tells moment left_since seen image disk new sheets) (Spared tells moment left_since seen image disk new sheets) (Refused tells moment left_since seen image disk new sheets)
+      (Since tells moment left_since seen image disk new sheets) (new ≡ disk) (Spared tells moment left_since seen image disk new sheets) (Refused tells moment left_since seen image disk new sheets)
       (Rose (faults disk) (faults new)) sink_rose heard got0 got1 commands marks old (said_of after) runs now refl (λ told. (opening.3 told).0) legal stored
       (λ told. subst (λ d. Settles moment left_since disk d (λ c. image disk c ⊎ IsMaking (seen disk) c) (IsRun sheets old)) (sym given) (settles told))
       (λ halted_is. subst (λ d. Rose (faults disk) (faults d)) (sym given) (rose halted_is))
       (subst (λ journal. Ran journal after.kept.entries runs now) begins ran) talked halted (sym is) fails
-      (subst (λ l. IsTalk heard got0 got1 commands marks talked (said_of after) l (begun sheets old)) same (subst (IsTalk heard got0 got1 commands marks talked (said_of after) (limits_of was)) opening.2 talk)))
+      (subst (λ l. IsTalk heard got0 got1 commands marks talked (said_of after) l (begun sheets old)) same (subst (IsTalk heard got0 got1 commands marks talked (said_of after) (limits_of was)) opening.2 talk))))
 
   -- the outcome of an opening that failed
   pub converse_unopened : (why : JournalWhy) (status : RunStatus) (ran : ℕ → Type 0) → status ≡ unopened_status why → marks ≡ [] → (tells → Refuses sheets (seen disk) why) → (why ≡ why_is.Fault → Rose (faults disk) (faults new))
       → (tells → why ≢ why_is.Fault → SameFrames (seen disk) (seen new) (image new)) → (tells → Spares sheets (seen disk) (image disk) (seen new) (image new))
       → (tells → LeavesOnly moment left_since disk new (IsOpening sheets (seen disk) (image disk))) → (heard → got1 ≡ got0)
-      → OutcomeOn tells moment left_since seen image disk new faults limits (λ read. read ≡ commands) (λ status answers. heard → Talked got0 got1 status answers) sink_rose ran marks status sheets
+      → OutcomeOn tells moment left_since seen image disk new faults limits (λ read. read ≡ commands) (λ status answers. heard → Talked got0 got1 status answers) sink_rose ran marks status own
   converse_unopened why status ran ends none refuses fault frames spares moments said =
-      subst (λ e. OutcomeOn tells moment left_since seen image disk new faults limits (λ read. read ≡ commands) (λ s answers. heard → Talked got0 got1 s answers) sink_rose ran marks e sheets) (sym ends)
+      subst (λ e. OutcomeOn tells moment left_since seen image disk new faults limits (λ read. read ≡ commands) (λ s answers. heard → Talked got0 got1 s answers) sink_rose ran marks e own) (sym ends)
+      (subst (OutcomeOn tells moment left_since seen image disk new faults limits (λ read. read ≡ commands) (λ s answers. heard → Talked got0 got1 s answers) sink_rose ran marks (unopened_status why)) (sym listed)
       (outcome_unopened sheets limits (λ read. read ≡ commands) (λ journal. tells → IsOnDisk sheets (seen disk) journal) (λ journal halted. tells → AllStored (image new) journal halted)
-      (Since tells moment left_since seen image disk new sheets) (Spared tells moment left_since seen image disk new sheets) (Refused tells moment left_since seen image disk new sheets)
-      (Rose (faults disk) (faults new)) sink_rose heard got0 got1 commands marks ran why refl none fault (λ told. (spares told, moments told)) (λ judged told. (refuses told, frames told (λ failed. judged (inl failed)), moments told)) said)
+      (Since tells moment left_since seen image disk new sheets) (new ≡ disk) (Spared tells moment left_since seen image disk new sheets) (Refused tells moment left_since seen image disk new sheets)
+      (Rose (faults disk) (faults new)) sink_rose heard got0 got1 commands marks ran why refl none fault (λ told. (spares told, moments told)) (λ judged told. (refuses told, frames told (λ failed. judged (inl failed)), moments told)) said))
 
 module _ {D : Type 0} (tells : Type 0) (moment : D → ℕ) (left_since : D → ℕ → List ℕ → Type 0) (seen : D → List ℕ) (image : D → List ℕ → Type 0) (faults : D → ℕ)
     (limits : Limits) (heard : Type 0) (got0 got1 : List ℕ) (misfit : Option ℕ) (script : Bad → Type 0) (read_rose unread : Type 0) (marks : List ℕ) (disk new : D) (status : RunStatus) where
@@ -125,8 +120,8 @@ module _ {D : Type 0} (tells : Type 0) (moment : D → ℕ) (left_since : D → 
       let spared = Spared tells moment left_since seen image disk new sheets in
       let refused = Refused tells moment left_since seen image disk new sheets in
       let disk_rose = Rose (faults disk) (faults new) in
-      ends_fit sheets limits before stored since spared refused disk_rose marks (IsRead misfit told left0 left1) ran talked sink_rose misfit script read_rose unread (new ≡ disk) talked fit status
-      (outcome_map sheets limits before stored since spared refused disk_rose marks (λ cs. cs ≡ commands) (IsRead misfit told left0 left1) ran ran talked talked sink_rose sink_rose read (λ count r. r) status (λ answers t. t) (λ r. r) o)
+      ends_fit sheets limits before stored since (new ≡ disk) spared refused disk_rose marks (IsRead misfit told left0 left1) ran talked sink_rose misfit script read_rose unread (new ≡ disk) talked fit status
+      (outcome_map sheets limits before stored since (new ≡ disk) spared refused disk_rose marks (λ cs. cs ≡ commands) (IsRead misfit told left0 left1) ran ran talked talked sink_rose sink_rose read (λ count r. r) status (λ answers t. t) (λ r. r) o)
 
 -- what the last line leaves of a status: the status, or Memory
 abbrev pub IsFinished : (heard : Type 0) (rose : Type 0) (got1 got2 : List ℕ) (status finished : RunStatus) → Type 0
@@ -149,10 +144,10 @@ module _ {D : Type 0} (tells : Type 0) (moment : D → ℕ) (left_since : D → 
     (line : IsFinished heard (Rose faults1 faults2) got1 got2 status finished)
     (exact : tells → (journal : List Entry) → IsOnDisk sheets (seen disk) journal → (why : LogWhy) → status ≡ LogRefused why → ⊥) where
   -- the end of a run behind its last line
-  pub run_finished : ((count : ℕ) → ran count → ran' count) → ((c : List ℕ) → left_since disk (moment disk) c → image disk c)
+  pub run_finished : ((count : ℕ) → ran count → ran' count)
       → EndsOn tells moment left_since seen image disk new faults limits misfit script read_rose unread source (λ s answers. heard → Talked got0 got1 s answers) (Rose faults0 faults1) ran marks status sheets
       → EndsOn tells moment left_since seen image disk new faults limits misfit script read_rose unread source (λ s answers. heard → Got (Rose faults0 faults2) got0 got2 s answers) (Rose faults0 faults2) ran' marks finished own
-  run_finished counts only e =
+  run_finished counts e =
       let talked : RunStatus → List Answer → Type 0 = λ s answers. heard → Talked got0 got1 s answers in
       let got : RunStatus → List Answer → Type 0 = λ s answers. heard → Got (Rose faults0 faults2) got0 got2 s answers in
       let before : List Entry → Type 0 = λ journal. tells → IsOnDisk sheets (seen disk) journal in
@@ -171,13 +166,13 @@ module _ {D : Type 0} (tells : Type 0) (moment : D → ℕ) (left_since : D → 
       let said : (answers : List Answer) → talked status answers → got status answers = λ answers t told. got_finished (Rose faults1 faults2) (Rose faults0 faults2) got0 got1 got2 status answers (rose_late faults0 faults1 faults2 first) (t told) (done.1 told) in
       subst ends (sym done.0)
       (ends_map misfit script read_rose unread (new ≡ disk) talked judged marks got outcome status (said [])
-      (outcome_map sheets limits before stored since spared refused disk_rose marks source source ran ran' talked got (Rose faults0 faults1) (Rose faults0 faults2) (λ cs c. c) counts status said (rose_early faults0 faults1 faults2 then)) e))
+      (outcome_map sheets limits before stored since (new ≡ disk) spared refused disk_rose marks source source ran ran' talked got (Rose faults0 faults1) (Rose faults0 faults2) (λ cs c. c) counts status said (rose_early faults0 faults1 faults2 then)) e))
       (λ short.
       let said : (answers : List Answer) → talked status answers → got Memory answers = λ answers t told. got_unfinished got0 got1 got2 status answers (t told) (short.1 told) in
       subst ends (sym short.0)
       (ends_either misfit script read_rose unread (new ≡ disk) talked judged marks (ends Memory) status
-      (λ none unchanged t. inl (none, unchanged_spared tells moment left_since seen image disk new sheets only unchanged, said [] t))
-      (outcome_unfinished sheets limits before stored since spared refused disk_rose marks source source ran ran' talked got (Rose faults0 faults1) (Rose faults0 faults2) (λ cs c. c) counts status said unrefused) e))
+      (λ none unchanged t. inl (none, said [] t, inl unchanged))
+      (outcome_unfinished sheets limits before stored since (new ≡ disk) spared refused disk_rose marks source source ran ran' talked got (Rose faults0 faults1) (Rose faults0 faults2) (λ cs c. c) counts status said unrefused) e))
       line)
 
   -- where nothing is wrong and nothing failed

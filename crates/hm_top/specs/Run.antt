@@ -101,25 +101,25 @@ abbrev pub IsToldWhole : (sheets : List Sheet) (limits : Limits) (source : List 
 IsToldWhole sheets limits source before stored since disk_rose ran sink marks halted =
     (told : IsTold sheets limits source before stored since disk_rose ran sink marks) × (told.rest ≡ []) × (told.unsaid ≡ []) × (told.new.halted ≡ halted)
 
--- How a run ended behind the words and the script. `spared` says that the disk still holds its journal, `refused` why it
--- holds none.
+-- How a run ended behind the words and the script. `same` says that the disk is as handed in, `spared` that it still holds
+-- its journal, `refused` why it holds none.
 abbrev pub Outcome : (sheets : List Sheet) (limits : Limits) (source : List Command → Type 0) (before : List Entry → Type 0) (stored : List Entry → Option Halt → Type 0)
-    (since : List Entry → Type 0) (sink : RunStatus → List Answer → Type 0) (spared : Type 0) (refused : JournalWhy → Type 0) (disk_rose sink_rose : Type 0) (ran : ℕ → Type 0)
+    (since : List Entry → Type 0) (sink : RunStatus → List Answer → Type 0) (same spared : Type 0) (refused : JournalWhy → Type 0) (disk_rose sink_rose : Type 0) (ran : ℕ → Type 0)
     (marks : List ℕ) → RunStatus → Type 0
-Outcome sheets limits source before stored since sink spared refused disk_rose sink_rose ran marks Done =
+Outcome sheets limits source before stored since sink same spared refused disk_rose sink_rose ran marks Done =
     IsToldWhole sheets limits source before stored since disk_rose ran (sink Done) marks None
-Outcome sheets limits source before stored since sink spared refused disk_rose sink_rose ran marks LogFault =
+Outcome sheets limits source before stored since sink same spared refused disk_rose sink_rose ran marks LogFault =
     disk_rose × (((marks ≡ []) × spared × sink LogFault [] × ((commands : List Command) × source commands))
     ⊎ IsToldWhole sheets limits source before stored since disk_rose ran (sink LogFault) marks (Some halt_is.LogFault))
-Outcome sheets limits source before stored since sink spared refused disk_rose sink_rose ran marks (JournalFull bytes) =
+Outcome sheets limits source before stored since sink same spared refused disk_rose sink_rose ran marks (JournalFull bytes) =
     IsToldWhole sheets limits source before stored since disk_rose ran (sink (JournalFull bytes)) marks (Some (halt_is.JournalFull bytes))
-Outcome sheets limits source before stored since sink spared refused disk_rose sink_rose ran marks (LogRefused why) =
+Outcome sheets limits source before stored since sink same spared refused disk_rose sink_rose ran marks (LogRefused why) =
     ((cause : JournalWhy) × (log_why_of cause ≡ Some why) × refused cause) × (marks ≡ []) × sink (LogRefused why) [] × ((commands : List Command) × source commands)
-Outcome sheets limits source before stored since sink spared refused disk_rose sink_rose ran marks WriteFault =
+Outcome sheets limits source before stored since sink same spared refused disk_rose sink_rose ran marks WriteFault =
     sink_rose × ((told : IsTold sheets limits source before stored since disk_rose ran (sink WriteFault) marks) × (told.unsaid ≡ []))
-Outcome sheets limits source before stored since sink spared refused disk_rose sink_rose ran marks Memory =
-    ((marks ≡ []) × spared × sink Memory []) ⊎ IsTold sheets limits source before stored since disk_rose ran (sink Memory) marks
-Outcome sheets limits source before stored since sink spared refused disk_rose sink_rose ran marks _ = ⊥
+Outcome sheets limits source before stored since sink same spared refused disk_rose sink_rose ran marks Memory =
+    ((marks ≡ []) × sink Memory [] × (same ⊎ (spared × ((commands : List Command) × source commands)))) ⊎ IsTold sheets limits source before stored since disk_rose ran (sink Memory) marks
+Outcome sheets limits source before stored since sink same spared refused disk_rose sink_rose ran marks _ = ⊥
 
 -- How a run ended, judged in this order: words, script, and then the rest, which `outcome` says. `unread` says that the
 -- source is as handed in, `same` that the disk is.

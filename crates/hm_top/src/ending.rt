@@ -1,7 +1,6 @@
 //! A run, from its words to its last line.
 ghost use Rattle.std.specs.Prelude.{◌≡◌, ◌⊎◌, ◌≤◌, List, ℕ, [], length, map, Option, Some, None, string_bytes, IfOk, IfErr, OnOk, All};
 ghost use Rattle.std.specs.List.{flat_map};
-ghost use Rattle.hm_model.specs.Rules.{AreSheets};
 ghost use Rattle.hm_ports.specs.Faults.{Rose};
 ghost use Rattle.hm_disk.specs.Disk.{LeavesOnly, Settles};
 ghost use Rattle.hm_log.specs.Opening.{IsMaking};
@@ -12,7 +11,7 @@ ghost use Rattle.hm_journal.specs.Verdict.{Refuses};
 ghost use Rattle.hm_top.specs.declared.command.Command.{Command as CommandValue};
 ghost use Rattle.hm_top.specs.declared.status.Bad.{Bad as BadValue};
 ghost use Rattle.hm_top.specs.declared.status.LogWhy.{LogWhy as LogWhyValue};
-ghost use Rattle.hm_top.specs.Hands.{AgreeOn, HandsAgree, RisesBy, SumRisesBy, first_sheets, own_sheets};
+ghost use Rattle.hm_top.specs.Hands.{HandsAgree, RisesBy, SumRisesBy, first_sheets, own_sheets};
 ghost use Rattle.hm_top.specs.Run.{IsBad, IsRead, IsRefusal, IsRefused, Outcome, Ends, IsLast, Talked, Got, unopened_status, talked_status};
 ghost use Rattle.hm_top.specs.Script.{lines_of, IsScript};
 ghost use Rattle.hm_top.specs.Status.{last_line};
@@ -25,7 +24,6 @@ use crate::status::{Bad, Cut, LogWhy, RunStatus, Why};
 use crate::talking::talk;
 use crate::words::misfit;
 use crate::world::World;
-use hm_data::Sheet;
 use hm_disk::Disk;
 use hm_hall::Halt;
 use hm_journal::{JournalWhy, Limits};
@@ -129,32 +127,34 @@ fn converse<D: Disk, K: Sink>(
     out: &mut K,
     disk: D,
     hands: &mut Registry,
-    sheets: &[Sheet],
     limits: Limits,
     marks: &mut Vec<u64>,
 ) -> (RunStatus, D)
     requires fresh { marks.old.items ≡ [] }
-    requires agree { AgreeOn (flat_map (λ h. (⟦<dyn Handler as Handler>⟧ h.vtable).sheets_are h.value) hands.old.handlers.items) sheets.now }
-    requires sheets { AreSheets sheets.now }
+    requires all { HasAll (flat_map (λ h. (⟦<dyn Handler as Handler>⟧ h.vtable).sheets_are h.value) hands.old.handlers.items) }
     requires hard { 65551 ≤ limits.hard }
-    ensures outcome { Outcome sheets.now limits
+    ensures outcome { Outcome (own_sheets (flat_map (λ h. (⟦<dyn Handler as Handler>⟧ h.vtable).sheets_are h.value) hands.old.handlers.items)) limits
         (λ read. read ≡ commands.now)
-        (λ journal. D.tells → IsOnDisk sheets.now (D.seen disk) journal)
+        (λ journal. D.tells → IsOnDisk (own_sheets (flat_map (λ h. (⟦<dyn Handler as Handler>⟧ h.vtable).sheets_are h.value) hands.old.handlers.items)) (D.seen disk) journal)
         (λ journal halted. D.tells → AllStored (D.image result.1) journal halted)
-        (λ journal. D.tells → Settles D.moment D.left_since disk result.1 (λ c. D.image disk c ⊎ IsMaking (D.seen disk) c) (IsRun sheets.now journal))
+        (λ journal. D.tells → Settles D.moment D.left_since disk result.1 (λ c. D.image disk c ⊎ IsMaking (D.seen disk) c) (IsRun (own_sheets (flat_map (λ h. (⟦<dyn Handler as Handler>⟧ h.vtable).sheets_are h.value) hands.old.handlers.items)) journal))
         (λ status answers. K.tells → Talked (K.got out.old) (K.got out.new) status answers)
-        (D.tells → Spares sheets.now (D.seen disk) (D.image disk) (D.seen result.1) (D.image result.1) × LeavesOnly D.moment D.left_since disk result.1 (IsOpening sheets.now (D.seen disk) (D.image disk)))
-        (λ why. D.tells → Refuses sheets.now (D.seen disk) why × SameFrames (D.seen disk) (D.seen result.1) (D.image result.1) × LeavesOnly D.moment D.left_since disk result.1 (IsOpening sheets.now (D.seen disk) (D.image disk)))
+        (result.1 ≡ disk)
+        (D.tells → Spares (own_sheets (flat_map (λ h. (⟦<dyn Handler as Handler>⟧ h.vtable).sheets_are h.value) hands.old.handlers.items)) (D.seen disk) (D.image disk) (D.seen result.1) (D.image result.1) × LeavesOnly D.moment D.left_since disk result.1 (IsOpening (own_sheets (flat_map (λ h. (⟦<dyn Handler as Handler>⟧ h.vtable).sheets_are h.value) hands.old.handlers.items)) (D.seen disk) (D.image disk)))
+        (λ why. D.tells → Refuses (own_sheets (flat_map (λ h. (⟦<dyn Handler as Handler>⟧ h.vtable).sheets_are h.value) hands.old.handlers.items)) (D.seen disk) why × SameFrames (D.seen disk) (D.seen result.1) (D.image result.1) × LeavesOnly D.moment D.left_since disk result.1 (IsOpening (own_sheets (flat_map (λ h. (⟦<dyn Handler as Handler>⟧ h.vtable).sheets_are h.value) hands.old.handlers.items)) (D.seen disk) (D.image disk)))
         (Rose (D.faults disk) (D.faults result.1))
         (Rose (K.faults out.old) (K.faults out.new))
         (λ count. RisesBy count hands.old.runs hands.new.runs)
         marks.new.items result.0 }
-    ensures exact { D.tells → (journal : List EntryValue) → IsOnDisk sheets.now (D.seen disk) journal → (why : LogWhyValue) → result.0 ≡ RunStatus.LogRefused why → ⊥ }
+    ensures exact { D.tells → (journal : List EntryValue) → IsOnDisk (own_sheets (flat_map (λ h. (⟦<dyn Handler as Handler>⟧ h.vtable).sheets_are h.value) hands.old.handlers.items)) (D.seen disk) journal → (why : LogWhyValue) → result.0 ≡ RunStatus.LogRefused why → ⊥ }
     ensures later { K.faults out.old ≤ K.faults out.new }
     ensures sheets { flat_map (λ h. (⟦<dyn Handler as Handler>⟧ h.vtable).sheets_are h.value) hands.new.handlers.items
         ≡ flat_map (λ h. (⟦<dyn Handler as Handler>⟧ h.vtable).sheets_are h.value) hands.old.handlers.items }
 {
-    let mut world = match World::open(alloc, disk, sheets, limits) {
+    let Ok(sheets) = hands.sheets(alloc) else {
+        return (RunStatus::Memory, disk);
+    };
+    let mut world = match World::open(alloc, disk, sheets.as_slice(), limits) {
         Ok(world) => world,
         Err((disk, why)) => return (status_of(why), disk),
     };
@@ -171,13 +171,11 @@ fn judge<S: Source, K: Sink, D: Disk>(
     out: &mut K,
     disk: D,
     hands: &mut Registry,
-    sheets: &[Sheet],
     limits: Limits,
     marks: &mut Vec<u64>,
 ) -> (RunStatus, D)
     requires fresh { marks.old.items ≡ [] }
-    requires agree { AgreeOn (flat_map (λ h. (⟦<dyn Handler as Handler>⟧ h.vtable).sheets_are h.value) hands.old.handlers.items) sheets.now }
-    requires sheets { AreSheets sheets.now }
+    requires all { HasAll (flat_map (λ h. (⟦<dyn Handler as Handler>⟧ h.vtable).sheets_are h.value) hands.old.handlers.items) }
     requires hard { 65551 ≤ limits.hard }
     ensures ends { Ends
         (misfit_of (map string_bytes words.now))
@@ -186,20 +184,21 @@ fn judge<S: Source, K: Sink, D: Disk>(
         (script.new ≡ script.old)
         (result.1 ≡ disk)
         (λ status answers. K.tells → Talked (K.got out.old) (K.got out.new) status answers)
-        (Outcome sheets.now limits
+        (Outcome (own_sheets (flat_map (λ h. (⟦<dyn Handler as Handler>⟧ h.vtable).sheets_are h.value) hands.old.handlers.items)) limits
         (IsRead (misfit_of (map string_bytes words.now)) S.tells (S.left script.old) (S.left script.new))
-        (λ journal. D.tells → IsOnDisk sheets.now (D.seen disk) journal)
+        (λ journal. D.tells → IsOnDisk (own_sheets (flat_map (λ h. (⟦<dyn Handler as Handler>⟧ h.vtable).sheets_are h.value) hands.old.handlers.items)) (D.seen disk) journal)
         (λ journal halted. D.tells → AllStored (D.image result.1) journal halted)
-        (λ journal. D.tells → Settles D.moment D.left_since disk result.1 (λ c. D.image disk c ⊎ IsMaking (D.seen disk) c) (IsRun sheets.now journal))
+        (λ journal. D.tells → Settles D.moment D.left_since disk result.1 (λ c. D.image disk c ⊎ IsMaking (D.seen disk) c) (IsRun (own_sheets (flat_map (λ h. (⟦<dyn Handler as Handler>⟧ h.vtable).sheets_are h.value) hands.old.handlers.items)) journal))
         (λ status answers. K.tells → Talked (K.got out.old) (K.got out.new) status answers)
-        (D.tells → Spares sheets.now (D.seen disk) (D.image disk) (D.seen result.1) (D.image result.1) × LeavesOnly D.moment D.left_since disk result.1 (IsOpening sheets.now (D.seen disk) (D.image disk)))
-        (λ why. D.tells → Refuses sheets.now (D.seen disk) why × SameFrames (D.seen disk) (D.seen result.1) (D.image result.1) × LeavesOnly D.moment D.left_since disk result.1 (IsOpening sheets.now (D.seen disk) (D.image disk)))
+        (result.1 ≡ disk)
+        (D.tells → Spares (own_sheets (flat_map (λ h. (⟦<dyn Handler as Handler>⟧ h.vtable).sheets_are h.value) hands.old.handlers.items)) (D.seen disk) (D.image disk) (D.seen result.1) (D.image result.1) × LeavesOnly D.moment D.left_since disk result.1 (IsOpening (own_sheets (flat_map (λ h. (⟦<dyn Handler as Handler>⟧ h.vtable).sheets_are h.value) hands.old.handlers.items)) (D.seen disk) (D.image disk)))
+        (λ why. D.tells → Refuses (own_sheets (flat_map (λ h. (⟦<dyn Handler as Handler>⟧ h.vtable).sheets_are h.value) hands.old.handlers.items)) (D.seen disk) why × SameFrames (D.seen disk) (D.seen result.1) (D.image result.1) × LeavesOnly D.moment D.left_since disk result.1 (IsOpening (own_sheets (flat_map (λ h. (⟦<dyn Handler as Handler>⟧ h.vtable).sheets_are h.value) hands.old.handlers.items)) (D.seen disk) (D.image disk)))
         (Rose (D.faults disk) (D.faults result.1))
         (Rose (K.faults out.old) (K.faults out.new))
         (λ count. RisesBy count hands.old.runs hands.new.runs)
         marks.new.items)
         marks.new.items result.0 }
-    ensures exact { D.tells → (journal : List EntryValue) → IsOnDisk sheets.now (D.seen disk) journal → (why : LogWhyValue) → result.0 ≡ RunStatus.LogRefused why → ⊥ }
+    ensures exact { D.tells → (journal : List EntryValue) → IsOnDisk (own_sheets (flat_map (λ h. (⟦<dyn Handler as Handler>⟧ h.vtable).sheets_are h.value) hands.old.handlers.items)) (D.seen disk) journal → (why : LogWhyValue) → result.0 ≡ RunStatus.LogRefused why → ⊥ }
     ensures later { K.faults out.old ≤ K.faults out.new }
     ensures sheets { flat_map (λ h. (⟦<dyn Handler as Handler>⟧ h.vtable).sheets_are h.value) hands.new.handlers.items
         ≡ flat_map (λ h. (⟦<dyn Handler as Handler>⟧ h.vtable).sheets_are h.value) hands.old.handlers.items }
@@ -208,7 +207,7 @@ fn judge<S: Source, K: Sink, D: Disk>(
         return (RunStatus::Usage(word), disk);
     }
     match read_script(alloc, script) {
-        Ok(commands) => converse(alloc, &commands, out, disk, hands, sheets, limits, marks),
+        Ok(commands) => converse(alloc, &commands, out, disk, hands, limits, marks),
         Err(ScriptEnd::Bad(bad)) => (RunStatus::BadScript(bad), disk),
         Err(ScriptEnd::ReadFault) => (RunStatus::ReadFault, disk),
         Err(ScriptEnd::Memory) => (RunStatus::Memory, disk),
@@ -254,6 +253,7 @@ pub fn run<S: Source, K: Sink, D: Disk>(
         (λ journal halted. D.tells → AllStored (D.image result.disk) journal halted)
         (λ journal. D.tells → Settles D.moment D.left_since disk result.disk (λ c. D.image disk c ⊎ IsMaking (D.seen disk) c) (IsRun (own_sheets (first_sheets (map (λ r. flat_map (λ h. (⟦<dyn Handler as Handler>⟧ h.vtable).sheets_are h.value) r.handlers.items) hands.items))) journal))
         (λ status answers. K.tells → Got (Rose (K.faults out.old) (K.faults out.new)) (K.got out.old) (K.got out.new) status answers)
+        (result.disk ≡ disk)
         (D.tells → Spares (own_sheets (first_sheets (map (λ r. flat_map (λ h. (⟦<dyn Handler as Handler>⟧ h.vtable).sheets_are h.value) r.handlers.items) hands.items))) (D.seen disk) (D.image disk) (D.seen result.disk) (D.image result.disk) × LeavesOnly D.moment D.left_since disk result.disk (IsOpening (own_sheets (first_sheets (map (λ r. flat_map (λ h. (⟦<dyn Handler as Handler>⟧ h.vtable).sheets_are h.value) r.handlers.items) hands.items))) (D.seen disk) (D.image disk)))
         (λ why. D.tells → Refuses (own_sheets (first_sheets (map (λ r. flat_map (λ h. (⟦<dyn Handler as Handler>⟧ h.vtable).sheets_are h.value) r.handlers.items) hands.items))) (D.seen disk) why × SameFrames (D.seen disk) (D.seen result.disk) (D.image result.disk) × LeavesOnly D.moment D.left_since disk result.disk (IsOpening (own_sheets (first_sheets (map (λ r. flat_map (λ h. (⟦<dyn Handler as Handler>⟧ h.vtable).sheets_are h.value) r.handlers.items) hands.items))) (D.seen disk) (D.image disk)))
         (Rose (D.faults disk) (D.faults result.disk))
@@ -301,6 +301,7 @@ pub fn run_within<S: Source, K: Sink, D: Disk>(
         (λ journal halted. D.tells → AllStored (D.image result.disk) journal halted)
         (λ journal. D.tells → Settles D.moment D.left_since disk result.disk (λ c. D.image disk c ⊎ IsMaking (D.seen disk) c) (IsRun (own_sheets (first_sheets (map (λ r. flat_map (λ h. (⟦<dyn Handler as Handler>⟧ h.vtable).sheets_are h.value) r.handlers.items) hands.items))) journal))
         (λ status answers. K.tells → Got (Rose (K.faults out.old) (K.faults out.new)) (K.got out.old) (K.got out.new) status answers)
+        (result.disk ≡ disk)
         (D.tells → Spares (own_sheets (first_sheets (map (λ r. flat_map (λ h. (⟦<dyn Handler as Handler>⟧ h.vtable).sheets_are h.value) r.handlers.items) hands.items))) (D.seen disk) (D.image disk) (D.seen result.disk) (D.image result.disk) × LeavesOnly D.moment D.left_since disk result.disk (IsOpening (own_sheets (first_sheets (map (λ r. flat_map (λ h. (⟦<dyn Handler as Handler>⟧ h.vtable).sheets_are h.value) r.handlers.items) hands.items))) (D.seen disk) (D.image disk)))
         (λ why. D.tells → Refuses (own_sheets (first_sheets (map (λ r. flat_map (λ h. (⟦<dyn Handler as Handler>⟧ h.vtable).sheets_are h.value) r.handlers.items) hands.items))) (D.seen disk) why × SameFrames (D.seen disk) (D.seen result.disk) (D.image result.disk) × LeavesOnly D.moment D.left_since disk result.disk (IsOpening (own_sheets (first_sheets (map (λ r. flat_map (λ h. (⟦<dyn Handler as Handler>⟧ h.vtable).sheets_are h.value) r.handlers.items) hands.items))) (D.seen disk) (D.image disk)))
         (Rose (D.faults disk) (D.faults result.disk))
@@ -321,14 +322,6 @@ pub fn run_within<S: Source, K: Sink, D: Disk>(
 {
     let mut hands = hands;
     let mut marks = Vec::new(alloc);
-    let Ok(sheets) = hands[0].sheets(alloc) else {
-        return Ended {
-            status: RunStatus::Memory,
-            disk,
-            marks,
-            hands,
-        };
-    };
     let (status, disk) = judge(
         alloc,
         words,
@@ -336,7 +329,6 @@ pub fn run_within<S: Source, K: Sink, D: Disk>(
         out,
         disk,
         &mut hands[0],
-        sheets.as_slice(),
         limits,
         &mut marks,
     );
