@@ -73,19 +73,31 @@ fn start_allowed_prepare_and_step_in_of_two_requests(rt: HostRuntime) -> Result<
     let mut state = State::start(alloc, sheets_of_tables(alloc)?)?;
     assert_eq!(rt; state.entries(), 1);
     assert_eq!(rt; next_input(alloc, &state)?, None);
-    assert_eq!(rt; step(alloc, &mut state, 1, more)?, Some(NotAllowed::Rule(5)));
+    assert_eq!(rt;
+        step(alloc, &mut state, 1, more)?,
+        Some(NotAllowed::Rule(5))
+    );
 
     // This namespace is there from the start.
     assert_eq!(rt; submit(alloc, &mut state, 1, b"default")?, None);
-    assert_eq!(rt; submit(alloc, &mut state, 1, b"more")?, Some(NotAllowed::Rule(3)));
+    assert_eq!(rt;
+        submit(alloc, &mut state, 1, b"more")?,
+        Some(NotAllowed::Rule(3))
+    );
     assert_eq!(rt; next_input(alloc, &state)?, Some((1, 0, 1)));
-    assert_eq!(rt; step(alloc, &mut state, 1, more)?, Some(NotAllowed::Rule(8)));
+    assert_eq!(rt;
+        step(alloc, &mut state, 1, more)?,
+        Some(NotAllowed::Rule(8))
+    );
     assert_eq!(rt; step(alloc, &mut state, 1, fails)?, None);
     assert_eq!(rt; state.unfinished(), 0);
 
     // This one isn't.
     assert_eq!(rt; submit(alloc, &mut state, 2, b"more")?, None);
-    assert_eq!(rt; (state.entries(), state.last_pid(), state.unfinished()), (4, 2, 1));
+    assert_eq!(rt;
+        (state.entries(), state.last_pid(), state.unfinished()),
+        (4, 2, 1)
+    );
     let second = Nonce {
         group: 1,
         number: 2,
