@@ -133,20 +133,22 @@ fn converse<D: Disk, K: Sink>(
     requires fresh { marks.old.items ≡ [] }
     requires all { HasAll (flat_map (λ h. (⟦<dyn Handler as Handler>⟧ h.vtable).sheets_are h.value) hands.old.handlers.items) }
     requires hard { 65551 ≤ limits.hard }
-    ensures outcome { Outcome (own_sheets (flat_map (λ h. (⟦<dyn Handler as Handler>⟧ h.vtable).sheets_are h.value) hands.old.handlers.items)) limits
+    ensures outcome { let sheets = own_sheets (flat_map (λ h. (⟦<dyn Handler as Handler>⟧ h.vtable).sheets_are h.value) hands.old.handlers.items) in
+        Outcome sheets limits
         (λ read. read ≡ commands.now)
-        (λ journal. D.tells → IsOnDisk (own_sheets (flat_map (λ h. (⟦<dyn Handler as Handler>⟧ h.vtable).sheets_are h.value) hands.old.handlers.items)) (D.seen disk) journal)
+        (λ journal. D.tells → IsOnDisk sheets (D.seen disk) journal)
         (λ journal halted. D.tells → AllStored (D.image result.1) journal halted)
-        (λ journal. D.tells → Settles D.moment D.left_since disk result.1 (λ c. D.image disk c ⊎ IsMaking (D.seen disk) c) (IsRun (own_sheets (flat_map (λ h. (⟦<dyn Handler as Handler>⟧ h.vtable).sheets_are h.value) hands.old.handlers.items)) journal))
+        (λ journal. D.tells → Settles D.moment D.left_since disk result.1 (λ c. D.image disk c ⊎ IsMaking (D.seen disk) c) (IsRun sheets journal))
         (λ status answers. K.tells → Talked (K.got out.old) (K.got out.new) status answers)
         (result.1 ≡ disk)
-        (D.tells → Spares (own_sheets (flat_map (λ h. (⟦<dyn Handler as Handler>⟧ h.vtable).sheets_are h.value) hands.old.handlers.items)) (D.seen disk) (D.image disk) (D.seen result.1) (D.image result.1) × LeavesOnly D.moment D.left_since disk result.1 (IsOpening (own_sheets (flat_map (λ h. (⟦<dyn Handler as Handler>⟧ h.vtable).sheets_are h.value) hands.old.handlers.items)) (D.seen disk) (D.image disk)))
-        (λ why. D.tells → Refuses (own_sheets (flat_map (λ h. (⟦<dyn Handler as Handler>⟧ h.vtable).sheets_are h.value) hands.old.handlers.items)) (D.seen disk) why × SameFrames (D.seen disk) (D.seen result.1) (D.image result.1) × LeavesOnly D.moment D.left_since disk result.1 (IsOpening (own_sheets (flat_map (λ h. (⟦<dyn Handler as Handler>⟧ h.vtable).sheets_are h.value) hands.old.handlers.items)) (D.seen disk) (D.image disk)))
+        (D.tells → Spares sheets (D.seen disk) (D.image disk) (D.seen result.1) (D.image result.1) × LeavesOnly D.moment D.left_since disk result.1 (IsOpening sheets (D.seen disk) (D.image disk)))
+        (λ why. D.tells → Refuses sheets (D.seen disk) why × SameFrames (D.seen disk) (D.seen result.1) (D.image result.1) × LeavesOnly D.moment D.left_since disk result.1 (IsOpening sheets (D.seen disk) (D.image disk)))
         (Rose (D.faults disk) (D.faults result.1))
         (Rose (K.faults out.old) (K.faults out.new))
         (λ count. RisesBy count hands.old.runs hands.new.runs)
         marks.new.items result.0 }
-    ensures exact { D.tells → (journal : List EntryValue) → IsOnDisk (own_sheets (flat_map (λ h. (⟦<dyn Handler as Handler>⟧ h.vtable).sheets_are h.value) hands.old.handlers.items)) (D.seen disk) journal → (why : LogWhyValue) → result.0 ≡ RunStatus.LogRefused why → ⊥ }
+    ensures exact { let sheets = own_sheets (flat_map (λ h. (⟦<dyn Handler as Handler>⟧ h.vtable).sheets_are h.value) hands.old.handlers.items) in
+        D.tells → (journal : List EntryValue) → IsOnDisk sheets (D.seen disk) journal → (why : LogWhyValue) → result.0 ≡ RunStatus.LogRefused why → ⊥ }
     ensures later { K.faults out.old ≤ K.faults out.new }
     ensures sheets { flat_map (λ h. (⟦<dyn Handler as Handler>⟧ h.vtable).sheets_are h.value) hands.new.handlers.items
         ≡ flat_map (λ h. (⟦<dyn Handler as Handler>⟧ h.vtable).sheets_are h.value) hands.old.handlers.items }
@@ -177,28 +179,30 @@ fn judge<S: Source, K: Sink, D: Disk>(
     requires fresh { marks.old.items ≡ [] }
     requires all { HasAll (flat_map (λ h. (⟦<dyn Handler as Handler>⟧ h.vtable).sheets_are h.value) hands.old.handlers.items) }
     requires hard { 65551 ≤ limits.hard }
-    ensures ends { Ends
+    ensures ends { let sheets = own_sheets (flat_map (λ h. (⟦<dyn Handler as Handler>⟧ h.vtable).sheets_are h.value) hands.old.handlers.items) in
+        Ends
         (misfit_of (map string_bytes words.now))
         (IsRefused S.tells (S.left script.old) (S.left script.new))
         (Rose (S.faults script.old) (S.faults script.new))
         (script.new ≡ script.old)
         (result.1 ≡ disk)
         (λ status answers. K.tells → Talked (K.got out.old) (K.got out.new) status answers)
-        (Outcome (own_sheets (flat_map (λ h. (⟦<dyn Handler as Handler>⟧ h.vtable).sheets_are h.value) hands.old.handlers.items)) limits
+        (Outcome sheets limits
         (IsRead (misfit_of (map string_bytes words.now)) S.tells (S.left script.old) (S.left script.new))
-        (λ journal. D.tells → IsOnDisk (own_sheets (flat_map (λ h. (⟦<dyn Handler as Handler>⟧ h.vtable).sheets_are h.value) hands.old.handlers.items)) (D.seen disk) journal)
+        (λ journal. D.tells → IsOnDisk sheets (D.seen disk) journal)
         (λ journal halted. D.tells → AllStored (D.image result.1) journal halted)
-        (λ journal. D.tells → Settles D.moment D.left_since disk result.1 (λ c. D.image disk c ⊎ IsMaking (D.seen disk) c) (IsRun (own_sheets (flat_map (λ h. (⟦<dyn Handler as Handler>⟧ h.vtable).sheets_are h.value) hands.old.handlers.items)) journal))
+        (λ journal. D.tells → Settles D.moment D.left_since disk result.1 (λ c. D.image disk c ⊎ IsMaking (D.seen disk) c) (IsRun sheets journal))
         (λ status answers. K.tells → Talked (K.got out.old) (K.got out.new) status answers)
         (result.1 ≡ disk)
-        (D.tells → Spares (own_sheets (flat_map (λ h. (⟦<dyn Handler as Handler>⟧ h.vtable).sheets_are h.value) hands.old.handlers.items)) (D.seen disk) (D.image disk) (D.seen result.1) (D.image result.1) × LeavesOnly D.moment D.left_since disk result.1 (IsOpening (own_sheets (flat_map (λ h. (⟦<dyn Handler as Handler>⟧ h.vtable).sheets_are h.value) hands.old.handlers.items)) (D.seen disk) (D.image disk)))
-        (λ why. D.tells → Refuses (own_sheets (flat_map (λ h. (⟦<dyn Handler as Handler>⟧ h.vtable).sheets_are h.value) hands.old.handlers.items)) (D.seen disk) why × SameFrames (D.seen disk) (D.seen result.1) (D.image result.1) × LeavesOnly D.moment D.left_since disk result.1 (IsOpening (own_sheets (flat_map (λ h. (⟦<dyn Handler as Handler>⟧ h.vtable).sheets_are h.value) hands.old.handlers.items)) (D.seen disk) (D.image disk)))
+        (D.tells → Spares sheets (D.seen disk) (D.image disk) (D.seen result.1) (D.image result.1) × LeavesOnly D.moment D.left_since disk result.1 (IsOpening sheets (D.seen disk) (D.image disk)))
+        (λ why. D.tells → Refuses sheets (D.seen disk) why × SameFrames (D.seen disk) (D.seen result.1) (D.image result.1) × LeavesOnly D.moment D.left_since disk result.1 (IsOpening sheets (D.seen disk) (D.image disk)))
         (Rose (D.faults disk) (D.faults result.1))
         (Rose (K.faults out.old) (K.faults out.new))
         (λ count. RisesBy count hands.old.runs hands.new.runs)
         marks.new.items)
         marks.new.items result.0 }
-    ensures exact { D.tells → (journal : List EntryValue) → IsOnDisk (own_sheets (flat_map (λ h. (⟦<dyn Handler as Handler>⟧ h.vtable).sheets_are h.value) hands.old.handlers.items)) (D.seen disk) journal → (why : LogWhyValue) → result.0 ≡ RunStatus.LogRefused why → ⊥ }
+    ensures exact { let sheets = own_sheets (flat_map (λ h. (⟦<dyn Handler as Handler>⟧ h.vtable).sheets_are h.value) hands.old.handlers.items) in
+        D.tells → (journal : List EntryValue) → IsOnDisk sheets (D.seen disk) journal → (why : LogWhyValue) → result.0 ≡ RunStatus.LogRefused why → ⊥ }
     ensures later { K.faults out.old ≤ K.faults out.new }
     ensures sheets { flat_map (λ h. (⟦<dyn Handler as Handler>⟧ h.vtable).sheets_are h.value) hands.new.handlers.items
         ≡ flat_map (λ h. (⟦<dyn Handler as Handler>⟧ h.vtable).sheets_are h.value) hands.old.handlers.items }
@@ -240,22 +244,23 @@ pub fn run<S: Source, K: Sink, D: Disk>(
 ) -> Ended<D>
     requires agree { HandsAgree (map (λ r. flat_map (λ h. (⟦<dyn Handler as Handler>⟧ h.vtable).sheets_are h.value) r.handlers.items) hands.items) }
     requires all { All HasAll (map (λ r. flat_map (λ h. (⟦<dyn Handler as Handler>⟧ h.vtable).sheets_are h.value) r.handlers.items) hands.items) }
-    ensures ends { Ends
+    ensures ends { let sheets = own_sheets (first_sheets (map (λ r. flat_map (λ h. (⟦<dyn Handler as Handler>⟧ h.vtable).sheets_are h.value) r.handlers.items) hands.items)) in
+        Ends
         (misfit_of (map string_bytes words.now))
         (IsRefused S.tells (S.left script.old) (S.left script.new))
         (Rose (S.faults script.old) (S.faults script.new))
         (script.new ≡ script.old)
         (result.disk ≡ disk)
         (λ status answers. K.tells → Got (Rose (K.faults out.old) (K.faults out.new)) (K.got out.old) (K.got out.new) status answers)
-        (Outcome (own_sheets (first_sheets (map (λ r. flat_map (λ h. (⟦<dyn Handler as Handler>⟧ h.vtable).sheets_are h.value) r.handlers.items) hands.items))) (record { soft = 50331648; hard = 67108864 })
+        (Outcome sheets (record { soft = 50331648; hard = 67108864 })
         (IsRead (misfit_of (map string_bytes words.now)) S.tells (S.left script.old) (S.left script.new))
-        (λ journal. D.tells → IsOnDisk (own_sheets (first_sheets (map (λ r. flat_map (λ h. (⟦<dyn Handler as Handler>⟧ h.vtable).sheets_are h.value) r.handlers.items) hands.items))) (D.seen disk) journal)
+        (λ journal. D.tells → IsOnDisk sheets (D.seen disk) journal)
         (λ journal halted. D.tells → AllStored (D.image result.disk) journal halted)
-        (λ journal. D.tells → Settles D.moment D.left_since disk result.disk (λ c. D.image disk c ⊎ IsMaking (D.seen disk) c) (IsRun (own_sheets (first_sheets (map (λ r. flat_map (λ h. (⟦<dyn Handler as Handler>⟧ h.vtable).sheets_are h.value) r.handlers.items) hands.items))) journal))
+        (λ journal. D.tells → Settles D.moment D.left_since disk result.disk (λ c. D.image disk c ⊎ IsMaking (D.seen disk) c) (IsRun sheets journal))
         (λ status answers. K.tells → Got (Rose (K.faults out.old) (K.faults out.new)) (K.got out.old) (K.got out.new) status answers)
         (result.disk ≡ disk)
-        (D.tells → Spares (own_sheets (first_sheets (map (λ r. flat_map (λ h. (⟦<dyn Handler as Handler>⟧ h.vtable).sheets_are h.value) r.handlers.items) hands.items))) (D.seen disk) (D.image disk) (D.seen result.disk) (D.image result.disk) × LeavesOnly D.moment D.left_since disk result.disk (IsOpening (own_sheets (first_sheets (map (λ r. flat_map (λ h. (⟦<dyn Handler as Handler>⟧ h.vtable).sheets_are h.value) r.handlers.items) hands.items))) (D.seen disk) (D.image disk)))
-        (λ why. D.tells → Refuses (own_sheets (first_sheets (map (λ r. flat_map (λ h. (⟦<dyn Handler as Handler>⟧ h.vtable).sheets_are h.value) r.handlers.items) hands.items))) (D.seen disk) why × SameFrames (D.seen disk) (D.seen result.disk) (D.image result.disk) × LeavesOnly D.moment D.left_since disk result.disk (IsOpening (own_sheets (first_sheets (map (λ r. flat_map (λ h. (⟦<dyn Handler as Handler>⟧ h.vtable).sheets_are h.value) r.handlers.items) hands.items))) (D.seen disk) (D.image disk)))
+        (D.tells → Spares sheets (D.seen disk) (D.image disk) (D.seen result.disk) (D.image result.disk) × LeavesOnly D.moment D.left_since disk result.disk (IsOpening sheets (D.seen disk) (D.image disk)))
+        (λ why. D.tells → Refuses sheets (D.seen disk) why × SameFrames (D.seen disk) (D.seen result.disk) (D.image result.disk) × LeavesOnly D.moment D.left_since disk result.disk (IsOpening sheets (D.seen disk) (D.image disk)))
         (Rose (D.faults disk) (D.faults result.disk))
         (Rose (K.faults out.old) (K.faults out.new))
         (λ count. SumRisesBy count (map (λ r. r.runs) hands.items) (map (λ r. r.runs) result.hands.items))
@@ -263,9 +268,10 @@ pub fn run<S: Source, K: Sink, D: Disk>(
         result.marks.items result.status }
 
     // Where nothing is wrong and nothing failed it is done, unless the journal is full or memory ran out.
-    ensures complete { S.tells → D.tells → (commands : List CommandValue) (journal : List EntryValue)
+    ensures complete { let sheets = own_sheets (first_sheets (map (λ r. flat_map (λ h. (⟦<dyn Handler as Handler>⟧ h.vtable).sheets_are h.value) r.handlers.items) hands.items)) in
+        S.tells → D.tells → (commands : List CommandValue) (journal : List EntryValue)
         → misfit_of (map string_bytes words.now) ≡ None → length (S.left script.old) ≤ 1048576 → IsScript (lines_of (S.left script.old)) commands
-        → IsOnDisk (own_sheets (first_sheets (map (λ r. flat_map (λ h. (⟦<dyn Handler as Handler>⟧ h.vtable).sheets_are h.value) r.handlers.items) hands.items))) (D.seen disk) journal
+        → IsOnDisk sheets (D.seen disk) journal
         → ¬ Rose (S.faults script.old) (S.faults script.new) → ¬ Rose (K.faults out.old) (K.faults out.new) → ¬ Rose (D.faults disk) (D.faults result.disk)
         → (result.status ≡ RunStatus.Done) ⊎ (((bytes : ℕ) × (result.status ≡ RunStatus.JournalFull bytes)) ⊎ (result.status ≡ RunStatus.Memory)) }
 
@@ -288,22 +294,23 @@ pub fn run_within<S: Source, K: Sink, D: Disk>(
     requires agree { HandsAgree (map (λ r. flat_map (λ h. (⟦<dyn Handler as Handler>⟧ h.vtable).sheets_are h.value) r.handlers.items) hands.items) }
     requires all { All HasAll (map (λ r. flat_map (λ h. (⟦<dyn Handler as Handler>⟧ h.vtable).sheets_are h.value) r.handlers.items) hands.items) }
     requires hard { 65551 ≤ limits.hard }
-    ensures ends { Ends
+    ensures ends { let sheets = own_sheets (first_sheets (map (λ r. flat_map (λ h. (⟦<dyn Handler as Handler>⟧ h.vtable).sheets_are h.value) r.handlers.items) hands.items)) in
+        Ends
         (misfit_of (map string_bytes words.now))
         (IsRefused S.tells (S.left script.old) (S.left script.new))
         (Rose (S.faults script.old) (S.faults script.new))
         (script.new ≡ script.old)
         (result.disk ≡ disk)
         (λ status answers. K.tells → Got (Rose (K.faults out.old) (K.faults out.new)) (K.got out.old) (K.got out.new) status answers)
-        (Outcome (own_sheets (first_sheets (map (λ r. flat_map (λ h. (⟦<dyn Handler as Handler>⟧ h.vtable).sheets_are h.value) r.handlers.items) hands.items))) limits
+        (Outcome sheets limits
         (IsRead (misfit_of (map string_bytes words.now)) S.tells (S.left script.old) (S.left script.new))
-        (λ journal. D.tells → IsOnDisk (own_sheets (first_sheets (map (λ r. flat_map (λ h. (⟦<dyn Handler as Handler>⟧ h.vtable).sheets_are h.value) r.handlers.items) hands.items))) (D.seen disk) journal)
+        (λ journal. D.tells → IsOnDisk sheets (D.seen disk) journal)
         (λ journal halted. D.tells → AllStored (D.image result.disk) journal halted)
-        (λ journal. D.tells → Settles D.moment D.left_since disk result.disk (λ c. D.image disk c ⊎ IsMaking (D.seen disk) c) (IsRun (own_sheets (first_sheets (map (λ r. flat_map (λ h. (⟦<dyn Handler as Handler>⟧ h.vtable).sheets_are h.value) r.handlers.items) hands.items))) journal))
+        (λ journal. D.tells → Settles D.moment D.left_since disk result.disk (λ c. D.image disk c ⊎ IsMaking (D.seen disk) c) (IsRun sheets journal))
         (λ status answers. K.tells → Got (Rose (K.faults out.old) (K.faults out.new)) (K.got out.old) (K.got out.new) status answers)
         (result.disk ≡ disk)
-        (D.tells → Spares (own_sheets (first_sheets (map (λ r. flat_map (λ h. (⟦<dyn Handler as Handler>⟧ h.vtable).sheets_are h.value) r.handlers.items) hands.items))) (D.seen disk) (D.image disk) (D.seen result.disk) (D.image result.disk) × LeavesOnly D.moment D.left_since disk result.disk (IsOpening (own_sheets (first_sheets (map (λ r. flat_map (λ h. (⟦<dyn Handler as Handler>⟧ h.vtable).sheets_are h.value) r.handlers.items) hands.items))) (D.seen disk) (D.image disk)))
-        (λ why. D.tells → Refuses (own_sheets (first_sheets (map (λ r. flat_map (λ h. (⟦<dyn Handler as Handler>⟧ h.vtable).sheets_are h.value) r.handlers.items) hands.items))) (D.seen disk) why × SameFrames (D.seen disk) (D.seen result.disk) (D.image result.disk) × LeavesOnly D.moment D.left_since disk result.disk (IsOpening (own_sheets (first_sheets (map (λ r. flat_map (λ h. (⟦<dyn Handler as Handler>⟧ h.vtable).sheets_are h.value) r.handlers.items) hands.items))) (D.seen disk) (D.image disk)))
+        (D.tells → Spares sheets (D.seen disk) (D.image disk) (D.seen result.disk) (D.image result.disk) × LeavesOnly D.moment D.left_since disk result.disk (IsOpening sheets (D.seen disk) (D.image disk)))
+        (λ why. D.tells → Refuses sheets (D.seen disk) why × SameFrames (D.seen disk) (D.seen result.disk) (D.image result.disk) × LeavesOnly D.moment D.left_since disk result.disk (IsOpening sheets (D.seen disk) (D.image disk)))
         (Rose (D.faults disk) (D.faults result.disk))
         (Rose (K.faults out.old) (K.faults out.new))
         (λ count. SumRisesBy count (map (λ r. r.runs) hands.items) (map (λ r. r.runs) result.hands.items))
@@ -311,9 +318,10 @@ pub fn run_within<S: Source, K: Sink, D: Disk>(
         result.marks.items result.status }
 
     // Where nothing is wrong and nothing failed it is done, unless the journal is full or memory ran out.
-    ensures complete { S.tells → D.tells → (commands : List CommandValue) (journal : List EntryValue)
+    ensures complete { let sheets = own_sheets (first_sheets (map (λ r. flat_map (λ h. (⟦<dyn Handler as Handler>⟧ h.vtable).sheets_are h.value) r.handlers.items) hands.items)) in
+        S.tells → D.tells → (commands : List CommandValue) (journal : List EntryValue)
         → misfit_of (map string_bytes words.now) ≡ None → length (S.left script.old) ≤ 1048576 → IsScript (lines_of (S.left script.old)) commands
-        → IsOnDisk (own_sheets (first_sheets (map (λ r. flat_map (λ h. (⟦<dyn Handler as Handler>⟧ h.vtable).sheets_are h.value) r.handlers.items) hands.items))) (D.seen disk) journal
+        → IsOnDisk sheets (D.seen disk) journal
         → ¬ Rose (S.faults script.old) (S.faults script.new) → ¬ Rose (K.faults out.old) (K.faults out.new) → ¬ Rose (D.faults disk) (D.faults result.disk)
         → (result.status ≡ RunStatus.Done) ⊎ (((bytes : ℕ) × (result.status ≡ RunStatus.JournalFull bytes)) ⊎ (result.status ≡ RunStatus.Memory)) }
 
