@@ -1,7 +1,7 @@
 -- What the images of a disk hold that is opened.
-use Rattle.std.proofs.Common.{◌≡◌, ◌⊎◌, ℕ, ◌<◌, ◌≤◌, List, [], ◌∷◌, length, refl, ap, ◌∙◌, sym, subst, inl, inr, ⊎_elim, arith, Result, Ok, Err}
+use Rattle.std.proofs.Common.{◌≡◌, ◌⊎◌, ℕ, ◌≤◌, List, [], ◌∷◌, length, refl, ap, ◌∙◌, sym, subst, inl, inr, ⊎_elim, arith, Result, Ok, Err}
 use Rattle.std.specs.Prelude.{IfErr, IfOk, MatchResult}
-use Rattle.hm_disk.specs.Disk.{Only, LeavesOnly, Settles}
+use Rattle.hm_disk.specs.Disk.{LeavesOnly, Settles}
 use Rattle.hm_disk.proofs.Moments.{started}
 use Rattle.hm_log.specs.Format.{Reads, BeforeOrAfter, HoldsFrames}
 use Rattle.hm_log.specs.Opening.{IsMaking, Reopens}
@@ -38,14 +38,6 @@ module _ {D : Type 0} (moment : D → ℕ) (left_since : D → ℕ → List ℕ 
     each = λ c left. ⊎_elim (λ past. inl (was c (only old c past))) (λ now. now) (run.earlier (moment old) c (omega arith) left);
     before = λ t c le left. run.earlier t c le left;
   }
-
--- a log that was opened in vain still reads as its frames
-pub still_reads : (seen : List ℕ) (image : List ℕ → Type 0) (frames : List (List ℕ)) → 0 < length seen → Only seen image → HoldsFrames seen frames
-    → (c : List ℕ) → image c ⊎ Reopens seen c → Reads c frames
-still_reads seen image frames some only (inl blank) c is = let none = blank.0 in absurd (omega arith)
-still_reads seen image frames some only (inr reads) c (inl was) = subst (λ s. Reads s frames) (sym (only c was)) reads
-still_reads seen image frames some only (inr reads) c (inr (inl alike)) = alike.stays frames reads
-still_reads seen image frames some only (inr reads) c (inr (inr making)) = let none = making.0 in absurd (omega arith)
 
 -- a journal without entries may have got its first
 pub keeps_first : (sheets : List Sheet) (journal : List Entry) → length journal ≤ 0 → (bytes : List ℕ) → BeforeOrAfter [] (spelling (entry_is.Start sheets)) bytes → Keeps sheets journal bytes

@@ -4,7 +4,6 @@ use Rattle.std.proofs.lemmas.List.{reverse-append}
 use Rattle.std.proofs.lemmas.List.Elements.{All-head, All-tail}
 use Rattle.std.proofs.lemmas.Option.{none-some, same_Some}
 use Rattle.std.specs.Prelude.{IfOk, IfErr, MatchResult}
-use Rattle.hm_log.specs.Format.{HoldsFrames}
 use Rattle.hm_log.specs.declared.why.OpenWhy.{OpenWhy}
 use Rattle.hm_log.specs.declared.why.OpenWhy.TheVariants as log_why_is
 use Rattle.hm_data.specs.declared.entry.Entry.{Entry}
@@ -21,35 +20,11 @@ use Rattle.hm_model.specs.Sheets.{sheets_of}
 use Rattle.hm_model.proofs.Prefixes.{back-push, legal_cut}
 use Rattle.hm_journal.specs.Stored.{IsJournal, frames_of}
 use Rattle.hm_journal.specs.Judged.{IsNoJournalIn, of_log}
-use Rattle.hm_journal.specs.Verdict.{FailsAt, HasOthers, IsFirstBad, IsFirstDifference, IsFirstIllegal, IsNoEntry, IsNoJournal, IsSpelledOn, IsUnjudged, Refuses}
+use Rattle.hm_journal.specs.Verdict.{FailsAt, HasOthers, IsFirstBad, IsFirstDifference, IsFirstIllegal, IsNoEntry, IsNoJournal, IsUnjudged}
 use Rattle.hm_journal.specs.declared.why.JournalWhy.{JournalWhy}
 use Rattle.hm_journal.specs.declared.why.JournalWhy.TheVariants as why_is
 use Rattle.hm_journal.proofs.Judging.{sheets_stay}
 use Rattle.hm_journal.proofs.Spelled.{take_item}
-
--- the bytes of a log hold no journal where its frames are none
-refuses_entries : (sheets : List Sheet) (bytes : List ℕ) (entries : List Entry) (why : JournalWhy) → IsSpelledOn bytes entries → IsNoJournal sheets entries why → Refuses sheets bytes why
-refuses_entries sheets bytes entries why_is.Fault on none = absurd none
-refuses_entries sheets bytes entries (why_is.NotALog place) on none = absurd none
-refuses_entries sheets bytes entries (why_is.BadFrame place) on none = absurd none
-refuses_entries sheets bytes entries (why_is.BadEntry number at) on none = absurd none
-refuses_entries sheets bytes entries (why_is.Illegal number rule) on none = (entries, on, none)
-refuses_entries sheets bytes entries (why_is.SheetsDiffer kind) on none = (entries, on, none)
-refuses_entries sheets bytes entries why_is.Memory on none = tt
-
-refuses_frames : (sheets : List Sheet) (bytes : List ℕ) (frames : List (List ℕ)) (why : JournalWhy) → HoldsFrames bytes frames → IsNoEntry frames why → Refuses sheets bytes why
-refuses_frames sheets bytes frames why_is.Fault opens none = absurd none
-refuses_frames sheets bytes frames (why_is.NotALog place) opens none = absurd none
-refuses_frames sheets bytes frames (why_is.BadFrame place) opens none = absurd none
-refuses_frames sheets bytes frames (why_is.BadEntry number at) opens none = (frames, opens, none)
-refuses_frames sheets bytes frames (why_is.Illegal number rule) opens none = absurd none
-refuses_frames sheets bytes frames (why_is.SheetsDiffer kind) opens none = absurd none
-refuses_frames sheets bytes frames why_is.Memory opens none = tt
-
-pub refuses : (sheets : List Sheet) (bytes : List ℕ) (frames : List (List ℕ)) (why : JournalWhy) → HoldsFrames bytes frames → IsNoJournalIn sheets frames why → Refuses sheets bytes why
-refuses sheets bytes frames why opens (inl none) = refuses_frames sheets bytes frames why opens none
-refuses sheets bytes frames why opens (inr none) =
-    refuses_entries sheets bytes none.0 why (record { opens = subst (HoldsFrames bytes) (sym none.1) opens; fits = none.2 }) none.3
 
 -- frames spell at most one list of entries
 pub same_entries : (entries others : List Entry) → All EntryFits entries → All EntryFits others → frames_of entries ≡ frames_of others → entries ≡ others

@@ -69,19 +69,6 @@ same_region-Decides = decides same_region same_region-is same_region-refl
 pub same_key-Decides : (a b : CatKey) → Decides (same_key a b) (a ≡ b)
 same_key-Decides = decides same_key same_key-is same_key-refl
 
-differ : (b : Bool) (P : Type 0) → Decides b P → (P → ⊥) → b ≡ false
-differ true P d apart = absurd (apart (d.0 refl))
-differ false P d apart = refl
-
-pub same_table-not : (a b : TableName) → a ≢ b → same_table a b ≡ false
-same_table-not a b apart = differ (same_table a b) (a ≡ b) (same_table-Decides a b) apart
-
-pub same_region-not : (a b : Region) → a ≢ b → same_region a b ≡ false
-same_region-not a b apart = differ (same_region a b) (a ≡ b) (same_region-Decides a b) apart
-
-pub same_key-not : (a b : CatKey) → a ≢ b → same_key a b ≡ false
-same_key-not a b apart = differ (same_key a b) (a ≡ b) (same_key-Decides a b) apart
-
 pub cases_key : (a b : CatKey) → ((same_key a b ≡ true) × (a ≡ b)) ⊎ ((same_key a b ≡ false) × (a ≢ b))
 cases_key a b = elim (cases_Bool (same_key a b)) [
   | inl on ↦ inl (on, same_key-is a b on)

@@ -1,14 +1,9 @@
--- Nonces and keys that tie are those that their tests call the same.
-use Rattle.std.proofs.Common.{◌≡◌, ◌≢◌, List, [], ◌∷◌, ◌++◌, map, Bool, true, false, ◌||◌, if◌then◌else◌, codes, bytes_eq, Option, Some, None, refl, inl, inr, arith, ap, sym, ◌∙◌}
+-- Keys that tie are those that their test calls the same.
+use Rattle.std.proofs.Common.{◌≡◌, ◌≢◌, List, [], ◌∷◌, ◌++◌, map, Bool, true, false, ◌||◌, if◌then◌else◌, codes, bytes_eq, Option, Some, None, refl, inl, inr, ap, sym, ◌∙◌}
 use Rattle.std.specs.Option.{option_flatten}
 use Rattle.std.specs.Ordering.{is_eq}
 use Rattle.std.specs.declared.cmp.Ordering.{Ordering}
 use Rattle.std.specs.declared.cmp.Ordering.TheVariants.{Less, Equal, Greater}
-use Rattle.std.proofs.lemmas.Bool.{cond-false}
-use Rattle.std.proofs.lemmas.Bool.Decides.{nat_tests}
-use Rattle.hm_names.specs.Order.{nonce_cmp}
-use Rattle.hm_names.specs.declared.nonce.Nonce.{Nonce}
-use Rattle.hm_names.specs.declared.pid.Pid.{Pid}
 use Rattle.hm_data.specs.Keys.{key_cmp}
 use Rattle.hm_data.specs.declared.catalog.CatKey.{CatKey}
 use Rattle.hm_data.specs.declared.catalog.CatKey.TheVariants as key_is
@@ -17,25 +12,9 @@ use Rattle.hm_data.specs.declared.catalog.CatRow.TheVariants as row_is
 use Rattle.hm_data.specs.declared.catalog.Edit.{Edit}
 use Rattle.hm_model.specs.Catalog.{at_start, edited}
 use Rattle.hm_model.specs.Keys.{same_key}
-use Rattle.hm_model.specs.Nonces.{is_same}
 use Rattle.hm_model.proofs.KeyTests.{cases_key, key_cmp-is, key_cmp-same}
 use Rattle.hm_state.specs.Index.{find}
-use Rattle.hm_state.specs.Nonces.{AreWith}
 use Rattle.hm_state.specs.Rows.{row_in}
-
-nonce_ties : (used n : Nonce) → used.number ≢ 0 → is_eq (nonce_cmp used n) ≡ is_same used n
-nonce_ties used n some = grind (arith, nat_tests)
-
-none_same : (used n : Nonce) → used.number ≡ 0 → is_same used n ≡ false
-none_same used n zero_is = grind (arith, nat_tests)
-
--- a nonce that is none isn't kept
-pub without_nonce : (nonces : List (Nonce × Pid)) (nonce : Nonce) (pid : Pid) → nonce.number ≡ 0 → AreWith nonces nonce pid nonces
-without_nonce nonces nonce pid zero_is other = sym (cond-false (is_same nonce other) (Some pid) (find nonce_cmp nonces other) (none_same nonce other zero_is))
-
-pub with_nonce : (old new : List (Nonce × Pid)) (nonce : Nonce) (pid : Pid) → nonce.number ≢ 0
-    → ((other : Nonce) → find nonce_cmp new other ≡ (if is_eq (nonce_cmp nonce other) then Some pid else find nonce_cmp old other)) → AreWith old nonce pid new
-with_nonce old new nonce pid some each other = each other ∙ ap (λ b. if b then Some pid else find nonce_cmp old other) (nonce_ties nonce other some)
 
 key_ties : (a b : CatKey) → is_eq (key_cmp a b) ≡ same_key b a
 key_ties a b = elim (cases_key b a) [
