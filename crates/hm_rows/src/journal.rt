@@ -64,16 +64,19 @@ fn check_judges_as_open_does(rt: HostRuntime) -> Result<(), Fail> {
     Ok(())
 }
 
-/// The entry that asks for a namespace, under the nonce of group 1 with this number.
-pub fn submission(alloc: Global, number: u64, name: &[u8]) -> Result<Entry, AllocError>
+/// The entry that asks for a namespace `more`.
+pub fn submission(alloc: Global) -> Result<Entry, AllocError>
     ensures fits { IfOk result CanBeRecorded }
 {
-    let Ok(ns) = Ns::of(alloc, name) else {
+    let Ok(ns) = Ns::of(alloc, b"more") else {
         return Err(AllocError);
     };
     let _named = ns.as_bytes();
     entries_fit_frames();
-    let nonce = Nonce { group: 1, number };
+    let nonce = Nonce {
+        group: 1,
+        number: 1,
+    };
     Ok(Entry::Submit {
         nonce,
         request: Request::CreateNamespace { ns },
@@ -112,7 +115,7 @@ fn record(
 
 // Records the submission.
 fn submit(alloc: Global, journal: &mut Journal<MemDisk>) -> Result<Recorded, AllocError> {
-    let entry = submission(alloc, 1, b"more")?;
+    let entry = submission(alloc)?;
     let recorded = record(alloc, journal, &entry);
     drop(entry);
     recorded
