@@ -25,6 +25,3 @@ pub use record::{Phase, Record};
 pub use request::Request;
 pub use sheet::{Row, Sheet};
 pub use step::{StepIn, StepOut, Turn};
-
-#[cfg(test)]
-mod tests;

@@ -56,6 +56,3 @@ front_onto xs byte (Err fault) = refl
 
 pub front_step : (xs : List ℕ) (byte : ℕ) (here rest all : Result (List ℕ) NameFault) → here ≡ onto byte rest → with_front xs here ≡ all → with_front (xs ++ byte ∷ []) rest ≡ all
 front_step xs byte here rest all e h = front_onto xs byte rest ∙ ap (with_front xs) (sym e) ∙ h
-
-pub spelled_end : (text : List ℕ) (at : ℕ) → length text ≤ at → spelled 0 at (drop at text) ≡ Ok []
-spelled_end text at h = let none : drop at text ≡ [] = grind (arith, common_steps) in ap (spelled 0 at) none

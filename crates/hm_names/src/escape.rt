@@ -1,4 +1,4 @@
-ghost use Rattle.std.specs.Prelude.{◌≡◌, ◌+◌, ◌<◌, ◌/◌, ◌%◌, IfOk, IfSome, IsOk, Ok, drop, length};
+ghost use Rattle.std.specs.Prelude.{◌≡◌, ◌+◌, ◌<◌, IfOk, IfSome, Ok, drop, length};
 ghost use Rattle.hm_names.specs.Keys.{is_plain as plain, hex_digit as digit_of, hex_value as value_of, first_byte as byte_at, spelled};
 ghost use Rattle.hm_names.specs.KeyLength.{sized};
 

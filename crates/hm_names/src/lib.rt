@@ -37,6 +37,3 @@ pub use row_key::RowKey;
 pub use same::Same;
 pub use server::ServerName;
 pub use table::TableName;
-
-#[cfg(test)]
-mod tests;

@@ -16,7 +16,7 @@ pub struct Nonce {
 }
 
 impl Nonce {
-    ghost use Rattle.hm_names.specs.Nonces.{IsNonce, nonce_text, read_nonce};
+    ghost use Rattle.hm_names.specs.Nonces.{nonce_text, read_nonce};
 
     /// The nonce of a text `GROUP:NUMBER`, two decimals. It takes no memory.
     pub fn parse(_alloc: Global, text: &[u8]) -> Result<Nonce, NameFault>
