@@ -4,14 +4,19 @@ import resource
 import subprocess
 import sys
 
-PROGRAM = "crates/hmaster/out/hmaster"
+PROGRAM = os.path.join(os.path.dirname(os.path.dirname(os.path.abspath(__file__))), "crates/hmaster/out/hmaster")
 FOLDER = "/dev/shm"
 
 
 def arguments():
-    """The program and the folder that the command line names."""
-    program = os.path.abspath(sys.argv[1] if len(sys.argv) > 1 else PROGRAM)
-    return program, sys.argv[2] if len(sys.argv) > 2 else FOLDER
+    """The program and the folder that the command line names, or the repository's own program and a folder in memory."""
+    program = os.path.abspath(sys.argv[1]) if len(sys.argv) > 1 else PROGRAM
+    folder = sys.argv[2] if len(sys.argv) > 2 else FOLDER
+    if not os.access(program, os.X_OK):
+        sys.exit("there is no program at %s: build it by examples/demo, or name another" % program)
+    if not os.path.isdir(folder):
+        sys.exit("there is no folder %s: name one on a file system in memory" % folder)
+    return program, folder
 
 
 def processor_time():
