@@ -1,0 +1,6 @@
+pub mod Totals
+pub mod Chairs
+pub mod Prefixes
+pub mod Owed
+pub mod Keeps
+pub mod Ends

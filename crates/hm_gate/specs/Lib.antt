@@ -1,0 +1,9 @@
+pub mod Whole
+pub mod Total
+pub mod Hand
+pub mod Chair
+pub mod Gate
+pub mod Plays
+pub mod Seats
+pub mod Laws
+pub mod Ready

@@ -1,0 +1,108 @@
+//! A map whose pairs are only added, in the order of their keys.
+ghost use Rattle.std.specs.Prelude.{◌≡◌, ◌+◌, ◌≤◌, [], IfOk, OnOk, Some, if◌then◌else◌};
+ghost use Rattle.std.specs.Option.{option_copied};
+ghost use Rattle.std.specs.Ordering.{is_eq};
+ghost use Rattle.hm_index.specs.Index.{find, placed, pairs_from};
+
+use crate::order::{Order, Spot};
+use crate::view::{Iter, View};
+use std::alloc::{AllocError, Global};
+use std::marker::Model;
+
+// How many pairs there may be, at most: each place has to fit a u32.
+const LIMIT: usize = 0x1_0000_0000;
+
+/// Values by their keys. Contracts see the pairs in the order of their keys, and for how many more there is room.
+#[derive(Drop)]
+pub struct Index<K: Ord, V> {
+    // In the order in which they came.
+    pairs: Vec<(K, V)>,
+    // Their places, in the order of their keys.
+    order: Order,
+}
+
+impl<K: Ord, V> Model for Index<K, V> {
+    ghost use Rattle.std.specs.Prelude.{◌-◌, ◌+◌, ◌^◌, min, vec_len, vec_capacity};
+    ghost use Rattle.hm_index.specs.Blocks.{IsKept, picked, laid};
+    ghost use Rattle.hm_index.specs.Index.{IndexView};
+
+    ghost Value = { IndexView K V };
+
+    ghost view = { λ s. record { pairs = picked s.pairs.items (laid s.order.blocks); spare = min (2 ^ 32 - vec_len s.pairs) (min (vec_capacity s.pairs - vec_len s.pairs) s.order.spare); room = vec_capacity s.pairs + s.order.room } };
+
+    ghost invariant = { λ s. IsKept K.cmp s.pairs.items (laid s.order.blocks) };
+}
+
+impl<K: Ord + Drop, V: Drop> Index<K, V> {
+    /// No pair.
+    pub fn new(alloc: Global) -> Result<Index<K, V>, AllocError>
+        ensures { IfOk result (λ index. index.pairs ≡ []) }
+    {
+        Ok(Index {
+            pairs: Vec::new(alloc),
+            order: Order::new(alloc)?,
+        })
+    }
+
+    /// The value of a key.
+    pub fn get(&self, key: &K) -> Option<&V>
+        ensures { option_copied result ≡ find K.cmp self.now.pairs key.now }
+    {
+        match self.order.search(&self.pairs, key) {
+            Ok(spot) => Some(&self.pairs[self.order.get(spot)].1),
+            Err(_) => None,
+        }
+    }
+
+    /// The pairs in the order of their keys.
+    pub fn view(&self) -> View<'_, K, V>
+        ensures { result ≡ self.now.pairs }
+    {
+        View::new(&self.pairs, &self.order)
+    }
+
+    /// The pairs in the order of their keys, from the first on whose key isn't below this one.
+    pub fn iter_from(&self, key: &K) -> Iter<'_, K, V>
+        ensures { result ≡ pairs_from K.cmp self.now.pairs key.now }
+    {
+        match self.order.search(&self.pairs, key) {
+            Ok(spot) => Iter::new(&self.pairs, &self.order, spot),
+            Err(spot) => Iter::new(&self.pairs, &self.order, spot),
+        }
+    }
+
+    /// Makes room for so many pairs more.
+    pub fn reserve(&mut self, alloc: Global, count: usize) -> Result<(), AllocError>
+        ensures pairs { self.new.pairs ≡ self.old.pairs }
+        ensures room { OnOk result (count ≤ self.new.spare) }
+        ensures kept { self.old.spare ≤ self.new.spare }
+    {
+        let len = self.pairs.len();
+        if LIMIT < len || LIMIT - len < count {
+            return Err(AllocError);
+        }
+        self.pairs.reserve(count)?;
+        self.order.reserve(alloc, count)
+    }
+
+    /// Gives a key a value, in the room that was made for it.
+    pub fn set(&mut self, key: K, value: V)
+        requires { 1 ≤ self.old.spare }
+        ensures order { self.new.pairs ≡ placed K.cmp self.old.pairs key value }
+        ensures pairs { (other : K) → find K.cmp self.new.pairs other ≡ (if is_eq (K.cmp key other) then Some value else find K.cmp self.old.pairs other) }
+        ensures spare { self.old.spare ≤ self.new.spare + 1 }
+        ensures room { self.new.room ≡ self.old.room }
+    {
+        match self.order.search(&self.pairs, &key) {
+            Ok(spot) => {
+                let place = self.order.get(spot);
+                self.pairs[place] = (key, value);
+            }
+            Err(spot) => {
+                let place = self.pairs.len();
+                self.pairs.push_reserved((key, value));
+                self.order.insert(spot, place);
+            }
+        }
+    }
+}

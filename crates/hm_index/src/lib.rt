@@ -1,0 +1,11 @@
+//! Rows that are only added, by their keys and in the order of their keys.
+#![tactic(auto)]
+
+mod block;
+mod index;
+mod order;
+mod room;
+mod view;
+
+pub use index::Index;
+pub use view::{Iter, View};

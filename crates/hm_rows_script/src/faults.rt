@@ -1,0 +1,87 @@
+//! Scripts that are refused, and at which fault.
+use hm_script::{Bad, Why, parse};
+use std::test::Fail;
+
+#[test]
+fn parse_refuses_these(rt: HostRuntime) -> Result<(), Fail> {
+    let cases = [
+        // The first word.
+        (b"frob".as_slice(), "line 1: Word 0"),
+        (b"  frob", "line 1: Word 2"),
+        (b"\n#\nsettle\r\n frob x\x07", "line 4: Word 1"),
+        (b"Settle", "line 1: Word 0"),
+        (b"   ", "line 1: Missing"),
+        // A byte that may not stand in a line.
+        (b"namespace x a\x07", "line 1: Word 13"),
+        (b"na\x07", "line 1: Word 0"),
+        (b"settle\x07", "line 1: Word 6"),
+        (b"settle\nsettle\r", "line 2: Word 6"),
+        (b"settle \xff x\x07", "line 1: Word 7"),
+        (b"\x7f", "line 1: Word 0"),
+        (b"settle\nworkers\t2", "line 2: Word 7"),
+        // Words that are needed, and words too many.
+        (b"namespace 1:1", "line 1: Missing"),
+        (b"namespace 1:1 a b", "line 1: Extra"),
+        (b"namespace x a b", "line 1: Name BadNumber 1"),
+        (b"merge 1:1 t,1", "line 1: Missing"),
+        (b"merge 1:1 t,1 t,2 t,3", "line 1: Extra"),
+        (b"move 1:1 t,1 h1,1,1 x", "line 1: Extra"),
+        (b"procs x", "line 1: Extra"),
+        (b"procs json x", "line 1: Extra"),
+        (b"settle settle", "line 1: Extra"),
+        (b"cut 1", "line 1: Missing"),
+        (b"refuse storage", "line 1: Missing"),
+        // Names.
+        (b"create 1:1 -t", "line 1: Name BadByte 0"),
+        (b"create 1:1 t m \\ n", "line 1: Name BadByte 0"),
+        (b"create 1:1 t: -", "line 1: Name Empty"),
+        (b"server ,1,1", "line 1: Name Empty"),
+        (b"server h1,1", "line 1: Name BadNumber 4"),
+        (b"die h1,65536,1", "line 1: Name BadNumber 3"),
+        (b"move 1:1 t,1 h1,1,0", "line 1: Name BadNumber 5"),
+        (b"split 1:1 t,0 m", "line 1: Name BadNumber 2"),
+        (b"namespace 01:1 a", "line 1: Name BadNumber 0"),
+        (
+            b"namespace 1:1 abcdefghijklmnopqrstuvwxyzabcdefghijklmnopqrstuvwxyzabcdefghijklm",
+            "line 1: Name TooLong 65",
+        ),
+        // Numbers.
+        (b"step x", "line 1: Number"),
+        (b"step 01", "line 1: Number"),
+        (b"step 18446744073709551616", "line 1: Number"),
+        (b"abort -1", "line 1: Number"),
+        (b"refuse storage 4294967296", "line 1: Number"),
+        (b"workers 17", "line 1: Number"),
+        (b"modify 1:1 t +2", "line 1: Number"),
+        // The order of commands.
+        (b"settle\nworkers 2", "line 2: Order"),
+        (b"\n\nsettle\n#\nworkers", "line 5: Order"),
+        (b"workers 2\nworkers 17", "line 2: Order"),
+        // The first line that is wrong counts.
+        (b"settle\nstep\nfrob", "line 2: Missing"),
+    ];
+    for (script, text) in cases {
+        match parse(rt.alloc(), script) {
+            Ok(_) => assert!(rt; false, "it is read"),
+            Err(bad) => assert_eq!(rt; bad.to_string(rt.alloc())?.as_str(), text),
+        }
+    }
+    Ok(())
+}
+
+#[test]
+fn parse_reads_so_many_bytes(rt: HostRuntime) -> Result<(), Fail> {
+    let mut script = vec![in rt.alloc(); b'#'; 1_048_576]?;
+    assert!(rt; parse(rt.alloc(), script.as_slice()).is_ok());
+    script.push(b'#')?;
+    let bad = Bad {
+        line: 0,
+        why: Why::TooLong,
+    };
+    assert_eq!(rt; bad.to_string(rt.alloc())?.as_str(), "line 0: TooLong");
+    match parse(rt.alloc(), script.as_slice()) {
+        Ok(_) => assert!(rt; false, "too long"),
+        Err(found) => assert_eq!(rt; found, bad),
+    }
+    Ok(())
+}

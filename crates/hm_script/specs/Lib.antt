@@ -1,0 +1,9 @@
+pub mod Lines
+pub mod Keywords
+pub mod Faults
+pub mod Values
+pub mod Shapes
+pub mod Spellings
+pub mod Reading
+pub mod Script
+pub mod Printing

@@ -1,0 +1,63 @@
+-- What a script says.
+use Rattle.std.specs.Prelude.{◌≡◌, ℕ, ◌+◌, ◌≤◌, Bool, true, false, nat_lt, if◌then◌else◌, Result, Ok, Err, List, [], ◌∷◌, ◌++◌, length, map, drop, All}
+use Rattle.std.specs.List.{flat_map}
+use Rattle.hm_script.specs.declared.bad.Bad.{Bad}
+use Rattle.hm_script.specs.declared.bad.Why.{Why}
+use Rattle.hm_script.specs.declared.bad.Why.TheVariants.{TooLong}
+use Rattle.hm_script.specs.declared.command.Command.{Command}
+use Rattle.hm_script.specs.declared.command.Command.TheVariants.{Workers, Merge}
+use Rattle.hm_script.specs.Lines.{lines_of, is_skipped}
+use Rattle.hm_script.specs.Reading.{may_stand, read_line}
+use Rattle.hm_script.specs.Spellings.{Spelling, spelling, command_text}
+
+-- one command before others
+abbrev pub onto_others : Spelling → Result (List Spelling) Bad → Result (List Spelling) Bad
+onto_others said (Ok others) = Ok (said ∷ others)
+onto_others said (Err bad) = Err bad
+
+-- what the line with this number says, before what the others say; its fault comes before theirs
+abbrev pub before_others : ℕ → Result Spelling Why → Result (List Spelling) Bad → Result (List Spelling) Bad
+before_others number (Ok said) others = onto_others said others
+before_others number (Err why) others = Err (record { line = number; why = why })
+
+-- what lines say that are numbered from `number` on; `first` tells whether no command stands before them
+abbrev pub read_lines : ℕ → Bool → List (List ℕ) → Result (List Spelling) Bad
+read_lines number first [] = Ok []
+read_lines number first (line ∷ lines) =
+    if is_skipped line then read_lines (number + 1) first lines
+    else before_others number (read_line first line) (read_lines (number + 1) false lines)
+
+-- what a script says: the commands of its lines, or its first line that says none, and that line's first fault
+unfoldable pub read_script : List ℕ → Result (List Spelling) Bad
+read_script bytes =
+    if nat_lt 1048576 (length bytes) then Err (record { line = 0; why = TooLong }) else read_lines 1 true (lines_of bytes)
+
+-- the bytes are a script of these commands
+abbrev pub IsScript : List ℕ → List Command → Type 0
+IsScript bytes commands = read_script bytes ≡ Ok (map spelling commands)
+
+-- the bytes are no script, and this is their first fault
+abbrev pub IsFaultOf : List ℕ → Bad → Type 0
+IsFaultOf bytes bad = read_script bytes ≡ Err bad
+
+-- the line that says a command, with its newline
+abbrev pub line_text : Command → List ℕ
+line_text command = command_text command ++ 10 ∷ []
+
+-- the script of commands, a line each
+abbrev pub script_text : List Command → List ℕ
+script_text commands = flat_map line_text commands
+
+-- a command that a line can say: a Workers has a count of at most 16, and a Merge has two regions
+abbrev pub IsSpelled : Command → Type 0
+IsSpelled (Workers count) = count ≤ 16
+IsSpelled (Merge nonce regions) = length regions ≡ 2
+IsSpelled command = Unit {0}
+
+-- a command that may stand behind others: no Workers
+abbrev pub IsLater : Command → Type 0
+IsLater command = may_stand false (spelling command).keyword ≡ true
+
+-- commands that have a script: a Workers stands first alone
+abbrev pub IsPrintable : List Command → Type 0
+IsPrintable commands = All IsSpelled commands × All IsLater (drop 1 commands)
