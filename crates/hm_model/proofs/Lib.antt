@@ -9,3 +9,7 @@ pub mod Stages
 pub mod Ranges
 pub mod Holders
 pub mod Counting
+pub mod ByHand
+mod Crashed
+mod Undone
+mod Beside

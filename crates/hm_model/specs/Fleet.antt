@@ -1,0 +1,115 @@
+-- The servers of a journal: which came up, which are live, and which are fenced.
+use Rattle.std.specs.Prelude.{List, [], ◌∷◌, Option, Some, None, Bool, false, not, ◌==◌, ◌&&◌, ◌||◌, nat_lt}
+use Rattle.std.specs.List.{list_any}
+use Rattle.std.specs.Str.{bytes_eq}
+use Rattle.std.specs.declared.cmp.Ordering.{Ordering}
+use Rattle.std.specs.declared.cmp.Ordering.TheVariants.{Less, Equal, Greater}
+use Rattle.hm_names.specs.Order.{server_cmp}
+use Rattle.hm_names.specs.Server.{Server}
+use Rattle.hm_data.specs.Numbers.{told_number}
+use Rattle.hm_data.specs.declared.args.Args.{Args}
+use Rattle.hm_data.specs.declared.args.Args.TheVariants as args_are
+use Rattle.hm_data.specs.declared.call.Told.TheVariants as told_is
+use Rattle.hm_data.specs.declared.entry.Entry.TheVariants as entry_is
+use Rattle.hm_model.specs.Journal.{Past}
+use Rattle.hm_model.specs.Tree.{Node, node_of}
+
+-- servers of one host and one port
+abbrev pub same_address : Server → Server → Bool
+same_address a b = bytes_eq a.host b.host && (a.port == b.port)
+
+-- one server
+abbrev pub same_server : Server → Server → Bool
+same_server a b = same_address a b && (a.start == b.start)
+
+-- a server beside the first of some in name order, by how they compare, and what the rest of them is with it
+abbrev pub with_server_at : Ordering → Server → Server → List Server → List Server → List Server
+with_server_at Less server first more rest = server ∷ first ∷ more
+with_server_at Equal server first more rest = first ∷ more
+with_server_at Greater server first more rest = first ∷ rest
+
+-- servers in name order, with one more
+abbrev pub with_server : Server → List Server → List Server
+with_server server [] = server ∷ []
+with_server server (first ∷ more) = with_server_at (server_cmp server first) server first more (with_server server more)
+
+-- the servers that ever came up, in name order
+abbrev pub servers_of : Past → List Server
+servers_of [] = []
+servers_of (entry_is.Start sheets ∷ before) = servers_of before
+servers_of (entry_is.Submit nonce request ∷ before) = servers_of before
+servers_of (entry_is.Step pid pick out ∷ before) = servers_of before
+servers_of (entry_is.Undo pid row out ∷ before) = servers_of before
+servers_of (entry_is.Report call told ∷ before) = servers_of before
+servers_of (entry_is.Up server ∷ before) = with_server server (servers_of before)
+servers_of (entry_is.Down server ∷ before) = servers_of before
+servers_of (entry_is.Abort pid ∷ before) = servers_of before
+
+-- a server came up once
+abbrev pub came_up : Past → Server → Bool
+came_up before server = list_any (λ other. same_server server other) (servers_of before)
+
+-- a server is live: it came up, and didn't go down since
+abbrev pub is_live : Past → Server → Bool
+is_live [] server = false
+is_live (entry_is.Start sheets ∷ before) server = is_live before server
+is_live (entry_is.Submit nonce request ∷ before) server = is_live before server
+is_live (entry_is.Step pid pick out ∷ before) server = is_live before server
+is_live (entry_is.Undo pid row out ∷ before) server = is_live before server
+is_live (entry_is.Report call told ∷ before) server = is_live before server
+is_live (entry_is.Up other ∷ before) server = same_server server other || is_live before server
+is_live (entry_is.Down other ∷ before) server = not (same_server server other) && is_live before server
+is_live (entry_is.Abort pid ∷ before) server = is_live before server
+
+-- a procedure is the call to fence a server
+abbrev pub fences_by : Args → Server → Bool
+fences_by (args_are.Root request first) server = false
+fences_by (args_are.Transit region goal to) server = false
+fences_by (args_are.Crash other) server = false
+fences_by (args_are.AddRegions table first bounds) server = false
+fences_by (args_are.DropRegions table ids) server = false
+fences_by (args_are.AssignCall region other) server = false
+fences_by (args_are.CloseCall region other) server = false
+fences_by (args_are.FenceCall other) server = same_server server other
+fences_by (args_are.LayoutCall root) server = false
+fences_by (args_are.SweepLayout root) server = false
+
+-- the same of one by its number, if it is there
+abbrev pub fences_if : Option Node → Server → Bool
+fences_if None server = false
+fences_if (Some node) server = fences_by node.args server
+
+-- a server is fenced: there is a report that it is, of a call to fence it
+abbrev pub is_fenced : Past → Server → Bool
+is_fenced [] server = false
+is_fenced (entry_is.Start sheets ∷ before) server = is_fenced before server
+is_fenced (entry_is.Submit nonce request ∷ before) server = is_fenced before server
+is_fenced (entry_is.Step pid pick out ∷ before) server = is_fenced before server
+is_fenced (entry_is.Undo pid row out ∷ before) server = is_fenced before server
+is_fenced (entry_is.Report call told ∷ before) server =
+    ((told_number told == told_number told_is.Fenced) && fences_if (node_of before call.0) server) || is_fenced before server
+is_fenced (entry_is.Up other ∷ before) server = is_fenced before server
+is_fenced (entry_is.Down other ∷ before) server = is_fenced before server
+is_fenced (entry_is.Abort pid ∷ before) server = is_fenced before server
+
+-- a server went down: it came up, and isn't live
+abbrev pub is_down : Past → Server → Bool
+is_down before server = came_up before server && not (is_live before server)
+
+-- a server is live
+abbrev pub has_live : Past → Bool
+has_live before = list_any (is_live before) (servers_of before)
+
+-- another server than this is live
+abbrev pub has_other_live : Past → Server → Bool
+has_other_live before server = list_any (λ other. is_live before other && not (same_server server other)) (servers_of before)
+
+-- a server of the same address came up with this start code or a greater one
+abbrev pub has_newer : Past → Server → Bool
+has_newer before server =
+    list_any (λ other. same_address server other && not (nat_lt other.start server.start)) (servers_of before)
+
+-- an older one of the same address is live
+abbrev pub has_older_live : Past → Server → Bool
+has_older_live before server =
+    list_any (λ other. same_address server other && (nat_lt other.start server.start && is_live before other)) (servers_of before)

@@ -1,0 +1,98 @@
+-- What the next call of a procedure's handler sees, in full.
+use Rattle.std.specs.Prelude.{ℕ, zero, suc, ◌+◌, List, [], ◌∷◌, ◌++◌, Option, Some, None, Bool, false, ◌==◌, ◌&&◌, ◌||◌, if◌then◌else◌, nat_lt}
+use Rattle.hm_names.specs.Region.{Region}
+use Rattle.hm_names.specs.Server.{Server}
+use Rattle.hm_names.specs.declared.pid.Pid.{Pid}
+use Rattle.hm_data.specs.declared.args.Args.{Args}
+use Rattle.hm_data.specs.declared.call.Told.{Told}
+use Rattle.hm_data.specs.declared.entry.Entry.TheVariants as entry_is
+use Rattle.hm_data.specs.declared.place.Place.{Place}
+use Rattle.hm_data.specs.declared.step.StepIn.{StepIn}
+use Rattle.hm_data.specs.declared.step.Turn.TheVariants as turn_is
+use Rattle.hm_model.specs.Answers.{last_answer, row_of, report_of, is_aborted, done_with}
+use Rattle.hm_model.specs.Fleet.{is_fenced}
+use Rattle.hm_model.specs.Inputs.{rows_read, turn_input, undoes}
+use Rattle.hm_model.specs.Journal.{Past}
+use Rattle.hm_model.specs.Kinds.{kind_of}
+use Rattle.hm_model.specs.Phase.{child_in, end_of}
+use Rattle.hm_model.specs.Places.{place_of, on_server, tries_of}
+use Rattle.hm_model.specs.Records.{pid_of}
+use Rattle.hm_model.specs.Tree.{Node, made, node_of}
+use Rattle.hm_model.specs.Undo.{stack}
+use Rattle.hm_model.specs.Whereabouts.{moved_by, called_by, crashed_in}
+
+-- the place of a region, where there is one
+abbrev pub place_if : Past → Option Region → Option Place
+place_if before None = None
+place_if before (Some region) = Some (place_of before region)
+
+-- a server, where there is one, is fenced
+abbrev pub fenced_if : Past → Option Server → Bool
+fenced_if before None = false
+fenced_if before (Some server) = is_fenced before server
+
+-- the server of a place, where both are there
+abbrev pub server_at : Option Place → Option Server
+server_at None = None
+server_at (Some place) = place.server
+
+-- the server that a procedure has to do with is fenced: that of a transit's place, or the one that is called
+abbrev pub sees_fenced : Past → Args → Bool
+sees_fenced before args = fenced_if before (server_at (place_if before (moved_by args))) || fenced_if before (called_by args)
+
+-- the regions that are to be brought away from a server, where there is one: 64 at most
+abbrev pub regions_on : Past → Option Server → List Region
+regions_on before None = []
+regions_on before (Some server) = on_server before server
+
+-- how many procedures had been made when a procedure made its last step, 0 where it made none
+abbrev pub made_at_step : Past → ℕ → ℕ
+made_at_step [] p = 0
+made_at_step (entry_is.Start sheets ∷ before) p = made_at_step before p
+made_at_step (entry_is.Submit nonce request ∷ before) p = made_at_step before p
+made_at_step (entry_is.Step pid pick out ∷ before) p = if p == pid.0 then made before else made_at_step before p
+made_at_step (entry_is.Undo pid row out ∷ before) p = made_at_step before p
+made_at_step (entry_is.Report call told ∷ before) p = made_at_step before p
+made_at_step (entry_is.Up server ∷ before) p = made_at_step before p
+made_at_step (entry_is.Down server ∷ before) p = made_at_step before p
+made_at_step (entry_is.Abort pid ∷ before) p = made_at_step before p
+
+-- it is a child of p that p's last step made
+abbrev pub is_new_child : Past → ℕ → ℕ → Bool
+is_new_child before p q = nat_lt (made_at_step before p) q && child_in p (node_of before q)
+
+-- what the children of p's last step among the procedures below n ended with, in the order of their numbers
+abbrev pub told_below : Past → ℕ → ℕ → List (Pid × Told)
+told_below before p zero = []
+told_below before p (suc n) =
+    told_below before p n ++ (if is_new_child before p n then end_of n (done_with (last_answer before n)) else [])
+
+-- what the children that a procedure's last step made ended with, where they ended well
+abbrev pub ends_told : Past → ℕ → List (Pid × Told)
+ends_told before p = told_below before p (made before + 1)
+
+-- what a step of a procedure sees
+abbrev pub seen_by_step : Past → ℕ → Node → Option Server → StepIn
+seen_by_step before p node pick = record {
+  pid = pid_of p;
+  root = pid_of node.root;
+  kind = kind_of node.args;
+  row = row_of before p node;
+  args = node.args;
+  tries = tries_of before p;
+  rows = rows_read before node.args;
+  ends = ends_told before p;
+  report = report_of before p;
+  place = place_if before (moved_by node.args);
+  fenced = sees_fenced before node.args;
+  on_server = regions_on before (crashed_in node.args);
+  pick = pick;
+  aborted = is_aborted before p;
+  turn = turn_is.Step;
+}
+
+-- what the next call of a procedure's handler sees: for a failed root whose descendants have ended the latest step that
+-- can be undone, for all others a step of their own
+abbrev pub sight : Past → ℕ → Node → Option Server → StepIn
+sight before p node pick =
+    turn_input before (undoes before p node) (stack before p) (seen_by_step before p node pick)
