@@ -1,4 +1,5 @@
 mod Filled
+mod Fronts
 mod Kept
 pub mod Moments
 pub mod Splice

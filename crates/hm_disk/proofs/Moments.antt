@@ -52,16 +52,6 @@ module _ {D : Type 0} (moment : D → ℕ) (left_since : D → ℕ → List ℕ 
     earlier = λ t c le left. ⊎_elim (so_far.earlier t c le) (λ p. inr (inr p)) (run.before t c (omega (arith, le, so_far.from, so_far.to)) left);
   }
 
-  -- what comes before it leaves what had Q
-  pub then_settles : (old mid new : D) (Q P : List ℕ → Type 0) → LeavesOnly moment left_since old mid Q → Settles moment left_since mid new Q P → Settles moment left_since old new Q P
-  then_settles old mid new Q P run rest = record {
-    at = rest.at;
-    from = omega (arith, run.later, rest.from);
-    to = rest.to;
-    since = rest.since;
-    earlier = λ t c le left. ⊎_elim (λ past. ⊎_elim (λ older. inl older) (λ q. inr (inl q)) (run.before t c le past)) (λ now. inr now) (rest.earlier t c (omega (arith, le, run.later)) left);
-  }
-
   -- what has P has R
   pub settles_weaker : (old new : D) (Q P R : List ℕ → Type 0) → ((c : List ℕ) → P c → R c) → Settles moment left_since old new Q P → Settles moment left_since old new Q R
   settles_weaker old new Q P R so run = record {

@@ -1,4 +1,6 @@
+pub mod Called
 pub mod Chosen
+pub mod Cutting
 pub mod Disk
 pub mod Fields
 pub mod File

@@ -1,6 +1,6 @@
 -- What opening makes of a file that reads as frames.
-use Rattle.std.proofs.Common.{◌≡◌, ℕ, ◌+◌, ◌≤◌, List, [], ◌∷◌, ◌++◌, length, take, refl, sym, ◌∙◌, ap, subst, arith, append_assoc, length-append}
-use Rattle.std.proofs.lemmas.List.{take_at, append-nil}
+use Rattle.std.proofs.Common.{◌≡◌, ℕ, ◌+◌, ◌≤◌, List, [], ◌∷◌, ◌++◌, length, take, sym, ◌∙◌, ap, subst, arith, append_assoc, length-append}
+use Rattle.std.proofs.lemmas.List.{take_at}
 use Rattle.hm_disk.specs.Disk.{Cut}
 use Rattle.hm_disk.proofs.Splice.{cut_end}
 use Rattle.hm_log.specs.Format.{header, spelled, size_with, Reads, ReadsTo, IsWhole}
@@ -42,16 +42,3 @@ module _ (file : List ℕ) (at : ℕ) (frames : List (List ℕ)) (to : ReadsTo f
     place = to.place;
     each = to.each;
   }
-
-  pub whole_if : length file ≤ at + 1 → IsWhole file at frames
-  whole_if short = record {
-    gate = to.gate;
-    shut = to.shut;
-    spelling = split ∙ ap (λ (l : List ℕ). header ++ spelled frames ++ to.gate ∷ [] ++ l) (empty to.free (omega (arith, short, size, ap length split, length-append (header ++ spelled frames ++ to.gate ∷ []) to.free))) ∙ append-nil (header ++ spelled frames ++ to.gate ∷ []);
-    place = to.place;
-    each = to.each;
-  }
-    where
-      empty : (l : List ℕ) → length l ≤ 0 → l ≡ []
-      empty [] le = refl
-      empty (x ∷ l) le = absurd (omega arith)

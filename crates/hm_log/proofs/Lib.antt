@@ -3,6 +3,7 @@ pub mod Ends
 pub mod Judging
 pub mod Listed
 pub mod Opening
+pub mod Further
 pub mod Sizes
 pub mod Spelling
 pub mod Stages

@@ -13,6 +13,10 @@ new_log = 72 ∷ 77 ∷ 65 ∷ 83 ∷ 84 ∷ 69 ∷ 82 ∷ 74 ∷ 1 ∷ 45 ∷ [
 pub new_whole : IsWhole new_log 9 []
 new_whole = record { gate = 45; shut = omega arith; spelling = refl; place = refl; each = λ k d none. absurd (omega arith) }
 
+-- a log that was just made
+pub whole_new : (seen : List ℕ) (frames : List (List ℕ)) (gate : ℕ) → seen ≡ new_log → frames ≡ [] → gate ≡ 9 → IsWhole seen gate frames
+whole_new seen frames gate is none at = subst (λ (f : List ℕ). IsWhole f gate frames) (sym is) (subst (λ (n : ℕ). IsWhole new_log n frames) (sym at) (subst (λ (fs : List (List ℕ)). IsWhole new_log 9 fs) (sym none) new_whole))
+
 pub empty : (l : List ℕ) → length l ≡ 0 → l ≡ []
 empty [] is = refl
 empty (x ∷ l) is = absurd (omega arith)

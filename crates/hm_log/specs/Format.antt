@@ -98,3 +98,16 @@ pub record ReadsTo (bytes : List ℕ) (at : ℕ) (frames : List (List ℕ)) : Ty
   pub spelling : bytes ≡ header ++ spelled frames ++ gate ∷ free
   pub place : at ≡ length (header ++ spelled frames)
   pub each : All IsFrame frames
+
+-- where the frames end: at a closed gate, or at an open one that has no whole frame
+abbrev pub IsEnd : List ℕ → Type 0
+IsEnd [] = ⊥
+IsEnd (gate ∷ rest) = (gate ≢ 43) ⊎ ((gate ≡ 43) × NoFrame rest)
+
+-- a piece begins with open gates that have these frames, which end at this place of it
+pub record BeginsWith (piece : List ℕ) (frames : List (List ℕ)) (place : ℕ) : Type 0 where
+  pub end : List ℕ
+  pub spelling : piece ≡ spelled frames ++ end
+  pub at : place ≡ length (spelled frames)
+  pub each : All IsFrame frames
+  pub is : IsEnd end

@@ -1,4 +1,5 @@
 pub mod Format
 pub mod Opening
+pub mod Pieces
 pub mod Verdict
 pub mod View

@@ -1,6 +1,8 @@
 -- What an opening leaves of the disk that it was handed.
 use Rattle.std.specs.Prelude.{◌≡◌, ◌⊎◌, ℕ, List, [], length}
-use Rattle.hm_disk.specs.Disk.{Torn}
+use Rattle.hm_disk.specs.declared.disk.Disk as Disk
+use Rattle.hm_disk.specs.Called.{IsCalled}
+use Rattle.hm_disk.specs.Disk.{Torn, LeavesOnly}
 use Rattle.hm_log.specs.Format.{Reads}
 
 -- the old is a log, and the new reads as the same frames
@@ -22,3 +24,9 @@ pub record IsUntouched {D : Type 0} (seen : D → List ℕ) (image : D → List 
   pub reads : seen new ≡ seen old
   pub images : (c : List ℕ) → image new c → image old c
   pub count : changes new ≡ changes old
+
+-- the disk was only read: nothing was changed, and a stop leaves what it might have left before
+pub record OnlyReads {D Setting : Type 0} (disk : Disk.Ghosts D Setting) (old new : D) : Type 0 where
+  pub untouched : IsUntouched disk.seen disk.image disk.changes old new
+  pub leaves : LeavesOnly disk.moment disk.left_since old new (disk.image old)
+  pub called : IsCalled disk 0 old new

@@ -3,12 +3,13 @@ use Rattle.std.specs.Prelude.{◌≡◌, ℕ, ◌+◌, ◌^◌, ◌<◌, ◌≤�
 use Rattle.hm_disk.specs.Disk.{Only}
 use Rattle.hm_log.specs.Format.{Reads, IsWhole, frames_of}
 
--- a log: its disk, the frames that it reads as, its size, and whether it is stalled
+-- a log: its disk, the frames that it reads as, its size, whether it is stalled, and the room that was made for appends
 pub record LogView (D : Type 0) : Type 0 where
   pub disk : D
   pub frames : List (List ℕ)
   pub bytes : ℕ
   pub stalled : Bool
+  pub room : ℕ
 
 -- It reads as its frames. While it isn't stalled, the closed gate stands behind them, and all is on the disk.
 pub record IsSound (tells : Type 0) (seen : List ℕ) (image : List ℕ → Type 0) (gate count : ℕ) (stalled : Bool) (room : ℕ) : Type 0 where

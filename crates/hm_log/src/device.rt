@@ -1,6 +1,7 @@
-//! Steps on the disk that end with a sync, and the reading of all its bytes.
+//! Steps on the disk that end with a sync.
 ghost use Rattle.std.specs.Prelude.{◌≡◌, ◌^◌, ◌≤◌, ◌<◌, List, ℕ, length, take, vec_len, IfOk, OnOk, OnErr, IsErrOf};
 ghost use Rattle.hm_ports.specs.Faults.{Rose};
+ghost use Rattle.hm_disk.specs.Called.{IsCalled};
 ghost use Rattle.hm_disk.specs.Disk.{written, Torn, Cut, Only, Rises, LeavesOnly, Settles};
 ghost use Rattle.hm_log.specs.Opening.{IsUntouched};
 ghost use Rattle.hm_log.specs.declared.why.OpenWhy.TheVariants.{Fault, NotALog, BadFrame};
@@ -21,9 +22,8 @@ pub(crate) fn settle<D: Disk>(disk: &mut D, at: u64, bytes: &[u8]) -> Result<(),
     ensures any_moment { LeavesOnly D.moment D.left_since disk.old disk.new
         (λ c. Torn at (length bytes.now) (D.seen disk.old) c) }
     ensures fault { OnErr result (Rose (D.faults disk.old) (D.faults disk.new)) }
-    ensures faults { D.faults disk.old ≤ D.faults disk.new }
     ensures changes { Rises 1 (D.changes disk.old) (D.changes disk.new) }
-    ensures setting { D.setting disk.new ≡ D.setting disk.old }
+    ensures called { IsCalled D.Disk 1 disk.old disk.new }
 {
     disk.write_at(at, bytes)?;
     disk.sync()
@@ -39,47 +39,9 @@ pub(crate) fn trim<D: Disk>(disk: &mut D, size: u64) -> Result<(), Failed>
     ensures any_moment { LeavesOnly D.moment D.left_since disk.old disk.new
         (λ c. Cut size (D.seen disk.old) c) }
     ensures fault { OnErr result (Rose (D.faults disk.old) (D.faults disk.new)) }
-    ensures faults { D.faults disk.old ≤ D.faults disk.new }
     ensures changes { Rises 1 (D.changes disk.old) (D.changes disk.new) }
-    ensures setting { D.setting disk.new ≡ D.setting disk.old }
+    ensures called { IsCalled D.Disk 1 disk.old disk.new }
 {
     disk.cut(size)?;
     disk.sync()
-}
-
-// All the bytes of the disk.
-pub(crate) fn fetch<D: Disk>(alloc: Global, disk: &mut D) -> Result<Vec<u8>, OpenWhy>
-    ensures bytes { D.tells → IfOk result (λ v. v.items ≡ D.seen disk.old) }
-    ensures small { IfOk result (λ v. vec_len v < 2 ^ 63) }
-    ensures untouched { IsUntouched D.seen D.image D.changes disk.old disk.new }
-    ensures any_moment { LeavesOnly D.moment D.left_since disk.old disk.new (D.image disk.old) }
-    ensures fault { IsErrOf result Fault → Rose (D.faults disk.old) (D.faults disk.new) }
-    ensures not_a_log { (place : ℕ) → IsErrOf result (NotALog place) → ⊥ }
-    ensures bad_frame { (place : ℕ) → IsErrOf result (BadFrame place) → ⊥ }
-    ensures faults { D.faults disk.old ≤ D.faults disk.new }
-    ensures setting { D.setting disk.new ≡ D.setting disk.old }
-{
-    let size = disk.size()? as usize;
-    let mut bytes = vec![in alloc; 0; size]?;
-    disk.read_at(0, &mut bytes)?;
-    Ok(bytes)
-}
-
-// Syncs, and reads all the bytes.
-pub(crate) fn load<D: Disk>(alloc: Global, disk: &mut D) -> Result<Vec<u8>, OpenWhy>
-    ensures bytes { D.tells → IfOk result (λ v. v.items ≡ D.seen disk.old) }
-    ensures small { IfOk result (λ v. vec_len v < 2 ^ 63) }
-    ensures untouched { IsUntouched D.seen D.image D.changes disk.old disk.new }
-    ensures only { OnOk result (Only (D.seen disk.new) (D.image disk.new)) }
-    ensures any_moment { LeavesOnly D.moment D.left_since disk.old disk.new (D.image disk.old) }
-    ensures settled { OnOk result (Settles D.moment D.left_since disk.old disk.new
-        (D.image disk.old) (λ c. c ≡ D.seen disk.old)) }
-    ensures fault { IsErrOf result Fault → Rose (D.faults disk.old) (D.faults disk.new) }
-    ensures not_a_log { (place : ℕ) → IsErrOf result (NotALog place) → ⊥ }
-    ensures bad_frame { (place : ℕ) → IsErrOf result (BadFrame place) → ⊥ }
-    ensures faults { D.faults disk.old ≤ D.faults disk.new }
-    ensures setting { D.setting disk.new ≡ D.setting disk.old }
-{
-    disk.sync()?;
-    fetch(alloc, disk)
 }

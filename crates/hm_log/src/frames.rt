@@ -1,7 +1,7 @@
 //! The frames that were read from a log.
-ghost use Rattle.std.specs.Prelude.{◌≡◌, ◌<◌, [], length, map, slice_get};
+ghost use Rattle.std.specs.Prelude.{◌≡◌, ◌<◌, ◌++◌, ◌∷◌, [], length, map, slice_get, OnOk};
 
-use std::alloc::Global;
+use std::alloc::{AllocError, Global};
 use std::marker::Model;
 
 /// The frames of a log, numbered from 0.
@@ -49,9 +49,11 @@ impl Frames {
         }
     }
 
-    pub(crate) fn of(all: Vec<Vec<u8>>) -> Frames
-        ensures { result ≡ map (λ frame. frame.items) all.items }
+    // Adds a frame with these bytes.
+    pub(crate) fn push(&mut self, alloc: Global, frame: &[u8]) -> Result<(), AllocError>
+        ensures { OnOk result (self.new ≡ self.old ++ frame.now ∷ []) }
     {
-        Frames { all }
+        self.all.push(frame.to_vec(alloc)?)?;
+        Ok(())
     }
 }

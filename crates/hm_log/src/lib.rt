@@ -8,9 +8,8 @@ mod frames;
 mod laws;
 mod log;
 mod open;
+mod pieces;
 mod read;
-#[cfg(test)]
-mod tests;
 mod why;
 
 pub use frames::Frames;

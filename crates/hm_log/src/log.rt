@@ -1,16 +1,17 @@
 //! The log itself.
 ghost use Rattle.std.specs.Prelude.{◌≡◌, ◌≢◌, ◌⊎◌, ◌+◌, ◌^◌, ◌≤◌, ◌<◌, ◌++◌, ◌∷◌, [], List, ℕ, length, take, vec_len, vec_capacity, false, true, All, IfOk, IfErr, OnOk, OnErr, MatchResult, IsErrOf};
 ghost use Rattle.hm_ports.specs.Faults.{Rose};
+ghost use Rattle.hm_disk.specs.Called.{IsCalled};
 ghost use Rattle.hm_disk.specs.Disk.{Only, Rises, LeavesOnly, Settles};
 ghost use Rattle.hm_log.specs.Format.{laid, log_of, size_with, IsFrame, IsWhole, Reads, HoldsFrames, BeforeOrAfter, IsNotALog, IsBadFrame};
-ghost use Rattle.hm_log.specs.Opening.{IsMaking, Reopens, IsUntouched};
+ghost use Rattle.hm_log.specs.Opening.{IsMaking, Reopens, IsUntouched, OnlyReads};
 ghost use Rattle.hm_log.specs.declared.why.OpenWhy.TheVariants.{Fault, NotALog, BadFrame, Memory};
 
-use crate::device::{fetch, settle};
-use crate::open::prepare;
-use crate::read::read_frames;
+use crate::device::settle;
+use crate::open::{Ready, prepare};
+use crate::pieces::fetch;
 use crate::{Frames, OpenWhy};
-use hm_disk::Disk;
+use hm_disk::{Anchor, Disk};
 use hm_ports::Failed;
 use std::alloc::Global;
 use std::marker::Model;
@@ -32,7 +33,13 @@ impl<D: Disk> Model for Log<D> {
 
     ghost Value = { LogView D };
 
-    ghost view = { λ a. record { disk = a.disk; frames = frames_of (D.seen a.disk); bytes = a.gate + 1; stalled = a.stalled } };
+    ghost view = { λ a. record {
+      disk = a.disk;
+      frames = frames_of (D.seen a.disk);
+      bytes = a.gate + 1;
+      stalled = a.stalled;
+      room = vec_capacity a.buffer;
+    } };
 
     ghost invariant = { λ a. IsSound D.tells (D.seen a.disk) (D.image a.disk) a.gate a.count a.stalled (vec_capacity a.buffer) };
 }
@@ -73,27 +80,26 @@ impl<D: Disk> Log<D> {
         ensures bad_frame { D.tells → (place : ℕ) →
             IfErr result (λ e. e.1 ≡ BadFrame place → IsBadFrame (D.seen disk) place) }
         ensures fault { IfErr result (λ e. e.1 ≡ Fault → Rose (D.faults disk) (D.faults e.0)) }
+        ensures memory { D.tells → (place : ℕ) →
+            IfErr result (λ e. e.1 ≡ Memory → IsNotALog (D.seen disk) place → ⊥) }
         ensures untouched { IfErr result (λ e. e.1 ≢ Fault → IsUntouched D.seen D.image D.changes disk e.0) }
         ensures left { D.tells →
             IfErr result (λ e. (D.seen e.0 ≡ D.seen disk) ⊎ Reopens (D.seen disk) (D.seen e.0)) }
 
         // The disk's counts and its setting.
-        ensures faults { MatchResult result
-            (λ r. D.faults disk ≤ D.faults r.0.disk)
-            (λ e. D.faults disk ≤ D.faults e.0) }
-        ensures changes { MatchResult result
-            (λ r. (D.changes disk ≤ D.changes r.0.disk) × (D.changes r.0.disk ≤ D.changes disk + 1))
-            (λ e. (D.changes disk ≤ D.changes e.0) × (D.changes e.0 ≤ D.changes disk + 1)) }
-        ensures setting { MatchResult result
-            (λ r. D.setting r.0.disk ≡ D.setting disk)
-            (λ e. D.setting e.0 ≡ D.setting disk) }
+        ensures called { MatchResult result
+            (λ r. IsCalled D.Disk 1 disk r.0.disk)
+            (λ e. IsCalled D.Disk 1 disk e.0) }
     {
         let mut disk = disk;
-        let Ok(buffer) = Vec::with_capacity(alloc, 65_541) else {
-            return Err((disk, OpenWhy::Memory));
-        };
         match prepare(alloc, &mut disk) {
-            Ok((frames, gate)) => {
+            Ok(
+                Ready {
+                    frames,
+                    gate,
+                    buffer,
+                },
+            ) => {
                 let log = Log {
                     disk,
                     gate,
@@ -117,17 +123,11 @@ impl<D: Disk> Log<D> {
         ensures bad_frame { D.tells → (place : ℕ) →
             IsErrOf result (BadFrame place) → IsBadFrame (D.seen disk.old) place }
         ensures fault { IsErrOf result Fault → Rose (D.faults disk.old) (D.faults disk.new) }
-        ensures untouched { IsUntouched D.seen D.image D.changes disk.old disk.new }
-        ensures any_moment { LeavesOnly D.moment D.left_since disk.old disk.new (D.image disk.old) }
-        ensures faults { D.faults disk.old ≤ D.faults disk.new }
-        ensures setting { D.setting disk.new ≡ D.setting disk.old }
+        ensures memory { D.tells → (place : ℕ) →
+            IsErrOf result Memory → IsNotALog (D.seen disk.old) place → ⊥ }
+        ensures only_reads { OnlyReads D.Disk disk.old disk.new }
     {
-        let bytes = fetch(alloc, disk)?;
-        if bytes.is_empty() {
-            return Ok(Frames::none(alloc));
-        }
-        let (frames, _gate) = read_frames(alloc, &bytes)?;
-        Ok(frames)
+        Ok(fetch(alloc, disk)?.frames)
     }
 
     /// Adds a frame, and gives its number. At `Ok` it is on the disk. After an error the log is stalled:
@@ -143,6 +143,9 @@ impl<D: Disk> Log<D> {
         ensures bytes { OnOk result (self.new.bytes ≡ self.old.bytes + length frame.now + 5) }
         ensures live_on { OnOk result (self.new.stalled ≡ false) }
 
+        // It takes no memory.
+        ensures room { self.new.room ≡ self.old.room }
+
         // What the disk reads as, now and behind each stop.
         ensures written { D.tells → OnOk result (D.seen self.new.disk ≡ log_of self.new.frames) }
         ensures on_disk { D.tells → BeforeOrAfter self.old.frames frame.now (D.seen self.new.disk) }
@@ -156,11 +159,8 @@ impl<D: Disk> Log<D> {
         ensures stalled { OnErr result (self.new.stalled ≡ true) }
 
         // The disk's counts and its setting.
-        ensures faults { D.faults self.old.disk ≤ D.faults self.new.disk }
         ensures changes { OnOk result (Rises 2 (D.changes self.old.disk) (D.changes self.new.disk)) }
-        ensures fewer { (D.changes self.old.disk ≤ D.changes self.new.disk)
-            × (D.changes self.new.disk ≤ D.changes self.old.disk + 2) }
-        ensures setting { D.setting self.new.disk ≡ D.setting self.old.disk }
+        ensures called { IsCalled D.Disk 2 self.old.disk self.new.disk }
     {
         lay(&mut self.buffer, frame);
         self.stalled = true;
@@ -184,6 +184,13 @@ impl<D: Disk> Log<D> {
         ensures { result ≡ self.now.stalled }
     {
         self.stalled
+    }
+
+    /// Its disk as it is now, for proofs alone.
+    pub fn anchor(&self) -> Anchor<D>
+        ensures { result.disk ≡ self.now.disk }
+    {
+        Anchor::at(&self.disk)
     }
 
     /// Gives the disk back, which reads as the log's frames.
@@ -219,11 +226,8 @@ fn add<D: Disk>(disk: &mut D, gate: u64, bytes: &[u8]) -> Result<(), Failed>
         IsWhole (D.seen disk.old) gate frames → IsFrame frame → bytes.now ≡ laid frame ++ 45 ∷ [] →
         LeavesOnly D.moment D.left_since disk.old disk.new (BeforeOrAfter frames frame) }
     ensures fault { OnErr result (Rose (D.faults disk.old) (D.faults disk.new)) }
-    ensures faults { D.faults disk.old ≤ D.faults disk.new }
     ensures changes { OnOk result (Rises 2 (D.changes disk.old) (D.changes disk.new)) }
-    ensures fewer { (D.changes disk.old ≤ D.changes disk.new)
-        × (D.changes disk.new ≤ D.changes disk.old + 2) }
-    ensures setting { D.setting disk.new ≡ D.setting disk.old }
+    ensures called { IsCalled D.Disk 2 disk.old disk.new }
 {
     settle(disk, gate + 1, bytes)?;
     settle(disk, gate, b"+")
@@ -233,7 +237,7 @@ fn add<D: Disk>(disk: &mut D, gate: u64, bytes: &[u8]) -> Result<(), Failed>
 fn lay(buffer: &mut Vec<u8>, frame: &[u8])
     requires size { IsFrame frame.now }
     requires room { 65541 ≤ vec_capacity buffer.old }
-    ensures capacity { vec_capacity buffer.old ≤ vec_capacity buffer.new }
+    ensures capacity { vec_capacity buffer.new ≡ vec_capacity buffer.old }
     ensures laid { buffer.new.items ≡ laid frame.now ++ 45 ∷ [] }
 {
     buffer.clear();
@@ -242,13 +246,13 @@ fn lay(buffer: &mut Vec<u8>, frame: &[u8])
     put(buffer, b"-");
 }
 
-// Appends within the spare room.
+// Appends within the spare room, and takes no memory.
 fn put(out: &mut Vec<u8>, bytes: &[u8])
     requires { vec_len out.old + length bytes.now ≤ vec_capacity out.old }
-    ensures capacity { vec_capacity out.old ≤ vec_capacity out.new }
+    ensures capacity { vec_capacity out.new ≡ vec_capacity out.old }
     ensures items { out.new.items ≡ out.old.items ++ bytes.now }
 {
-    if out.extend_from_slice(bytes).is_err() {
-        unreachable!()
+    for byte in bytes {
+        out.push_reserved(*byte);
     }
 }

@@ -1,13 +1,14 @@
 //! The steps of an opening on its disk.
-ghost use Rattle.std.specs.Prelude.{◌≡◌, ◌≢◌, ◌⊎◌, ◌+◌, ◌^◌, ◌≤◌, ◌<◌, List, ℕ, [], length, take, All, IfOk, IfErr, OnOk, OnErr, IsErrOf};
+ghost use Rattle.std.specs.Prelude.{◌≡◌, ◌≢◌, ◌⊎◌, ◌+◌, ◌^◌, ◌≤◌, ◌<◌, List, ℕ, [], length, take, vec_capacity, All, IfOk, IfErr, OnOk, OnErr, IsErrOf};
 ghost use Rattle.hm_ports.specs.Faults.{Rose};
+ghost use Rattle.hm_disk.specs.Called.{IsCalled};
 ghost use Rattle.hm_disk.specs.Disk.{Only, LeavesOnly, Settles};
 ghost use Rattle.hm_log.specs.Format.{log_of, size_with, IsFrame, Reads, HoldsFrames, IsWhole, IsNotALog, IsBadFrame};
 ghost use Rattle.hm_log.specs.Opening.{IsMaking, Reopens, IsUntouched};
-ghost use Rattle.hm_log.specs.declared.why.OpenWhy.TheVariants.{Fault, NotALog, BadFrame};
+ghost use Rattle.hm_log.specs.declared.why.OpenWhy.TheVariants.{Fault, NotALog, BadFrame, Memory};
 
-use crate::device::{load, settle, trim};
-use crate::read::read_frames;
+use crate::device::{settle, trim};
+use crate::pieces::{Found, load};
 use crate::{Frames, OpenWhy};
 use hm_disk::Disk;
 use std::alloc::Global;
@@ -15,20 +16,29 @@ use std::alloc::Global;
 // The nine bytes and a closed gate.
 const NEW: [u8; 10] = [72, 77, 65, 83, 84, 69, 82, 74, 1, 45];
 
+// The frames, the place of the closed gate behind them, and room for appends.
+#[derive(Drop)]
+pub(crate) struct Ready {
+    pub(crate) frames: Frames,
+    pub(crate) gate: u64,
+    pub(crate) buffer: Vec<u8>,
+}
+
 // Reads the frames and the place of the gate behind them, and cuts what stands behind it. A disk of size
 // 0 becomes a new log.
-pub(crate) fn prepare<D: Disk>(alloc: Global, disk: &mut D) -> Result<(Frames, u64), OpenWhy>
-    ensures whole { D.tells → IfOk result (λ r. IsWhole (D.seen disk.new) r.1 r.0) }
+pub(crate) fn prepare<D: Disk>(alloc: Global, disk: &mut D) -> Result<Ready, OpenWhy>
+    ensures whole { D.tells → IfOk result (λ r. IsWhole (D.seen disk.new) r.gate r.frames) }
     ensures made { D.tells → length (D.seen disk.old) ≡ 0 → OnOk result (D.seen disk.new ≡ log_of []) }
     ensures cut { D.tells → 1 ≤ length (D.seen disk.old) →
-        IfOk result (λ r. D.seen disk.new ≡ take (r.1 + 1) (D.seen disk.old)) }
-    ensures frames { D.tells → IfOk result (λ r. HoldsFrames (D.seen disk.old) r.0) }
-    ensures each { IfOk result (λ r. All IsFrame r.0) }
-    ensures size { IfOk result (λ r. r.1 + 1 ≡ size_with r.0) }
-    ensures small { IfOk result (λ r. (r.1 + 1 < 2 ^ 63) × (length r.0 ≤ r.1)) }
+        IfOk result (λ r. D.seen disk.new ≡ take (r.gate + 1) (D.seen disk.old)) }
+    ensures frames { D.tells → IfOk result (λ r. HoldsFrames (D.seen disk.old) r.frames) }
+    ensures each { IfOk result (λ r. All IsFrame r.frames) }
+    ensures size { IfOk result (λ r. r.gate + 1 ≡ size_with r.frames) }
+    ensures small { IfOk result (λ r. (r.gate + 1 < 2 ^ 63) × (length r.frames ≤ r.gate)) }
+    ensures buffer { IfOk result (λ r. 65541 ≤ vec_capacity r.buffer) }
     ensures durable { OnOk result (Only (D.seen disk.new) (D.image disk.new)) }
     ensures settled { D.tells → IfOk result (λ r. Settles D.moment D.left_since disk.old disk.new
-        (λ c. D.image disk.old c ⊎ IsMaking (D.seen disk.old) c) (λ c. Reads c r.0)) }
+        (λ c. D.image disk.old c ⊎ IsMaking (D.seen disk.old) c) (λ c. Reads c r.frames)) }
     ensures any_moment { D.tells → OnErr result (LeavesOnly D.moment D.left_since disk.old disk.new
         (λ c. D.image disk.old c ⊎ Reopens (D.seen disk.old) c)) }
     ensures left { D.tells →
@@ -40,20 +50,24 @@ pub(crate) fn prepare<D: Disk>(alloc: Global, disk: &mut D) -> Result<(Frames, u
     ensures bad_frame { D.tells → (place : ℕ) →
         IsErrOf result (BadFrame place) → IsBadFrame (D.seen disk.old) place }
     ensures fault { IsErrOf result Fault → Rose (D.faults disk.old) (D.faults disk.new) }
-    ensures faults { D.faults disk.old ≤ D.faults disk.new }
-    ensures changes { (D.changes disk.old ≤ D.changes disk.new)
-        × (D.changes disk.new ≤ D.changes disk.old + 1) }
-    ensures setting { D.setting disk.new ≡ D.setting disk.old }
+    ensures memory { D.tells → (place : ℕ) →
+        IsErrOf result Memory → IsNotALog (D.seen disk.old) place → ⊥ }
+    ensures called { IsCalled D.Disk 1 disk.old disk.new }
 {
-    let bytes = load(alloc, disk)?;
-    if bytes.is_empty() {
+    let Found { frames, gate, size } = load(alloc, disk)?;
+    let buffer = Vec::with_capacity(alloc, 65_541)?;
+    let ready = Ready {
+        frames,
+        gate,
+        buffer,
+    };
+    if size == 0 {
         settle(disk, 0, &NEW)?;
-        return Ok((Frames::none(alloc), 9));
+        return Ok(ready);
     }
-    let (frames, gate) = read_frames(alloc, &bytes)?;
-    if bytes.len() as u64 == gate + 1 {
-        return Ok((frames, gate));
+    if size == gate + 1 {
+        return Ok(ready);
     }
     trim(disk, gate + 1)?;
-    Ok((frames, gate))
+    Ok(ready)
 }

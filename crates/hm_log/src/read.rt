@@ -1,10 +1,9 @@
 //! Bytes read as frames.
-ghost use Rattle.std.specs.Prelude.{◌≡◌, ◌+◌, ◌≤◌, ◌++◌, ℕ, length, take, All, IfSome, IfNone, IfOk, IsErrOf};
-ghost use Rattle.hm_log.specs.Format.{header, laid, size_with, IsFrame, NoFrame, ReadsTo, IsBadFrame, IsNotALog};
-ghost use Rattle.hm_log.specs.declared.why.OpenWhy.TheVariants.{Fault, NotALog, BadFrame};
+ghost use Rattle.std.specs.Prelude.{◌≡◌, ◌≤◌, ◌++◌, List, ℕ, length, take, IfSome, IfNone, IfOk};
+ghost use Rattle.hm_log.specs.Format.{header, laid, IsFrame, NoFrame, BeginsWith, IsNotALog};
 
-use crate::{Frames, OpenWhy};
-use std::alloc::Global;
+use crate::Frames;
+use std::alloc::{AllocError, Global};
 
 const HEADER: [u8; 9] = [72, 77, 65, 83, 84, 69, 82, 74, 1];
 
@@ -26,7 +25,7 @@ fn split_frame(rest: &[u8]) -> Option<(&[u8], &[u8])>
 }
 
 // The place that shows that it is no log.
-fn not_a_log(bytes: &[u8]) -> Option<u64>
+pub(crate) fn not_a_log(bytes: &[u8]) -> Option<u64>
     requires { 1 ≤ length bytes.now }
     ensures some { IfSome result (λ place. IsNotALog bytes.now place) }
     ensures none { IfNone result ((10 ≤ length bytes.now) × (take 9 bytes.now ≡ header)) }
@@ -42,29 +41,24 @@ fn not_a_log(bytes: &[u8]) -> Option<u64>
     None
 }
 
-// The frames, and the place of the closed gate behind them.
-pub(crate) fn read_frames(alloc: Global, bytes: &[u8]) -> Result<(Frames, u64), OpenWhy>
+// Adds the frames that stand whole in these bytes, from a gate on, and gives the place of the gate behind
+// them: it is closed, or has no whole frame here.
+pub(crate) fn take_frames(
+    alloc: Global,
+    bytes: &[u8],
+    frames: &mut Frames,
+) -> Result<usize, AllocError>
     requires { 1 ≤ length bytes.now }
-    ensures frames { IfOk result (λ r. ReadsTo bytes.now r.1 r.0) }
-    ensures each { IfOk result (λ r. All IsFrame r.0) }
-    ensures size { IfOk result (λ r. r.1 + 1 ≡ size_with r.0) }
-    ensures within { IfOk result (λ r. (r.1 + 1 ≤ length bytes.now) × (length r.0 ≤ r.1)) }
-    ensures not_a_log { (place : ℕ) → IsErrOf result (NotALog place) → IsNotALog bytes.now place }
-    ensures bad_frame { (place : ℕ) → IsErrOf result (BadFrame place) → IsBadFrame bytes.now place }
-    ensures fault { IsErrOf result Fault → ⊥ }
+    ensures { IfOk result (λ place. (more : List (List ℕ))
+        × (frames.new ≡ frames.old ++ more) × BeginsWith bytes.now more place) }
 {
-    if let Some(place) = not_a_log(bytes) {
-        return Err(OpenWhy::NotALog(place));
-    }
-    let mut all = Vec::new(alloc);
-    let mut rest = &bytes[9..];
+    let mut rest = bytes;
     while rest[0] == b'+' {
         let Some((frame, next)) = split_frame(&rest[1..]) else {
-            return Err(OpenWhy::BadFrame((bytes.len() - rest.len()) as u64));
+            return Ok(bytes.len() - rest.len());
         };
-        all.push(frame.to_vec(alloc)?)?;
+        frames.push(alloc, frame)?;
         rest = next;
     }
-    let gate = (bytes.len() - rest.len()) as u64;
-    Ok((Frames::of(all), gate))
+    Ok(bytes.len() - rest.len())
 }

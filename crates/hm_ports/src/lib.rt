@@ -8,8 +8,6 @@ mod sink;
 mod source;
 mod std_ends;
 mod sure;
-#[cfg(test)]
-mod tests;
 
 pub use counts::{Failed, next_call_fails, raise};
 pub use mem_sink::MemSink;

@@ -1,0 +1,9 @@
+//! Sources and sinks, disks and logs, in tables. This library is empty but for its tests.
+#![tactic(auto)]
+
+#[cfg(test)]
+mod disks;
+#[cfg(test)]
+mod logs;
+#[cfg(test)]
+mod ports;
