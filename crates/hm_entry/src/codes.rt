@@ -39,7 +39,7 @@ pub(crate) fn act(r: &mut Reader) -> Result<Act, EntryFault>
 }
 
 #[tactic(auto, unfolding(crate::specs::Reading::back_at))]
-pub(crate) fn back(r: &mut Reader) -> Result<Back, EntryFault>
+pub(crate) fn undo(r: &mut Reader) -> Result<Back, EntryFault>
     ensures { Gives result (back_at r.old) r.new }
 {
     let at = r.at();

@@ -22,6 +22,3 @@ mod steps;
 pub use decoding::decode;
 pub use encoding::{encode_into, length};
 pub use fault::EntryFault;
-
-#[cfg(test)]
-mod tests;

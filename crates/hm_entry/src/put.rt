@@ -1,4 +1,4 @@
-ghost use Rattle.std.specs.Prelude.{◌≡◌, ℕ, ◌+◌, ◌-◌, ◌^◌, ◌≤◌, ◌<◌, List, length, min, IfSome, All};
+ghost use Rattle.std.specs.Prelude.{◌≡◌, ℕ, ◌-◌, ◌^◌, ◌≤◌, ◌<◌, List, length, min, IfSome, All};
 ghost use Rattle.std.specs.List.{flat_map};
 ghost use Rattle.hm_names.specs.Keys.{IsByteString};
 ghost use Rattle.hm_names.specs.Names.{IsNs};

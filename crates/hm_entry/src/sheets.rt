@@ -1,6 +1,6 @@
-ghost use Rattle.hm_entry.specs.Reading.{Gives, row_at, sheet_at};
+ghost use Rattle.hm_entry.specs.Reading.{row_at, sheet_at};
 
-use crate::codes::{act, back};
+use crate::codes::{act, undo};
 use crate::fault::EntryFault;
 use crate::fields::{byte, flag};
 use crate::get::{Get, list};
@@ -16,7 +16,7 @@ impl Get for Row {
         let act = act(r)?;
         let next = byte(r)?;
         let after = flag(r)?;
-        let undo = back(r)?;
+        let undo = undo(r)?;
         Ok(Row {
             act,
             next,

@@ -1,4 +1,3 @@
-ghost use Rattle.std.specs.Prelude.{Result};
 ghost use Rattle.hm_entry.specs.Reading.{Gives, args_of, child_of, child_at, verb_of, verb_at, place_at, undone_of, coded, answer_of, answer_at, out_at};
 
 use crate::codes::{cause, goal, region_state, told};

@@ -19,7 +19,7 @@ halted_first old entry (Err (fault_is.JournalFull bytes)) new why is halted = ab
 halted_first old entry (Err fault_is.LogFault) new why is halted = absurd (none-some why (sym is.0 ∙ halted))
 
 -- where it wasn't, an entry that passes the hard mark isn't recorded
-pub full_next : (old : Recording) (entry : Entry) (answer : Result ℕ RecordFault) (new : Recording) → Records old entry answer new → old.halted ≡ None → Passes old entry
+pub full_next : (old : Recording) (entry : Entry) (answer : Result ℕ RecordFault) (new : Recording) → Records old entry answer new → old.halted ≡ None → Passes old.hard old.entries entry
     → answer ≡ Err (fault_is.JournalFull (bytes_of old.entries))
 full_next old entry (Ok number) new is going passes = absurd (is.1 passes)
 full_next old entry (Err (fault_is.Halted why)) new is going passes = absurd (none-some why (sym going ∙ is.0))
@@ -27,7 +27,7 @@ full_next old entry (Err (fault_is.JournalFull bytes)) new is going passes = ap 
 full_next old entry (Err fault_is.LogFault) new is going passes = absurd (is.1 passes)
 
 -- else it is, or the log failed
-pub recorded_else : (old : Recording) (entry : Entry) (answer : Result ℕ RecordFault) (new : Recording) → Records old entry answer new → old.halted ≡ None → (Passes old entry → ⊥)
+pub recorded_else : (old : Recording) (entry : Entry) (answer : Result ℕ RecordFault) (new : Recording) → Records old entry answer new → old.halted ≡ None → (Passes old.hard old.entries entry → ⊥)
     → (answer ≡ Ok (length old.entries)) ⊎ (answer ≡ Err fault_is.LogFault)
 recorded_else old entry (Ok number) new is going within = inl (ap (λ (n : ℕ). Ok n) is.2)
 recorded_else old entry (Err (fault_is.Halted why)) new is going within = absurd (none-some why (sym going ∙ is.0))

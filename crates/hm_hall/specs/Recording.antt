@@ -34,9 +34,13 @@ with_next kept entry = record kept { next = Some entry }
 abbrev pub bytes_of : List Entry → ℕ
 bytes_of entries = 10 + sum_by (λ entry. length (spelling entry) + 5) entries
 
--- the entry would pass the hard mark
-abbrev pub Passes : Recording → Entry → Type 0
-Passes kept entry = kept.hard < bytes_of kept.entries + length (spelling entry) + 5
+-- behind these entries this one would pass the hard mark
+abbrev pub Passes : ℕ → List Entry → Entry → Type 0
+Passes hard entries entry = hard < bytes_of entries + length (spelling entry) + 5
+
+-- the recorder isn't halted, and the entry doesn't pass the hard mark
+abbrev pub Accepts : Recording → Entry → Type 0
+Accepts kept entry = (kept.halted ≡ None) × (Passes kept.hard kept.entries entry → ⊥)
 
 -- the bytes, where they have reached the soft mark
 abbrev pub full_at : Recording → Option ℕ
@@ -51,9 +55,9 @@ pub record CanBeRecorded (entry : Entry) : Type 0 where
 -- entry passes the hard mark; what is left is a fault of the log.
 abbrev pub Records : Recording → Entry → Result ℕ RecordFault → Recording → Type 0
 Records old entry (Ok number) new =
-    (old.halted ≡ None) × (Passes old entry → ⊥) × (number ≡ length old.entries) × (new ≡ record old { entries = old.entries ++ entry ∷ []; next = None })
+    (old.halted ≡ None) × (Passes old.hard old.entries entry → ⊥) × (number ≡ length old.entries) × (new ≡ record old { entries = old.entries ++ entry ∷ []; next = None })
 Records old entry (Err (fault_is.Halted why)) new = (old.halted ≡ Some why) × (new ≡ old)
 Records old entry (Err (fault_is.JournalFull bytes)) new =
-    (old.halted ≡ None) × Passes old entry × (bytes ≡ bytes_of old.entries) × (new ≡ record old { next = None; halted = Some (halt_is.JournalFull bytes) })
+    (old.halted ≡ None) × Passes old.hard old.entries entry × (bytes ≡ bytes_of old.entries) × (new ≡ record old { next = None; halted = Some (halt_is.JournalFull bytes) })
 Records old entry (Err fault_is.LogFault) new =
-    (old.halted ≡ None) × (Passes old entry → ⊥) × (new ≡ record old { next = None; tail = Some entry; halted = Some halt_is.LogFault })
+    (old.halted ≡ None) × (Passes old.hard old.entries entry → ⊥) × (new ≡ record old { next = None; tail = Some entry; halted = Some halt_is.LogFault })

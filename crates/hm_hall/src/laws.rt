@@ -13,8 +13,8 @@ pub fn recording_is_decided()
     ensures halted { (old : Recording) (entry : Entry) (answer : Result ℕ FaultValue) (new : Recording) (why : Halt) →
         Records old entry answer new → old.halted ≡ Some why → answer ≡ Err (fault_is.Halted why) }
     ensures full { (old : Recording) (entry : Entry) (answer : Result ℕ FaultValue) (new : Recording) →
-        Records old entry answer new → old.halted ≡ None → Passes old entry → answer ≡ Err (fault_is.JournalFull (bytes_of old.entries)) }
+        Records old entry answer new → old.halted ≡ None → Passes old.hard old.entries entry → answer ≡ Err (fault_is.JournalFull (bytes_of old.entries)) }
     ensures recorded { (old : Recording) (entry : Entry) (answer : Result ℕ FaultValue) (new : Recording) →
-        Records old entry answer new → old.halted ≡ None → (Passes old entry → ⊥) →
+        Records old entry answer new → old.halted ≡ None → (Passes old.hard old.entries entry → ⊥) →
         (answer ≡ Ok (length old.entries)) ⊎ (answer ≡ Err fault_is.LogFault) }
 {}

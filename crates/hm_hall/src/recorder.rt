@@ -1,37 +1,51 @@
 //! The trait of what records entries.
-ghost use Rattle.std.specs.Prelude.{◌≡◌, ◌≢◌, ◌≤◌, ℕ, MatchResult, IsErrOf, Some, None};
+ghost use Rattle.std.specs.Prelude.{◌≡◌, ◌≢◌, ◌≤◌, ℕ, MatchResult, OnErr, IsErrOf, Some, None};
 ghost use Rattle.hm_ports.specs.Faults.{Rose};
 ghost use Rattle.hm_data.specs.declared.entry.Entry.{Entry as EntryValue};
-ghost use Rattle.hm_hall.specs.Recording.{Recording, CanBeRecorded, Records, full_at, next_of, with_next, halt_of};
+ghost use Rattle.hm_hall.specs.Recording.{Recording, CanBeRecorded, Accepts, Records, full_at, next_of, with_next, halt_of};
 
 use crate::fault::{Halt, RecordFault};
 use hm_data::Entry;
 use std::alloc::{AllocError, Global};
 
 /// Records entries, one after another, and keeps them. An entry is made ready first, which takes what memory it needs;
-/// recording it takes none.
+/// recording it takes none. How it began tells what a stop leaves, and what was changed: each recorder says how.
 pub trait Recorder {
+    /// What it keeps of its beginning.
+    type Opened;
+
     // What was recorded, and what halted it.
     ghost kept: { Self → Recording };
 
     // How often what it records on failed.
     ghost faults: { Self → ℕ };
 
-    /// Makes an entry ready to be recorded, in place of one that was.
+    // How it began, which no call of this trait changes.
+    ghost opened: { Self → Self.Opened };
+
+    // How many entries fit in the memory that it has.
+    ghost room: { Self → ℕ };
+
+    /// Makes an entry ready to be recorded, in place of one that was. Memory runs out only for an entry that would be
+    /// recorded.
     fn ready(&mut self, alloc: Global, entry: &Entry) -> Result<(), AllocError>
         requires { CanBeRecorded entry.now }
         ensures kept { MatchResult result
             (λ _. kept self.new ≡ with_next (kept self.old) entry.now)
             (λ _. kept self.new ≡ kept self.old) }
-        ensures faults { faults self.new ≡ faults self.old };
+        ensures last { OnErr result (Accepts (kept self.old) entry.now) }
+        ensures faults { faults self.new ≡ faults self.old }
+        ensures opened { opened self.new ≡ opened self.old };
 
-    /// Records the entry that is ready, and gives its number.
+    /// Records the entry that is ready, and gives its number. It takes no memory.
     fn record_entry(&mut self) -> Result<u64, RecordFault>
         requires { next_of (kept self.old) ≢ None }
         ensures records { (entry : EntryValue) → next_of (kept self.old) ≡ Some entry →
             Records (kept self.old) entry result (kept self.new) }
         ensures fault { IsErrOf result RecordFault.LogFault → Rose (faults self.old) (faults self.new) }
-        ensures later { faults self.old ≤ faults self.new };
+        ensures later { faults self.old ≤ faults self.new }
+        ensures opened { opened self.new ≡ opened self.old }
+        ensures room { room self.new ≡ room self.old };
 
     /// The bytes of the journal, where they have reached the soft mark.
     fn soft_full(&self) -> Option<u64>

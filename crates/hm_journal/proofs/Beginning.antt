@@ -1,9 +1,10 @@
 -- What recording the first entry does.
-use Rattle.std.proofs.Common.{◌≡◌, ℕ, ◌≤◌, List, [], ◌∷◌, ◌++◌, length, None, Ok, Err, refl, ap, ◌∙◌, sym, arith}
+use Rattle.std.proofs.Common.{◌≡◌, ℕ, ◌≤◌, List, [], ◌∷◌, ◌++◌, length, None, Ok, Err, refl, ap, ◌∙◌, sym, subst, inr, arith}
 use Rattle.std.proofs.lemmas.Option.{none-some}
 use Rattle.hm_data.specs.declared.entry.Entry.{Entry}
 use Rattle.hm_entry.specs.Spelling.{entry as spelling}
 use Rattle.hm_hall.specs.Recording.{Recording, Records, bytes_of, with_next}
+use Rattle.hm_journal.specs.Since.{IsUnbegun}
 use Rattle.hm_hall.specs.declared.fault.RecordFault.{RecordFault}
 use Rattle.hm_hall.specs.declared.fault.RecordFault.TheVariants as fault_is
 
@@ -24,3 +25,10 @@ only_fault before old new entry (fault_is.JournalFull bytes) ready empty going h
     let size : bytes_of old.entries ≡ 10 = ap (λ (kept : Recording). bytes_of kept.entries) ready ∙ ap bytes_of empty in
     absurd (omega (arith, records.1, marks, size))
 only_fault before old new entry fault_is.LogFault ready empty going hard short records = refl
+
+-- where the log failed at it nothing is recorded
+pub first_failed : (before old new : Recording) (entry : Entry) (why : RecordFault) → old ≡ with_next before entry → before.entries ≡ [] → why ≡ fault_is.LogFault
+    → Records old entry (Err why) new → IsUnbegun entry new
+first_failed before old new entry why ready empty is records =
+    let fault : Records old entry (Err fault_is.LogFault) new = subst (λ (w : RecordFault). Records old entry (Err w) new) is records in
+    (ap (λ (kept : Recording). kept.entries) fault.2 ∙ ap (λ (kept : Recording). kept.entries) ready ∙ empty, inr (ap (λ (kept : Recording). kept.tail) fault.2))

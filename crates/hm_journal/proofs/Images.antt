@@ -1,25 +1,27 @@
 -- What the images of a disk hold that is opened.
 use Rattle.std.proofs.Common.{◌≡◌, ◌⊎◌, ℕ, ◌≤◌, List, [], ◌∷◌, length, refl, ap, ◌∙◌, sym, subst, inl, inr, ⊎_elim, arith, Result, Ok, Err}
-use Rattle.std.specs.Prelude.{IfErr, IfOk, MatchResult}
+use Rattle.std.specs.Prelude.{IfErr, IfOk}
 use Rattle.hm_disk.specs.Disk.{LeavesOnly, Settles}
-use Rattle.hm_disk.proofs.Moments.{started}
+use Rattle.hm_disk.specs.declared.disk.Disk as Disk
+use Rattle.hm_disk.proofs.Moments.{started, weaker}
 use Rattle.hm_log.specs.Format.{Reads, BeforeOrAfter, HoldsFrames}
 use Rattle.hm_log.specs.Opening.{IsMaking, Reopens}
 use Rattle.hm_data.specs.declared.entry.Entry.{Entry}
 use Rattle.hm_data.specs.declared.entry.Entry.TheVariants as entry_is
 use Rattle.hm_data.specs.declared.sheet.Sheet.{Sheet}
 use Rattle.hm_entry.specs.Spelling.{entry as spelling}
-use Rattle.hm_journal.specs.Stored.{frames_of, Keeps, GetsFirst, IsOpening}
+use Rattle.hm_journal.specs.Since.{Began}
+use Rattle.hm_journal.specs.Stored.{frames_of, HoldsJournal, GetsFirst, IsOpening}
 
--- two facts of what an opening gives, one of them where the disk tells its content
-pub ok_both : {T E : Type 0} (r : Result T E) (tells : Type 0) (P Q R : T → Type 0) (S : E → Type 0) → ((x : T) → P x → (tells → Q x) → R x) → IfOk r P → (tells → MatchResult r Q S) → IfOk r R
-ok_both (Ok x) tells P Q R S so p q = so x p q
-ok_both (Err y) tells P Q R S so p q = tt
+-- two facts of what an opening gives
+pub ok_both : {T E : Type 0} (r : Result T E) (P Q R : T → Type 0) → ((x : T) → P x → Q x → R x) → IfOk r P → IfOk r Q → IfOk r R
+ok_both (Ok x) P Q R so p q = so x p q
+ok_both (Err y) P Q R so p q = tt
 
 -- two facts of an error
-pub err_both : {T E : Type 0} (r : Result T E) (P Q R : E → Type 0) (S : T → Type 0) → ((y : E) → P y → Q y → R y) → IfErr r P → MatchResult r S Q → IfErr r R
-err_both (Ok x) P Q R S so p q = tt
-err_both (Err y) P Q R S so p q = so y p q
+pub err_both : {T E : Type 0} (r : Result T E) (P Q R : E → Type 0) → ((y : E) → P y → Q y → R y) → IfErr r P → IfErr r Q → IfErr r R
+err_both (Ok x) P Q R so p q = tt
+err_both (Err y) P Q R so p q = so y p q
 
 module _ {D : Type 0} (moment : D → ℕ) (left_since : D → ℕ → List ℕ → Type 0) (image : D → List ℕ → Type 0) (counts : (d : D) (t : ℕ) (c : List ℕ) → t ≤ moment d → image d c → left_since d t c) where
   -- what a stop at any moment leaves, a stop now leaves
@@ -40,9 +42,16 @@ module _ {D : Type 0} (moment : D → ℕ) (left_since : D → ℕ → List ℕ 
   }
 
 -- a journal without entries may have got its first
-pub keeps_first : (sheets : List Sheet) (journal : List Entry) → length journal ≤ 0 → (bytes : List ℕ) → BeforeOrAfter [] (spelling (entry_is.Start sheets)) bytes → Keeps sheets journal bytes
+pub keeps_first : (sheets : List Sheet) (journal : List Entry) → length journal ≤ 0 → (bytes : List ℕ) → BeforeOrAfter [] (spelling (entry_is.Start sheets)) bytes → HoldsJournal sheets journal bytes
 keeps_first sheets [] none bytes either = either
 keeps_first sheets (entry ∷ journal) none bytes either = absurd (omega arith)
+
+-- the same of each moment
+pub began_keeps : {D Setting : Type 0} (d : Disk.Ghosts D Setting) (sheets : List Sheet) (journal : List Entry) (old new : D) → journal ≡ [] → Began d (entry_is.Start sheets) old new
+    → d.tells → LeavesOnly d.moment d.left_since old new (HoldsJournal sheets journal)
+began_keeps d sheets journal old new none began told =
+    let empty = ap length none in
+    weaker d.moment d.left_since old new (BeforeOrAfter [] (spelling (entry_is.Start sheets))) (HoldsJournal sheets journal) (keeps_first sheets journal (omega (arith, empty))) (began.leaves told)
 
 -- where there are no frames there are no entries
 pub no_entries : (journal : List Entry) → frames_of journal ≡ [] → journal ≡ []
@@ -51,17 +60,17 @@ no_entries (entry ∷ journal) none = absurd (cc)
 
 -- what keeps a journal without entries keeps each of its frames
 pub keeps_none : (sheets : List Sheet) (kept journal : List Entry) (frames : List (List ℕ)) (bytes : List ℕ) → kept ≡ [] → frames_of kept ≡ frames → frames_of journal ≡ frames
-    → Keeps sheets kept bytes → Keeps sheets journal bytes
+    → HoldsJournal sheets kept bytes → HoldsJournal sheets journal bytes
 keeps_none sheets kept journal frames bytes none are journal_are keeps =
     let same : kept ≡ journal = none ∙ sym (no_entries journal (journal_are ∙ sym are ∙ ap frames_of none)) in
-    subst (λ (j : List Entry). Keeps sheets j bytes) same keeps
+    subst (λ (j : List Entry). HoldsJournal sheets j bytes) same keeps
 
 -- the same, of the frames
-pub gets_first : (sheets : List Sheet) (kept : List Entry) (frames : List (List ℕ)) (bytes : List ℕ) → kept ≡ [] → frames_of kept ≡ frames → Keeps sheets kept bytes
+pub gets_first : (sheets : List Sheet) (kept : List Entry) (frames : List (List ℕ)) (bytes : List ℕ) → kept ≡ [] → frames_of kept ≡ frames → HoldsJournal sheets kept bytes
     → Reads bytes frames ⊎ GetsFirst sheets frames bytes
 gets_first sheets kept frames bytes none are keeps =
     let empty : [] ≡ frames = ap frames_of (sym none) ∙ are in
-    let first : Keeps sheets [] bytes = subst (λ (j : List Entry). Keeps sheets j bytes) none keeps in
+    let first : HoldsJournal sheets [] bytes = subst (λ (j : List Entry). HoldsJournal sheets j bytes) none keeps in
     ⊎_elim (λ reads. inl (subst (Reads bytes) empty reads)) (λ reads. inr (sym empty, reads)) first
 
 -- what an opening left before it settled on these frames

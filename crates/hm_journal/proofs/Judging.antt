@@ -1,5 +1,6 @@
 -- What judges entries, one after another.
-use Rattle.std.proofs.Common.{◌≡◌, ◌≢◌, List, [], ◌∷◌, ◌++◌, refl, sym, ap, ◌∙◌, subst, inl}
+use Rattle.std.proofs.Common.{◌≡◌, ◌≢◌, List, [], ◌∷◌, ◌++◌, All, refl, sym, ap, ◌∙◌, subst, inl}
+use Rattle.std.proofs.lemmas.List.Elements.{All-nil}
 use Rattle.hm_data.specs.declared.entry.Entry.{Entry}
 use Rattle.hm_data.specs.declared.entry.Entry.TheVariants as entry_is
 use Rattle.hm_data.specs.declared.sheet.Sheet.{Sheet}
@@ -7,7 +8,12 @@ use Rattle.hm_model.specs.Journal.{Past, back}
 use Rattle.hm_model.specs.Rules.{Allowed, AreSheets, Breaks, IsLegal}
 use Rattle.hm_model.specs.Sheets.{sheets_of}
 use Rattle.hm_model.proofs.Prefixes.{back-push}
+use Rattle.hm_entry.specs.Fits.{EntryFits}
+use Rattle.hm_model.proofs.Grown.{sheets_are}
+use Rattle.hm_journal.specs.Judged.{IsBegun}
+use Rattle.hm_journal.specs.Stored.{IsJournal, IsJournalByKind, SameSheets}
 use Rattle.hm_journal.specs.Verdict.{IsFirstIllegal}
+use Rattle.hm_journal.proofs.SameSheets.{same_sheets}
 
 -- nothing but a start is a first entry
 breaks_first : (first : Entry) → ((own : List Sheet) → first ≡ entry_is.Start own → ⊥) → Breaks [] first 1
@@ -46,18 +52,37 @@ sheets_stay before (entry_is.Up server) some allowed = refl
 sheets_stay before (entry_is.Down server) some allowed = refl
 sheets_stay before (entry_is.Abort pid) some allowed = refl
 
--- the first entries are legal, and begin with these sheets
-pub record IsFront (sheets : List Sheet) (front : List Entry) : Type 0 where
-  pub legal : IsLegal (back front)
-  pub some : back front ≢ []
-  pub begins : sheets_of (back front) ≡ sheets
-
 -- one entry more that may stand behind them
-pub front_more : (sheets : List Sheet) (front more : List Entry) (entry : Entry) → IsFront sheets front → more ≡ front ++ entry ∷ [] → Allowed (back front) entry → IsFront sheets more
-front_more sheets front more entry was is allowed =
+pub begun_more : (sheets : List Sheet) (front more : List Entry) (entry : Entry) → IsBegun sheets front → more ≡ front ++ entry ∷ [] → Allowed (back front) entry → IsBegun sheets more
+begun_more sheets front more entry was is allowed =
     let pushed : back more ≡ entry ∷ back front = ap back is ∙ back-push front entry in
+    let same : sheets_of (back more) ≡ sheets_of (back front) = ap sheets_of pushed ∙ sheets_stay (back front) entry was.some allowed in
     record {
       legal = subst IsLegal (sym pushed) (was.legal, allowed);
       some = λ none. absurd (let e : entry ∷ back front ≡ [] = sym pushed ∙ none in cc);
-      begins = ap sheets_of pushed ∙ sheets_stay (back front) entry was.some allowed ∙ was.begins;
+      begins = subst (SameSheets sheets) (sym same) was.begins;
     }
+
+-- a start of sheets that are the same by kind
+pub begun_start : (sheets own : List Sheet) → AreSheets own → SameSheets sheets own → IsBegun sheets (entry_is.Start own ∷ [])
+begun_start sheets own are same = record {
+  legal = (tt, ((refl, are), tt));
+  some = λ none. absurd (cc);
+  begins = same;
+}
+
+-- what has begun so is a journal that has the same sheet of each kind
+pub by_kind : (sheets : List Sheet) (entries : List Entry) → All EntryFits entries → IsBegun sheets entries → IsJournalByKind sheets entries
+by_kind sheets entries fits begun = (sheets_of (back entries), begun.begins, record { legal = begun.legal; fits = fits; begins = λ some. refl })
+
+-- so is one without entries
+pub none_by_kind : (sheets : List Sheet) → IsJournalByKind sheets []
+none_by_kind sheets = (sheets, (λ kind small. refl), record { legal = tt; fits = All-nil EntryFits; begins = λ some. absurd (some refl) })
+
+-- of the sheets that a journal may begin with it is a journal
+pub is_journal : (sheets : List Sheet) (entries : List Entry) → AreSheets sheets → All EntryFits entries → IsBegun sheets entries → IsJournal sheets entries
+is_journal sheets entries are fits begun = record {
+  legal = begun.legal;
+  fits = fits;
+  begins = λ some. sym (same_sheets sheets (sheets_of (back entries)) are (sheets_are (back entries) begun.legal begun.some) begun.begins);
+}

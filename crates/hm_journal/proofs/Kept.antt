@@ -1,12 +1,12 @@
 -- What is kept of a journal.
-use Rattle.std.proofs.Common.{◌≡◌, ℕ, ◌+◌, ◌≤◌, Bool, true, false, List, [], ◌∷◌, ◌++◌, length, map, Option, Some, None, Result, Ok, Err, nat_le, refl, sym, ap, ◌∙◌, subst, inl, inr, ⊎_elim, arith, length-append}
-use Rattle.std.specs.Prelude.{All, IfSome, OnErr, OnOk}
+use Rattle.std.proofs.Common.{◌≡◌, ◌≢◌, ◌⊎◌, ℕ, ◌+◌, ◌≤◌, Bool, true, false, List, [], ◌∷◌, ◌++◌, length, map, Option, Some, None, Result, Ok, Err, refl, sym, ap, ◌∙◌, subst, inl, inr, ⊎_elim, arith, length-append}
+use Rattle.std.specs.Prelude.{All, IfSome, MatchOption, OnErr, OnOk}
 use Rattle.std.specs.Result.{is_err}
 use Rattle.std.specs.Global.{Vec}
-use Rattle.std.proofs.lemmas.Bool.Decides.{nat_tests}
 use Rattle.std.proofs.lemmas.List.{map-append}
 use Rattle.std.proofs.lemmas.List.Elements.{All-head, All-push, All-tail}
 use Rattle.std.proofs.lemmas.List.Sums.{sum_by-append}
+use Rattle.std.proofs.lemmas.Option.{same_Some}
 use Rattle.hm_disk.specs.Disk.{LeavesOnly}
 use Rattle.hm_disk.proofs.Moments.{weaker}
 use Rattle.hm_log.specs.Format.{BeforeOrAfter, IsFrame, Reads}
@@ -17,13 +17,14 @@ use Rattle.hm_entry.specs.Fits.{EntryFits}
 use Rattle.hm_entry.specs.Reading.{all_of}
 use Rattle.hm_entry.specs.Spelling.{entry as spelling}
 use Rattle.hm_entry.proofs.EntryCodec.{all_again}
-use Rattle.hm_hall.specs.Recording.{Recording, Records, bytes_of, with_next}
+use Rattle.hm_hall.specs.Recording.{Recording, Passes, Records, bytes_of, with_next}
 use Rattle.hm_hall.specs.declared.fault.Halt.{Halt}
 use Rattle.hm_hall.specs.declared.fault.Halt.TheVariants as halt_is
 use Rattle.hm_hall.specs.declared.fault.RecordFault.TheVariants as fault_is
 use Rattle.hm_journal.specs.Stored.{frames_of}
-use Rattle.hm_journal.specs.View.{entry_in, entry_of, entries_in, kept_of, IsSpelling, IsSound}
+use Rattle.hm_journal.specs.View.{entry_in, entry_of, entries_in, kept_of, ready_of, IsFrameOf, IsReady, IsWellKept}
 use Rattle.hm_journal.specs.declared.limits.Limits.{Limits}
+use Rattle.hm_journal.specs.declared.next.Next.{Next}
 
 -- what spells an entry is read as it
 pub entry_read : (bytes : List ℕ) (entry : Entry) → EntryFits entry → bytes ≡ spelling entry → all_of bytes ≡ Ok entry
@@ -72,147 +73,150 @@ entries_are (frame ∷ frames) (entry ∷ entries) fit are =
 pub bytes_more : (entries : List Entry) (entry : Entry) → bytes_of (entries ++ entry ∷ []) ≡ bytes_of entries + length (spelling entry) + 5
 bytes_more entries entry = omega (arith, sum_by-append (λ (e : Entry). length (spelling e) + 5) entries (entry ∷ []))
 
--- the entry that a frame spells is the one that is read from it
-pub own_entry : (frame : Vec ℕ) → IsSpelling frame.items → (entry : Entry) → entry_in frame.items ≡ Some entry → (frame.items ≡ spelling entry) × EntryFits entry
-own_entry frame spells entry is =
-    let same : spells.0 ≡ entry = let there = entry_in_is frame.items spells.0 spells.2 spells.1 in cc in
-    subst (λ (e : Entry). (frame.items ≡ spelling e) × EntryFits e) same (spells.1, spells.2)
-
 -- a frame of the log
-pub is_frame : (bytes : List ℕ) → IsSpelling bytes → length bytes ≤ 65536 → IsFrame bytes
-is_frame bytes spells short =
-    record { some = subst (λ (b : List ℕ). 1 ≤ length b) (sym spells.1) (entry_some spells.0); most = short }
+pub is_frame : (bytes : List ℕ) (entry : Entry) → bytes ≡ spelling entry → length bytes ≤ 65536 → IsFrame bytes
+is_frame bytes entry spells short =
+    record { some = subst (λ (b : List ℕ). 1 ≤ length b) (sym spells) (entry_some entry); most = short }
 
 -- the frames of one entry more
 pub more_frames : (logged : List (List ℕ)) (entries : List Entry) (bytes : List ℕ) (entry : Entry) → logged ≡ frames_of entries → bytes ≡ spelling entry
     → logged ++ bytes ∷ [] ≡ frames_of (entries ++ entry ∷ [])
 more_frames logged entries bytes entry are is = let more = map-append spelling entries (entry ∷ []) in cc
 
--- What a call finds: the entry that is ready is spelled by this frame, and nothing has halted the journal. It takes the
--- frame away.
-pub record Finds (next after : Option (Vec ℕ)) (halted : Option Halt) (frame : Vec ℕ) : Type 0 where
+-- what a call finds: this entry is ready, and nothing has halted the journal. It takes the entry away.
+pub record Finds (next after : Option Next) (halted : Option Halt) (found : Next) : Type 0 where
   pub going : halted ≡ None
-  pub is : next ≡ Some frame
+  pub is : next ≡ Some found
   pub gone : after ≡ None
-  pub spells : IsSpelling frame.items
-  pub short : length frame.items ≤ 65536
 
 -- the same, from what the call learns step by step
-pub found : (next after taken : Option (Vec ℕ)) (halted : Option Halt) (frame : Vec ℕ) → halted ≡ None → taken ≡ next → after ≡ None → taken ≡ Some frame
-    → IfSome next (λ f. IsSpelling f.items × (length f.items ≤ 65536)) → Finds next after halted frame
-found next after taken halted frame going value gone is kept =
-    let there : next ≡ Some frame = sym value ∙ is in
-    let own = subst (λ (n : Option (Vec ℕ)). IfSome n (λ f. IsSpelling f.items × (length f.items ≤ 65536))) there kept in
-    record { going = going; is = there; gone = gone; spells = own.0; short = own.1 }
+pub found_next : (next after taken : Option Next) (halted : Option Halt) (found : Next) → halted ≡ None → taken ≡ next → after ≡ None → taken ≡ Some found → Finds next after halted found
+found_next next after taken halted found going value gone is = record { going = going; is = sym value ∙ is; gone = gone }
 
 -- the entry that it finds
-pub the_entry : (next after : Option (Vec ℕ)) (halted : Option Halt) (frame : Vec ℕ) → Finds next after halted frame → (entry : Entry) → entry_of next ≡ Some entry
-    → (frame.items ≡ spelling entry) × EntryFits entry
-the_entry next after halted frame finds entry is = own_entry frame finds.spells entry (ap entry_of (sym finds.is) ∙ is)
+the_entry : (next after : Option Next) (halted : Option Halt) (found : Next) → Finds next after halted found → (entry : Entry) → ready_of next ≡ Some entry → found.entry.disk ≡ entry
+the_entry next after halted found finds entry is = same_Some found.entry.disk entry (ap ready_of (sym finds.is) ∙ is)
 
-module _ (frames : List (Vec ℕ)) (next after tail : Option (Vec ℕ)) (halted : Option Halt) (limits : Limits) (frame : Vec ℕ) (bytes size : ℕ) (fit : Bool) (finds : Finds next after halted frame) (sized : bytes ≡ bytes_of (entries_in frames)) (long : size ≡ length frame.items) (fit_is : fit ≡ nat_le (bytes + size + 5) limits.hard) where
+-- it is as what is ready
+pub finds_ready : (kept : Recording) (used room : ℕ) (next after : Option Next) (halted : Option Halt) (found : Next) → Finds next after halted found → IfSome next (IsReady kept used room) → IsReady kept used room found
+finds_ready kept used room next after halted found finds ready = subst (λ (n : Option Next). IfSome n (IsReady kept used room)) finds.is ready
+
+-- what has a frame will be accepted
+pub ready_frame : (kept : Recording) (used room : ℕ) (found : Next) (frame : Vec ℕ) → IsReady kept used room found → found.frame ≡ Some frame → IsFrameOf kept found.entry.disk used room frame.items
+ready_frame kept used room found frame ready is =
+    let P : Option (Vec ℕ) → Type 0 = λ o. MatchOption o ((kept.halted ≢ None) ⊎ Passes kept.hard kept.entries found.entry.disk) (λ f. IsFrameOf kept found.entry.disk used room f.items) in
+    subst P is ready
+
+-- what has none passes the hard mark, where nothing has halted the journal
+pub ready_passes : (kept : Recording) (used room : ℕ) (found : Next) → IsReady kept used room found → found.frame ≡ None → kept.halted ≡ None → Passes kept.hard kept.entries found.entry.disk
+ready_passes kept used room found ready is going =
+    let P : Option (Vec ℕ) → Type 0 = λ o. MatchOption o ((kept.halted ≢ None) ⊎ Passes kept.hard kept.entries found.entry.disk) (λ f. IsFrameOf kept found.entry.disk used room f.items) in
+    ⊎_elim (λ halted. absurd (halted going)) (λ passes. passes) (subst P is ready)
+
+module _ (frames : List (Vec ℕ)) (next after : Option Next) (tail : Option (Vec ℕ)) (halted : Option Halt) (limits : Limits) (found : Next) (finds : Finds next after halted found) where
   -- the hard mark stops it
-  pub full_records : fit ≡ false → (entry : Entry) → entry_of next ≡ Some entry
+  pub full_records : (bytes : ℕ) → Passes limits.hard (entries_in frames) found.entry.disk → bytes ≡ bytes_of (entries_in frames) → (entry : Entry) → ready_of next ≡ Some entry
       → Records (kept_of frames next tail halted limits) entry (Err (fault_is.JournalFull bytes)) (kept_of frames after tail (Some (halt_is.JournalFull bytes)) limits)
-  full_records passes entry is =
-      let same : size ≡ length (spelling entry) = long ∙ ap length (the_entry next after halted frame finds entry is).0 in
-      (finds.going, grind (arith, nat_tests, passes, fit_is, same, sized), sized, ap (λ (n : Option (Vec ℕ)). kept_of frames n tail (Some (halt_is.JournalFull bytes)) limits) finds.gone)
+  full_records bytes passes sized entry is = (
+    finds.going,
+    subst (Passes limits.hard (entries_in frames)) (the_entry next after halted found finds entry is) passes,
+    sized,
+    ap (λ (n : Option Next). kept_of frames n tail (Some (halt_is.JournalFull bytes)) limits) finds.gone,
+  )
 
-  -- the log failed at it
-  pub failed_records : fit ≡ true → (entry : Entry) → entry_of next ≡ Some entry
-      → Records (kept_of frames next tail halted limits) entry (Err fault_is.LogFault) (kept_of frames after (Some frame) (Some halt_is.LogFault) limits)
-  failed_records within entry is =
-      let own = the_entry next after halted frame finds entry is in
-      let same : size ≡ length (spelling entry) = long ∙ ap length own.0 in
-      let read : entry_in frame.items ≡ Some entry = entry_in_is frame.items entry own.1 own.0 in (
-        finds.going,
-        λ passes. grind (arith, nat_tests, within, fit_is, passes, same, sized),
-        ap (λ (n : Option (Vec ℕ)). kept_of frames n (Some frame) (Some halt_is.LogFault) limits) finds.gone
-            ∙ ap (λ (e : Option Entry). record { entries = entries_in frames; next = None; tail = e; halted = Some halt_is.LogFault; soft = limits.soft; hard = limits.hard }) read,
-      )
+  module _ (used room : ℕ) (frame : Vec ℕ) (is_frame_of : IsFrameOf (kept_of frames next tail halted limits) found.entry.disk used room frame.items) where
+    -- the log failed at it
+    pub failed_records : (entry : Entry) → ready_of next ≡ Some entry
+        → Records (kept_of frames next tail halted limits) entry (Err fault_is.LogFault) (kept_of frames after (Some frame) (Some halt_is.LogFault) limits)
+    failed_records entry is =
+        let same = the_entry next after halted found finds entry is in
+        let read : entry_in frame.items ≡ Some entry = entry_in_is frame.items found.entry.disk is_frame_of.fits is_frame_of.spells ∙ ap Some same in (
+          finds.going,
+          subst (λ (e : Entry). Passes limits.hard (entries_in frames) e → ⊥) same is_frame_of.accepted.1,
+          ap (λ (n : Option Next). kept_of frames n (Some frame) (Some halt_is.LogFault) limits) finds.gone
+              ∙ ap (λ (e : Option Entry). record { entries = entries_in frames; next = None; tail = e; halted = Some halt_is.LogFault; soft = limits.soft; hard = limits.hard }) read,
+        )
 
-  -- it is recorded
-  pub recorded : fit ≡ true → (number : ℕ) → number ≡ length (entries_in frames) → (more : List (Vec ℕ)) → more ≡ frames ++ frame ∷ []
-      → (entry : Entry) → entry_of next ≡ Some entry
-      → Records (kept_of frames next tail halted limits) entry (Ok number) (kept_of more after tail halted limits)
-  recorded within number count more pushed entry is =
-      let own = the_entry next after halted frame finds entry is in
-      let same : size ≡ length (spelling entry) = long ∙ ap length own.0 in
-      let grown : entries_in more ≡ entries_in frames ++ entry ∷ [] = ap entries_in pushed ∙ entries_more frames frame entry own.1 own.0 in (
-        finds.going,
-        λ passes. grind (arith, nat_tests, within, fit_is, passes, same, sized),
-        count,
-        ap (λ (n : Option (Vec ℕ)). kept_of more n tail halted limits) finds.gone
-            ∙ ap (λ (es : List Entry). record { entries = es; next = None; tail = entry_of tail; halted = halted; soft = limits.soft; hard = limits.hard }) grown,
-      )
+    -- it is recorded
+    pub recorded : (number : ℕ) → number ≡ length (entries_in frames) → (more : List (Vec ℕ)) → more ≡ frames ++ frame ∷ [] → (entry : Entry) → ready_of next ≡ Some entry
+        → Records (kept_of frames next tail halted limits) entry (Ok number) (kept_of more after tail halted limits)
+    recorded number count more pushed entry is =
+        let same = the_entry next after halted found finds entry is in
+        let grown : entries_in more ≡ entries_in frames ++ entry ∷ [] =
+        ap entries_in pushed ∙ entries_more frames frame found.entry.disk is_frame_of.fits is_frame_of.spells ∙ ap (λ (e : Entry). entries_in frames ++ e ∷ []) same in (
+          finds.going,
+          subst (λ (e : Entry). Passes limits.hard (entries_in frames) e → ⊥) same is_frame_of.accepted.1,
+          count,
+          ap (λ (n : Option Next). kept_of more n tail halted limits) finds.gone
+              ∙ ap (λ (es : List Entry). record { entries = es; next = None; tail = entry_of tail; halted = halted; soft = limits.soft; hard = limits.hard }) grown,
+        )
 
 -- the journal is going, and its log has its frames
-pub logs : (tells : Type 0) (image : List ℕ → Type 0) (logged : List (List ℕ)) (size : ℕ) (stalled : Bool) (next tail : Option (Vec ℕ)) (bytes used room : ℕ) (kept : Recording)
-    → IsSound tells image logged size stalled next tail bytes used room kept → kept.halted ≡ None → tells → logged ≡ frames_of kept.entries
+pub logs : (tells : Type 0) (image : List ℕ → Type 0) (logged : List (List ℕ)) (size : ℕ) (stalled : Bool) (next : Option Next) (tail : Option (Vec ℕ)) (bytes used room : ℕ) (kept : Recording)
+    → IsWellKept tells image logged size stalled next tail bytes used room kept → kept.halted ≡ None → tells → logged ≡ frames_of kept.entries
 logs tells image logged size stalled next tail bytes used room kept was going told = was.logged_is told (was.live (λ failed. absurd (cc)))
 
 -- what is kept where the log failed
-pub sound_failed : (tells : Type 0) (image image' : List ℕ → Type 0) (logged logged' : List (List ℕ)) (size size' : ℕ) (stalled stalled' : Bool) (frames : List (Vec ℕ)) (next after tail : Option (Vec ℕ))
-    (halted : Option Halt) (limits : Limits) (frame : Vec ℕ) (bytes used room : ℕ)
-    → IsSound tells image logged size stalled next tail bytes used room (kept_of frames next tail halted limits) → Finds next after halted frame → stalled' ≡ true
+pub kept_failed : (tells : Type 0) (image image' : List ℕ → Type 0) (logged logged' : List (List ℕ)) (size size' : ℕ) (stalled stalled' : Bool) (frames : List (Vec ℕ)) (next after : Option Next) (tail : Option (Vec ℕ))
+    (halted : Option Halt) (limits : Limits) (found : Next) (frame : Vec ℕ) (bytes used room : ℕ)
+    → IsWellKept tells image logged size stalled next tail bytes used room (kept_of frames next tail halted limits) → Finds next after halted found
+    → IsFrameOf (kept_of frames next tail halted limits) found.entry.disk used room frame.items → stalled' ≡ true
     → (tells → (c : List ℕ) → image' c → BeforeOrAfter logged frame.items c)
-    → IsSound tells image' logged' size' stalled' after (Some frame) bytes used room (kept_of frames after (Some frame) (Some halt_is.LogFault) limits)
-sound_failed tells image image' logged logged' size size' stalled stalled' frames next after tail halted limits frame bytes used room was finds stalls either =
-    let own = finds.spells in
-    let same : entry_in frame.items ≡ Some own.0 = entry_in_is frame.items own.0 own.2 own.1 in
+    → IsWellKept tells image' logged' size' stalled' after (Some frame) bytes used room (kept_of frames after (Some frame) (Some halt_is.LogFault) limits)
+kept_failed tells image image' logged logged' size size' stalled stalled' frames next after tail halted limits found frame bytes used room was finds is stalls either =
+    let entry = found.entry.disk in
+    let same : entry_in frame.items ≡ Some entry = entry_in_is frame.items entry is.fits is.spells in
     record {
       fits = was.fits;
       count_is = was.count_is;
-      next_is = subst (λ (n : Option (Vec ℕ)). IfSome n (λ f. IsSpelling f.items × (length f.items ≤ 65536))) (sym finds.gone) tt;
-      tail_is = own;
-      has_room = λ some. absurd (some finds.gone);
+      next_is = subst (λ (n : Option Next). IfSome n (IsReady (kept_of frames after (Some frame) (Some halt_is.LogFault) limits) used room)) (sym finds.gone) tt;
+      tail_is = (entry, is.spells, is.fits);
       sized = was.sized;
       live = λ no. absurd (no refl);
       failed = λ some. refl;
       size_is = λ no. absurd (cc);
       logged_is = λ told no. absurd (cc);
-      stored = λ told c is.
+      stored = λ told c at.
           let are : logged ≡ frames_of (entries_in frames) = logs tells image logged size stalled next tail bytes used room (kept_of frames next tail halted limits) was finds.going told in
           ⊎_elim (λ reads. inl (subst (λ (fs : List (List ℕ)). Reads c fs) are reads))
-          (λ reads. inr (own.0, same, own.2, subst (λ (fs : List (List ℕ)). Reads c fs) (more_frames logged (entries_in frames) frame.items own.0 are own.1) reads)) (either told c is);
+          (λ reads. inr (entry, same, is.fits, subst (λ (fs : List (List ℕ)). Reads c fs) (more_frames logged (entries_in frames) frame.items entry are is.spells) reads)) (either told c at);
     }
 
 -- what is kept where the entry was recorded
-pub sound_recorded : (tells : Type 0) (image image' : List ℕ → Type 0) (logged logged' : List (List ℕ)) (size size' : ℕ) (stalled stalled' : Bool) (frames more : List (Vec ℕ)) (next after tail : Option (Vec ℕ))
-    (halted : Option Halt) (limits : Limits) (frame : Vec ℕ) (written : List ℕ) (bytes long used used' room room' : ℕ)
-    → IsSound tells image logged size stalled next tail bytes used room (kept_of frames next tail halted limits) → Finds next after halted frame → stalled' ≡ false
+pub kept_recorded : (tells : Type 0) (image image' : List ℕ → Type 0) (logged logged' : List (List ℕ)) (size size' : ℕ) (stalled stalled' : Bool) (frames more : List (Vec ℕ)) (next after : Option Next) (tail : Option (Vec ℕ))
+    (halted : Option Halt) (limits : Limits) (found : Next) (frame : Vec ℕ) (written : List ℕ) (bytes long used used' room room' : ℕ)
+    → IsWellKept tells image logged size stalled next tail bytes used room (kept_of frames next tail halted limits) → Finds next after halted found
+    → IsFrameOf (kept_of frames next tail halted limits) found.entry.disk used room frame.items → stalled' ≡ false
     → written ≡ frame.items → more ≡ frames ++ frame ∷ [] → used' ≡ used + 1 → long ≡ length frame.items → size' ≡ size + length written + 5
     → (tells → logged' ≡ logged ++ written ∷ []) → (tells → (c : List ℕ) → image' c → Reads c logged')
-    → IsSound tells image' logged' size' stalled' after tail (bytes + (long + 5)) used' room' (kept_of more after tail halted limits)
-sound_recorded tells image image' logged logged' size size' stalled stalled' frames more next after tail halted limits frame written bytes long used used' room room' was finds live value pushed counts longer larger added durable =
-    let own = finds.spells in
-    let spelled : written ≡ spelling own.0 = value ∙ own.1 in
-    let one : length written ≡ length (spelling own.0) = ap length spelled in
+    → IsWellKept tells image' logged' size' stalled' after tail (bytes + (long + 5)) used' room' (kept_of more after tail halted limits)
+kept_recorded tells image image' logged logged' size size' stalled stalled' frames more next after tail halted limits found frame written bytes long used used' room room' was finds is live value pushed counts longer larger added durable =
+    let entry = found.entry.disk in
+    let spelled : written ≡ spelling entry = value ∙ is.spells in
+    let one : length written ≡ length (spelling entry) = ap length spelled in
     let same : length written ≡ length frame.items = ap length value in
-    let grown : entries_in more ≡ entries_in frames ++ own.0 ∷ [] = ap entries_in pushed ∙ entries_more frames frame own.0 own.2 own.1 in
+    let grown : entries_in more ≡ entries_in frames ++ entry ∷ [] = ap entries_in pushed ∙ entries_more frames frame entry is.fits is.spells in
     let going : stalled ≡ false = was.live (λ failed. absurd (let none = finds.going in cc)) in
     let are : tells → logged' ≡ frames_of (entries_in more) = λ told. added told
-    ∙ more_frames logged (entries_in frames) written own.0 (was.logged_is told going) spelled ∙ ap frames_of (sym grown) in
+    ∙ more_frames logged (entries_in frames) written entry (was.logged_is told going) spelled ∙ ap frames_of (sym grown) in
     record {
-      fits = subst (λ (es : List Entry). All EntryFits es) (sym grown) (All-push EntryFits (entries_in frames) own.0 was.fits own.2);
+      fits = subst (λ (es : List Entry). All EntryFits es) (sym grown) (All-push EntryFits (entries_in frames) entry was.fits is.fits);
       count_is = rw grown (simp length-append (omega (arith, counts, was.count_is)));
-      next_is = subst (λ (n : Option (Vec ℕ)). IfSome n (λ f. IsSpelling f.items × (length f.items ≤ 65536))) (sym finds.gone) tt;
+      next_is = subst (λ (n : Option Next). IfSome n (IsReady (kept_of more after tail halted limits) used' room')) (sym finds.gone) tt;
       tail_is = was.tail_is;
-      has_room = λ some. absurd (some finds.gone);
-      sized = rw grown (rw (bytes_more (entries_in frames) own.0) (omega (arith, longer, same, one, was.sized)));
+      sized = rw grown (rw (bytes_more (entries_in frames) entry) (omega (arith, longer, same, one, was.sized)));
       live = λ no. live;
       failed = was.failed;
       size_is = λ no. omega (arith, longer, larger, same, was.size_is going);
       logged_is = λ told no. are told;
-      stored = λ told c is. inl (subst (λ (fs : List (List ℕ)). Reads c fs) (are told) (durable told c is));
+      stored = λ told c at. inl (subst (λ (fs : List (List ℕ)). Reads c fs) (are told) (durable told c at));
     }
 
 -- an entry made ready
-pub readied : (frames same : List (Vec ℕ)) (next tail : Option (Vec ℕ)) (halted : Option Halt) (limits : Limits) (frame : Vec ℕ) (start : List ℕ) (entry : Entry) (kept : Recording)
-    → kept_of frames next tail halted limits ≡ kept → same ≡ frames → EntryFits entry → start ≡ [] → frame.items ≡ start ++ spelling entry → kept_of same (Some frame) tail halted limits ≡ with_next kept entry
-readied frames same next tail halted limits frame start entry kept is alike fits none spells =
-    let spelled : frame.items ≡ spelling entry = spells ∙ ap (λ (b : List ℕ). b ++ spelling entry) none in
-    ap (λ (e : Option Entry). record { entries = entries_in same; next = e; tail = entry_of tail; halted = halted; soft = limits.soft; hard = limits.hard }) (entry_in_is frame.items entry fits spelled)
+pub readied : (frames same : List (Vec ℕ)) (next : Option Next) (tail : Option (Vec ℕ)) (halted : Option Halt) (limits : Limits) (found : Next) (entry : Entry) (kept : Recording)
+    → kept_of frames next tail halted limits ≡ kept → same ≡ frames → found.entry.disk ≡ entry → kept_of same (Some found) tail halted limits ≡ with_next kept entry
+readied frames same next tail halted limits found entry kept is alike here =
+    ap (λ (e : Entry). record { entries = entries_in same; next = Some e; tail = entry_of tail; halted = halted; soft = limits.soft; hard = limits.hard }) here
     ∙ ap (λ (fs : List (Vec ℕ)). with_next (kept_of fs next tail halted limits) entry) alike ∙ ap (λ (k : Recording). with_next k entry) is
 
 -- what holds of a failure

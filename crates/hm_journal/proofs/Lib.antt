@@ -1,6 +1,6 @@
 pub mod Spelled
+pub mod SameSheets
 pub mod Judging
-pub mod Differing
 pub mod Valid
 pub mod Kept
 pub mod Refusing
@@ -10,3 +10,4 @@ pub mod Sizes
 pub mod Recorded
 pub mod Found
 pub mod Beginning
+pub mod Moving

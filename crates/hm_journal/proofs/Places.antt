@@ -12,12 +12,11 @@ use Rattle.hm_entry.proofs.EntryCodec.{one_entry}
 use Rattle.hm_model.specs.Journal.{back}
 use Rattle.hm_model.specs.Rules.{Breaks, IsLegal}
 use Rattle.hm_model.specs.Sheets.{sheets_of}
-use Rattle.hm_journal.specs.Stored.{frames_of}
-use Rattle.hm_journal.specs.Judged.{IsBadFrom, IsNotAdded, IsNotAddedFrom, Spells, SpellsAt}
+use Rattle.hm_journal.specs.Stored.{SameSheets, frames_of}
+use Rattle.hm_journal.specs.Judged.{IsBadFrom, IsBegun, IsNotAdded, IsNotAddedFrom, Spells, SpellsAt}
 use Rattle.hm_journal.specs.Verdict.{FailsAt, IsNoJournal}
 use Rattle.hm_journal.specs.declared.why.JournalWhy.{JournalWhy}
 use Rattle.hm_journal.specs.declared.why.JournalWhy.TheVariants as why_is
-use Rattle.hm_journal.proofs.Judging.{IsFront}
 use Rattle.hm_journal.proofs.Refusing.{frame_reads, same_entries}
 
 -- where the frames spell entries, only memory that runs out keeps one from being read
@@ -49,13 +48,13 @@ front_is frames number front entries so_far spells =
     (sym (take-map spelling number entries) ∙ ap (take number) spells.are ∙ sym so_far.are)
 
 -- an entry that isn't added is the first that may not stand where it does
-not_added : (sheets : List Sheet) (frames : List (List ℕ)) (number : ℕ) (front entries : List Entry) (entry : Entry) (why : JournalWhy) → Spells (take number frames) front → IsFront sheets front → Spells frames entries
+not_added : (sheets : List Sheet) (frames : List (List ℕ)) (number : ℕ) (front entries : List Entry) (entry : Entry) (why : JournalWhy) → Spells (take number frames) front → IsBegun sheets front → Spells frames entries
     → SpellsAt frames number entry → IsNotAdded front entry why → IsNoJournal sheets entries why
-not_added sheets frames number front entries entry why_is.Fault so_far is_front spells here none = absurd none
-not_added sheets frames number front entries entry (why_is.NotALog place) so_far is_front spells here none = absurd none
-not_added sheets frames number front entries entry (why_is.BadFrame place) so_far is_front spells here none = absurd none
-not_added sheets frames number front entries entry (why_is.BadEntry n at) so_far is_front spells here none = absurd none
-not_added sheets frames number front entries entry (why_is.Illegal n rule) so_far is_front spells here none =
+not_added sheets frames number front entries entry why_is.Fault so_far begun spells here none = absurd none
+not_added sheets frames number front entries entry (why_is.NotALog place) so_far begun spells here none = absurd none
+not_added sheets frames number front entries entry (why_is.BadFrame place) so_far begun spells here none = absurd none
+not_added sheets frames number front entries entry (why_is.BadEntry n at) so_far begun spells here none = absurd none
+not_added sheets frames number front entries entry (why_is.Illegal n rule) so_far begun spells here none =
     let within : number < length frames = slice_get_within frames number (spelling entry) here.1 in
     let long : length front ≡ number = sym (length-map front spelling) ∙ ap length so_far.are ∙ length-take-le number frames (omega (arith, within)) in
     let at : n ≡ number = none.0 ∙ long in
@@ -63,17 +62,17 @@ not_added sheets frames number front entries entry (why_is.Illegal n rule) so_fa
     record {
       entry = entry;
       there = ap (slice_get entries) at ∙ spelled_at frames entries number entry spells here;
-      legal = subst (λ (es : List Entry). IsLegal (back es)) (sym cut) is_front.legal;
-      begins = λ some. ap (λ (es : List Entry). sheets_of (back es)) cut ∙ is_front.begins;
+      legal = subst (λ (es : List Entry). IsLegal (back es)) (sym cut) begun.legal;
+      begins = λ some. subst (λ (es : List Entry). SameSheets sheets (sheets_of (back es))) (sym cut) begun.begins;
       breaks = subst (λ (es : List Entry). Breaks (back es) entry rule) (sym cut) none.1;
     }
-not_added sheets frames number front entries entry (why_is.SheetsDiffer kind) so_far is_front spells here none = absurd none
-not_added sheets frames number front entries entry why_is.Memory so_far is_front spells here none = tt
+not_added sheets frames number front entries entry (why_is.SheetsDiffer kind) so_far begun spells here none = absurd none
+not_added sheets frames number front entries entry why_is.Memory so_far begun spells here none = tt
 
-pub not_added_from : (sheets : List Sheet) (frames : List (List ℕ)) (number : ℕ) (front entries : List Entry) (why : JournalWhy) → Spells (take number frames) front → IsFront sheets front → Spells frames entries
+pub not_added_from : (sheets : List Sheet) (frames : List (List ℕ)) (number : ℕ) (front entries : List Entry) (why : JournalWhy) → Spells (take number frames) front → IsBegun sheets front → Spells frames entries
     → IsNotAddedFrom front frames number why → IsNoJournal sheets entries why
-not_added_from sheets frames number front entries why so_far is_front spells (inl bad) = none_read sheets frames entries number why spells bad
-not_added_from sheets frames number front entries why so_far is_front spells (inr none) = not_added sheets frames number front entries none.0 why so_far is_front spells none.1 none.2
+not_added_from sheets frames number front entries why so_far begun spells (inl bad) = none_read sheets frames entries number why spells bad
+not_added_from sheets frames number front entries why so_far begun spells (inr none) = not_added sheets frames number front entries none.0 why so_far begun spells none.1 none.2
 
 -- the entry of the first frame stands first
 first_of : (entries : List Entry) (first : Entry) → slice_get entries 0 ≡ Some first → (more : List Entry) × (entries ≡ first ∷ more)

@@ -1,9 +1,11 @@
 -- No journal is refused.
-use Rattle.std.proofs.Common.{◌≡◌, ◌⊎◌, ℕ, zero, suc, ◌+◌, List, [], ◌∷◌, ◌++◌, take, length, slice_get, Some, Result, Ok, Err, All, refl, sym, ap, ◌∙◌, subst, inl, inr}
+use Rattle.std.proofs.Common.{◌≡◌, ◌⊎◌, ℕ, zero, suc, ◌+◌, List, [], ◌∷◌, ◌++◌, take, length, slice_get, Some, Result, Ok, Err, All, refl, sym, ap, ◌∙◌, subst, inl, inr, ⊎_elim}
 use Rattle.std.proofs.lemmas.List.{reverse-append}
 use Rattle.std.proofs.lemmas.List.Elements.{All-head, All-tail}
 use Rattle.std.proofs.lemmas.Option.{none-some, same_Some}
 use Rattle.std.specs.Prelude.{IfOk, IfErr, MatchResult}
+use Rattle.hm_log.specs.Format.{HoldsFrames, IsBadFrame, IsNotALog}
+use Rattle.hm_log.proofs.Exact.{refused_once}
 use Rattle.hm_log.specs.declared.why.OpenWhy.{OpenWhy}
 use Rattle.hm_log.specs.declared.why.OpenWhy.TheVariants as log_why_is
 use Rattle.hm_data.specs.declared.entry.Entry.{Entry}
@@ -16,11 +18,11 @@ use Rattle.hm_entry.specs.Spelling.{entry as spelling}
 use Rattle.hm_entry.proofs.EntryCodec.{all_again, one_entry}
 use Rattle.hm_model.specs.Journal.{Past, back}
 use Rattle.hm_model.specs.Rules.{AllHold, Allowed, FirstFails, IsLegal, rules}
-use Rattle.hm_model.specs.Sheets.{sheets_of}
+use Rattle.hm_model.specs.Sheets.{sheet_for, sheets_of}
 use Rattle.hm_model.proofs.Prefixes.{back-push, legal_cut}
-use Rattle.hm_journal.specs.Stored.{IsJournal, frames_of}
+use Rattle.hm_journal.specs.Stored.{IsJournal, IsJournalByKind, frames_of}
 use Rattle.hm_journal.specs.Judged.{IsNoJournalIn, of_log}
-use Rattle.hm_journal.specs.Verdict.{FailsAt, HasOthers, IsFirstBad, IsFirstDifference, IsFirstIllegal, IsNoEntry, IsNoJournal, IsUnjudged}
+use Rattle.hm_journal.specs.Verdict.{FailsAt, HasOthers, IsFirstBad, IsFirstIllegal, IsNoEntry, IsNoJournal, IsUnjudged, Refuses}
 use Rattle.hm_journal.specs.declared.why.JournalWhy.{JournalWhy}
 use Rattle.hm_journal.specs.declared.why.JournalWhy.TheVariants as why_is
 use Rattle.hm_journal.proofs.Judging.{sheets_stay}
@@ -76,25 +78,20 @@ sheets_first (entry ∷ newer) own legal = sheets_stay (newer ++ entry_is.Start 
     some [] e = cc
     some (entry ∷ newer) e = cc
 
-none_differ : (sheets : List Sheet) (kind : ℕ) → IsFirstDifference sheets sheets kind → ⊥
-none_differ [] kind differ = differ
-none_differ (sheet ∷ sheets) kind (inl differ) = differ.0 refl
-none_differ (sheet ∷ sheets) kind (inr differ) = none_differ sheets kind differ.1
-
-none_others : (sheets : List Sheet) (journal : List Entry) (kind : ℕ) → IsJournal sheets journal → HasOthers sheets journal kind → ⊥
-none_others sheets journal kind is others =
+none_others : (sheets : List Sheet) (journal : List Entry) (kind : ℕ) → IsJournalByKind sheets journal → HasOthers sheets journal kind → ⊥
+none_others sheets journal kind (given, same, is) others =
     let cut : back journal ≡ back others.more ++ entry_is.Start others.own ∷ [] = ap back others.starts ∙ reverse-append (entry_is.Start others.own ∷ []) others.more in
-    let begins : sheets_of (back journal) ≡ sheets = is.begins (λ none. absurd (let e : entry_is.Start others.own ∷ others.more ≡ [] = sym others.starts ∙ none in cc)) in
+    let begins : sheets_of (back journal) ≡ given = is.begins (λ none. absurd (let e : entry_is.Start others.own ∷ others.more ≡ [] = sym others.starts ∙ none in cc)) in
     let own : sheets_of (back journal) ≡ others.own = ap sheets_of cut ∙ sheets_first (back others.more) others.own (subst IsLegal cut is.legal) in
-    none_differ sheets kind (subst (λ (s : List Sheet). IsFirstDifference sheets s kind) (sym own ∙ begins) others.differs)
+    others.differs.differs (same kind others.differs.is_kind ∙ ap (λ (s : List Sheet). sheet_for s kind) (sym begins ∙ own))
 
 -- where a journal was refused, memory had run out
-none_of : (sheets : List Sheet) (journal : List Entry) (why : JournalWhy) → IsJournal sheets journal → IsNoJournal sheets journal why → why ≡ why_is.Memory
+none_of : (sheets : List Sheet) (journal : List Entry) (why : JournalWhy) → IsJournalByKind sheets journal → IsNoJournal sheets journal why → why ≡ why_is.Memory
 none_of sheets journal why_is.Fault is none = absurd none
 none_of sheets journal (why_is.NotALog place) is none = absurd none
 none_of sheets journal (why_is.BadFrame place) is none = absurd none
 none_of sheets journal (why_is.BadEntry number at) is none = absurd none
-none_of sheets journal (why_is.Illegal number rule) is none = absurd (none_illegal sheets journal number rule is.legal none)
+none_of sheets journal (why_is.Illegal number rule) is none = absurd (none_illegal sheets journal number rule is.2.legal none)
 none_of sheets journal (why_is.SheetsDiffer kind) is none = absurd (none_others sheets journal kind is none)
 none_of sheets journal why_is.Memory is none = refl
 
@@ -107,11 +104,16 @@ none_in journal (why_is.Illegal number rule) fits none = absurd none
 none_in journal (why_is.SheetsDiffer kind) fits none = absurd none
 none_in journal why_is.Memory fits none = refl
 
-pub not_refused : (sheets : List Sheet) (journal : List Entry) (frames : List (List ℕ)) (why : JournalWhy) → IsJournal sheets journal → frames_of journal ≡ frames → IsNoJournalIn sheets frames why → why ≡ why_is.Memory
-not_refused sheets journal frames why is are (inl none) = none_in journal why is.fits (subst (λ (fs : List (List ℕ)). IsNoEntry fs why) (sym are) none)
+pub not_refused : (sheets : List Sheet) (journal : List Entry) (frames : List (List ℕ)) (why : JournalWhy) → IsJournalByKind sheets journal → frames_of journal ≡ frames → IsNoJournalIn sheets frames why
+    → why ≡ why_is.Memory
+not_refused sheets journal frames why is are (inl none) = none_in journal why is.2.fits (subst (λ (fs : List (List ℕ)). IsNoEntry fs why) (sym are) none)
 not_refused sheets journal frames why is are (inr none) =
-    let same : none.0 ≡ journal = same_entries none.0 journal none.2 is.fits (none.1 ∙ sym are) in
+    let same : none.0 ≡ journal = same_entries none.0 journal none.2 is.2.fits (none.1 ∙ sym are) in
     none_of sheets journal why is (subst (λ (es : List Entry). IsNoJournal sheets es why) same none.3)
+
+-- a journal of these sheets has the same of each kind
+pub of_kinds : (sheets : List Sheet) (journal : List Entry) → IsJournal sheets journal → IsJournalByKind sheets journal
+of_kinds sheets journal is = (sheets, (λ kind small. refl), is)
 
 -- where a log was not opened though it is one, nothing was refused
 pub log_unjudged : (why : OpenWhy) → (why ≡ log_why_is.Fault) ⊎ (why ≡ log_why_is.Memory) → IsUnjudged (of_log why)
@@ -119,8 +121,47 @@ log_unjudged why (inl fault) = inl (ap of_log fault)
 log_unjudged why (inr memory) = inr (ap of_log memory)
 
 -- a journal is counted, unless memory runs out
-pub counts_it : (sheets : List Sheet) (frames : List (List ℕ)) (r : Result ℕ JournalWhy) → IfOk r (λ n. (journal : List Entry) × IsJournal sheets journal × (frames_of journal ≡ frames) × (n ≡ length journal))
-    → IfErr r (IsNoJournalIn sheets frames) → (journal : List Entry) → IsJournal sheets journal → frames_of journal ≡ frames → MatchResult r (λ n. n ≡ length journal) IsUnjudged
+pub counts_it : (sheets : List Sheet) (frames : List (List ℕ)) (r : Result ℕ JournalWhy) → IfOk r (λ n. (journal : List Entry) × IsJournalByKind sheets journal × (frames_of journal ≡ frames) × (n ≡ length journal))
+    → IfErr r (IsNoJournalIn sheets frames) → (journal : List Entry) → IsJournalByKind sheets journal → frames_of journal ≡ frames → MatchResult r (λ n. n ≡ length journal) IsUnjudged
 counts_it sheets frames (Ok n) counted none journal is are =
-    counted.3 ∙ ap length (same_entries counted.0 journal counted.1.fits is.fits (counted.2 ∙ sym are))
+    counted.3 ∙ ap length (same_entries counted.0 journal counted.1.2.fits is.2.fits (counted.2 ∙ sym are))
 counts_it sheets frames (Err why) counted none journal is are = inr (not_refused sheets journal frames why is are none)
+
+-- what is a log isn't refused as none
+pub is_log : (bytes : List ℕ) (frames : List (List ℕ)) → HoldsFrames bytes frames → (place : ℕ) → IsNotALog bytes place → ⊥
+is_log bytes frames holds place other =
+    ⊎_elim (λ fault. absurd (cc)) (λ memory. absurd (cc))
+    (refused_once (log_why_is.NotALog place) bytes frames holds (λ p is. subst (IsNotALog bytes) (let same : place ≡ p = cc in same) other) (λ p is. absurd (cc)))
+
+-- why the frames of a log are no journal is why its bytes are none
+pub refuses_by : (sheets : List Sheet) (bytes : List ℕ) (frames : List (List ℕ)) (why : JournalWhy) → HoldsFrames bytes frames → IsUnjudged why ⊎ IsNoJournalIn sheets frames why → Refuses sheets bytes why
+refuses_by sheets bytes frames why_is.Fault holds none = tt
+refuses_by sheets bytes frames (why_is.NotALog place) holds (inl (inl fault)) = absurd (cc)
+refuses_by sheets bytes frames (why_is.NotALog place) holds (inl (inr memory)) = absurd (cc)
+refuses_by sheets bytes frames (why_is.NotALog place) holds (inr (inl none)) = absurd none
+refuses_by sheets bytes frames (why_is.NotALog place) holds (inr (inr none)) = absurd none.3
+refuses_by sheets bytes frames (why_is.BadFrame place) holds (inl (inl fault)) = absurd (cc)
+refuses_by sheets bytes frames (why_is.BadFrame place) holds (inl (inr memory)) = absurd (cc)
+refuses_by sheets bytes frames (why_is.BadFrame place) holds (inr (inl none)) = absurd none
+refuses_by sheets bytes frames (why_is.BadFrame place) holds (inr (inr none)) = absurd none.3
+refuses_by sheets bytes frames (why_is.BadEntry number at) holds (inl (inl fault)) = absurd (cc)
+refuses_by sheets bytes frames (why_is.BadEntry number at) holds (inl (inr memory)) = absurd (cc)
+refuses_by sheets bytes frames (why_is.BadEntry number at) holds (inr (inl bad)) = (frames, holds, bad)
+refuses_by sheets bytes frames (why_is.BadEntry number at) holds (inr (inr none)) = absurd none.3
+refuses_by sheets bytes frames (why_is.Illegal number rule) holds (inl (inl fault)) = absurd (cc)
+refuses_by sheets bytes frames (why_is.Illegal number rule) holds (inl (inr memory)) = absurd (cc)
+refuses_by sheets bytes frames (why_is.Illegal number rule) holds (inr (inl none)) = absurd none
+refuses_by sheets bytes frames (why_is.Illegal number rule) holds (inr (inr none)) = (none.0, record { opens = subst (HoldsFrames bytes) (sym none.1) holds; fits = none.2 }, none.3)
+refuses_by sheets bytes frames (why_is.SheetsDiffer kind) holds (inl (inl fault)) = absurd (cc)
+refuses_by sheets bytes frames (why_is.SheetsDiffer kind) holds (inl (inr memory)) = absurd (cc)
+refuses_by sheets bytes frames (why_is.SheetsDiffer kind) holds (inr (inl none)) = absurd none
+refuses_by sheets bytes frames (why_is.SheetsDiffer kind) holds (inr (inr none)) = (none.0, record { opens = subst (HoldsFrames bytes) (sym none.1) holds; fits = none.2 }, none.3)
+refuses_by sheets bytes frames why_is.Memory holds none = is_log bytes frames holds
+
+-- why a log isn't opened is why its bytes are no journal
+pub log_refuses : (sheets : List Sheet) (bytes : List ℕ) (why : OpenWhy) → ((place : ℕ) → why ≡ log_why_is.NotALog place → IsNotALog bytes place)
+    → ((place : ℕ) → why ≡ log_why_is.BadFrame place → IsBadFrame bytes place) → ((place : ℕ) → why ≡ log_why_is.Memory → IsNotALog bytes place → ⊥) → Refuses sheets bytes (of_log why)
+log_refuses sheets bytes log_why_is.Fault other bad memory = tt
+log_refuses sheets bytes (log_why_is.NotALog place) other bad memory = other place refl
+log_refuses sheets bytes (log_why_is.BadFrame place) other bad memory = bad place refl
+log_refuses sheets bytes log_why_is.Memory other bad memory = λ place is. memory place refl is

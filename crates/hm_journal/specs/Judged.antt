@@ -1,5 +1,5 @@
 -- What the parts of judging and of opening answer.
-use Rattle.std.specs.Prelude.{◌≡◌, ◌⊎◌, ℕ, List, length, slice_get, Some, All}
+use Rattle.std.specs.Prelude.{◌≡◌, ◌≢◌, ◌⊎◌, ℕ, List, [], length, slice_get, Some, All}
 use Rattle.std.specs.Global.{Vec}
 use Rattle.hm_log.specs.declared.why.OpenWhy.{OpenWhy}
 use Rattle.hm_log.specs.declared.why.OpenWhy.TheVariants as log_why_is
@@ -11,8 +11,10 @@ use Rattle.hm_entry.specs.Spelling.{entry as spelling}
 use Rattle.hm_entry.specs.declared.fault.EntryFault.{EntryFault}
 use Rattle.hm_entry.specs.declared.fault.EntryFault.TheVariants as entry_fault_is
 use Rattle.hm_model.specs.Journal.{back}
-use Rattle.hm_model.specs.Rules.{Breaks}
-use Rattle.hm_journal.specs.Stored.{IsJournal, frames_of, opened}
+use Rattle.hm_model.specs.Rules.{Breaks, IsLegal}
+use Rattle.hm_model.specs.Sheets.{sheets_of}
+use Rattle.hm_state.specs.State.{IsUnrefused}
+use Rattle.hm_journal.specs.Stored.{IsJournal, SameSheets, frames_of, opened}
 use Rattle.hm_journal.specs.Verdict.{FailsAt, IsNoEntry, IsNoJournal}
 use Rattle.hm_journal.specs.View.{entries_in}
 use Rattle.hm_journal.specs.declared.why.JournalWhy.{JournalWhy}
@@ -41,6 +43,12 @@ pub record Spells (frames : List (List ℕ)) (entries : List Entry) : Type 0 whe
   pub are : frames_of entries ≡ frames
   pub fits : All EntryFits entries
 
+-- these entries are a legal journal that has begun, and has the same sheet of each kind as these
+pub record IsBegun (sheets : List Sheet) (entries : List Entry) : Type 0 where
+  pub legal : IsLegal (back entries)
+  pub some : back entries ≢ []
+  pub begins : SameSheets sheets (sheets_of (back entries))
+
 -- why no entry was read from the frame of this number: it spells none, or memory ran out
 abbrev pub IsBadFrom : List (List ℕ) → ℕ → JournalWhy → Type 0
 IsBadFrom frames number why_is.Fault = ⊥
@@ -51,7 +59,7 @@ IsBadFrom frames number (why_is.Illegal bad rule) = ⊥
 IsBadFrom frames number (why_is.SheetsDiffer kind) = ⊥
 IsBadFrom frames number why_is.Memory = Unit {0}
 
--- why an entry isn't added behind these
+-- why an entry isn't added behind these. Memory ran out only where no rule but that of its evaluation refuses it.
 abbrev pub IsNotAdded : List Entry → Entry → JournalWhy → Type 0
 IsNotAdded entries entry why_is.Fault = ⊥
 IsNotAdded entries entry (why_is.NotALog place) = ⊥
@@ -59,7 +67,7 @@ IsNotAdded entries entry (why_is.BadFrame place) = ⊥
 IsNotAdded entries entry (why_is.BadEntry number at) = ⊥
 IsNotAdded entries entry (why_is.Illegal number rule) = (number ≡ length entries) × Breaks (back entries) entry rule
 IsNotAdded entries entry (why_is.SheetsDiffer kind) = ⊥
-IsNotAdded entries entry why_is.Memory = Unit {0}
+IsNotAdded entries entry why_is.Memory = IsUnrefused (back entries) entry
 
 -- why the entry of a frame isn't added behind these
 abbrev pub IsNotAddedFrom : List Entry → List (List ℕ) → ℕ → JournalWhy → Type 0

@@ -10,7 +10,7 @@ use Rattle.hm_entry.specs.Fits.{EntryFits}
 use Rattle.hm_entry.specs.Spelling.{entry as spelling}
 use Rattle.hm_model.specs.Journal.{back}
 use Rattle.hm_model.specs.Rules.{IsLegal}
-use Rattle.hm_model.specs.Sheets.{sheets_of}
+use Rattle.hm_model.specs.Sheets.{sheet_for, sheets_of}
 use Rattle.hm_hall.specs.Recording.{Recording}
 
 -- the frames of entries: their spellings
@@ -28,21 +28,32 @@ pub record IsOnDisk (sheets : List Sheet) (bytes : List ℕ) (journal : List Ent
   pub opens : HoldsFrames bytes (frames_of journal)
   pub is : IsJournal sheets journal
 
+-- each kind has the same sheet in both
+abbrev pub SameSheets : List Sheet → List Sheet → Type 0
+SameSheets one other = (kind : ℕ) → kind < 256 → sheet_for one kind ≡ sheet_for other kind
+
+-- the same where the journal began with others that have the same sheet of each kind
+abbrev pub IsJournalByKind : List Sheet → List Entry → Type 0
+IsJournalByKind sheets journal = (own : List Sheet) × SameSheets sheets own × IsJournal own journal
+
+abbrev pub IsOnDiskByKind : List Sheet → List ℕ → List Entry → Type 0
+IsOnDiskByKind sheets bytes journal = HoldsFrames bytes (frames_of journal) × IsJournalByKind sheets journal
+
 -- a journal opened: a new one gets its first entry
 abbrev pub opened : List Sheet → List Entry → List Entry
 opened sheets [] = entry_is.Start sheets ∷ []
 opened sheets (entry ∷ journal) = entry ∷ journal
 
 -- the bytes are a log of this journal, or, where it has no entry, of its first
-abbrev pub Keeps : List Sheet → List Entry → List ℕ → Type 0
-Keeps sheets journal bytes = Reads bytes (frames_of journal) ⊎ Reads bytes (frames_of (opened sheets journal))
+abbrev pub HoldsJournal : List Sheet → List Entry → List ℕ → Type 0
+HoldsJournal sheets journal bytes = Reads bytes (frames_of journal) ⊎ Reads bytes (frames_of (opened sheets journal))
 
 -- A log that held a journal still reads as that journal, to which one without entries may have got its first, and where
 -- it had no other image so do all. Nothing is said of a disk of size 0.
 abbrev pub Spares : List Sheet → (seen : List ℕ) (before : List ℕ → Type 0) (now : List ℕ) (after : List ℕ → Type 0) → Type 0
 Spares sheets seen before now after =
     (journal : List Entry) → 0 < length seen → IsOnDisk sheets seen journal
-    → Keeps sheets journal now × (Only seen before → (bytes : List ℕ) → after bytes → Keeps sheets journal bytes)
+    → HoldsJournal sheets journal now × (Only seen before → (bytes : List ℕ) → after bytes → HoldsJournal sheets journal bytes)
 
 -- it reads as it did, or it was a log and each image is one with the same frames
 abbrev pub SameFrames : (before after : List ℕ) (image : List ℕ → Type 0) → Type 0

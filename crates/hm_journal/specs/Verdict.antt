@@ -1,5 +1,5 @@
 -- Why bytes hold no journal of some sheets.
-use Rattle.std.specs.Prelude.{◌≡◌, ◌≢◌, ◌⊎◌, ℕ, List, [], ◌∷◌, take, slice_get, Some, Result, Ok, Err, All}
+use Rattle.std.specs.Prelude.{◌≡◌, ◌≢◌, ◌⊎◌, ◌<◌, ℕ, List, ◌∷◌, take, slice_get, Some, Result, Ok, Err, All}
 use Rattle.hm_log.specs.Format.{HoldsFrames, IsNotALog, IsBadFrame}
 use Rattle.hm_data.specs.declared.entry.Entry.{Entry}
 use Rattle.hm_data.specs.declared.entry.Entry.TheVariants as entry_is
@@ -10,8 +10,8 @@ use Rattle.hm_entry.specs.declared.fault.EntryFault.{EntryFault}
 use Rattle.hm_entry.specs.declared.fault.EntryFault.TheVariants as entry_fault_is
 use Rattle.hm_model.specs.Journal.{back}
 use Rattle.hm_model.specs.Rules.{AreSheets, Breaks, IsLegal}
-use Rattle.hm_model.specs.Sheets.{sheets_of}
-use Rattle.hm_journal.specs.Stored.{frames_of}
+use Rattle.hm_model.specs.Sheets.{sheet_for, sheets_of}
+use Rattle.hm_journal.specs.Stored.{SameSheets, frames_of}
 use Rattle.hm_journal.specs.declared.why.JournalWhy.{JournalWhy}
 use Rattle.hm_journal.specs.declared.why.JournalWhy.TheVariants as why_is
 
@@ -38,31 +38,31 @@ pub record IsSpelledOn (bytes : List ℕ) (entries : List Entry) : Type 0 where
   pub fits : All EntryFits entries
 
 -- The entry of this number is the first that may not stand where it does, and this is the lowest rule that it breaks.
--- Where it isn't the first entry, the journal begins with these sheets.
+-- Where it isn't the first entry, the journal begins with these sheets, kind by kind.
 pub record IsFirstIllegal (sheets : List Sheet) (entries : List Entry) (number rule : ℕ) : Type 0 where
   pub entry : Entry
   pub there : slice_get entries number ≡ Some entry
   pub legal : IsLegal (back (take number entries))
-  pub begins : number ≢ 0 → sheets_of (back (take number entries)) ≡ sheets
+  pub begins : number ≢ 0 → SameSheets sheets (sheets_of (back (take number entries)))
   pub breaks : Breaks (back (take number entries)) entry rule
 
--- the first of the sheets that differ has this kind
-abbrev pub IsFirstDifference : List Sheet → List Sheet → ℕ → Type 0
-IsFirstDifference [] others kind = ⊥
-IsFirstDifference (sheet ∷ sheets) [] kind = ⊥
-IsFirstDifference (sheet ∷ sheets) (other ∷ others) kind =
-    ((sheet ≢ other) × (kind ≡ sheet.kind)) ⊎ ((sheet ≡ other) × IsFirstDifference sheets others kind)
+-- the kind is the lowest whose sheets differ
+pub record IsLowestDifference (sheets others : List Sheet) (kind : ℕ) : Type 0 where
+  pub is_kind : kind < 256
+  pub differs : sheet_for sheets kind ≢ sheet_for others kind
+  pub lower : (other : ℕ) → other < kind → sheet_for sheets other ≡ sheet_for others other
 
--- the first entry may stand there, and its sheets differ from these, first in this kind
+-- the first entry may stand there, and its sheets differ from these, lowest in this kind
 pub record HasOthers (sheets : List Sheet) (entries : List Entry) (kind : ℕ) : Type 0 where
   pub own : List Sheet
   pub more : List Entry
   pub starts : entries ≡ entry_is.Start own ∷ more
   pub valid : AreSheets own
-  pub differs : IsFirstDifference sheets own kind
+  pub differs : IsLowestDifference sheets own kind
 
 -- Why the bytes hold no journal of these sheets. The frames are judged first, then each as the spelling of an entry,
--- then the first entry, then its sheets, then the others in order.
+-- then the first entry, then its sheets, then the others in order. Memory may run out in reading a log, so only of bytes
+-- that aren't refused before that.
 abbrev pub Refuses : List Sheet → List ℕ → JournalWhy → Type 0
 Refuses sheets bytes why_is.Fault = Unit {0}
 Refuses sheets bytes (why_is.NotALog place) = IsNotALog bytes place
@@ -70,7 +70,7 @@ Refuses sheets bytes (why_is.BadFrame place) = IsBadFrame bytes place
 Refuses sheets bytes (why_is.BadEntry number at) = (frames : List (List ℕ)) × HoldsFrames bytes frames × IsFirstBad frames number at
 Refuses sheets bytes (why_is.Illegal number rule) = (entries : List Entry) × IsSpelledOn bytes entries × IsFirstIllegal sheets entries number rule
 Refuses sheets bytes (why_is.SheetsDiffer kind) = (entries : List Entry) × IsSpelledOn bytes entries × HasOthers sheets entries kind
-Refuses sheets bytes why_is.Memory = Unit {0}
+Refuses sheets bytes why_is.Memory = (place : ℕ) → IsNotALog bytes place → ⊥
 
 -- nothing was refused: the device failed, or memory ran out
 abbrev pub IsUnjudged : JournalWhy → Type 0

@@ -1,16 +1,17 @@
 //! A journal that is open.
-ghost use Rattle.std.specs.Prelude.{◌≡◌, ◌≢◌, ◌+◌, ◌<◌, ◌≤◌, ◌++◌, ◌∷◌, [], length, nat_le, vec_len, vec_capacity, All, MatchResult, OnOk, OnErr, IsErrOf, Some, None};
+ghost use Rattle.std.specs.Prelude.{◌≡◌, ◌≢◌, ◌+◌, ◌^◌, ◌<◌, ◌≤◌, ◌++◌, ◌∷◌, [], length, nat_le, vec_len, vec_capacity, All, MatchResult, OnOk, OnErr, IsErrOf, IsTrue, ◌⊎◌, Some, None, false};
 ghost use Rattle.hm_ports.specs.Faults.{Rose};
-ghost use Rattle.hm_disk.specs.Disk.{LeavesOnly, Rises};
-ghost use Rattle.hm_log.specs.Format.{BeforeOrAfter};
 ghost use Rattle.hm_data.specs.declared.entry.Entry.{Entry as EntryValue};
 ghost use Rattle.hm_entry.specs.Fits.{EntryFits};
 ghost use Rattle.hm_entry.specs.Spelling.{entry as spelling};
 ghost use Rattle.hm_hall.specs.declared.fault.Halt.TheVariants as halt_is;
-ghost use Rattle.hm_hall.specs.Recording.{CanBeRecorded, Records, bytes_of, full_at, with_next};
-ghost use Rattle.hm_journal.specs.Stored.{AllStored, IsStored, frames_of};
+ghost use Rattle.hm_hall.specs.Recording.{CanBeRecorded, Accepts, Passes, Records, bytes_of, full_at, with_next};
+ghost use Rattle.hm_journal.specs.Stored.{AllStored, IsStored};
+ghost use Rattle.hm_journal.specs.Since.{Since};
 
 use crate::limits::Limits;
+use crate::next::Next;
+use crate::opened::Opening;
 use hm_data::Entry;
 use hm_disk::Disk;
 use hm_entry::{encode_into, length};
@@ -26,39 +27,59 @@ pub struct Journal<D: Disk> {
     pub(crate) frames: Vec<Vec<u8>>,
     // The size of a log of the frames, which the log itself tells only while it isn't stalled.
     pub(crate) bytes: u64,
-    pub(crate) next: Option<Vec<u8>>,
+    pub(crate) next: Option<Next>,
     pub(crate) tail: Option<Vec<u8>>,
     pub(crate) halted: Option<Halt>,
     pub(crate) limits: Limits,
+    // For proofs alone.
+    pub(crate) opened: Opening<D>,
 }
 
 impl<D: Disk> Model for Journal<D> {
     ghost use Rattle.std.specs.Prelude.{vec_len, vec_capacity};
-    ghost use Rattle.hm_journal.specs.View.{JournalView, IsSound, kept_of};
+    ghost use Rattle.hm_journal.specs.View.{JournalView, IsWellKept, entries_in, entry_of, kept_of};
+    ghost use Rattle.hm_journal.specs.Since.{Since};
 
     ghost Value = { JournalView D };
 
-    ghost view = { λ a. record { disk = a.log.disk; kept = kept_of a.frames.items a.next a.tail a.halted a.limits } };
+    ghost view = { λ a. record { disk = a.log.disk; opened = a.opened; kept = kept_of a.frames.items a.next a.tail a.halted a.limits; room = vec_capacity a.frames } };
 
-    ghost invariant = { λ a. IsSound D.tells (D.image a.log.disk) a.log.frames a.log.bytes a.log.stalled a.next a.tail a.bytes (vec_len a.frames) (vec_capacity a.frames)
-        (kept_of a.frames.items a.next a.tail a.halted a.limits) };
+    ghost invariant = { λ a. IsWellKept D.tells (D.image a.log.disk) a.log.frames a.log.bytes a.log.stalled a.next a.tail a.bytes (vec_len a.frames) (vec_capacity a.frames)
+        (kept_of a.frames.items a.next a.tail a.halted a.limits)
+        × Since D.Disk a.opened a.log.disk (entries_in a.frames.items) (entry_of a.tail) a.halted };
 }
 
 impl<D: Disk> Journal<D> {
-    /// Makes an entry ready to be recorded, in place of one that was. It takes the memory that recording needs.
+    /// Makes an entry ready to be recorded, in place of one that was. It takes the memory that recording needs: none for
+    /// an entry that will be refused.
     pub fn ready(&mut self, alloc: Global, entry: &Entry) -> Result<(), AllocError>
         requires { CanBeRecorded entry.now }
         ensures kept { MatchResult result
             (λ _. self.new.kept ≡ with_next self.old.kept entry.now)
-            (λ _. self.new ≡ self.old) }
+            (λ _. self.new.kept ≡ self.old.kept) }
+        ensures last { OnErr result (Accepts self.old.kept entry.now) }
         ensures disk { self.new.disk ≡ self.old.disk }
-        ensures fits { OnOk result (EntryFits entry.now) }
+        ensures opened { self.new.opened ≡ self.old.opened }
     {
+        if self.will_refuse(entry) {
+            self.next = Some(Next::refused(entry));
+            return Ok(());
+        }
         self.frames.reserve(1)?;
         let mut frame = Vec::with_capacity(alloc, length(entry) as usize)?;
         encode_into(entry, &mut frame);
-        self.next = Some(frame);
+        self.next = Some(Next::framed(entry, frame));
         Ok(())
+    }
+
+    // Whether the journal is halted, or the entry would pass the hard mark.
+    fn will_refuse(&self, entry: &Entry) -> bool
+        requires { CanBeRecorded entry.now }
+        ensures refused { IsTrue result → (self.now.kept.halted ≢ None) ⊎ Passes self.now.kept.hard self.now.kept.entries entry.now }
+        ensures accepted { result ≡ false → Accepts self.now.kept entry.now }
+        ensures small { result ≡ false → bytes_of self.now.kept.entries + length (spelling entry.now) + 5 < 2 ^ 64 }
+    {
+        self.halted.is_some() || !fits(self.bytes, length(entry) as usize, self.limits.hard)
     }
 
     /// Records the entry that is ready, and gives its number. It takes no memory. At `Ok` the entry is on the disk. Behind
@@ -71,30 +92,24 @@ impl<D: Disk> Journal<D> {
             Records self.old.kept entry result self.new.kept }
         ensures fault { IsErrOf result RecordFault.LogFault → Rose (D.faults self.old.disk) (D.faults self.new.disk) }
 
-        // What a stop at any moment of it leaves.
-        ensures any_moment { D.tells → (entry : EntryValue) → self.old.kept.next ≡ Some entry → self.old.kept.halted ≡ None →
-            LeavesOnly D.moment D.left_since self.old.disk self.new.disk (BeforeOrAfter (frames_of self.old.kept.entries) (spelling entry)) }
         ensures quiet { self.old.kept.halted ≢ None → self.new ≡ self.old }
 
-        // The disk's counts and its setting.
         ensures faults { D.faults self.old.disk ≤ D.faults self.new.disk }
-        ensures changes { OnOk result (Rises 2 (D.changes self.old.disk) (D.changes self.new.disk)) }
-        ensures fewer { (D.changes self.old.disk ≤ D.changes self.new.disk)
-            × (D.changes self.new.disk ≤ D.changes self.old.disk + 2) }
         ensures unwritten { OnErr result (self.new.kept.halted ≢ Some halt_is.LogFault → self.new.disk ≡ self.old.disk) }
-        ensures setting { D.setting self.new.disk ≡ D.setting self.old.disk }
+        ensures opened { self.new.opened ≡ self.old.opened }
+        ensures room { self.new.room ≡ self.old.room }
     {
         if let Some(why) = self.halted {
             return Err(RecordFault::Halted(why));
         }
-        let Some(frame) = self.next.take() else {
+        let Some(next) = self.next.take() else {
             unreachable!();
         };
-        let bytes = self.bytes;
-        if !fits(bytes, frame.len(), self.limits.hard) {
+        let Some(frame) = next.into_frame() else {
+            let bytes = self.bytes;
             self.halted = Some(Halt::JournalFull(bytes));
             return Err(RecordFault::JournalFull(bytes));
-        }
+        };
         if self.log.append(&frame).is_err() {
             self.tail = Some(frame);
             self.halted = Some(Halt::LogFault);
@@ -102,7 +117,7 @@ impl<D: Disk> Journal<D> {
         }
         let number = self.frames.len() as u64;
         self.bytes += frame.len() as u64 + 5;
-        put(&mut self.frames, frame);
+        self.frames.push_reserved(frame);
         Ok(number)
     }
 
@@ -131,6 +146,7 @@ impl<D: Disk> Journal<D> {
         ensures count { result ≡ length self.now.kept.entries }
         ensures fits { All EntryFits self.now.kept.entries }
         ensures stored { D.tells → AllStored (D.image self.now.disk) self.now.kept }
+        ensures since { Since D.Disk self.now.opened self.now.disk self.now.kept.entries self.now.kept.tail self.now.kept.halted }
     {
         self.frames.len() as u64
     }
@@ -147,6 +163,7 @@ impl<D: Disk> Journal<D> {
         ensures disk { result ≡ self.disk }
         ensures reads { D.tells → IsStored self.kept (D.seen result) }
         ensures stored { D.tells → AllStored (D.image result) self.kept }
+        ensures since { Since D.Disk self.opened result self.kept.entries self.kept.tail self.kept.halted }
     {
         let Journal {
             log,
@@ -156,6 +173,7 @@ impl<D: Disk> Journal<D> {
             tail: _,
             halted: _,
             limits: _,
+            opened: _,
         } = self;
         log.into_disk()
     }
@@ -168,19 +186,16 @@ fn fits(bytes: u64, length: usize, hard: u64) -> bool
     u128::from(bytes) + length as u128 + 5 <= u128::from(hard)
 }
 
-// Adds a frame, for which there is room.
-fn put(frames: &mut Vec<Vec<u8>>, frame: Vec<u8>)
-    requires { vec_len frames.old < vec_capacity frames.old }
-    ensures items { frames.new.items ≡ frames.old.items ++ frame ∷ [] }
-    ensures len { vec_len frames.new ≡ vec_len frames.old + 1 }
-{
-    let _ = frames.push(frame);
-}
-
 impl<D: Disk> Recorder for Journal<D> {
+    type Opened = Opening<D>;
+
     ghost kept = { λ journal. journal.kept };
 
     ghost faults = { λ journal. D.faults journal.disk };
+
+    ghost opened = { λ journal. journal.opened };
+
+    ghost room = { λ journal. journal.room };
 
     fn ready(&mut self, alloc: Global, entry: &Entry) -> Result<(), AllocError> {
         Journal::ready(self, alloc, entry)

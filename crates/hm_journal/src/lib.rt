@@ -4,6 +4,8 @@
 mod journal;
 mod laws;
 mod limits;
+mod next;
+mod opened;
 mod opening;
 mod reading;
 mod sheets;
@@ -12,4 +14,5 @@ mod why;
 pub use journal::Journal;
 pub use laws::entries_fit_frames;
 pub use limits::Limits;
+pub use opened::Opening;
 pub use why::JournalWhy;

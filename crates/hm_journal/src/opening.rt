@@ -1,22 +1,24 @@
 //! Opens a disk as a journal.
 ghost use Rattle.std.specs.Prelude.{◌≡◌, ◌≢◌, ◌⊎◌, ◌<◌, ◌≤◌, ◌+◌, List, ℕ, [], ◌∷◌, length, IsErrOf, IfOk, IfErr, OnOk, OnErr, MatchResult, All, None, false};
 ghost use Rattle.hm_ports.specs.Faults.{Rose};
+ghost use Rattle.hm_disk.specs.Called.{IsCalled};
 ghost use Rattle.hm_disk.specs.Disk.{LeavesOnly, Only, Settles};
-ghost use Rattle.hm_log.specs.Format.{BeforeOrAfter, HoldsFrames, Reads, size_with};
-ghost use Rattle.hm_log.specs.Opening.{IsMaking, IsUntouched, Reopens};
+ghost use Rattle.hm_log.specs.Format.{HoldsFrames, Reads, size_with};
+ghost use Rattle.hm_log.specs.Opening.{IsMaking, OnlyReads, Reopens};
 ghost use Rattle.hm_data.specs.declared.entry.Entry.{Entry as EntryValue};
 ghost use Rattle.hm_data.specs.declared.sheet.Sheet.{Sheet as SheetValue};
 ghost use Rattle.hm_entry.specs.Fits.{EntryFits};
-ghost use Rattle.hm_entry.specs.Spelling.{entry as spelling};
 ghost use Rattle.hm_model.specs.Rules.{AreSheets};
 ghost use Rattle.hm_hall.specs.Recording.{with_next};
-ghost use Rattle.hm_journal.specs.Stored.{IsJournal, IsOnDisk, Keeps, Spares, SameFrames, GetsFirst, IsOpening, frames_of, opened};
+ghost use Rattle.hm_journal.specs.Stored.{IsJournal, IsOnDisk, IsOnDiskByKind, HoldsJournal, Spares, SameFrames, GetsFirst, IsOpening, frames_of, opened};
+ghost use Rattle.hm_journal.specs.Since.{Began, IsUnbegun};
 ghost use Rattle.hm_journal.specs.Judged.{IsNoJournalIn, of_log};
 ghost use Rattle.hm_journal.specs.Verdict.{Refuses, IsUnjudged};
 ghost use Rattle.hm_journal.specs.View.{entries_in, kept_of};
 
 use crate::journal::Journal;
 use crate::limits::Limits;
+use crate::opened::Opening;
 use crate::reading::{count_entries, find_journal};
 use crate::sheets::copy_sheets;
 use crate::why::JournalWhy;
@@ -56,8 +58,10 @@ fn journal_of<D: Disk>(log: Log<D>, frames: Vec<Vec<u8>>, limits: Limits) -> Jou
     requires durable { D.tells → (c : List ℕ) → D.image log.disk c → Reads c (frames_of (entries_in frames.items)) }
     ensures disk { result.disk ≡ log.disk }
     ensures kept { result.kept ≡ kept_of frames.items None None None limits }
+    ensures opened { result.opened ≡ record { disk = log.disk; count = length (entries_in frames.items) } }
 {
     let bytes = log.bytes();
+    let opened = Opening::new(log.anchor(), frames.len() as u64);
     Journal {
         log,
         frames,
@@ -66,6 +70,7 @@ fn journal_of<D: Disk>(log: Log<D>, frames: Vec<Vec<u8>>, limits: Limits) -> Jou
         tail: None,
         halted: None,
         limits,
+        opened,
     }
 }
 
@@ -78,6 +83,8 @@ fn ready_start<D: Disk>(
     requires { AreSheets sheets.now }
     ensures kept { OnOk result (journal.new.kept ≡ with_next journal.old.kept (Entry.Start sheets.now)) }
     ensures disk { journal.new.disk ≡ journal.old.disk }
+    ensures opened { journal.new.opened ≡ journal.old.opened }
+    ensures err { OnErr result (journal.new.kept ≡ journal.old.kept) }
 {
     let start = start_entry(alloc, sheets)?;
     let ready = journal.ready(alloc, &start);
@@ -95,15 +102,13 @@ fn record_start<D: Disk>(
     requires hard { 65551 ≤ journal.old.kept.hard }
     requires empty { journal.old.kept.entries ≡ [] }
     requires live { journal.old.kept.halted ≡ None }
-    requires durable { D.tells → (c : List ℕ) → D.image journal.old.disk c → Reads c [] }
+    requires whole { journal.old.kept.tail ≡ None }
     ensures kept { OnOk result (journal.new.kept ≡ record journal.old.kept { entries = Entry.Start sheets.now ∷ []; next = None }) }
     ensures why { IfErr result IsUnjudged }
     ensures untaken { IfErr result (λ why. why ≢ JournalWhy.Fault → journal.new.disk ≡ journal.old.disk) }
     ensures fault { IsErrOf result JournalWhy.Fault → Rose (D.faults journal.old.disk) (D.faults journal.new.disk) }
-    ensures any_moment { D.tells → LeavesOnly D.moment D.left_since journal.old.disk journal.new.disk (BeforeOrAfter [] (spelling (Entry.Start sheets.now))) }
-    ensures faults { D.faults journal.old.disk ≤ D.faults journal.new.disk }
-    ensures changes { (D.changes journal.old.disk ≤ D.changes journal.new.disk) × (D.changes journal.new.disk ≤ D.changes journal.old.disk + 2) }
-    ensures setting { D.setting journal.new.disk ≡ D.setting journal.old.disk }
+    ensures opened { journal.new.opened ≡ journal.old.opened }
+    ensures err { OnErr result (IsUnbegun (Entry.Start sheets.now) journal.new.kept) }
 {
     ready_start(alloc, journal, sheets)?;
     match journal.record_entry() {
@@ -122,19 +127,14 @@ fn start<D: Disk>(
     requires hard { 65551 ≤ journal.kept.hard }
     requires empty { journal.kept.entries ≡ [] }
     requires live { journal.kept.halted ≡ None }
-    requires durable { D.tells → (c : List ℕ) → D.image journal.disk c → Reads c [] }
+    requires whole { journal.kept.tail ≡ None }
+    requires here { journal.opened ≡ record { disk = journal.disk; count = 0 } }
     ensures kept { IfOk result (λ started. started.kept ≡ record journal.kept { entries = Entry.Start sheets.now ∷ []; next = None }) }
     ensures why { IfErr result (λ e. IsUnjudged e.1) }
     ensures untaken { IfErr result (λ e. e.1 ≢ JournalWhy.Fault → e.0 ≡ journal.disk) }
     ensures fault { IfErr result (λ e. e.1 ≡ JournalWhy.Fault → Rose (D.faults journal.disk) (D.faults e.0)) }
-    ensures any_moment { D.tells → MatchResult result
-        (λ started. LeavesOnly D.moment D.left_since journal.disk started.disk (BeforeOrAfter [] (spelling (Entry.Start sheets.now))))
-        (λ e. LeavesOnly D.moment D.left_since journal.disk e.0 (BeforeOrAfter [] (spelling (Entry.Start sheets.now)))) }
-    ensures faults { MatchResult result (λ started. D.faults journal.disk ≤ D.faults started.disk) (λ e. D.faults journal.disk ≤ D.faults e.0) }
-    ensures changes { MatchResult result
-        (λ started. (D.changes journal.disk ≤ D.changes started.disk) × (D.changes started.disk ≤ D.changes journal.disk + 2))
-        (λ e. (D.changes journal.disk ≤ D.changes e.0) × (D.changes e.0 ≤ D.changes journal.disk + 2)) }
-    ensures setting { MatchResult result (λ started. D.setting started.disk ≡ D.setting journal.disk) (λ e. D.setting e.0 ≡ D.setting journal.disk) }
+    ensures opened { IfOk result (λ started. started.opened ≡ journal.opened) }
+    ensures began { IfErr result (λ e. Began D.Disk (Entry.Start sheets.now) journal.disk e.0) }
 {
     let mut journal = journal;
     match record_start(alloc, &mut journal, sheets) {
@@ -159,11 +159,7 @@ fn open_log<D: Disk>(alloc: Global, disk: D) -> Result<(Log<D>, Frames), (D, Jou
     ensures spared { D.tells → IfErr result (λ e. (frames : List (List ℕ)) → 0 < length (D.seen disk) → Only (D.seen disk) (D.image disk) → HoldsFrames (D.seen disk) frames
         → (c : List ℕ) → D.image e.0 c → Reads c frames) }
     ensures any_moment { D.tells → IfErr result (λ e. LeavesOnly D.moment D.left_since disk e.0 (λ c. D.image disk c ⊎ Reopens (D.seen disk) c)) }
-    ensures faults { MatchResult result (λ r. D.faults disk ≤ D.faults r.0.disk) (λ e. D.faults disk ≤ D.faults e.0) }
-    ensures changes { MatchResult result
-        (λ r. (D.changes disk ≤ D.changes r.0.disk) × (D.changes r.0.disk ≤ D.changes disk + 1))
-        (λ e. (D.changes disk ≤ D.changes e.0) × (D.changes e.0 ≤ D.changes disk + 1)) }
-    ensures setting { MatchResult result (λ r. D.setting r.0.disk ≡ D.setting disk) (λ e. D.setting e.0 ≡ D.setting disk) }
+    ensures called { MatchResult result (λ r. IsCalled D.Disk 1 disk r.0.disk) (λ e. IsCalled D.Disk 1 disk e.0) }
 {
     match Log::open(alloc, disk) {
         Ok(opened) => Ok(opened),
@@ -182,7 +178,8 @@ fn begin<D: Disk>(
     requires hard { 65551 ≤ journal.kept.hard }
     requires next { journal.kept.next ≡ None }
     requires live { journal.kept.halted ≡ None }
-    requires durable { D.tells → (c : List ℕ) → D.image journal.disk c → Reads c (frames_of journal.kept.entries) }
+    requires whole { journal.kept.tail ≡ None }
+    requires here { journal.opened ≡ record { disk = journal.disk; count = length journal.kept.entries } }
     requires state { state.entries ≡ opened sheets.now journal.kept.entries }
     ensures kept { IfOk result (λ r. r.0.kept ≡ record journal.kept { entries = opened sheets.now journal.kept.entries }) }
     ensures state { IfOk result (λ r. r.1.entries ≡ opened sheets.now journal.kept.entries) }
@@ -190,14 +187,8 @@ fn begin<D: Disk>(
     ensures why { IfErr result (λ e. IsUnjudged e.1) }
     ensures untaken { IfErr result (λ e. e.1 ≢ JournalWhy.Fault → e.0 ≡ journal.disk) }
     ensures fault { IfErr result (λ e. e.1 ≡ JournalWhy.Fault → Rose (D.faults journal.disk) (D.faults e.0)) }
-    ensures any_moment { D.tells → MatchResult result
-        (λ r. LeavesOnly D.moment D.left_since journal.disk r.0.disk (Keeps sheets.now journal.kept.entries))
-        (λ e. LeavesOnly D.moment D.left_since journal.disk e.0 (Keeps sheets.now journal.kept.entries)) }
-    ensures faults { MatchResult result (λ r. D.faults journal.disk ≤ D.faults r.0.disk) (λ e. D.faults journal.disk ≤ D.faults e.0) }
-    ensures changes { MatchResult result
-        (λ r. (D.changes journal.disk ≤ D.changes r.0.disk) × (D.changes r.0.disk ≤ D.changes journal.disk + 2))
-        (λ e. (D.changes journal.disk ≤ D.changes e.0) × (D.changes e.0 ≤ D.changes journal.disk + 2)) }
-    ensures setting { MatchResult result (λ r. D.setting r.0.disk ≡ D.setting journal.disk) (λ e. D.setting e.0 ≡ D.setting journal.disk) }
+    ensures opened { IfOk result (λ r. r.0.opened ≡ journal.opened) }
+    ensures began { IfErr result (λ e. Began D.Disk (Entry.Start sheets.now) journal.disk e.0) }
 {
     if journal.durable() > 0 {
         return Ok((journal, state));
@@ -223,20 +214,16 @@ fn of_frames<D: Disk>(
     requires logged { D.tells → log.frames ≡ frames }
     requires durable { D.tells → (c : List ℕ) → D.image log.disk c → Reads c frames }
     ensures journal { IfOk result (λ r. (old : List EntryValue) × IsJournal sheets.now old × (frames_of old ≡ frames) × (r.0.kept.entries ≡ opened sheets.now old)
-        × (D.tells → LeavesOnly D.moment D.left_since log.disk r.0.disk (Keeps sheets.now old))) }
+        × (r.0.opened ≡ record { disk = log.disk; count = length old })) }
     ensures state { IfOk result (λ r. r.1.entries ≡ r.0.kept.entries) }
     ensures fresh { IfOk result (λ r. (r.0.kept.next ≡ None) × (r.0.kept.tail ≡ None) × (r.0.kept.halted ≡ None)) }
     ensures limits { IfOk result (λ r. (r.0.kept.soft ≡ limits.soft) × (r.0.kept.hard ≡ limits.hard)) }
     ensures why { IfErr result (λ e. IsUnjudged e.1 ⊎ IsNoJournalIn sheets.now frames e.1) }
     ensures fault { IfErr result (λ e. e.1 ≡ JournalWhy.Fault → Rose (D.faults log.disk) (D.faults e.0)) }
     ensures same { D.tells → IfErr result (λ e. e.1 ≢ JournalWhy.Fault → (c : List ℕ) → D.image e.0 c → Reads c frames) }
-    ensures spared { D.tells → IfErr result (λ e. (journal : List EntryValue) → frames_of journal ≡ frames → (c : List ℕ) → D.image e.0 c → Keeps sheets.now journal c) }
+    ensures spared { D.tells → IfErr result (λ e. (journal : List EntryValue) → frames_of journal ≡ frames → (c : List ℕ) → D.image e.0 c → HoldsJournal sheets.now journal c) }
     ensures any_moment { D.tells → IfErr result (λ e. LeavesOnly D.moment D.left_since log.disk e.0 (λ c. Reads c frames ⊎ GetsFirst sheets.now frames c)) }
-    ensures faults { MatchResult result (λ r. D.faults log.disk ≤ D.faults r.0.disk) (λ e. D.faults log.disk ≤ D.faults e.0) }
-    ensures changes { MatchResult result
-        (λ r. (D.changes log.disk ≤ D.changes r.0.disk) × (D.changes r.0.disk ≤ D.changes log.disk + 2))
-        (λ e. (D.changes log.disk ≤ D.changes e.0) × (D.changes e.0 ≤ D.changes log.disk + 2)) }
-    ensures setting { MatchResult result (λ r. D.setting r.0.disk ≡ D.setting log.disk) (λ e. D.setting e.0 ≡ D.setting log.disk) }
+    ensures called { IfErr result (λ e. IsCalled D.Disk 2 log.disk e.0) }
 {
     match find_journal(alloc, frames, sheets) {
         Ok((frames, state)) => begin(alloc, journal_of(log, frames, limits), state, sheets),
@@ -259,8 +246,8 @@ impl<D: Disk> Journal<D> {
 
         // What it gives.
         ensures journal { IfOk result (λ r. (old : List EntryValue) × IsJournal sheets.now old × (r.0.kept.entries ≡ opened sheets.now old)
-            × (D.tells → IsOnDisk sheets.now (D.seen disk) old
-            × Settles D.moment D.left_since disk r.0.disk (λ c. D.image disk c ⊎ IsMaking (D.seen disk) c) (Keeps sheets.now old))) }
+            × (r.0.opened.count ≡ length old) × (D.tells → IsOnDisk sheets.now (D.seen disk) old
+            × Settles D.moment D.left_since disk r.0.opened.disk (λ c. D.image disk c ⊎ IsMaking (D.seen disk) c) (λ c. Reads c (frames_of old)))) }
         ensures state { IfOk result (λ r. r.1.entries ≡ r.0.kept.entries) }
         ensures fresh { IfOk result (λ r. (r.0.kept.next ≡ None) × (r.0.kept.tail ≡ None) × (r.0.kept.halted ≡ None)) }
         ensures limits { IfOk result (λ r. (r.0.kept.soft ≡ limits.soft) × (r.0.kept.hard ≡ limits.hard)) }
@@ -277,11 +264,7 @@ impl<D: Disk> Journal<D> {
         ensures any_moment { D.tells → IfErr result (λ e. LeavesOnly D.moment D.left_since disk e.0 (IsOpening sheets.now (D.seen disk) (D.image disk))) }
 
         // The disk's counts and its setting.
-        ensures faults { MatchResult result (λ r. D.faults disk ≤ D.faults r.0.disk) (λ e. D.faults disk ≤ D.faults e.0) }
-        ensures changes { MatchResult result
-            (λ r. (D.changes disk ≤ D.changes r.0.disk) × (D.changes r.0.disk ≤ D.changes disk + 3))
-            (λ e. (D.changes disk ≤ D.changes e.0) × (D.changes e.0 ≤ D.changes disk + 3)) }
-        ensures setting { MatchResult result (λ r. D.setting r.0.disk ≡ D.setting disk) (λ e. D.setting e.0 ≡ D.setting disk) }
+        ensures called { MatchResult result (λ r. IsCalled D.Disk 1 disk r.0.opened.disk) (λ e. IsCalled D.Disk 3 disk e.0) }
     {
         match open_log(alloc, disk) {
             Ok((log, frames)) => of_frames(alloc, log, frames, sheets, limits),
@@ -290,17 +273,14 @@ impl<D: Disk> Journal<D> {
     }
 
     /// Judges a disk as `open` does, and counts the entries of its journal. It only reads. A disk of size 0 holds none.
+    /// Any sheets may be given: the journal's are compared with them kind by kind.
     pub fn check(alloc: Global, disk: &mut D, sheets: &[Sheet]) -> Result<u64, JournalWhy>
-        requires { AreSheets sheets.now }
-        ensures count { D.tells → IfOk result (λ n. (journal : List EntryValue) × IsOnDisk sheets.now (D.seen disk.old) journal × (n ≡ length journal)) }
+        ensures count { D.tells → IfOk result (λ n. (journal : List EntryValue) × IsOnDiskByKind sheets.now (D.seen disk.old) journal × (n ≡ length journal)) }
         ensures why { D.tells → IfErr result (Refuses sheets.now (D.seen disk.old)) }
-        ensures exact { D.tells → (journal : List EntryValue) → IsOnDisk sheets.now (D.seen disk.old) journal →
+        ensures exact { D.tells → (journal : List EntryValue) → IsOnDiskByKind sheets.now (D.seen disk.old) journal →
             MatchResult result (λ n. n ≡ length journal) IsUnjudged }
         ensures fault { IsErrOf result JournalWhy.Fault → Rose (D.faults disk.old) (D.faults disk.new) }
-        ensures untouched { IsUntouched D.seen D.image D.changes disk.old disk.new }
-        ensures any_moment { LeavesOnly D.moment D.left_since disk.old disk.new (D.image disk.old) }
-        ensures faults { D.faults disk.old ≤ D.faults disk.new }
-        ensures setting { D.setting disk.new ≡ D.setting disk.old }
+        ensures only_reads { OnlyReads D.Disk disk.old disk.new }
     {
         match Log::scan(alloc, disk) {
             Ok(frames) => count_entries(alloc, &frames, sheets),

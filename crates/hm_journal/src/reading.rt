@@ -1,14 +1,14 @@
 //! Judges the frames of a log as a journal.
 ghost use Rattle.std.specs.Prelude.{◌≡◌, ◌<◌, [], ◌∷◌, ◌++◌, List, length, take, OnOk, IfOk, IfErr};
 ghost use Rattle.hm_data.specs.declared.entry.Entry.{Entry as EntryValue};
+ghost use Rattle.hm_data.specs.declared.sheet.Sheet.{Sheet as SheetValue};
 ghost use Rattle.hm_model.specs.Journal.{back};
-ghost use Rattle.hm_model.specs.Rules.{Allowed, AreSheets, IsLegal};
-ghost use Rattle.hm_model.specs.Sheets.{sheets_of};
-ghost use Rattle.hm_journal.specs.Stored.{IsJournal, frames_of, opened};
-ghost use Rattle.hm_journal.specs.Judged.{IsBadFrom, IsFound, IsNoJournalIn, IsNotAdded, IsNotAddedFrom, Spells, SpellsAt, bad_entry};
+ghost use Rattle.hm_model.specs.Rules.{Allowed, AreSheets};
+ghost use Rattle.hm_journal.specs.Stored.{IsJournal, IsJournalByKind, frames_of, opened};
+ghost use Rattle.hm_journal.specs.Judged.{IsBadFrom, IsBegun, IsFound, IsNoJournalIn, IsNotAdded, IsNotAddedFrom, Spells, SpellsAt, bad_entry};
 ghost use Rattle.hm_journal.specs.Verdict.{IsNoEntry, IsNoJournal};
 
-use crate::sheets::{are_sheets, copy_sheets, first_difference};
+use crate::sheets::{are_sheets, copy_sheets, lowest_difference};
 use crate::why::JournalWhy;
 use hm_data::{Entry, Sheet};
 use hm_entry::{EntryFault, decode};
@@ -41,7 +41,7 @@ fn read_entry(alloc: Global, frames: &Frames, number: u64) -> Result<Entry, Jour
     }
 }
 
-// Whether each frame spells an entry. None is kept: `judge` reads each anew, so that its state alone has them.
+// Whether each frame spells an entry. None is kept: `read_journal` reads each anew, so that its state alone has them.
 fn check_entries(alloc: Global, frames: &Frames) -> Result<(), JournalWhy>
     ensures entries { OnOk result ((entries : List EntryValue) × Spells frames.now entries) }
     ensures why { IfErr result (IsNoEntry frames.now) }
@@ -52,11 +52,10 @@ fn check_entries(alloc: Global, frames: &Frames) -> Result<(), JournalWhy>
     Ok(())
 }
 
-// The state of a journal that has this entry, if that starts one of these sheets.
-fn begin(alloc: Global, first: &Entry, sheets: &[Sheet]) -> Result<State, JournalWhy>
-    requires { AreSheets sheets.now }
-    ensures state { IfOk result (λ state. state.entries ≡ Entry.Start sheets.now ∷ []) }
-    ensures starts { OnOk result (first.now ≡ Entry.Start sheets.now) }
+// The state of a journal that has this entry alone, if that starts one that has the same sheet of each kind.
+fn state_with(alloc: Global, first: &Entry, sheets: &[Sheet]) -> Result<State, JournalWhy>
+    ensures state { IfOk result (λ state. state.entries ≡ first.now ∷ []) }
+    ensures begun { OnOk result (IsBegun sheets.now (first.now ∷ [])) }
     ensures why { IfErr result (λ why. (more : List EntryValue) → IsNoJournal sheets.now (first.now ∷ more) why) }
 {
     let Entry::Start { sheets: own } = first else {
@@ -65,14 +64,14 @@ fn begin(alloc: Global, first: &Entry, sheets: &[Sheet]) -> Result<State, Journa
     if !are_sheets(own.as_slice()) {
         return Err(JournalWhy::Illegal { number: 0, rule: 1 });
     }
-    if let Some(kind) = first_difference(sheets, own.as_slice()) {
+    if let Some(kind) = lowest_difference(sheets, own.as_slice()) {
         return Err(JournalWhy::SheetsDiffer(kind));
     }
     Ok(State::start(alloc, own.copy(alloc)?)?)
 }
 
 // Adds an entry, if it may stand behind those that are there.
-fn add(alloc: Global, state: &mut State, entry: &Entry) -> Result<(), JournalWhy>
+fn add_entry(alloc: Global, state: &mut State, entry: &Entry) -> Result<(), JournalWhy>
     ensures entries { OnOk result (state.new.entries ≡ state.old.entries ++ entry.now ∷ []) }
     ensures allowed { OnOk result (Allowed (back state.old.entries) entry.now) }
     ensures why { IfErr result (IsNotAdded state.old.entries entry.now) }
@@ -88,22 +87,21 @@ fn add(alloc: Global, state: &mut State, entry: &Entry) -> Result<(), JournalWhy
     Ok(())
 }
 
-// The state of a journal that has the entry of the first frame, if that starts one of these sheets.
-fn begin_frame(alloc: Global, frames: &Frames, sheets: &[Sheet]) -> Result<State, JournalWhy>
-    requires sheets { AreSheets sheets.now }
-    requires begun { 0 < length frames.now }
-    ensures state { IfOk result (λ state. state.entries ≡ Entry.Start sheets.now ∷ []) }
-    ensures starts { OnOk result (SpellsAt frames.now 0 (Entry.Start sheets.now)) }
+// The state of a journal that has the entry of the first frame alone, if that starts one that has the same sheet of each
+// kind.
+fn read_first(alloc: Global, frames: &Frames, sheets: &[Sheet]) -> Result<State, JournalWhy>
+    requires { 0 < length frames.now }
+    ensures first { IfOk result (λ state. (entry : EntryValue) × SpellsAt frames.now 0 entry × (state.entries ≡ entry ∷ []) × IsBegun sheets.now state.entries) }
     ensures why { (entries : List EntryValue) → Spells frames.now entries → IfErr result (IsNoJournal sheets.now entries) }
 {
     let first = read_entry(alloc, frames, 0)?;
-    let begun = begin(alloc, &first, sheets);
+    let state = state_with(alloc, &first, sheets);
     drop(first);
-    begun
+    state
 }
 
 // Adds the entry of the frame of this number, if it may stand behind those that are there.
-fn add_frame(
+fn read_next(
     alloc: Global,
     state: &mut State,
     frames: &Frames,
@@ -115,42 +113,40 @@ fn add_frame(
     ensures why { IfErr result (IsNotAddedFrom state.old.entries frames.now number) }
 {
     let entry = read_entry(alloc, frames, number)?;
-    let added = add(alloc, state, &entry);
+    let added = add_entry(alloc, state, &entry);
     drop(entry);
     added
 }
 
 // Adds the entries of the frames behind those of the entries that are there, if they may stand there.
-fn add_others(alloc: Global, state: &mut State, frames: &Frames) -> Result<(), JournalWhy>
+fn read_others(alloc: Global, state: &mut State, frames: &Frames) -> Result<(), JournalWhy>
     requires { Spells (take (length state.old.entries) frames.now) state.old.entries }
     ensures spelled { OnOk result (Spells frames.now state.new.entries) }
-    ensures legal { OnOk result (IsLegal (back state.new.entries)) }
-    ensures begins { OnOk result (sheets_of (back state.new.entries) ≡ sheets_of (back state.old.entries)) }
-    ensures why { (entries : List EntryValue) → Spells frames.now entries →
-        IfErr result (IsNoJournal (sheets_of (back state.old.entries)) entries) }
+    ensures begun { (sheets : List SheetValue) → IsBegun sheets state.old.entries → OnOk result (IsBegun sheets state.new.entries) }
+    ensures why { (sheets : List SheetValue) (entries : List EntryValue) → IsBegun sheets state.old.entries → Spells frames.now entries →
+        IfErr result (IsNoJournal sheets entries) }
 {
     for number in state.entries()..frames.count() {
-        add_frame(alloc, state, frames, number)?;
+        read_next(alloc, state, frames, number)?;
     }
     Ok(())
 }
 
-// The state of the journal that frames spell, which has begun, if it is one of these sheets. Its errors are those of
-// frames that spell entries.
-fn judge(alloc: Global, frames: &Frames, sheets: &[Sheet]) -> Result<State, JournalWhy>
-    requires sheets { AreSheets sheets.now }
-    requires begun { 0 < length frames.now }
-    ensures spelled { IfOk result (λ state. frames_of state.entries ≡ frames.now) }
-    ensures journal { IfOk result (λ state. IsJournal sheets.now state.entries) }
+// The state of the journal that frames spell, which has begun, if it has the same sheet of each kind. Its errors are those
+// of frames that spell entries.
+fn read_journal(alloc: Global, frames: &Frames, sheets: &[Sheet]) -> Result<State, JournalWhy>
+    requires { 0 < length frames.now }
+    ensures spelled { IfOk result (λ state. Spells frames.now state.entries) }
+    ensures begun { IfOk result (λ state. IsBegun sheets.now state.entries) }
     ensures why { (entries : List EntryValue) → Spells frames.now entries → IfErr result (IsNoJournal sheets.now entries) }
 {
-    let mut state = begin_frame(alloc, frames, sheets)?;
-    add_others(alloc, &mut state, frames)?;
+    let mut state = read_first(alloc, frames, sheets)?;
+    read_others(alloc, &mut state, frames)?;
     Ok(state)
 }
 
 // The state of the journal that frames spell. One without entries gets that of its first.
-fn judge_frames(alloc: Global, frames: &Frames, sheets: &[Sheet]) -> Result<State, JournalWhy>
+fn find_state(alloc: Global, frames: &Frames, sheets: &[Sheet]) -> Result<State, JournalWhy>
     requires { AreSheets sheets.now }
     ensures state { IfOk result (λ state. (journal : List EntryValue) × IsJournal sheets.now journal × (frames_of journal ≡ frames.now)
         × (state.entries ≡ opened sheets.now journal)) }
@@ -160,7 +156,7 @@ fn judge_frames(alloc: Global, frames: &Frames, sheets: &[Sheet]) -> Result<Stat
     if frames.count() == 0 {
         return Ok(State::start(alloc, copy_sheets(alloc, sheets)?)?);
     }
-    judge(alloc, frames, sheets)
+    read_journal(alloc, frames, sheets)
 }
 
 // The frames themselves, and the state of the journal that they spell.
@@ -173,23 +169,26 @@ pub(crate) fn find_journal(
     ensures found { IfOk result (λ found. IsFound sheets.now frames found.0.items found.1.entries) }
     ensures why { IfErr result (IsNoJournalIn sheets.now frames) }
 {
-    match judge_frames(alloc, &frames, sheets) {
+    match find_state(alloc, &frames, sheets) {
         Ok(state) => Ok((frames.into_vec(), state)),
         Err(why) => Err(why),
     }
 }
 
-// How many entries the journal has that frames spell, if that is one of these sheets. Each is judged by the state of those
-// before it, so a state is made for that, and dropped.
+// How many entries the journal has that frames spell, if it has the same sheet of each kind. Each is judged by the state
+// of those before it, so a state is made for that, and dropped.
 pub(crate) fn count_entries(
     alloc: Global,
     frames: &Frames,
     sheets: &[Sheet],
 ) -> Result<u64, JournalWhy>
-    requires { AreSheets sheets.now }
-    ensures count { IfOk result (λ n. (journal : List EntryValue) × IsJournal sheets.now journal × (frames_of journal ≡ frames.now) × (n ≡ length journal)) }
+    ensures count { IfOk result (λ n. (journal : List EntryValue) × IsJournalByKind sheets.now journal × (frames_of journal ≡ frames.now) × (n ≡ length journal)) }
     ensures why { IfErr result (IsNoJournalIn sheets.now frames.now) }
 {
-    judge_frames(alloc, frames, sheets)?;
-    Ok(frames.count())
+    check_entries(alloc, frames)?;
+    if frames.count() == 0 {
+        return Ok(0);
+    }
+    let state = read_journal(alloc, frames, sheets)?;
+    Ok(state.entries())
 }

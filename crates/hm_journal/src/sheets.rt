@@ -1,8 +1,10 @@
 //! Tests of the sheets that a journal begins with.
-ghost use Rattle.std.specs.Prelude.{◌≡◌, ◌↔◌, length, map, IsTrue, IfOk, IfSome, IfNone};
+ghost use Rattle.std.specs.Prelude.{◌≡◌, ◌↔◌, map, option_copied, IsTrue, IfOk, IfSome, IfNone};
 ghost use Rattle.hm_model.specs.Rules.{AreSheets};
+ghost use Rattle.hm_model.specs.Sheets.{sheet_for as first_of};
 ghost use Rattle.hm_model.specs.Validity.{AllValid, IsValid};
-ghost use Rattle.hm_journal.specs.Verdict.{IsFirstDifference};
+ghost use Rattle.hm_journal.specs.Stored.{SameSheets};
+ghost use Rattle.hm_journal.specs.Verdict.{IsLowestDifference};
 
 use hm_data::Sheet;
 use hm_names::{Copied, List, Same};
@@ -51,15 +53,37 @@ pub(crate) fn are_sheets(sheets: &[Sheet]) -> bool
     have_kinds(sheets, running_kinds()) && are_valid(sheets)
 }
 
-// The kind of the first that differs from the other at its place.
-pub(crate) fn first_difference(sheets: &[Sheet], others: &[Sheet]) -> Option<u8>
-    requires { length sheets.now ≡ length others.now }
-    ensures some { IfSome result (IsFirstDifference sheets.now others.now) }
-    ensures none { IfNone result (sheets.now ≡ others.now) }
+// The first sheet of a kind.
+fn sheet_for(sheets: &[Sheet], kind: u8) -> Option<&Sheet>
+    ensures { option_copied result ≡ first_of sheets.now kind }
 {
-    for (place, sheet) in sheets.iter().enumerate() {
-        if !sheet.same(&others[place]) {
-            return Some(sheet.kind);
+    for sheet in sheets {
+        if sheet.kind == kind {
+            return Some(sheet);
+        }
+    }
+    None
+}
+
+// Whether the kind has the same sheet in both.
+fn is_same(sheets: &[Sheet], others: &[Sheet], kind: u8) -> bool
+    ensures { IsTrue result ↔ (first_of sheets.now kind ≡ first_of others.now kind) }
+{
+    match (sheet_for(sheets, kind), sheet_for(others, kind)) {
+        (None, None) => true,
+        (Some(sheet), Some(other)) => sheet.same(other),
+        _ => false,
+    }
+}
+
+// The lowest kind whose sheets differ.
+pub(crate) fn lowest_difference(sheets: &[Sheet], others: &[Sheet]) -> Option<u8>
+    ensures some { IfSome result (IsLowestDifference sheets.now others.now) }
+    ensures none { IfNone result (SameSheets sheets.now others.now) }
+{
+    for kind in 0..=u8::MAX {
+        if !is_same(sheets, others, kind) {
+            return Some(kind);
         }
     }
     None

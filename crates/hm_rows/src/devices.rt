@@ -39,9 +39,9 @@ fn disk_calls(alloc: Global, script: &[u8], log: &[u8]) -> Result<u64, AllocErro
 
 #[test]
 fn run_makes_four_calls_of_the_disk_at_each_submission(rt: HostRuntime) -> Result<(), Fail> {
-    // A new log: its size, the header and a sync, and the four of its first entry. One that is there: a
-    // sync, its size and its bytes.
-    for (log, opening) in [(b"".as_slice(), 9), (SHOP, 3)] {
+    // A new log: a sync, its size, the header and a sync, and the four of its first entry. One that is there: a
+    // sync, its size, its first ten bytes and a piece.
+    for (log, opening) in [(b"".as_slice(), 8), (SHOP, 4)] {
         assert_eq!(rt; disk_calls(rt.alloc(), b"", log)?, opening);
         for count in 0..4 {
             let script = submissions(rt.alloc(), count)?;
@@ -91,7 +91,7 @@ fn stopped(
 fn run_is_halted_from_a_fault_of_the_disk_on(rt: HostRuntime) -> Result<(), Fail> {
     let script = submissions(rt.alloc(), 3)?;
     let script = script.as_bytes();
-    for (log, opening, entries) in [(b"".as_slice(), 9, 1), (SHOP, 3, 2)] {
+    for (log, opening, entries) in [(b"".as_slice(), 8, 1), (SHOP, 4, 2)] {
         for call in opening..opening + 12 {
             let recorded = (call - opening) / 4;
             let fails = Fails {
@@ -128,8 +128,8 @@ fn run_is_halted_from_a_fault_of_the_disk_on(rt: HostRuntime) -> Result<(), Fail
 #[test]
 fn run_ends_at_a_fault_of_the_disk_in_the_opening(rt: HostRuntime) -> Result<(), Fail> {
     for (log, opening, first) in [
-        (b"".as_slice(), 9, "opened at 1\n"),
-        (SHOP, 3, "opened at 2\n"),
+        (b"".as_slice(), 8, "opened at 1\n"),
+        (SHOP, 4, "opened at 2\n"),
     ] {
         for call in 0..opening {
             let fails = Fails {
@@ -275,17 +275,17 @@ fn run_with_a_fault_at_each_call(rt: HostRuntime) -> Result<(), Fail> {
     // The calls of the disk by number, and what the run says and leaves where such a one fails: an entry is laid behind
     // its closed gate, synced, and then the gate opens and is synced.
     let cases = [
-        ([4, 5].as_slice(), opening, (0, 0)),
-        (&[6, 7], opening, (1, 0)),
-        (&[8], opening, (1, 1)),
-        (&[9], submitting, (1, 1)),
-        (&[10, 11], submitting, (2, 1)),
-        (&[12], submitting, (2, 2)),
-        (&[13], settling, (2, 2)),
-        (&[14, 15], settling, (3, 2)),
-        (&[16, 17], settling, (3, 3)),
-        (&[18, 19], settling, (4, 3)),
-        (&[20], settling, (4, 4)),
+        ([3, 4].as_slice(), opening, (0, 0)),
+        (&[5, 6], opening, (1, 0)),
+        (&[7], opening, (1, 1)),
+        (&[8], submitting, (1, 1)),
+        (&[9, 10], submitting, (2, 1)),
+        (&[11], submitting, (2, 2)),
+        (&[12], settling, (2, 2)),
+        (&[13, 14], settling, (3, 2)),
+        (&[15, 16], settling, (3, 3)),
+        (&[17, 18], settling, (4, 3)),
+        (&[19], settling, (4, 4)),
     ];
     for (calls, text, left) in cases {
         for call in calls {
@@ -312,7 +312,7 @@ fn run_with_a_fault_at_each_call(rt: HostRuntime) -> Result<(), Fail> {
     let behind = Fails {
         source: &[2],
         sink: &[4],
-        disk: &[21],
+        disk: &[20],
     };
     let text = b"opened at 1\npid 1\nsettled at 4\nprocs at 4: 1\n1 CreateNamespace shop SUCCESS\n";
     leaves(&rt, behind, RunStatus::Done, text, (4, 4))?;

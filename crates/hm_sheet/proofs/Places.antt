@@ -10,7 +10,7 @@ use Rattle.hm_data.specs.declared.step.StepOut.{StepOut}
 use Rattle.hm_model.proofs.Sheets.{said_alike}
 use Rattle.hm_model.specs.Sheets.{sheet_for}
 use Rattle.hm_model.specs.Steps.{answer_of}
-use Rattle.hm_sheet.specs.Words.{Rises, CountsRise}
+use Rattle.hm_sheet.specs.Words.{CountRises, CountsRise}
 
 -- x is at place i, and y has the same
 pub flat_map-set_same : {X Y : Type 0} (f : X → List Y) (xs : List X) (i : ℕ) (x y : X) → i < length xs → x ≡ get_or xs i x → f y ≡ f x → flat_map f (set xs i y) ≡ flat_map f xs
@@ -29,7 +29,7 @@ less_tail : (a m n : ℕ) → m < n → a + m < a + n
 less_tail a m n lt = omega arith
 
 -- one count rises, and the others stay
-pub counts_rise : {X : Type 0} (f : X → ℕ) (xs : List X) (i : ℕ) (x y : X) → i < length xs → x ≡ get_or xs i x → Rises (f x) (f y) → CountsRise (map f xs) (map f (set xs i y))
+pub counts_rise : {X : Type 0} (f : X → ℕ) (xs : List X) (i : ℕ) (x y : X) → i < length xs → x ≡ get_or xs i x → CountRises (f x) (f y) → CountsRise (map f xs) (map f (set xs i y))
 counts_rise f [] i x y lt is rises = absurd (omega arith)
 counts_rise f (z ∷ xs) zero x y lt is rises = elim (cases_lt (f z) (2 ^ 64 - 1)) [
   | inl below ↦ inl (let same : f x ≡ f z = ap f is in rw (sum-cons (f z) (map f xs), sum-cons (f y) (map f xs)) (less_head (f z) (f y) (sum (map f xs)) (omega (arith, rises))))

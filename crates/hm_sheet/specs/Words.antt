@@ -7,8 +7,8 @@ use Rattle.hm_sheet.specs.declared.fault.RegistryFault.{RegistryFault}
 use Rattle.hm_sheet.specs.declared.fault.RegistryFault.TheVariants as fault_is
 
 -- a count rose, or stands at its end
-abbrev pub Rises : ℕ → ℕ → Type 0
-Rises before now = min (before + 1) (2 ^ 64 - 1) ≤ now
+abbrev pub CountRises : ℕ → ℕ → Type 0
+CountRises before now = min (before + 1) (2 ^ 64 - 1) ≤ now
 
 -- the sum of counts rose, or one of them stood at its end
 abbrev pub CountsRise : List ℕ → List ℕ → Type 0

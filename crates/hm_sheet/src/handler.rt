@@ -1,7 +1,7 @@
 ghost use Rattle.std.specs.Prelude.{◌≡◌, ℕ, ◌≤◌, List, OnOk, Some};
 ghost use Rattle.hm_data.specs.declared.sheet.Sheet.{Sheet};
 ghost use Rattle.hm_model.specs.Steps.{CanRun, answer_of};
-ghost use Rattle.hm_sheet.specs.Words.{Rises};
+ghost use Rattle.hm_sheet.specs.Words.{CountRises};
 
 use crate::valid::Valid;
 use hm_data::{StepIn, StepOut};
@@ -27,7 +27,7 @@ pub trait Handler: Send + Drop {
         requires { CanRun (sheets_are self.old) at.now }
         ensures out { OnOk result (answer_of (sheets_are self.old) at.now ≡ Some out.new) }
         ensures sheets { sheets_are self.new ≡ sheets_are self.old }
-        ensures calls { OnOk result (Rises (calls_are self.old) (calls_are self.new)) }
+        ensures calls { OnOk result (CountRises (calls_are self.old) (calls_are self.new)) }
         ensures kept { calls_are self.old ≤ calls_are self.new };
 
     /// The same for an input that undoes a step.
@@ -35,6 +35,6 @@ pub trait Handler: Send + Drop {
         requires { CanRun (sheets_are self.old) at.now }
         ensures out { OnOk result (answer_of (sheets_are self.old) at.now ≡ Some out.new) }
         ensures sheets { sheets_are self.new ≡ sheets_are self.old }
-        ensures calls { OnOk result (Rises (calls_are self.old) (calls_are self.new)) }
+        ensures calls { OnOk result (CountRises (calls_are self.old) (calls_are self.new)) }
         ensures kept { calls_are self.old ≤ calls_are self.new };
 }

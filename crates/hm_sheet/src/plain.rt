@@ -37,7 +37,7 @@ fn row_out(alloc: Global, row: Row, at: &StepIn) -> Result<StepOut, AllocError>
     }
 }
 
-fn row_in(rows: &[Row], place: u8) -> Row
+fn nth_row(rows: &[Row], place: u8) -> Row
     requires { place < length rows.now }
     ensures { slice_get rows.now place ≡ Some result }
 {
@@ -50,6 +50,6 @@ pub fn plain_step(alloc: Global, sheet: &Valid, at: &StepIn) -> Result<StepOut, 
     requires { CanStep sheet.now at.now }
     ensures { IfOk result (λ out. evaluation sheet.now at.now ≡ Some out) }
 {
-    let row = row_in(sheet.sheet().rows.as_slice(), at.row);
+    let row = nth_row(sheet.sheet().rows.as_slice(), at.row);
     row_out(alloc, row, at)
 }

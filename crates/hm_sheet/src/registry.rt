@@ -5,7 +5,8 @@ ghost use Rattle.hm_model.specs.Rules.{AreSheets};
 ghost use Rattle.hm_model.specs.Sheets.{sheet_for as first_of};
 ghost use Rattle.hm_model.specs.Validity.{IsValid};
 ghost use Rattle.hm_model.specs.Steps.{CanRun, answer_of};
-ghost use Rattle.hm_sheet.specs.Words.{Rises, CountsRise, IsLowestTwice, NoneTwice, IsLowestMissing, HasAll, IsNoRegistry};
+ghost use Rattle.hm_sheet.specs.Registry.{calls_of, runs_of, sheets_of};
+ghost use Rattle.hm_sheet.specs.Words.{CountRises, CountsRise, IsLowestTwice, NoneTwice, IsLowestMissing, HasAll, IsNoRegistry};
 
 use crate::among::{count_of, place_of, sheet_for};
 use crate::fault::RegistryFault;
@@ -68,7 +69,7 @@ fn run_one(
     requires { CanRun (sheets_are handler.old) at.now }
     ensures out { OnOk result (answer_of (sheets_are handler.old) at.now ≡ Some out.new) }
     ensures sheets { sheets_are handler.new ≡ sheets_are handler.old }
-    ensures calls { OnOk result (Rises (calls_are handler.old) (calls_are handler.new)) }
+    ensures calls { OnOk result (CountRises (calls_are handler.old) (calls_are handler.new)) }
     ensures kept { calls_are handler.old ≤ calls_are handler.new }
 {
     match &at.turn {
@@ -92,10 +93,11 @@ impl Registry {
     /// The registry of these handlers. No kind may have two sheets, and each kind that the master runs so far must have
     /// one. Making a registry takes no memory, so `Memory` isn't answered.
     pub fn new(alloc: Global, handlers: Vec<Box<dyn Handler>>) -> Result<Registry, RegistryFault>
-        ensures handlers { IfOk result (λ registry. registry.handlers.items ≡ handlers.items) }
-        ensures runs { IfOk result (λ registry. registry.runs ≡ 0) }
-        ensures once { IfOk result (λ registry. NoneTwice (flat_map (λ h. sheets_are h) registry.handlers.items)) }
-        ensures all { IfOk result (λ registry. HasAll (flat_map (λ h. sheets_are h) registry.handlers.items)) }
+        ensures sheets { IfOk result (λ registry. sheets_of ⟦<dyn Handler as Handler>⟧ registry ≡ flat_map (λ h. sheets_are h) handlers.items) }
+        ensures calls { IfOk result (λ registry. calls_of ⟦<dyn Handler as Handler>⟧ registry ≡ map (λ h. calls_are h) handlers.items) }
+        ensures runs { IfOk result (λ registry. runs_of registry ≡ 0) }
+        ensures once { IfOk result (λ registry. NoneTwice (sheets_of ⟦<dyn Handler as Handler>⟧ registry)) }
+        ensures all { IfOk result (λ registry. HasAll (sheets_of ⟦<dyn Handler as Handler>⟧ registry)) }
         ensures err { IfErr result (λ fault. IsNoRegistry (flat_map (λ h. sheets_are h) handlers.items) fault) }
     {
         let _ = alloc;
@@ -111,17 +113,13 @@ impl Registry {
     /// Calls the handler that has the input's kind, and leaves in `out` what its sheet says, whatever was called before.
     /// Where memory runs out `out` is any value, and isn't to be used.
     pub fn run(&mut self, alloc: Global, at: &StepIn, out: &mut StepOut) -> Result<(), AllocError>
-        requires { CanRun (flat_map (λ h. sheets_are h) self.old.handlers.items) at.now }
-        ensures out { OnOk result
-            (answer_of (flat_map (λ h. sheets_are h) self.old.handlers.items) at.now ≡ Some out.new) }
-        ensures sheets { flat_map (λ h. sheets_are h) self.new.handlers.items
-            ≡ flat_map (λ h. sheets_are h) self.old.handlers.items }
-        ensures runs { OnOk result (self.new.runs ≡ min (self.old.runs + 1) (2 ^ 64 - 1)) }
-        ensures idle { OnErr result (self.new.runs ≡ self.old.runs) }
-        ensures calls { OnOk result (CountsRise
-            (map (λ h. calls_are h) self.old.handlers.items) (map (λ h. calls_are h) self.new.handlers.items)) }
-        ensures kept { sum (map (λ h. calls_are h) self.old.handlers.items)
-            ≤ sum (map (λ h. calls_are h) self.new.handlers.items) }
+        requires { CanRun (sheets_of ⟦<dyn Handler as Handler>⟧ self.old) at.now }
+        ensures out { OnOk result (answer_of (sheets_of ⟦<dyn Handler as Handler>⟧ self.old) at.now ≡ Some out.new) }
+        ensures sheets { sheets_of ⟦<dyn Handler as Handler>⟧ self.new ≡ sheets_of ⟦<dyn Handler as Handler>⟧ self.old }
+        ensures runs { OnOk result (runs_of self.new ≡ min (runs_of self.old + 1) (2 ^ 64 - 1)) }
+        ensures idle { OnErr result (runs_of self.new ≡ runs_of self.old) }
+        ensures calls { OnOk result (CountsRise (calls_of ⟦<dyn Handler as Handler>⟧ self.old) (calls_of ⟦<dyn Handler as Handler>⟧ self.new)) }
+        ensures kept { sum (calls_of ⟦<dyn Handler as Handler>⟧ self.old) ≤ sum (calls_of ⟦<dyn Handler as Handler>⟧ self.new) }
     {
         let Some(place) = place_of(&self.handlers, at.kind) else {
             unreachable!()
@@ -134,15 +132,15 @@ impl Registry {
 
     /// How many calls of `run` were answered, up to 2^64 - 1, where the number stays.
     pub fn runs(&self) -> u64
-        ensures { result ≡ self.now.runs }
+        ensures { result ≡ runs_of self.now }
     {
         self.runs
     }
 
     /// The sheet of a kind.
     pub fn sheet(&self, kind: u8) -> &Valid
-        requires { IsSome (first_of (flat_map (λ h. sheets_are h) self.now.handlers.items) kind) }
-        ensures { first_of (flat_map (λ h. sheets_are h) self.now.handlers.items) kind ≡ Some result.now }
+        requires { IsSome (first_of (sheets_of ⟦<dyn Handler as Handler>⟧ self.now) kind) }
+        ensures { first_of (sheets_of ⟦<dyn Handler as Handler>⟧ self.now) kind ≡ Some result.now }
     {
         let Some(place) = place_of(&self.handlers, kind) else {
             unreachable!()
@@ -152,7 +150,7 @@ impl Registry {
 
     /// The sheet of a kind, if a handler has one.
     pub fn find(&self, kind: u8) -> Option<&Valid>
-        ensures { option_copied result ≡ first_of (flat_map (λ h. sheets_are h) self.now.handlers.items) kind }
+        ensures { option_copied result ≡ first_of (sheets_of ⟦<dyn Handler as Handler>⟧ self.now) kind }
     {
         match place_of(&self.handlers, kind) {
             Some(place) => Some(sheet_at(&self.handlers[place], kind)),
@@ -162,9 +160,9 @@ impl Registry {
 
     // A copy of the sheet of a kind.
     fn sheet_copy(&self, alloc: Global, kind: u8) -> Result<Sheet, AllocError>
-        requires { IsSome (first_of (flat_map (λ h. sheets_are h) self.now.handlers.items) kind) }
+        requires { IsSome (first_of (sheets_of ⟦<dyn Handler as Handler>⟧ self.now) kind) }
         ensures found { IfOk result
-            (λ sheet. first_of (flat_map (λ h. sheets_are h) self.now.handlers.items) kind ≡ Some sheet) }
+            (λ sheet. first_of (sheets_of ⟦<dyn Handler as Handler>⟧ self.now) kind ≡ Some sheet) }
         ensures valid { IfOk result (λ sheet. IsValid sheet) }
     {
         self.sheet(kind).sheet().copy(alloc)
@@ -172,9 +170,9 @@ impl Registry {
 
     /// The sheets of the kinds that the master runs so far, in the order of the kinds.
     pub fn sheets(&self, alloc: Global) -> Result<List<Sheet>, AllocError>
-        requires { HasAll (flat_map (λ h. sheets_are h) self.now.handlers.items) }
+        requires { HasAll (sheets_of ⟦<dyn Handler as Handler>⟧ self.now) }
         ensures found { IfOk result (λ sheets. map Some sheets
-            ≡ map (λ kind. first_of (flat_map (λ h. sheets_are h) self.now.handlers.items) kind) running) }
+            ≡ map (λ kind. first_of (sheets_of ⟦<dyn Handler as Handler>⟧ self.now) kind) running) }
         ensures valid { IfOk result (λ sheets. AreSheets sheets) }
     {
         let mut sheets = Vec::new(alloc);

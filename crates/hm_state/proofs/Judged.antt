@@ -41,6 +41,15 @@ module _ (before : Past) (begun : before ≢ []) where
     pub breaks_out : MayStep before pid.0 → MayBegin before pid.0 → pick ≡ None → (IsEvaluated before pid.0 pick out → ⊥) → Breaks before (entry_is.Step pid pick out) 8
     breaks_out may begins none refused = inr (begun, inr (may, inr (begins, inr (none, inl (refl, refused)))))
 
+    -- where the tests before it hold, only the evaluation can be refused
+    pub only_out : MayStep before pid.0 → MayBegin before pid.0 → pick ≡ None → (rule : ℕ) → Breaks before (entry_is.Step pid pick out) rule → rule ≡ 8
+    only_out may begins none rule (inl fails) = absurd (fails.1 begun)
+    only_out may begins none rule (inr (some, inl fails)) = absurd (fails.1 may)
+    only_out may begins none rule (inr (some, inr (can, inl fails))) = absurd (fails.1 begins)
+    only_out may begins none rule (inr (some, inr (can, inr (first, inl fails)))) = absurd (fails.1 none)
+    only_out may begins none rule (inr (some, inr (can, inr (first, inr (unpicked, inl fails))))) = fails.0
+    only_out may begins none rule (inr (some, inr (can, inr (first, inr (unpicked, inr nothing))))) = absurd nothing.1
+
     pub allows_step : MayStep before pid.0 → MayBegin before pid.0 → pick ≡ None → IsEvaluated before pid.0 pick out → Allowed before (entry_is.Step pid pick out)
     allows_step may begins none is = (begun, (may, (begins, (none, (is, tt)))))
 

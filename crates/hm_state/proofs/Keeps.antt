@@ -30,8 +30,8 @@ use Rattle.hm_model.proofs.Grown.{grown_all, step_made, step_node, step_plain, s
 use Rattle.hm_model.proofs.Holders.{one_holds}
 use Rattle.hm_model.proofs.Stages.{flat_all, step_all, shaped}
 use Rattle.hm_state.specs.Nonces.{AreWith}
-use Rattle.hm_state.specs.Records.{is_over, new_record, stepped}
-use Rattle.hm_state.specs.Rows.{row_in}
+use Rattle.hm_state.specs.Records.{has_ended, new_record, stepped}
+use Rattle.hm_state.specs.Rows.{row_under}
 use Rattle.hm_state.specs.State.{Beside, IsIndexed, goes_on, is_this}
 use Rattle.hm_state.proofs.Places.{slice_get-push, slice_get-set}
 use Rattle.hm_state.proofs.Readings.{simple_record, record_by, there_by, over_ended, is_root_there, going_holds, not_true_false}
@@ -149,10 +149,10 @@ module _ (before : Past) (beside : Beside) (was : IsIndexed before beside) where
 
     pub indexed_step : (place : ℕ) (found : Record) (rows : List (CatKey × Option CatRow)) (ended_below unfinished : ℕ)
         → place + 1 ≡ pid.0 → slice_get beside.records place ≡ Some found
-        → ((key : CatKey) → row_in rows key ≡ edited out.edits key (row_in beside.rows key))
+        → ((key : CatKey) → row_under rows key ≡ edited out.edits key (row_under beside.rows key))
         → unfinished + one_if (is_stop out.answer) ≡ beside.unfinished
-        → ((i : ℕ) → beside.ended_below ≤ i → i < ended_below → is_over (slice_get (set beside.records place (stepped out.answer found)) i) ≡ true)
-        → is_over (slice_get (set beside.records place (stepped out.answer found)) ended_below) ≡ false
+        → ((i : ℕ) → beside.ended_below ≤ i → i < ended_below → has_ended (slice_get (set beside.records place (stepped out.answer found)) i) ≡ true)
+        → has_ended (slice_get (set beside.records place (stepped out.answer found)) ended_below) ≡ false
         → IsIndexed (entry_is.Step pid pick out ∷ before) (record { records = set beside.records place (stepped out.answer found); nonces = beside.nonces; rows = rows; sheets = beside.sheets; running = if is_stop out.answer then None else Some pid; ended_below = ended_below; unfinished = unfinished })
     indexed_step place found rows ended_below unfinished place_is here edits_are count passed opens =
         let within : place < length beside.records = slice_get_within beside.records place found here in
@@ -181,10 +181,10 @@ module _ (before : Past) (beside : Beside) (was : IsIndexed before beside) where
             | inl new ↦ (let up : p - 1 + 1 ≡ p = omega (arith, ge) in
                 ap (ended (entry_is.Step pid pick out ∷ before)) (sym up)
                 ∙ sym (over_ended (entry_is.Step pid pick out ∷ before) legal (p - 1 + 1))
-                ∙ ap is_over (sym (records_are (p - 1)))
+                ∙ ap has_ended (sym (records_are (p - 1)))
                 ∙ passed (p - 1) (omega (arith, new, ge)) (omega (arith, le, ge)))
             | inr old ↦ stays_ended p (was.ended_are p ge old)
           ];
-          next_open = sym (over_ended (entry_is.Step pid pick out ∷ before) legal (ended_below + 1)) ∙ ap is_over (sym (records_are ended_below)) ∙ opens;
+          next_open = sym (over_ended (entry_is.Step pid pick out ∷ before) legal (ended_below + 1)) ∙ ap has_ended (sym (records_are ended_below)) ∙ opens;
           unfinished_is = let on = unfinished_on (entry_is.Step pid pick out) before legal in omega (arith, on, count, was.unfinished_is);
         }

@@ -1,5 +1,3 @@
-mod Pairs
-mod Picked
 mod Places
 mod Readings
 mod Keeps

@@ -24,7 +24,7 @@ use Rattle.hm_model.specs.Tree.{Node, made, node_of, parent_in, is_root}
 use Rattle.hm_model.proofs.Counting.{is_open, unfinished_is, may_step, steps_unstopped, may_begin, begins_alone, begun_goes_on, available_unstopped}
 use Rattle.hm_model.proofs.Grown.{grown_all, made_up_to, simple_all}
 use Rattle.hm_model.proofs.Stages.{flat_all}
-use Rattle.hm_state.specs.Records.{is_end, is_over}
+use Rattle.hm_state.specs.Records.{is_end, has_ended}
 use Rattle.hm_state.specs.State.{Beside, IsIndexed, IsFirst, goes_on, is_this}
 
 -- the record of a procedure, by its last answer
@@ -58,10 +58,10 @@ end_is_stop (Some (answer_is.Fail cause)) = refl
 end_is_stop (Some answer_is.Undone) = refl
 
 -- a record is over where its procedure has ended
-pub over_ended : (J : Past) → IsLegal J → (p : ℕ) → is_over (record_of J p) ≡ ended J p
-over_ended J legal p = ap is_over (record_by J legal p) ∙ by (node_of J p) refl ∙ sym ((flat_all J legal).ended_is_stopped p)
+pub over_ended : (J : Past) → IsLegal J → (p : ℕ) → has_ended (record_of J p) ≡ ended J p
+over_ended J legal p = ap has_ended (record_by J legal p) ∙ by (node_of J p) refl ∙ sym ((flat_all J legal).ended_is_stopped p)
   where
-    by : (o : Option Node) → node_of J p ≡ o → is_over (option_map (simple_record p (last_answer J p)) o) ≡ is_stopped (last_answer J p)
+    by : (o : Option Node) → node_of J p ≡ o → has_ended (option_map (simple_record p (last_answer J p)) o) ≡ is_stopped (last_answer J p)
     by None e = sym (ap is_stopped ((grown_all J legal).unmade p e))
     by (Some node) e = end_is_stop (last_answer J p)
 

@@ -33,7 +33,7 @@ use Rattle.hm_model.proofs.Grown.{simple_all}
 use Rattle.hm_model.proofs.Ranges.{placed}
 use Rattle.hm_model.proofs.Rows.{read_none, read_one}
 use Rattle.hm_model.proofs.Stages.{flat_all}
-use Rattle.hm_state.specs.Rows.{row_in}
+use Rattle.hm_state.specs.Rows.{row_under}
 use Rattle.hm_state.specs.State.{IsIndexed, IsInput, IsSimpleArgs}
 use Rattle.hm_state.proofs.Readings.{simple_record, there_by}
 
@@ -44,7 +44,7 @@ each_valid (sheet ∷ sheets) zero other all within = all.0
 each_valid (sheet ∷ sheets) (suc i) other all within = each_valid sheets i other all.1 (omega (arith, within))
 
 -- what is kept beside a start
-pub indexed_start : (sheets : List Sheet) (rows : List (CatKey × Option CatRow)) → AreSheets sheets → ((key : CatKey) → row_in rows key ≡ at_start key)
+pub indexed_start : (sheets : List Sheet) (rows : List (CatKey × Option CatRow)) → AreSheets sheets → ((key : CatKey) → row_under rows key ≡ at_start key)
     → IsIndexed (entry_is.Start sheets ∷ []) (record { records = []; nonces = []; rows = rows; sheets = sheets; running = None; ended_below = 0; unfinished = 0 })
 indexed_start sheets rows are each = record {
   legal = (tt, ((refl, are), tt));

@@ -13,8 +13,8 @@ use Rattle.hm_data.specs.declared.catalog.Edit.{Edit}
 use Rattle.hm_model.specs.Catalog.{at_start, edited}
 use Rattle.hm_model.specs.Keys.{same_key}
 use Rattle.hm_model.proofs.KeyTests.{cases_key, key_cmp-is, key_cmp-same}
-use Rattle.hm_state.specs.Index.{find}
-use Rattle.hm_state.specs.Rows.{row_in}
+use Rattle.hm_index.specs.Index.{find}
+use Rattle.hm_state.specs.Rows.{row_under}
 
 key_ties : (a b : CatKey) → is_eq (key_cmp a b) ≡ same_key b a
 key_ties a b = elim (cases_key b a) [
@@ -35,20 +35,20 @@ find_alike one other alike (pair ∷ pairs) key =
     ∙ ap (λ f. if is_eq (other pair.0 key) then Some pair.1 else f) (find_alike one other alike pairs key)
 
 module _ (cmp : CatKey → CatKey → Ordering) (alike : (a b : CatKey) → cmp a b ≡ key_cmp a b) where
-  pub row_found : (rows : List (CatKey × Option CatRow)) (key : CatKey) → option_flatten (find cmp rows key) ≡ row_in rows key
+  pub row_found : (rows : List (CatKey × Option CatRow)) (key : CatKey) → option_flatten (find cmp rows key) ≡ row_under rows key
   row_found rows key = ap option_flatten (find_alike cmp key_cmp alike rows key)
 
   -- the rows behind one that was set
   pub row_set : (old new : List (CatKey × Option CatRow)) (key : CatKey) (after : Option CatRow)
       → ((other : CatKey) → find cmp new other ≡ (if is_eq (cmp key other) then Some after else find cmp old other))
-      → (other : CatKey) → row_in new other ≡ (if same_key other key then after else row_in old other)
+      → (other : CatKey) → row_under new other ≡ (if same_key other key then after else row_under old other)
   row_set old new key after each other =
       sym (row_found new other) ∙ ap option_flatten (each other)
       ∙ ap (λ o. option_flatten (if is_eq o then Some after else find cmp old other)) (alike key other)
       ∙ ap (λ b. option_flatten (if b then Some after else find cmp old other)) (key_ties key other)
       ∙ by (same_key other key)
     where
-      by : (b : Bool) → option_flatten (if b then Some after else find cmp old other) ≡ (if b then after else row_in old other)
+      by : (b : Bool) → option_flatten (if b then Some after else find cmp old other) ≡ (if b then after else row_under old other)
       by true = refl
       by false = row_found old other
 
@@ -57,7 +57,7 @@ module _ (cmp : CatKey → CatKey → Ordering) (alike : (a b : CatKey) → cmp 
       → first ≡ key_is.Ns (codes "default") → second ≡ key_is.Ns (codes "hbase")
       → ((other : CatKey) → find cmp one other ≡ (if is_eq (cmp first other) then Some (Some row_is.Ns) else None))
       → ((other : CatKey) → find cmp two other ≡ (if is_eq (cmp second other) then Some (Some row_is.Ns) else find cmp one other))
-      → (key : CatKey) → row_in two key ≡ at_start key
+      → (key : CatKey) → row_under two key ≡ at_start key
   rows_start one two first second first_is second_is set_one set_two key =
       row_set one two second (Some row_is.Ns) set_two key
       ∙ ap (λ r. if same_key key second then Some row_is.Ns else r) (row_set [] one first (Some row_is.Ns) set_one key)

@@ -1,4 +1,3 @@
-pub mod Index
 pub mod Nonces
 pub mod Rows
 pub mod Records

@@ -39,6 +39,6 @@ is_end (phase_is.RolledBack cause) = true
 is_end phase_is.Success = true
 
 -- there is a record, and its procedure has ended
-abbrev pub is_over : Option Record → Bool
-is_over None = false
-is_over (Some one) = is_end one.phase
+abbrev pub has_ended : Option Record → Bool
+has_ended None = false
+has_ended (Some one) = is_end one.phase

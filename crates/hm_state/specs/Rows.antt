@@ -4,8 +4,8 @@ use Rattle.std.specs.Option.{option_flatten}
 use Rattle.hm_data.specs.Keys.{key_cmp}
 use Rattle.hm_data.specs.declared.catalog.CatKey.{CatKey}
 use Rattle.hm_data.specs.declared.catalog.CatRow.{CatRow}
-use Rattle.hm_state.specs.Index.{find}
+use Rattle.hm_index.specs.Index.{find}
 
 -- the row of a key; a key that lost its row still stands among them
-abbrev pub row_in : List (CatKey × Option CatRow) → CatKey → Option CatRow
-row_in rows key = option_flatten (find key_cmp rows key)
+abbrev pub row_under : List (CatKey × Option CatRow) → CatKey → Option CatRow
+row_under rows key = option_flatten (find key_cmp rows key)

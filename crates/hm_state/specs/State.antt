@@ -12,6 +12,7 @@ use Rattle.hm_data.specs.declared.request.Request.TheVariants as request_is
 use Rattle.hm_data.specs.declared.catalog.CatKey.{CatKey}
 use Rattle.hm_data.specs.declared.catalog.CatRow.{CatRow}
 use Rattle.hm_data.specs.declared.entry.Entry.{Entry}
+use Rattle.hm_data.specs.declared.entry.Entry.TheVariants as entry_is
 use Rattle.hm_data.specs.declared.record.Record.{Record}
 use Rattle.hm_data.specs.declared.sheet.Sheet.{Sheet}
 use Rattle.hm_data.specs.declared.step.StepIn.{StepIn}
@@ -26,15 +27,16 @@ use Rattle.hm_model.specs.Records.{pid_of, record_of, unfinished}
 use Rattle.hm_model.specs.Rules.{IsLegal, Breaks}
 use Rattle.hm_model.specs.Sheets.{sheets_of}
 use Rattle.hm_model.specs.Tree.{Node, made, node_of, is_root}
-use Rattle.hm_state.specs.Index.{find}
-use Rattle.hm_state.specs.Rows.{row_in}
+use Rattle.hm_index.specs.Index.{find}
+use Rattle.hm_state.specs.Rows.{row_under}
 use Rattle.hm_state.specs.declared.state.NotAllowed.{NotAllowed}
 use Rattle.hm_state.specs.declared.state.NotAllowed.TheVariants as not_allowed
 
--- entries, and for how many more there is room
-pub record Kept : Type 0 where
+-- entries, for how many more there is room, and how much memory there is
+pub record StateView : Type 0 where
   pub entries : List Entry
   pub spare : ℕ
+  pub room : ℕ
 
 -- a step was answered so, or none, and the procedure goes on
 abbrev pub goes_on : Option Answer → Bool
@@ -64,17 +66,33 @@ pub record IsIndexed (before : Past) (beside : Beside) : Type 0 where
   pub records_are : (p : ℕ) → slice_get beside.records p ≡ record_of before (p + 1)
   pub count_is : length beside.records ≡ made before
   pub nonces_are : (nonce : Nonce) → find nonce_cmp beside.nonces nonce ≡ option_map pid_of (by_nonce before nonce)
-  pub rows_are : (key : CatKey) → row_in beside.rows key ≡ cat before key
+  pub rows_are : (key : CatKey) → row_under beside.rows key ≡ cat before key
   pub sheets_are : beside.sheets ≡ sheets_of before
   pub running_is : (p : ℕ) → goes_on (last_answer before p) ≡ is_this beside.running p
   pub ended_are : (p : ℕ) → 1 ≤ p → p ≤ beside.ended_below → ended before p ≡ true
   pub next_open : ended before (beside.ended_below + 1) ≡ false
   pub unfinished_is : beside.unfinished ≡ unfinished before
 
--- why an entry isn't allowed: the lowest rule that it breaks; or memory ran out before that was known
+-- the rule is that a step, or what undoes one, is as it was evaluated: to judge it takes memory
+abbrev pub IsEvaluation : Entry → ℕ → Type 0
+IsEvaluation (entry_is.Start sheets) rule = ⊥
+IsEvaluation (entry_is.Submit nonce request) rule = ⊥
+IsEvaluation (entry_is.Step pid pick out) rule = rule ≡ 8
+IsEvaluation (entry_is.Undo pid row out) rule = rule ≡ 10
+IsEvaluation (entry_is.Report call told) rule = ⊥
+IsEvaluation (entry_is.Up server) rule = ⊥
+IsEvaluation (entry_is.Down server) rule = ⊥
+IsEvaluation (entry_is.Abort pid) rule = ⊥
+
+-- no rule that is judged without memory refuses the entry
+abbrev pub IsUnrefused : Past → Entry → Type 0
+IsUnrefused before entry = (rule : ℕ) → Breaks before entry rule → IsEvaluation entry rule
+
+-- why an entry isn't allowed: the lowest rule that it breaks; or memory ran out in its evaluation, and no rule before that
+-- refuses it
 abbrev pub IsWhy : Past → Entry → NotAllowed → Type 0
 IsWhy before entry (not_allowed.Rule number) = Breaks before entry number
-IsWhy before entry not_allowed.Memory = Unit {0}
+IsWhy before entry not_allowed.Memory = ((rule : ℕ) × IsEvaluation entry rule) × IsUnrefused before entry
 
 -- what the next step of a procedure sees, by its number
 abbrev pub IsInput : Past → ℕ → Option Server → StepIn → Type 0

@@ -1,7 +1,6 @@
 //! The state of a journal: its entries, and beside them what they say, to be found fast.
 #![tactic(auto)]
 
-mod index;
 mod nonces;
 mod ready;
 mod records;

@@ -25,11 +25,11 @@ impl Model for Ready {
     ghost invariant = { λ s. AreCopies s.entry s.request s.edits };
 }
 
-ghost use Rattle.hm_state.specs.Ready.{request_in, edits_in, AreCopies};
+ghost use Rattle.hm_state.specs.Ready.{entry_request, entry_edits, AreCopies};
 
 // A copy of what an entry asks for.
 fn request_of(alloc: Global, entry: &Entry) -> Result<Option<Request>, AllocError>
-    ensures { IfOk result (λ request. request ≡ request_in entry.now) }
+    ensures { IfOk result (λ request. request ≡ entry_request entry.now) }
 {
     match entry {
         Entry::Submit { nonce: _, request } => Ok(Some(request.copy(alloc)?)),
@@ -39,7 +39,7 @@ fn request_of(alloc: Global, entry: &Entry) -> Result<Option<Request>, AllocErro
 
 // A copy of what an entry changes in the catalog.
 fn edits_of(alloc: Global, entry: &Entry) -> Result<List<Edit>, AllocError>
-    ensures { IfOk result (λ edits. edits ≡ edits_in entry.now) }
+    ensures { IfOk result (λ edits. edits ≡ entry_edits entry.now) }
 {
     match entry {
         Entry::Step {

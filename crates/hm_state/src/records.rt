@@ -5,7 +5,7 @@ ghost use Rattle.hm_model.specs.Answers.{is_stop as stops, row_after as row_behi
 ghost use Rattle.hm_model.specs.Kinds.{request_kind};
 ghost use Rattle.hm_model.specs.Counts.{one_if};
 ghost use Rattle.hm_model.specs.Stages.{simple_phase};
-ghost use Rattle.hm_state.specs.Records.{is_over, new_record as record_of_new, stepped};
+ghost use Rattle.hm_state.specs.Records.{has_ended, new_record as record_of_new, stepped};
 
 use hm_data::{Answer, Args, Phase, Record, Request};
 use hm_names::Pid;
@@ -96,8 +96,8 @@ pub(crate) fn record_at(records: &[Record], place: u64) -> Option<&Record>
 }
 
 // Whether the record at a place, if there is one, is that of a procedure that has ended.
-fn is_over_at(records: &[Record], place: u64) -> bool
-    ensures { result ≡ is_over (slice_get records.now place) }
+fn has_ended_at(records: &[Record], place: u64) -> bool
+    ensures { result ≡ has_ended (slice_get records.now place) }
 {
     match record_at(records, place) {
         Some(record) => matches!(record.phase, Phase::RolledBack(_) | Phase::Success),
@@ -108,11 +108,11 @@ fn is_over_at(records: &[Record], place: u64) -> bool
 // The first place from here on without the record of a procedure that has ended.
 pub(crate) fn open_from(records: &[Record], from: u64) -> u64
     ensures from { from ≤ result }
-    ensures passed { (place : ℕ) → from ≤ place → place < result → is_over (slice_get records.now place) ≡ true }
-    ensures open { is_over (slice_get records.now result) ≡ false }
+    ensures passed { (place : ℕ) → from ≤ place → place < result → has_ended (slice_get records.now place) ≡ true }
+    ensures open { has_ended (slice_get records.now result) ≡ false }
 {
     let mut place = from;
-    while is_over_at(records, place) {
+    while has_ended_at(records, place) {
         place += 1;
     }
     place

@@ -1,6 +1,5 @@
 //! Vectors in which there is room.
 ghost use Rattle.std.specs.Prelude.{◌≡◌, ◌+◌, ◌≤◌, ◌<◌, ◌++◌, ◌∷◌, [], vec_len, vec_capacity, Ok, IfOk};
-ghost use Rattle.std.specs.List.{insert as inserted};
 
 use std::alloc::AllocError;
 
@@ -14,23 +13,12 @@ pub(crate) fn beside<T: Drop, U: Drop>(
     Ok((copy?, value))
 }
 
-// Adds an item at the end.
+// Adds an item at the end, in room that was made for it.
 pub(crate) fn put<T: Drop>(items: &mut Vec<T>, item: T)
     requires { vec_len items.old < vec_capacity items.old }
     ensures items { items.new.items ≡ items.old.items ++ item ∷ [] }
     ensures len { vec_len items.new ≡ vec_len items.old + 1 }
-    ensures capacity { vec_capacity items.old ≤ vec_capacity items.new }
+    ensures capacity { vec_capacity items.new ≡ vec_capacity items.old }
 {
-    let _ = items.push(item);
-}
-
-// Adds an item at a place.
-pub(crate) fn put_at<T: Drop>(items: &mut Vec<T>, place: usize, item: T)
-    requires bound { place ≤ vec_len items.old }
-    requires room { vec_len items.old < vec_capacity items.old }
-    ensures items { items.new.items ≡ inserted items.old.items place item }
-    ensures len { vec_len items.new ≡ vec_len items.old + 1 }
-    ensures capacity { vec_capacity items.old ≤ vec_capacity items.new }
-{
-    let _ = items.insert(place, item);
+    items.push_reserved(item);
 }

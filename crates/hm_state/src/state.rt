@@ -15,7 +15,6 @@ ghost use Rattle.hm_model.specs.Tree.{made, node_of};
 ghost use Rattle.hm_model.specs.Validity.{IsValid, AllValid};
 ghost use Rattle.hm_model.specs.Steps.{CanRun, answer_of};
 
-use crate::index::Index;
 use crate::nonces::add_nonce;
 use crate::ready::Ready;
 use crate::records::{
@@ -27,6 +26,7 @@ use crate::rows::{Rows, row_of, rows_at_start, set_rows};
 use hm_data::{
     Args, CatKey, CatRow, Edit, Entry, Phase, Record, Request, Sheet, StepIn, StepOut, Turn,
 };
+use hm_index::Index;
 use hm_names::{Copied, List, Nonce, Ns, Pid, Same, ServerName};
 use hm_sheet::{Valid, answer, is_running_kind};
 use std::alloc::{AllocError, Global};
@@ -59,13 +59,13 @@ pub struct State {
 }
 
 impl Model for State {
-    ghost use Rattle.std.specs.Prelude.{◌-◌, vec_len, vec_capacity, min};
+    ghost use Rattle.std.specs.Prelude.{◌-◌, ◌+◌, vec_len, vec_capacity, min};
     ghost use Rattle.hm_model.specs.Journal.{back};
-    ghost use Rattle.hm_state.specs.State.{Kept, IsIndexed};
+    ghost use Rattle.hm_state.specs.State.{StateView, IsIndexed};
 
-    ghost Value = { Kept };
+    ghost Value = { StateView };
 
-    ghost view = { λ s. record { entries = s.entries.items; spare = min (min (vec_capacity s.entries - vec_len s.entries) (vec_capacity s.records - vec_len s.records)) (min s.nonces.spare s.rows.spare) } };
+    ghost view = { λ s. record { entries = s.entries.items; spare = min (min (vec_capacity s.entries - vec_len s.entries) (vec_capacity s.records - vec_len s.records)) (min s.nonces.spare s.rows.spare); room = vec_capacity s.entries + vec_capacity s.records + s.nonces.room + s.rows.room } };
 
     ghost invariant = { λ s. IsIndexed (back s.entries.items) (record { records = s.records.items; nonces = s.nonces.pairs; rows = s.rows.pairs; sheets = s.sheets.items; running = s.running; ended_below = s.ended_below; unfinished = s.unfinished }) };
 }
@@ -103,6 +103,7 @@ fn valid_sheet(sheet: Sheet) -> Valid
 
 // Makes room for one more in each.
 fn reserve_each(
+    alloc: Global,
     entries: &mut Vec<Entry>,
     records: &mut Vec<Record>,
     nonces: &mut Index<Nonce, Pid>,
@@ -120,8 +121,8 @@ fn reserve_each(
 {
     entries.reserve(1)?;
     records.reserve(1)?;
-    nonces.reserve()?;
-    rows.reserve()
+    nonces.reserve(alloc, 1)?;
+    rows.reserve(alloc, 1)
 }
 
 impl State {
@@ -133,13 +134,14 @@ impl State {
         ensures { IfOk result (λ s. s.entries ≡ Entry.Start sheets ∷ []) }
     {
         let valid = valid_sheets(alloc, sheets.as_slice())?;
+        let nonces = Index::new(alloc)?;
         let rows = rows_at_start(alloc)?;
         let mut entries = Vec::new(alloc);
         entries.push(Entry::Start { sheets })?;
         Ok(State {
             entries,
             records: Vec::new(alloc),
-            nonces: Index::new(alloc),
+            nonces,
             rows,
             sheets: valid,
             running: None,
@@ -407,6 +409,7 @@ impl State {
         ensures kept { self.old.spare ≤ self.new.spare }
     {
         reserve_each(
+            alloc,
             &mut self.entries,
             &mut self.records,
             &mut self.nonces,
@@ -421,6 +424,7 @@ impl State {
         requires room { 1 ≤ self.old.spare }
         ensures entries { self.new.entries ≡ self.old.entries ++ ready ∷ [] }
         ensures spare { self.old.spare ≤ self.new.spare + 1 }
+        ensures room { self.new.room ≡ self.old.room }
     {
         let Ready {
             entry,
@@ -455,6 +459,7 @@ impl State {
         requires room { 1 ≤ self.old.spare }
         ensures entries { self.new.entries ≡ self.old.entries ++ Entry.Submit nonce request ∷ [] }
         ensures spare { self.old.spare ≤ self.new.spare + 1 }
+        ensures room { self.new.room ≡ self.old.room }
     {
         let pid = Pid(self.records.len() as u64 + 1);
         put(&mut self.records, new_record(pid, asked));
@@ -469,6 +474,7 @@ impl State {
         requires room { 1 ≤ self.old.spare }
         ensures entries { self.new.entries ≡ self.old.entries ++ Entry.Step pid pick out ∷ [] }
         ensures spare { self.old.spare ≤ self.new.spare + 1 }
+        ensures room { self.new.room ≡ self.old.room }
     {
         let place = self.place_of(pid);
         step_record(&mut self.records[place], &out.answer);

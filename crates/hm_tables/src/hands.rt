@@ -1,6 +1,6 @@
 ghost use Rattle.std.specs.Prelude.{◌≡◌, ◌≤◌, [], ◌∷◌, IfOk, OnOk, Some};
 ghost use Rattle.hm_model.specs.Steps.{CanRun, answer_of};
-ghost use Rattle.hm_sheet.specs.Words.{Rises};
+ghost use Rattle.hm_sheet.specs.Words.{CountRises};
 ghost use Rattle.hm_tables.specs.Tables.{create_namespace_sheet as create};
 
 use hm_data::{Act, Back, Row, Sheet, StepIn, StepOut};
@@ -61,7 +61,7 @@ impl TableHands {
         requires { CanRun self.old.sheets at.now }
         ensures out { OnOk result (answer_of self.old.sheets at.now ≡ Some out.new) }
         ensures sheets { self.new.sheets ≡ self.old.sheets }
-        ensures calls { OnOk result (Rises self.old.calls self.new.calls) }
+        ensures calls { OnOk result (CountRises self.old.calls self.new.calls) }
         ensures kept { self.old.calls ≤ self.new.calls }
     {
         *out = answer(alloc, self.sheets.as_slice(), at)?;

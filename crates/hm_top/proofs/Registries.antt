@@ -5,12 +5,11 @@ use Rattle.std.specs.List.{flat_map, list_any}
 use Rattle.std.proofs.lemmas.Bool.Decides.{nat_tests}
 use Rattle.std.proofs.lemmas.List.{length-map}
 use Rattle.std.proofs.lemmas.List.Elements.{All-head}
-use Rattle.std.proofs.lemmas.List.Sums.{sum_by-cons}
 use Rattle.hm_data.specs.declared.sheet.Sheet.{Sheet}
 use Rattle.hm_model.specs.Kinds.{running_kinds}
 use Rattle.hm_model.specs.Rules.{AreSheets}
 use Rattle.hm_model.specs.Sheets.{sheet_for}
-use Rattle.hm_top.specs.Hands.{AgreeOn, HandsAgree, RisesBy, SumRisesBy, first_sheets, listed, own_sheets}
+use Rattle.hm_top.specs.Hands.{AgreeOn, HandsAgree, first_sheets, listed, own_sheets}
 
 module _ {R : Type 0} (f : R → List Sheet) (hands : List R) (agree : HandsAgree (map f hands)) where
   -- there is a first
@@ -32,12 +31,6 @@ module _ {R : Type 0} (f : R → List Sheet) (hands : List R) (agree : HandsAgre
       at : (rs : List R) → 0 < length rs → x ≡ get_or rs 0 x → All P (map f rs) → P (f x)
       at [] some e all = absurd (omega arith)
       at (r ∷ rs) some e all = subst (λ y. P (f y)) (sym e) (All-head P (f r) (map f rs) all)
-
--- the sum of counts, of which the first rose
-pub sum_rises : {R : Type 0} (runs : R → ℕ) (hands : List R) (x y : R) (count : ℕ) → 0 < length hands → x ≡ get_or hands 0 x → RisesBy count (runs x) (runs y) → SumRisesBy count (map runs hands) (map runs (set hands 0 y))
-sum_rises runs [] x y count some first rises = absurd (omega arith)
-sum_rises runs (r ∷ rs) x y count some first (inl more) = let same : runs x ≡ runs r = ap runs first in inl (omega (arith, sum_by-cons (λ n. n) (runs r) (map runs rs), sum_by-cons (λ n. n) (runs y) (map runs rs)))
-sum_rises runs (r ∷ rs) x y count some first (inr full) = inr (0, runs y, omega arith, refl, full)
 
 -- sheets that are found under kinds are those that are listed
 listed_are : (f : ℕ → Option Sheet) (kinds : List ℕ) (sheets : List Sheet) → map Some sheets ≡ map f kinds → flat_map (λ kind. listed (f kind)) kinds ≡ sheets

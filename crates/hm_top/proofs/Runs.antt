@@ -1,14 +1,20 @@
--- How a run ends, of a disk and a sink.
-use Rattle.std.proofs.Common.{◌≡◌, ◌≢◌, ◌⊎◌, ◌≤◌, ℕ, List, [], length, Option, Some, None, Result, Err, refl, sym, ap, ◌∙◌, subst, inl, inr, ⊎_elim, arith}
+-- How a run ends, from the ends of its commands.
+use Rattle.std.proofs.Common.{◌≡◌, ◌≢◌, ◌⊎◌, ◌≤◌, ◌+◌, ◌-◌, ◌*◌, ℕ, List, [], ◌++◌, ◌∷◌, length, append-nil, append_assoc, Option, Some, None, Result, Err, refl, sym, ap, ◌∙◌, subst, inl, inr, arith}
 use Rattle.hm_ports.specs.Faults.{Rose}
+use Rattle.hm_ports.specs.declared.sink.Sink as Sink
+use Rattle.hm_disk.specs.Called.{IsCalled}
 use Rattle.hm_disk.specs.Disk.{LeavesOnly, Settles}
-use Rattle.hm_disk.proofs.Moments.{stays_settled, weaker}
+use Rattle.hm_disk.specs.declared.disk.Disk as Disk
+use Rattle.hm_disk.proofs.Moments.{settles_weaker, stays_settled}
+use Rattle.hm_log.specs.Format.{Reads}
 use Rattle.hm_log.specs.Opening.{IsMaking}
 use Rattle.hm_data.specs.declared.entry.Entry.{Entry}
 use Rattle.hm_data.specs.declared.sheet.Sheet.{Sheet}
 use Rattle.hm_hall.specs.declared.fault.Halt.{Halt}
 use Rattle.hm_hall.specs.declared.fault.Halt.TheVariants as halt_is
-use Rattle.hm_journal.specs.Stored.{IsJournal, IsOnDisk, IsOpening, SameFrames, Spares}
+use Rattle.hm_journal.specs.Opened.{Opened}
+use Rattle.hm_journal.specs.Since.{IsFront, with_tail}
+use Rattle.hm_journal.specs.Stored.{AllStored, frames_of, IsJournal, IsOnDisk, IsOpening, SameFrames, Spares}
 use Rattle.hm_journal.specs.Verdict.{Refuses}
 use Rattle.hm_journal.specs.declared.limits.Limits.{Limits}
 use Rattle.hm_journal.specs.declared.why.JournalWhy.{JournalWhy}
@@ -17,170 +23,144 @@ use Rattle.hm_model.specs.Journal.{back}
 use Rattle.hm_model.specs.Rules.{IsLegal}
 use Rattle.hm_top.specs.declared.answer.Answer.{Answer}
 use Rattle.hm_top.specs.declared.command.Command.{Command}
-use Rattle.hm_top.specs.declared.status.Bad.{Bad}
-use Rattle.hm_top.specs.declared.status.Cut.{Cut}
-use Rattle.hm_top.specs.declared.status.Cut.TheVariants as cut_is
-use Rattle.hm_top.specs.declared.status.LogWhy.{LogWhy}
+use Rattle.hm_top.specs.declared.status.EarlyEnd.{EarlyEnd}
+use Rattle.hm_top.specs.declared.status.EarlyEnd.TheVariants as early_is
 use Rattle.hm_top.specs.declared.status.RunStatus.{RunStatus}
-use Rattle.hm_top.specs.declared.status.RunStatus.TheVariants.{Done, JournalFull, LogRefused, Memory}
-use Rattle.hm_top.specs.Hands.{Ran, RisesBy}
-use Rattle.hm_top.specs.Run.{Ends, Got, IsLast, IsRead, Outcome, Talked, talked_status, unopened_status}
-use Rattle.hm_top.specs.Said.{Said, begun}
+use Rattle.hm_top.specs.Ending.{talked_status, unopened_status}
+use Rattle.hm_top.specs.Got.{IsLast}
+use Rattle.hm_top.specs.Hands.{Ran, sheets_used}
+use Rattle.hm_top.specs.Ports.{HandsUse, SinkUse, disk_use, sink_use}
+use Rattle.hm_top.specs.Run.{AcceptsJournal, Ends, EndsUnfinished, WordsFit, IsRead, KeepsTo, Outcome, Run, before_line, behind_line, talk_of}
 use Rattle.hm_top.specs.Script.{lines_of, IsScript}
+use Rattle.hm_top.specs.Standing.{Standing, begun, recording, whole}
 use Rattle.hm_top.specs.Status.{last_line}
-use Rattle.hm_top.specs.Stored.{AllStored, Continues, IsRun}
-use Rattle.hm_top.specs.View.{WorldView, limits_of, said_of}
+use Rattle.hm_top.specs.View.{WorldView, standing_of}
 use Rattle.hm_top.proofs.Complete.{complete}
-use Rattle.hm_top.proofs.Outcomes.{IsTalk, ends_either, ends_fit, ends_map, got_finished, got_unfinished, outcome_map, outcome_talked, outcome_unfinished, outcome_unopened}
-
-module _ {D : Type 0} (tells : Type 0) (moment : D → ℕ) (left_since : D → ℕ → List ℕ → Type 0) (seen : D → List ℕ) (image : D → List ℕ → Type 0) (disk new : D) where
-  -- what a stop since may have left of the disk that was handed in
-  abbrev pub Since : List Sheet → List Entry → Type 0
-  Since sheets journal = tells → Settles moment left_since disk new (λ c. image disk c ⊎ IsMaking (seen disk) c) (IsRun sheets journal)
-
-  -- the disk still holds its journal
-  abbrev pub Spared : List Sheet → Type 0
-  Spared sheets = tells → Spares sheets (seen disk) (image disk) (seen new) (image new) × LeavesOnly moment left_since disk new (IsOpening sheets (seen disk) (image disk))
-
-  -- why the disk holds no journal
-  abbrev pub Refused : List Sheet → JournalWhy → Type 0
-  Refused sheets why =
-      tells → Refuses sheets (seen disk) why × SameFrames (seen disk) (seen new) (image new) × LeavesOnly moment left_since disk new (IsOpening sheets (seen disk) (image disk))
-
-  -- how a run ended on the disk
-  abbrev pub OutcomeOn : (faults : D → ℕ) (limits : Limits) (source : List Command → Type 0) (sink : RunStatus → List Answer → Type 0) (sink_rose : Type 0) (ran : ℕ → Type 0) (marks : List ℕ) (status : RunStatus) (sheets : List Sheet) → Type 0
-  OutcomeOn faults limits source sink sink_rose ran marks status sheets =
-      Outcome sheets limits source (λ journal. tells → IsOnDisk sheets (seen disk) journal) (λ journal halted. tells → AllStored (image new) journal halted) (Since sheets) sink (new ≡ disk) (Spared sheets) (Refused sheets)
-      (Rose (faults disk) (faults new)) sink_rose ran marks status
-
-  -- the same, of the whole run
-  abbrev pub EndsOn : (faults : D → ℕ) (limits : Limits) (misfit : Option ℕ) (script : Bad → Type 0) (read_rose unread : Type 0) (source : List Command → Type 0) (sink : RunStatus → List Answer → Type 0) (sink_rose : Type 0)
-      (ran : ℕ → Type 0) (marks : List ℕ) (status : RunStatus) (sheets : List Sheet) → Type 0
-  EndsOn faults limits misfit script read_rose unread source sink sink_rose ran marks status sheets =
-      Ends misfit script read_rose unread (new ≡ disk) sink (λ s. OutcomeOn faults limits source sink sink_rose ran marks s sheets) marks status
+use Rattle.hm_top.proofs.Growth.{opened_grows}
+use Rattle.hm_top.proofs.Outcomes.{IsTalk, ends_fit, ends_map, got_finished, left_of, outcome_map, outcome_talked, outcome_unopened, spoken}
 
 rose_late : (old mid new : ℕ) → old ≤ mid → Rose mid new → Rose old new
 rose_late old mid new later rose = omega arith
 
-module _ {D : Type 0} (tells : Type 0) (moment : D → ℕ) (left_since : D → ℕ → List ℕ → Type 0) (seen : D → List ℕ) (image : D → List ℕ → Type 0) (faults : D → ℕ)
-    (own sheets : List Sheet) (listed : own ≡ sheets) (limits : Limits) (heard sink_rose : Type 0) (got0 got1 : List ℕ) (commands : List Command) (marks : List ℕ) (disk new : D) where
-  -- the outcome of a conversation with a world that was opened
-  pub converse_talked : (was after : WorldView D) (talked : Result (Unit {0}) Cut) (halted : Option Halt) (status : RunStatus) (runs now : ℕ) → status ≡ talked_status talked halted
-      → ((old : List Entry) × IsJournal sheets old × (said_of was ≡ begun sheets old) × (tells → IsOnDisk sheets (seen disk) old × Settles moment left_since disk was.disk (λ c. image disk c ⊎ IsMaking (seen disk) c) (IsRun sheets old)))
-      → limits_of was ≡ limits → faults disk ≤ faults was.disk
-      → IsTalk heard got0 got1 commands marks talked (said_of after) (limits_of was) (said_of was)
-      → (tells → LeavesOnly moment left_since was.disk after.disk (Continues was.kept.entries))
-      → (was.kept.halted ≡ None → after.kept.halted ≡ Some halt_is.LogFault → Rose (faults was.disk) (faults after.disk))
-      → Ran was.kept.entries after.kept.entries runs now → (talked ≡ Err cut_is.WriteFault → sink_rose)
-      → halted ≡ after.kept.halted → IsLegal (back after.kept.entries) → new ≡ after.disk → (tells → AllStored (image new) after.kept.entries after.kept.halted)
-      → OutcomeOn tells moment left_since seen image disk new faults limits (λ read. read ≡ commands) (λ status answers. heard → Talked got0 got1 status answers) sink_rose (λ count. RisesBy count runs now) marks status own
-  converse_talked was after talked halted status runs now ends opening same later talk leaves halts ran fails is legal given stored =
-      let old = opening.0 in
-      let begins : was.kept.entries ≡ (begun sheets old).journal = ap (λ (said : Said). said.journal) opening.2 in
-      let going : was.kept.halted ≡ None = ap (λ (said : Said). said.halted) opening.2 in
-      let settles : tells → Settles moment left_since disk after.disk (λ c. image disk c ⊎ IsMaking (seen disk) c) (IsRun sheets old) = λ told.
-      stays_settled moment left_since disk was.disk after.disk (λ c. image disk c ⊎ IsMaking (seen disk) c) (IsRun sheets old) (opening.3 told).1
-      (weaker moment left_since was.disk after.disk (Continues was.kept.entries) (IsRun sheets old) (λ bytes is. inr (subst (λ j. Continues j bytes) begins is)) (leaves told)) in
-      let rose : after.kept.halted ≡ Some halt_is.LogFault → Rose (faults disk) (faults after.disk) = λ halted_is. rose_late (faults disk) (faults was.disk) (faults after.disk) later (halts going halted_is) in
-      subst (λ e. OutcomeOn tells moment left_since seen image disk new faults limits (λ read. read ≡ commands) (λ s answers. heard → Talked got0 got1 s answers) sink_rose (λ count. RisesBy count runs now) marks e own) (sym ends)
-      (subst (OutcomeOn tells moment left_since seen image disk new faults limits (λ read. read ≡ commands) (λ s answers. heard → Talked got0 got1 s answers) sink_rose (λ count. RisesBy count runs now) marks (talked_status talked halted)) (sym listed)
-      (outcome_talked sheets limits (λ read. read ≡ commands) (λ journal. tells → IsOnDisk sheets (seen disk) journal) (λ journal why. tells → AllStored (image new) journal why)
-      (Since tells moment left_since seen image disk new sheets) (new ≡ disk) (Spared tells moment left_since seen image disk new sheets) (Refused tells moment left_since seen image disk new sheets)
-      (Rose (faults disk) (faults new)) sink_rose heard got0 got1 commands marks old (said_of after) runs now refl (λ told. (opening.3 told).0) legal stored
-      (λ told. subst (λ d. Settles moment left_since disk d (λ c. image disk c ⊎ IsMaking (seen disk) c) (IsRun sheets old)) (sym given) (settles told))
-      (λ halted_is. subst (λ d. Rose (faults disk) (faults d)) (sym given) (rose halted_is))
-      (subst (λ journal. Ran journal after.kept.entries runs now) begins ran) talked halted (sym is) fails
-      (subst (λ l. IsTalk heard got0 got1 commands marks talked (said_of after) l (begun sheets old)) same (subst (IsTalk heard got0 got1 commands marks talked (said_of after) (limits_of was)) opening.2 talk))))
-
-  -- the outcome of an opening that failed
-  pub converse_unopened : (why : JournalWhy) (status : RunStatus) (ran : ℕ → Type 0) → status ≡ unopened_status why → marks ≡ [] → (tells → Refuses sheets (seen disk) why) → (why ≡ why_is.Fault → Rose (faults disk) (faults new))
-      → (tells → why ≢ why_is.Fault → SameFrames (seen disk) (seen new) (image new)) → (tells → Spares sheets (seen disk) (image disk) (seen new) (image new))
-      → (tells → LeavesOnly moment left_since disk new (IsOpening sheets (seen disk) (image disk))) → (heard → got1 ≡ got0)
-      → OutcomeOn tells moment left_since seen image disk new faults limits (λ read. read ≡ commands) (λ status answers. heard → Talked got0 got1 status answers) sink_rose ran marks status own
-  converse_unopened why status ran ends none refuses fault frames spares moments said =
-      subst (λ e. OutcomeOn tells moment left_since seen image disk new faults limits (λ read. read ≡ commands) (λ s answers. heard → Talked got0 got1 s answers) sink_rose ran marks e own) (sym ends)
-      (subst (OutcomeOn tells moment left_since seen image disk new faults limits (λ read. read ≡ commands) (λ s answers. heard → Talked got0 got1 s answers) sink_rose ran marks (unopened_status why)) (sym listed)
-      (outcome_unopened sheets limits (λ read. read ≡ commands) (λ journal. tells → IsOnDisk sheets (seen disk) journal) (λ journal halted. tells → AllStored (image new) journal halted)
-      (Since tells moment left_since seen image disk new sheets) (new ≡ disk) (Spared tells moment left_since seen image disk new sheets) (Refused tells moment left_since seen image disk new sheets)
-      (Rose (faults disk) (faults new)) sink_rose heard got0 got1 commands marks ran why refl none fault (λ told. (spares told, moments told)) (λ judged told. (refuses told, frames told (λ failed. judged (inl failed)), moments told)) said))
-
-module _ {D : Type 0} (tells : Type 0) (moment : D → ℕ) (left_since : D → ℕ → List ℕ → Type 0) (seen : D → List ℕ) (image : D → List ℕ → Type 0) (faults : D → ℕ)
-    (limits : Limits) (heard : Type 0) (got0 got1 : List ℕ) (misfit : Option ℕ) (script : Bad → Type 0) (read_rose unread : Type 0) (marks : List ℕ) (disk new : D) (status : RunStatus) where
-  -- the end of a run whose script was read
-  pub judge_read : (told : Type 0) (left0 left1 : List ℕ) (commands items : List Command) (ran : ℕ → Type 0) (sink_rose : Type 0) (sheets : List Sheet) → misfit ≡ None
-      → (told → length left0 ≤ 1048576) → (told → IsScript (lines_of left0) items) → commands ≡ items → (told → left1 ≡ [])
-      → OutcomeOn tells moment left_since seen image disk new faults limits (λ read. read ≡ commands) (λ s answers. heard → Talked got0 got1 s answers) sink_rose ran marks status sheets
-      → EndsOn tells moment left_since seen image disk new faults limits misfit script read_rose unread (IsRead misfit told left0 left1) (λ s answers. heard → Talked got0 got1 s answers) sink_rose ran marks status sheets
-  judge_read told left0 left1 commands items ran sink_rose sheets fit short right same whole o =
-      let read : (cs : List Command) → cs ≡ commands → IsRead misfit told left0 left1 cs = λ cs is. (fit, λ t. (short t, subst (IsScript (lines_of left0)) (sym (is ∙ same)) (right t), whole t)) in
-      let talked : RunStatus → List Answer → Type 0 = λ s answers. heard → Talked got0 got1 s answers in
-      let before : List Entry → Type 0 = λ journal. tells → IsOnDisk sheets (seen disk) journal in
-      let stored : List Entry → Option Halt → Type 0 = λ journal halted. tells → AllStored (image new) journal halted in
-      let since = Since tells moment left_since seen image disk new sheets in
-      let spared = Spared tells moment left_since seen image disk new sheets in
-      let refused = Refused tells moment left_since seen image disk new sheets in
-      let disk_rose = Rose (faults disk) (faults new) in
-      ends_fit sheets limits before stored since (new ≡ disk) spared refused disk_rose marks (IsRead misfit told left0 left1) ran talked sink_rose misfit script read_rose unread (new ≡ disk) talked fit status
-      (outcome_map sheets limits before stored since (new ≡ disk) spared refused disk_rose marks (λ cs. cs ≡ commands) (IsRead misfit told left0 left1) ran ran talked talked sink_rose sink_rose read (λ count r. r) status (λ answers t. t) (λ r. r) o)
-
--- what the last line leaves of a status: the status, or Memory
-abbrev pub IsFinished : (heard : Type 0) (rose : Type 0) (got1 got2 : List ℕ) (status finished : RunStatus) → Type 0
-IsFinished heard rose got1 got2 status finished =
-    ((finished ≡ status) × (heard → IsLast rose got1 got2 (last_line status))) ⊎ ((finished ≡ Memory) × (heard → got2 ≡ got1))
-
--- what isn't refused before the last line isn't behind it
-finished_unrefused : (heard : Type 0) (rose : Type 0) (got1 got2 : List ℕ) (status finished : RunStatus) → IsFinished heard rose got1 got2 status finished → ((why : LogWhy) → status ≡ LogRefused why → ⊥)
-    → (why : LogWhy) → finished ≡ LogRefused why → ⊥
-finished_unrefused heard rose got1 got2 status finished (inl done) holds why is = holds why (sym done.0 ∙ is)
-finished_unrefused heard rose got1 got2 status finished (inr short) holds why is = let no : Memory ≡ LogRefused why = sym short.0 ∙ is in cc
+-- one call after another
+called_on : {D Setting : Type 0} (d : Disk.Ghosts D Setting) (m n : ℕ) (a b c : D) → IsCalled d m a b → IsCalled d n b c → IsCalled d (m + n) a c
+called_on d m n a b c first then =
+    let f0 = first.fault in
+    let f1 = then.fault in
+    let l0 = first.later in
+    let l1 = then.later in
+    let c0 = first.changes in
+    let c1 = then.changes in
+    record { fault = omega arith; later = omega arith; changes = omega arith; setting = then.setting ∙ first.setting }
 
 rose_early : (old mid new : ℕ) → mid ≤ new → Rose old mid → Rose old new
 rose_early old mid new later rose = omega arith
 
-module _ {D : Type 0} (tells : Type 0) (moment : D → ℕ) (left_since : D → ℕ → List ℕ → Type 0) (seen : D → List ℕ) (image : D → List ℕ → Type 0) (faults : D → ℕ)
-    (limits : Limits) (heard : Type 0) (got0 got1 got2 : List ℕ) (faults0 faults1 faults2 : ℕ) (misfit : Option ℕ) (script : Bad → Type 0) (read_rose unread : Type 0) (source : List Command → Type 0)
-    (ran ran' : ℕ → Type 0) (marks : List ℕ) (disk new : D) (status finished : RunStatus) (own sheets : List Sheet)
-    (same : own ≡ sheets) (first : faults0 ≤ faults1) (then : faults1 ≤ faults2)
-    (line : IsFinished heard (Rose faults1 faults2) got1 got2 status finished)
-    (exact : tells → (journal : List Entry) → IsOnDisk sheets (seen disk) journal → (why : LogWhy) → status ≡ LogRefused why → ⊥) where
-  -- the end of a run behind its last line
-  pub run_finished : ((count : ℕ) → ran count → ran' count)
-      → EndsOn tells moment left_since seen image disk new faults limits misfit script read_rose unread source (λ s answers. heard → Talked got0 got1 s answers) (Rose faults0 faults1) ran marks status sheets
-      → EndsOn tells moment left_since seen image disk new faults limits misfit script read_rose unread source (λ s answers. heard → Got (Rose faults0 faults2) got0 got2 s answers) (Rose faults0 faults2) ran' marks finished own
-  run_finished counts e =
-      let talked : RunStatus → List Answer → Type 0 = λ s answers. heard → Talked got0 got1 s answers in
-      let got : RunStatus → List Answer → Type 0 = λ s answers. heard → Got (Rose faults0 faults2) got0 got2 s answers in
-      let before : List Entry → Type 0 = λ journal. tells → IsOnDisk sheets (seen disk) journal in
-      let stored : List Entry → Option Halt → Type 0 = λ journal halted. tells → AllStored (image new) journal halted in
-      let since = Since tells moment left_since seen image disk new sheets in
-      let spared = Spared tells moment left_since seen image disk new sheets in
-      let refused = Refused tells moment left_since seen image disk new sheets in
-      let disk_rose = Rose (faults disk) (faults new) in
-      let judged : RunStatus → Type 0 = λ s. OutcomeOn tells moment left_since seen image disk new faults limits source talked (Rose faults0 faults1) ran marks s sheets in
-      let outcome : RunStatus → Type 0 = λ s. OutcomeOn tells moment left_since seen image disk new faults limits source got (Rose faults0 faults2) ran' marks s sheets in
-      let ends : RunStatus → Type 0 = λ s. EndsOn tells moment left_since seen image disk new faults limits misfit script read_rose unread source got (Rose faults0 faults2) ran' marks s sheets in
-      let unrefused : (why : LogWhy) (cause : JournalWhy) → status ≡ LogRefused why → refused cause → spared = λ why cause is held told. ((λ journal some on. absurd (exact told journal on why is)), (held told).2) in
-      subst (EndsOn tells moment left_since seen image disk new faults limits misfit script read_rose unread source got (Rose faults0 faults2) ran' marks finished) (sym same)
-      (⊎_elim
-      (λ done.
-      let said : (answers : List Answer) → talked status answers → got status answers = λ answers t told. got_finished (Rose faults1 faults2) (Rose faults0 faults2) got0 got1 got2 status answers (rose_late faults0 faults1 faults2 first) (t told) (done.1 told) in
-      subst ends (sym done.0)
-      (ends_map misfit script read_rose unread (new ≡ disk) talked judged marks got outcome status (said [])
-      (outcome_map sheets limits before stored since (new ≡ disk) spared refused disk_rose marks source source ran ran' talked got (Rose faults0 faults1) (Rose faults0 faults2) (λ cs c. c) counts status said (rose_early faults0 faults1 faults2 then)) e))
-      (λ short.
-      let said : (answers : List Answer) → talked status answers → got Memory answers = λ answers t told. got_unfinished got0 got1 got2 status answers (t told) (short.1 told) in
-      subst ends (sym short.0)
-      (ends_either misfit script read_rose unread (new ≡ disk) talked judged marks (ends Memory) status
-      (λ none unchanged t. inl (none, said [] t, inl unchanged))
-      (outcome_unfinished sheets limits before stored since (new ≡ disk) spared refused disk_rose marks source source ran ran' talked got (Rose faults0 faults1) (Rose faults0 faults2) (λ cs c. c) counts status said unrefused) e))
-      line)
+-- the tail as a list
+tail_of : (entries : List Entry) (tail : Option Entry) → (more : List Entry) × (with_tail entries tail ≡ entries ++ more)
+tail_of entries None = ([], sym (append-nil entries))
+tail_of entries (Some entry) = (entry ∷ [], refl)
 
-  -- where nothing is wrong and nothing failed
-  pub run_complete : EndsOn tells moment left_since seen image disk new faults limits misfit script read_rose unread source (λ s answers. heard → Got (Rose faults0 faults2) got0 got2 s answers) (Rose faults0 faults2) ran' marks finished own
-      → (journal : List Entry) → tells → IsOnDisk own (seen disk) journal → misfit ≡ None → ((bad : Bad) → script bad → ⊥) → ¬ read_rose → ¬ Rose faults0 faults2 → ¬ Rose (faults disk) (faults new)
-      → (finished ≡ Done) ⊎ (((bytes : ℕ) × (finished ≡ JournalFull bytes)) ⊎ (finished ≡ Memory))
-  run_complete e journal told on fit right reads takes works =
-      let got : RunStatus → List Answer → Type 0 = λ s answers. heard → Got (Rose faults0 faults2) got0 got2 s answers in
-      complete misfit script read_rose unread (new ≡ disk) got (λ s. OutcomeOn tells moment left_since seen image disk new faults limits source got (Rose faults0 faults2) ran' marks s own)
-      (Rose (faults disk) (faults new)) (Rose faults0 faults2) marks fit right reads works takes (λ o. o.0) (λ o. o.0) finished
-      (finished_unrefused heard (Rose faults1 faults2) got1 got2 status finished line (exact told journal (subst (λ s. IsOnDisk s (seen disk) journal) same on))) e
+module _ {D Setting : Type 0} (d : Disk.Ghosts D Setting) (sheets : List Sheet) (limits : Limits) (disk : D) (was : WorldView D) where
+  -- what a stop may leave before a journal was opened
+  abbrev early : List ℕ → Type 0
+  early bytes = d.image disk bytes ⊎ IsMaking (d.seen disk) bytes
+
+  -- a world was opened
+  abbrev pub IsOpened : Type 0
+  IsOpened =
+      (old : List Entry) × IsJournal sheets old × (standing_of was ≡ begun limits sheets old) × (was.opened.count ≡ length old)
+      × (d.tells → IsOnDisk sheets (d.seen disk) old × Settles d.moment d.left_since disk was.opened.disk early (λ c. Reads c (frames_of old)))
+
+  -- what each stop left since, from what the world's type keeps
+  pub stops_leave : (after : WorldView D) (new : D) (opens : IsOpened) → ((more : List Entry) × (after.kept.entries ≡ opens.0 ++ more)) → after.opened ≡ was.opened
+      → (d.tells → LeavesOnly d.moment d.left_since after.opened.disk new (IsFront after.opened.count (whole (standing_of after))))
+      → d.tells → Settles d.moment d.left_since disk new early (IsFront (length opens.0) (whole (standing_of after)))
+  stops_leave after new opens grown kept leaves told =
+      let old = opens.0 in
+      let all = whole (standing_of after) in
+      let tail = tail_of after.kept.entries after.kept.tail in
+      stays_settled d.moment d.left_since disk was.opened.disk new early (IsFront (length old) all)
+      (settles_weaker d.moment d.left_since disk was.opened.disk early (λ c. Reads c (frames_of old)) (IsFront (length old) all)
+      (λ c reads. record {
+        front = old;
+        rest = grown.0 ++ tail.0;
+        parts = tail.1 ∙ ap (λ l. l ++ tail.0) grown.1 ∙ append_assoc old grown.0 tail.0;
+        enough = omega arith;
+        reads = reads;
+      }) (opens.4 told).1)
+      (subst (λ n. LeavesOnly d.moment d.left_since was.opened.disk new (IsFront n all)) opens.3
+      (subst (λ (o : Opened D). LeavesOnly d.moment d.left_since o.disk new (IsFront o.count all)) kept (leaves told)))
+
+module _ {D Setting : Type 0} (d : Disk.Ghosts D Setting) (commands : List Command) (limits : Limits) (out : SinkUse) (disk new : D) (hands : HandsUse) (marks : List ℕ)
+    (sheets : List Sheet) (listed : sheets_used hands ≡ sheets) (status : RunStatus) where
+  abbrev its : RunStatus → Type 0
+  its = Outcome (spoken commands limits out (disk_use d disk new) hands marks)
+
+  -- the outcome of a conversation with a world that was opened
+  pub converse_talked : (was after : WorldView D) (talked : Result (Unit {0}) EarlyEnd) (halted : Option Halt) → status ≡ talked_status talked halted → IsOpened d sheets limits disk was
+      → IsCalled d 1 disk was.opened.disk → IsTalk out.tells out.before out.after commands marks talked (standing_of was) (standing_of after) → after.opened ≡ was.opened
+      → (d.tells → LeavesOnly d.moment d.left_since after.opened.disk new (IsFront after.opened.count (whole (standing_of after))))
+      → (after.kept.halted ≡ Some halt_is.LogFault → Rose (d.faults after.opened.disk) (d.faults new)) → IsLegal (back (whole (standing_of after)))
+      → IsCalled d (2 * (length (whole (standing_of after)) - after.opened.count)) after.opened.disk new → Ran hands was.kept.entries after.kept.entries → (talked ≡ Err early_is.WriteFault → out.failed)
+      → halted ≡ after.kept.halted → (d.tells → AllStored (d.image new) (recording (standing_of after))) → its status
+  converse_talked was after talked halted ends opening first_called talk kept leaves failed legal called ran fails is holds =
+      let own = sheets_used hands in
+      let opens : IsOpened d own limits disk was = subst (λ (l : List Sheet). IsOpened d l limits disk was) (sym listed) opening in
+      let old = opens.0 in
+      let stands : standing_of was ≡ begun limits own old = opens.2 in
+      let begins : was.kept.entries ≡ (begun limits own old).journal = ap (λ (s : Standing). s.journal) stands in
+      let grown : (more : List Entry) × (after.kept.entries ≡ old ++ more) =
+      let first = opened_grows own old in
+      (first.0 ++ ran.0, ran.1 ∙ ap (λ l. l ++ ran.0) (begins ∙ first.1) ∙ append_assoc old first.0 ran.0) in
+      let rose : after.kept.halted ≡ Some halt_is.LogFault → Rose (d.faults disk) (d.faults new) = λ halted_is.
+      rose_late (d.faults disk) (d.faults was.opened.disk) (d.faults new) first_called.fault (subst (λ (o : Opened D). Rose (d.faults o.disk) (d.faults new)) kept (failed halted_is)) in
+      let left = left_of commands limits out (disk_use d disk new) hands marks old (standing_of after) (λ told. (opens.4 told).0) legal holds
+      (stops_leave d own limits disk was after new opens grown kept leaves)
+      (called_on d 1 (2 * (length (whole (standing_of after)) - length old)) disk was.opened.disk new first_called
+      (subst (λ n. IsCalled d (2 * (length (whole (standing_of after)) - n)) was.opened.disk new) opens.3
+      (subst (λ (o : Opened D). IsCalled d (2 * (length (whole (standing_of after)) - o.count)) o.disk new) kept called))) rose (subst (λ journal. Ran hands journal after.kept.entries) begins ran) in
+      subst its (sym ends)
+      (outcome_talked commands limits out (disk_use d disk new) hands marks old (standing_of after) left talked halted (sym is) fails
+      (subst (λ (s : Standing). IsTalk out.tells out.before out.after commands marks talked s (standing_of after)) stands talk))
+
+  -- the outcome of an opening that failed
+  pub converse_unopened : (why : JournalWhy) → status ≡ unopened_status why → marks ≡ [] → (d.tells → Refuses sheets (d.seen disk) why) → (why ≡ why_is.Fault → Rose (d.faults disk) (d.faults new))
+      → (d.tells → why ≢ why_is.Fault → SameFrames (d.seen disk) (d.seen new) (d.image new)) → (d.tells → Spares sheets (d.seen disk) (d.image disk) (d.seen new) (d.image new))
+      → (d.tells → LeavesOnly d.moment d.left_since disk new (IsOpening sheets (d.seen disk) (d.image disk))) → IsCalled d 3 disk new → (out.tells → out.after ≡ out.before) → its status
+  converse_unopened why ends none refuses fault frames spares moments called quiet =
+      let opened : d.tells → LeavesOnly d.moment d.left_since disk new (IsOpening (sheets_used hands) (d.seen disk) (d.image disk)) = λ told. subst (λ l. LeavesOnly d.moment d.left_since disk new (IsOpening l (d.seen disk) (d.image disk))) (sym listed) (moments told) in
+      subst its (sym ends)
+      (outcome_unopened commands limits out (disk_use d disk new) hands marks none quiet why fault
+      (called, λ told. (subst (λ l. Spares l (d.seen disk) (d.image disk) (d.seen new) (d.image new)) (sym listed) (spares told), opened told))
+      (λ judged. (called, λ told. (subst (λ l. Refuses l (d.seen disk) why) (sym listed) (refuses told), frames told (λ failed. judged (inl failed)), opened told))))
+
+-- the end of a run whose script was read
+pub script_read : (run : Run) (commands items : List Command) (status : RunStatus) → WordsFit run → (run.script.tells → length run.script.before ≤ 1048576) → (run.script.tells → IsScript (lines_of run.script.before) items)
+    → commands ≡ items → (run.script.tells → run.script.after ≡ []) → Outcome (spoken commands run.limits run.out run.disk run.hands run.marks) status → EndsUnfinished run status
+script_read run commands items status fit short right same read o =
+    let given : (cs : List Command) → cs ≡ commands → IsRead run cs = λ cs is. (fit, λ t. (short t, subst (IsScript (lines_of run.script.before)) (sym (is ∙ same)) (right t), read t)) in
+    ends_fit run before_line fit status
+    (outcome_map (spoken commands run.limits run.out run.disk run.hands run.marks) (IsRead run) (before_line run.out) run.out given status (λ answers t. t) (λ r. r) o)
+
+module _ {K : Type 0} (k : Sink.Ghosts K) (out0 out1 out2 : K) (run : Run) (status : RunStatus) (first : k.faults out0 ≤ k.faults out1) (then : k.faults out1 ≤ k.faults out2)
+    (line : k.tells → IsLast (Rose (k.faults out1) (k.faults out2)) (k.got out1) (k.got out2) (last_line status)) where
+  abbrev unfinished : Run
+  unfinished = record run { out = sink_use k out0 out1 }
+
+  abbrev finished : Run
+  finished = record run { out = sink_use k out0 out2 }
+
+  -- the end of a run behind its last line
+  run_finished : EndsUnfinished unfinished status → Ends finished status
+  run_finished e =
+      let said : (answers : List Answer) → before_line unfinished.out status answers → behind_line finished.out status answers = λ answers t told.
+      got_finished (Rose (k.faults out1) (k.faults out2)) (Rose (k.faults out0) (k.faults out2)) (k.got out0) (k.got out1) (k.got out2) status answers (rose_late (k.faults out0) (k.faults out1) (k.faults out2) first) (t told) (line told) in
+      ends_map unfinished before_line behind_line finished.out status said
+      (outcome_map (talk_of unfinished before_line) (IsRead unfinished) (behind_line finished.out) finished.out (λ cs c. c) status said (rose_early (k.faults out0) (k.faults out1) (k.faults out2) then)) e
+
+  -- what the run keeps to
+  pub run_keeps : EndsUnfinished unfinished status → run.hands.after ≡ run.hands.before → AcceptsJournal run.disk run.hands status → KeepsTo finished status
+  run_keeps e alike exact =
+      let ends = run_finished e in
+      record { ends = ends; complete = complete finished status exact ends; exact = exact; alike = alike }

@@ -1,17 +1,16 @@
 -- The steps that settling makes, and what they leave.
 use Rattle.std.proofs.Common.{◌≡◌, ◌≢◌, ℕ, List, [], ◌∷◌, ◌++◌, IsTrue, Option, Some, None, Result, Ok, Err, refl, sym, ap, ◌∙◌, subst, inl, inr, ⊎_elim, append-nil, append_assoc, arith}
-use Rattle.std.specs.Prelude.{IfOk, OnErr}
-use Rattle.hm_disk.specs.Disk.{LeavesOnly}
-use Rattle.hm_disk.proofs.Moments.{joined, weaker}
+use Rattle.std.specs.Prelude.{IfOk, OnErr, MatchOption}
 use Rattle.hm_names.specs.Server.{Server}
+use Rattle.hm_names.specs.declared.nonce.Nonce.{Nonce}
 use Rattle.hm_names.specs.declared.pid.Pid.{Pid}
 use Rattle.hm_data.specs.declared.entry.Entry.{Entry}
 use Rattle.hm_data.specs.declared.entry.Entry.TheVariants as entry_is
 use Rattle.hm_data.specs.declared.sheet.Sheet.{Sheet}
 use Rattle.hm_data.specs.declared.step.StepIn.{StepIn}
 use Rattle.hm_data.specs.declared.step.StepOut.{StepOut}
+use Rattle.hm_hall.specs.Recording.{Passes}
 use Rattle.hm_hall.specs.declared.fault.Halt.{Halt}
-use Rattle.hm_journal.specs.declared.limits.Limits.{Limits}
 use Rattle.hm_model.specs.Inputs.{IsEvaluated, input}
 use Rattle.hm_model.specs.Journal.{Past, back}
 use Rattle.hm_model.specs.Kinds.{is_running_kind}
@@ -26,15 +25,15 @@ use Rattle.hm_model.proofs.Prefixes.{back-push}
 use Rattle.hm_model.proofs.Sheets.{said_alike}
 use Rattle.hm_model.proofs.Stages.{flat_all}
 use Rattle.hm_state.specs.State.{IsFirst, IsInput}
-use Rattle.hm_top.specs.Answer.{Adds, AnswersAt, IsWorked}
+use Rattle.hm_top.specs.Answer.{AnswersAt, IsUnanswered, submission}
 use Rattle.hm_top.specs.declared.answer.Answer.{Answer}
 use Rattle.hm_top.specs.declared.answer.Answer.TheVariants as answer_is
 use Rattle.hm_top.specs.declared.command.Command.TheVariants as command_is
-use Rattle.hm_top.specs.Hands.{AgreeOn, Ran, RisesBy, one_step, steps_in}
-use Rattle.hm_top.specs.Said.{Said}
-use Rattle.hm_top.specs.Settling.{AreSteps, IsNextStep, IsTooLong}
-use Rattle.hm_top.specs.Stored.{Continues}
-use Rattle.hm_top.proofs.Moments.{continues_more}
+use Rattle.hm_top.specs.declared.command.Command.{Command}
+use Rattle.hm_top.specs.Hands.{AgreeOn, Serve, first_sheets, one_step}
+use Rattle.hm_top.specs.Settling.{AreSteps, IsNextStep, IsWorked}
+use Rattle.hm_top.specs.Standing.{Comes, Standing}
+use Rattle.hm_top.proofs.Growth.{entry_added, halt_leaves, leaves_none, standing_added}
 
 -- what may go on makes a step: nothing is undone yet
 pub may_on : (J : Past) → IsLegal J → (p : ℕ) → IsAvailable J p → MayStep J p
@@ -80,7 +79,7 @@ next_step J legal begun pid at sheets out agree available first is answered =
     (first, (begun, (may, (available.0, (refl, (evaluated J legal pid.0 None at sheets out agree may is answered, tt))))))
 
 -- the next step is a step
-one_next : (J : Past) (entry : Entry) → IsNextStep J entry → one_step entry ≡ 1
+pub one_next : (J : Past) (entry : Entry) → IsNextStep J entry → one_step entry ≡ 1
 one_next J (entry_is.Start sheets) next = absurd next
 one_next J (entry_is.Submit nonce request) next = absurd next
 one_next J (entry_is.Step pid pick out) next = refl
@@ -101,46 +100,39 @@ next_allowed J (entry_is.Up server) next = absurd next
 next_allowed J (entry_is.Down server) next = absurd next
 next_allowed J (entry_is.Abort pid) next = absurd next
 
--- a count that rose by one didn't fall
-rises_none : (before now : ℕ) → RisesBy 1 before now → RisesBy 0 before now
-rises_none before now = ⊎_elim (λ rose. inl (omega (arith, rose))) (λ ends. inr ends)
-
--- the journal that stays gains no step
-ran_none : (old new : List Entry) (before now : ℕ) → new ≡ old → RisesBy 1 before now → Ran old new before now
-ran_none old new before now same rose = ([], same ∙ sym (append-nil old), rises_none before now rose)
-
--- a step that was evaluated was run once, whether it was added or not
-pub ran_step : {E : Type 0} (limits : Limits) (old : List Entry) (entry : Entry) (r : Result (Option Halt) E) (was new : Said) (before now : ℕ) → was.journal ≡ old → IsNextStep (back old) entry → RisesBy 1 before now
-    → IfOk r (λ halt. Adds limits old entry halt new) → OnErr r (new ≡ was) → Ran old new.journal before now
-ran_step limits old entry (Ok None) was new before now is next rose adds err =
-    let one : steps_in (entry ∷ []) ≡ 1 = omega (arith, one_next (back old) entry next) in
-    (entry ∷ [], ap (λ (s : Said). s.journal) adds.1, subst (λ n. RisesBy n before now) (sym one) rose)
-ran_step limits old entry (Ok (Some why)) was new before now is next rose adds err = ran_none old new.journal before now (ap (λ (s : Said). s.journal) adds.1) rose
-ran_step limits old entry (Err e) was new before now is next rose adds err = ran_none old new.journal before now (ap (λ (s : Said). s.journal) err ∙ is) rose
-
 -- one step more
-steps_more : (limits : Limits) (journal steps : List Entry) (entry : Entry) → AreSteps limits journal steps → IsNextStep (back (journal ++ steps)) entry → (IsTooLong limits (journal ++ steps) entry → ⊥)
-    → AreSteps limits journal (steps ++ entry ∷ [])
-steps_more limits journal [] entry are next within = (
-  subst (λ (j : List Entry). IsNextStep (back j) entry) (append-nil journal) next,
-  subst (λ (j : List Entry). IsTooLong limits j entry → ⊥) (append-nil journal) within,
+steps_more : (at : Standing) (steps : List Entry) (entry : Entry) → AreSteps at steps → IsNextStep (back (at.journal ++ steps)) entry
+    → (Passes at.limits.hard (at.journal ++ steps) entry → ⊥) → AreSteps at (steps ++ entry ∷ [])
+steps_more at [] entry are next within = (
+  subst (λ (j : List Entry). IsNextStep (back j) entry) (append-nil at.journal) next,
+  subst (λ (j : List Entry). Passes at.limits.hard j entry → ⊥) (append-nil at.journal) within,
   tt,
 )
-steps_more limits journal (first ∷ steps) entry are next within =
-    let same = append_assoc journal (first ∷ []) steps in (
+steps_more at (first ∷ steps) entry are next within =
+    let same = append_assoc at.journal (first ∷ []) steps in (
       are.0,
       are.1,
-      steps_more limits (journal ++ first ∷ []) steps entry are.2 (subst (λ (j : List Entry). IsNextStep (back j) entry) (sym same) next)
-          (subst (λ (j : List Entry). IsTooLong limits j entry → ⊥) (sym same) within),
+      steps_more (record at { journal = at.journal ++ first ∷ [] }) steps entry are.2 (subst (λ (j : List Entry). IsNextStep (back j) entry) (sym same) next)
+          (subst (λ (j : List Entry). Passes at.limits.hard j entry → ⊥) (sym same) within),
     )
 
-worked_more : (limits : Limits) (old mid new : List Entry) (entry : Entry) → IsWorked limits old mid → IsNextStep (back mid) entry → (IsTooLong limits mid entry → ⊥) → new ≡ mid ++ entry ∷ [] → IsWorked limits old new
-worked_more limits old mid new entry was next within is = record {
-  steps = was.steps ++ entry ∷ [];
-  are_steps = steps_more limits old was.steps entry was.are_steps (subst (λ (j : List Entry). IsNextStep (back j) entry) was.grown next)
-      (subst (λ (j : List Entry). IsTooLong limits j entry → ⊥) was.grown within);
-  grown = is ∙ ap (λ (j : List Entry). j ++ entry ∷ []) was.grown ∙ append_assoc old was.steps (entry ∷ []);
-}
+-- no step yet
+pub worked_none : (at : Standing) → IsWorked at at
+worked_none at = record { steps = []; are_steps = tt; grown = ap (λ (j : List Entry). record at { journal = j }) (sym (append-nil at.journal)) }
+
+-- a step that was added behind steps that were made
+pub worked_on : (old mid new : Standing) → IsWorked old mid → ((entry : Entry) × IsNextStep (back mid.journal) entry × Comes mid entry None new) → IsWorked old new
+worked_on old mid new was adds =
+    let entry = adds.0 in
+    let grown = was.grown in
+    record {
+      steps = was.steps ++ entry ∷ [];
+      are_steps = steps_more old was.steps entry was.are_steps (subst (λ (s : Standing). IsNextStep (back s.journal) entry) grown adds.1)
+          (subst (λ (s : Standing). Passes s.limits.hard s.journal entry → ⊥) grown adds.2.0.1);
+      grown = standing_added mid new entry adds.2
+          ∙ ap (λ (s : Standing). record s { journal = s.journal ++ entry ∷ [] }) grown
+          ∙ ap (λ (j : List Entry). record old { journal = j }) (append_assoc old.journal was.steps (entry ∷ []));
+    }
 
 -- a step leaves the sheets
 sheets_step : (J : Past) (entry : Entry) → IsNextStep J entry → sheets_of (entry ∷ J) ≡ sheets_of J
@@ -158,44 +150,60 @@ sheets_more journal new entry next is =
     ap (λ (j : List Entry). sheets_of (back j)) is ∙ ap sheets_of (back-push journal entry) ∙ sheets_step (back journal) entry next
 
 -- so do the steps of a settling
-sheets_all : (limits : Limits) (journal steps : List Entry) → AreSteps limits journal steps → sheets_of (back (journal ++ steps)) ≡ sheets_of (back journal)
-sheets_all limits journal [] are = ap (λ (j : List Entry). sheets_of (back j)) (append-nil journal)
-sheets_all limits journal (entry ∷ steps) are =
-    ap (λ (j : List Entry). sheets_of (back j)) (sym (append_assoc journal (entry ∷ []) steps))
-    ∙ sheets_all limits (journal ++ entry ∷ []) steps are.2
-    ∙ sheets_more journal (journal ++ entry ∷ []) entry are.0 refl
+sheets_all : (at : Standing) (steps : List Entry) → AreSteps at steps → sheets_of (back (at.journal ++ steps)) ≡ sheets_of (back at.journal)
+sheets_all at [] are = ap (λ (j : List Entry). sheets_of (back j)) (append-nil at.journal)
+sheets_all at (entry ∷ steps) are =
+    ap (λ (j : List Entry). sheets_of (back j)) (sym (append_assoc at.journal (entry ∷ []) steps))
+    ∙ sheets_all (record at { journal = at.journal ++ entry ∷ [] }) steps are.2
+    ∙ sheets_more at.journal (at.journal ++ entry ∷ []) entry are.0 refl
 
-pub sheets_worked : (limits : Limits) (old new : List Entry) → IsWorked limits old new → sheets_of (back new) ≡ sheets_of (back old)
-sheets_worked limits old new worked = ap (λ (j : List Entry). sheets_of (back j)) worked.grown ∙ sheets_all limits old worked.steps worked.are_steps
+pub sheets_worked : (old new : Standing) → IsWorked old new → sheets_of (back new.journal) ≡ sheets_of (back old.journal)
+sheets_worked old new worked = ap (λ (s : Standing). sheets_of (back s.journal)) worked.grown ∙ sheets_all old worked.steps worked.are_steps
 
--- a step that was added behind steps that were made
-pub worked_on : (limits : Limits) (old mid : List Entry) (new : Said) → IsWorked limits old mid → ((entry : Entry) × IsNextStep (back mid) entry × Adds limits mid entry None new) → IsWorked limits old new.journal
-worked_on limits old mid new was adds = worked_more limits old mid new.journal adds.0 was adds.1 adds.2.0 (ap (λ (s : Said). s.journal) adds.2.1)
+-- registries that served a journal serve one with the same sheets
+pub serve_on : (one other : List (List Sheet)) (old new : List Entry) → Serve one old → other ≡ one → sheets_of (back new) ≡ sheets_of (back old) → Serve other new
+serve_on one other old new serve same sheets =
+    subst (λ (hands : List (List Sheet)). Serve hands new) (sym same)
+    (record { agree = serve.agree; begins = subst (AgreeOn (first_sheets one)) (sym sheets) serve.begins })
 
-module _ {D : Type 0} (moment : D → ℕ) (left_since : D → ℕ → List ℕ → Type 0) where
-  -- what steps left, and what comes behind them
-  pub worked_moments : (limits : Limits) (was mid new : D) (old journal : List Entry) → IsWorked limits old journal → LeavesOnly moment left_since was mid (Continues old) → LeavesOnly moment left_since mid new (Continues journal)
-      → LeavesOnly moment left_since was new (Continues old)
-  worked_moments limits was mid new old journal worked first then =
-      joined moment left_since was mid new (Continues old) first
-      (weaker moment left_since mid new (Continues journal) (Continues old)
-      (λ c is. continues_more old journal c (worked.steps, worked.grown) is) then)
+-- whatever a settling answers, the journal begins with the same sheets
+pub settle_begun : {E : Type 0} (old new : Standing) (r : Result Answer E) → IfOk r (λ answer. AnswersAt command_is.Settle old answer new) → OnErr r (IsWorked old new)
+    → sheets_of (back new.journal) ≡ sheets_of (back old.journal)
+settle_begun old new (Ok (answer_is.Opened at)) answers err = absurd answers
+settle_begun old new (Ok (answer_is.Pid pid)) answers err = absurd answers
+settle_begun old new (Ok (answer_is.Repeated pid)) answers err = absurd answers
+settle_begun old new (Ok (answer_is.NonceClash pid)) answers err = absurd answers
+settle_begun old new (Ok (answer_is.JournalFull bytes)) answers err = absurd answers
+settle_begun old new (Ok (answer_is.Settled at)) answers err = sheets_worked old new answers.0.worked
+settle_begun old new (Ok (answer_is.Waiting at roots)) answers err = sheets_worked old new answers.0.worked
+settle_begun old new (Ok (answer_is.Table text)) answers err = absurd answers
+settle_begun old new (Ok (answer_is.Halted why)) answers err =
+    ap (λ (j : List Entry). sheets_of (back j)) (halt_leaves answers.mid new answers.next why answers.halts) ∙ sheets_worked old answers.mid answers.worked
+settle_begun old new (Err fault) answers err = sheets_worked old new err
 
--- a registry that had the journal's sheets has them still
-pub agree_on : (limits : Limits) (one other : List Sheet) (old new : List Entry) → AgreeOn one (sheets_of (back old)) → other ≡ one → IsWorked limits old new → AgreeOn other (sheets_of (back new))
-agree_on limits one other old new agree same worked kind runs =
-    ap (λ (s : List Sheet). sheet_for s kind) same ∙ agree kind runs ∙ ap (λ (s : List Sheet). sheet_for s kind) (sym (sheets_worked limits old new worked))
+-- a submission leaves the sheets
+submission_begun : (journal : List Entry) (nonce : Nonce) (ns : List ℕ) → sheets_of (back (journal ++ submission nonce ns ∷ [])) ≡ sheets_of (back journal)
+submission_begun journal nonce ns = ap sheets_of (back-push journal (submission nonce ns))
 
--- whatever a settling answers, it made steps
-pub settle_worked : {E : Type 0} (limits : Limits) (old : List Entry) (r : Result Answer E) (new : Said) → IfOk r (λ answer. AnswersAt limits command_is.Settle old answer new)
-    → OnErr r ((new.halted ≡ None) × IsWorked limits old new.journal) → IsWorked limits old new.journal
-settle_worked limits old (Ok (answer_is.Opened at)) new answers err = absurd answers
-settle_worked limits old (Ok (answer_is.Pid pid)) new answers err = absurd answers
-settle_worked limits old (Ok (answer_is.Repeated pid)) new answers err = absurd answers
-settle_worked limits old (Ok (answer_is.NonceClash pid)) new answers err = absurd answers
-settle_worked limits old (Ok (answer_is.JournalFull bytes)) new answers err = absurd answers
-settle_worked limits old (Ok (answer_is.Settled at)) new answers err = answers.0.worked
-settle_worked limits old (Ok (answer_is.Waiting at roots)) new answers err = answers.0.worked
-settle_worked limits old (Ok (answer_is.Table text)) new answers err = absurd answers
-settle_worked limits old (Ok (answer_is.Halted why)) new answers err = answers.worked
-settle_worked limits old (Err fault) new answers err = err.1
+-- so does its answer
+pub submit_begun : {E : Type 0} (nonce : Nonce) (ns : List ℕ) (old new : Standing) (r : Result Answer E) → IfOk r (λ answer. AnswersAt (command_is.Namespace nonce ns) old answer new) → OnErr r (new ≡ old)
+    → sheets_of (back new.journal) ≡ sheets_of (back old.journal)
+submit_begun nonce ns old new (Ok (answer_is.Opened at)) answers err = absurd answers
+submit_begun nonce ns old new (Ok (answer_is.Pid pid)) answers err =
+    ap (λ (j : List Entry). sheets_of (back j)) (entry_added old new (submission nonce ns) answers.2) ∙ submission_begun old.journal nonce ns
+submit_begun nonce ns old new (Ok (answer_is.Repeated pid)) answers err = ap (λ (s : Standing). sheets_of (back s.journal)) answers.2
+submit_begun nonce ns old new (Ok (answer_is.NonceClash pid)) answers err = ap (λ (s : Standing). sheets_of (back s.journal)) answers.2
+submit_begun nonce ns old new (Ok (answer_is.JournalFull bytes)) answers err = ap (λ (s : Standing). sheets_of (back s.journal)) answers.2
+submit_begun nonce ns old new (Ok (answer_is.Settled at)) answers err = absurd answers
+submit_begun nonce ns old new (Ok (answer_is.Waiting at roots)) answers err = absurd answers
+submit_begun nonce ns old new (Ok (answer_is.Table text)) answers err = absurd answers
+submit_begun nonce ns old new (Ok (answer_is.Halted why)) answers err = ap (λ (j : List Entry). sheets_of (back j)) (halt_leaves old new (submission nonce ns) why answers.1)
+submit_begun nonce ns old new (Err fault) answers err = ap (λ (s : Standing). sheets_of (back s.journal)) err
+
+-- the steps of a settling that wasn't answered may be left
+pub worked_left : (old new : Standing) → old.halted ≡ None → IsWorked old new → IsUnanswered command_is.Settle old new
+worked_left old new going worked = (worked.steps, subst (λ (h : Option Halt). MatchOption h (AreSteps old worked.steps) (λ why. worked.steps ≡ [])) (sym going) worked.are_steps, worked.grown)
+
+-- a command that did nothing left nothing
+pub left_none : (command : Command) (old new : Standing) → new ≡ old → IsUnanswered command old new
+left_none command old new same = ([], leaves_none command old, same ∙ ap (λ (j : List Entry). record old { journal = j }) (sym (append-nil old.journal)))

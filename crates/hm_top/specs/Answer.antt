@@ -1,5 +1,5 @@
 -- What each answer says, and which answers a command may have.
-use Rattle.std.specs.Prelude.{◌≡◌, ◌≢◌, ◌⊎◌, ℕ, ◌+◌, ◌≤◌, List, [], ◌∷◌, ◌++◌, length, codes, string_bytes, Option, Some, None, MatchOption}
+use Rattle.std.specs.Prelude.{◌≡◌, ◌≢◌, ◌⊎◌, ℕ, ◌+◌, List, [], ◌∷◌, ◌++◌, length, codes, string_bytes, Option, Some, None, MatchOption}
 use Rattle.std.specs.Fmt.{decimal}
 use Rattle.hm_names.specs.declared.nonce.Nonce.{Nonce}
 use Rattle.hm_data.specs.declared.args.Args.{Args}
@@ -12,16 +12,15 @@ use Rattle.hm_model.specs.Nonces.{by_nonce}
 use Rattle.hm_model.specs.Records.{unfinished}
 use Rattle.hm_model.specs.Rest.{IsAtRest}
 use Rattle.hm_model.specs.Tree.{Node, made, node_of}
-use Rattle.hm_hall.specs.Recording.{bytes_of}
+use Rattle.hm_hall.specs.Recording.{Passes, full_at}
 use Rattle.hm_hall.specs.declared.fault.Halt.{Halt}
 use Rattle.hm_hall.specs.declared.fault.Halt.TheVariants as halt_is
-use Rattle.hm_journal.specs.declared.limits.Limits.{Limits}
 use Rattle.hm_top.specs.declared.answer.Answer.{Answer}
 use Rattle.hm_top.specs.declared.answer.Answer.TheVariants as answer_is
 use Rattle.hm_top.specs.declared.command.Command.{Command}
 use Rattle.hm_top.specs.declared.command.Command.TheVariants as command_is
-use Rattle.hm_top.specs.Said.{Said}
-use Rattle.hm_top.specs.Settling.{AreSteps, IsNextStep, IsTooLong}
+use Rattle.hm_top.specs.Settling.{AreSteps, IsNextStep, IsWorked}
+use Rattle.hm_top.specs.Standing.{Comes, Standing, recording}
 use Rattle.hm_top.specs.Table.{procs_table}
 
 -- what halted the run
@@ -41,86 +40,79 @@ answer_text (answer_is.Waiting at roots) = codes "waiting at " ++ decimal at ++ 
 answer_text (answer_is.Table text) = string_bytes text
 answer_text (answer_is.Halted why) = codes "halted " ++ halt_text why ++ codes "\n"
 
--- the journal stays as it was, and the run goes on
-abbrev pub Stays : List Entry → Said → Type 0
-Stays journal new = new ≡ record { journal = journal; halted = None }
-
--- what a submission asks for, as an entry
+-- the entry of a submission
 abbrev pub submission : Nonce → List ℕ → Entry
 submission nonce ns = entry_is.Submit nonce (request_is.CreateNamespace ns)
 
--- what works on this request
-abbrev pub asks_for : Option Node → Option Args
-asks_for None = None
-asks_for (Some node) = Some node.args
+-- the arguments of a procedure, where there is one
+abbrev pub args_of : Option Node → Option Args
+args_of None = None
+args_of (Some node) = Some node.args
 
 -- the procedure was asked to create this namespace
 abbrev pub IsAsked : Past → ℕ → List ℕ → Type 0
-IsAsked before p ns = asks_for (node_of before p) ≡ Some (args_are.Root (request_is.CreateNamespace ns) 1)
+IsAsked before p ns = args_of (node_of before p) ≡ Some (args_are.Root (request_is.CreateNamespace ns) 1)
 
--- the journal has reached the soft mark
-abbrev pub IsSoftFull : Limits → List Entry → Type 0
-IsSoftFull limits journal = limits.soft ≤ bytes_of journal
-
--- why the run halts at an entry that would come next: the log failed, or the entry would pass the hard mark
-abbrev pub Halts : Limits → List Entry → Entry → Halt → Type 0
-Halts limits journal entry halt_is.LogFault = IsTooLong limits journal entry → ⊥
-Halts limits journal entry (halt_is.JournalFull bytes) = (bytes ≡ bytes_of journal) × IsTooLong limits journal entry
-
--- the journal gained steps, and nothing else
-pub record IsWorked (limits : Limits) (old : List Entry) (new : List Entry) : Type 0 where
-  pub steps : List Entry
-  pub are_steps : AreSteps limits old steps
-  pub grown : new ≡ old ++ steps
+-- no procedure was asked for under this nonce, and the journal is below its soft mark
+abbrev pub IsFree : Standing → Nonce → Type 0
+IsFree old nonce = (by_nonce (back old.journal) nonce ≡ None) × (full_at (recording old) ≡ None)
 
 -- settling ended: the journal is at rest, and so many roots haven't ended
-pub record IsSettled (limits : Limits) (old : List Entry) (new : Said) (roots : ℕ) : Type 0 where
-  pub worked : IsWorked limits old new.journal
-  pub goes_on : new.halted ≡ None
+pub record IsSettled (old new : Standing) (roots : ℕ) : Type 0 where
+  pub worked : IsWorked old new
   pub rests : IsAtRest (back new.journal)
   pub left : roots ≡ unfinished (back new.journal)
 
 -- settling halted at the step that would have come next
-pub record IsBrokenOff (limits : Limits) (old : List Entry) (why : Halt) (new : Said) : Type 0 where
-  pub worked : IsWorked limits old new.journal
-  pub halted_is : new.halted ≡ Some why
+pub record IsBrokenOff (old : Standing) (why : Halt) (new : Standing) : Type 0 where
+  pub mid : Standing
+  pub worked : IsWorked old mid
   pub next : Entry
-  pub next_is : IsNextStep (back new.journal) next
-  pub cause : Halts limits new.journal next why
+  pub next_is : IsNextStep (back mid.journal) next
+  pub halts : Comes mid next (Some why) new
 
 -- the answers of a run that isn't halted: a halt begins only where an entry would be added
-abbrev pub AnswersAt : Limits → Command → List Entry → Answer → Said → Type 0
-AnswersAt limits (command_is.Namespace nonce ns) journal (answer_is.Pid pid) new =
-    (by_nonce (back journal) nonce ≡ None) × (IsSoftFull limits journal → ⊥) × (IsTooLong limits journal (submission nonce ns) → ⊥)
-    × (pid ≡ made (back journal) + 1) × (new ≡ record { journal = journal ++ submission nonce ns ∷ []; halted = None })
-AnswersAt limits (command_is.Namespace nonce ns) journal (answer_is.Repeated pid) new =
-    (by_nonce (back journal) nonce ≡ Some pid) × IsAsked (back journal) pid ns × Stays journal new
-AnswersAt limits (command_is.Namespace nonce ns) journal (answer_is.NonceClash pid) new =
-    (by_nonce (back journal) nonce ≡ Some pid) × (IsAsked (back journal) pid ns → ⊥) × Stays journal new
-AnswersAt limits (command_is.Namespace nonce ns) journal (answer_is.JournalFull bytes) new =
-    (by_nonce (back journal) nonce ≡ None) × IsSoftFull limits journal × (bytes ≡ bytes_of journal) × Stays journal new
-AnswersAt limits (command_is.Namespace nonce ns) journal (answer_is.Halted why) new =
-    (by_nonce (back journal) nonce ≡ None) × (IsSoftFull limits journal → ⊥) × Halts limits journal (submission nonce ns) why
-    × (new ≡ record { journal = journal; halted = Some why })
-AnswersAt limits command_is.Settle journal (answer_is.Settled at) new =
-    IsSettled limits journal new 0 × (at ≡ length new.journal)
-AnswersAt limits command_is.Settle journal (answer_is.Waiting at roots) new =
-    IsSettled limits journal new roots × (roots ≢ 0) × (at ≡ length new.journal)
-AnswersAt limits command_is.Settle journal (answer_is.Halted why) new = IsBrokenOff limits journal why new
-AnswersAt limits command_is.Procs journal (answer_is.Table text) new = (string_bytes text ≡ procs_table (back journal)) × Stays journal new
-AnswersAt limits _ journal _ new = ⊥
+abbrev pub AnswersAt : Command → Standing → Answer → Standing → Type 0
+AnswersAt (command_is.Namespace nonce ns) old (answer_is.Pid pid) new =
+    IsFree old nonce × (pid ≡ made (back old.journal) + 1) × Comes old (submission nonce ns) None new
+AnswersAt (command_is.Namespace nonce ns) old (answer_is.Repeated pid) new =
+    (by_nonce (back old.journal) nonce ≡ Some pid) × IsAsked (back old.journal) pid ns × (new ≡ old)
+AnswersAt (command_is.Namespace nonce ns) old (answer_is.NonceClash pid) new =
+    (by_nonce (back old.journal) nonce ≡ Some pid) × (IsAsked (back old.journal) pid ns → ⊥) × (new ≡ old)
+AnswersAt (command_is.Namespace nonce ns) old (answer_is.JournalFull bytes) new =
+    (by_nonce (back old.journal) nonce ≡ None) × (full_at (recording old) ≡ Some bytes) × (new ≡ old)
+AnswersAt (command_is.Namespace nonce ns) old (answer_is.Halted why) new = IsFree old nonce × Comes old (submission nonce ns) (Some why) new
+AnswersAt command_is.Settle old (answer_is.Settled at) new = IsSettled old new 0 × (at ≡ length new.journal)
+AnswersAt command_is.Settle old (answer_is.Waiting at roots) new = IsSettled old new roots × (roots ≢ 0) × (at ≡ length new.journal)
+AnswersAt command_is.Settle old (answer_is.Halted why) new = IsBrokenOff old why new
+AnswersAt command_is.Procs old (answer_is.Table text) new = (string_bytes text ≡ procs_table (back old.journal)) × (new ≡ old)
+AnswersAt _ old _ new = ⊥
 
 -- From old, the command may have this answer, and then new is left. While the run is halted each answer says so.
-abbrev pub Answers : Limits → Command → Said → Answer → Said → Type 0
-Answers limits command old answer new =
-    MatchOption old.halted (AnswersAt limits command old.journal answer new) (λ why. (answer ≡ answer_is.Halted why) × (new ≡ old))
+abbrev pub Answers : Command → Standing → Answer → Standing → Type 0
+Answers command old answer new = MatchOption old.halted (AnswersAt command old answer new) (λ why. (answer ≡ answer_is.Halted why) × (new ≡ old))
 
--- what adding an entry leaves, and what halts the run there
-abbrev pub Adds : Limits → List Entry → Entry → Option Halt → Said → Type 0
-Adds limits journal entry None new = (IsTooLong limits journal entry → ⊥) × (new ≡ record { journal = journal ++ entry ∷ []; halted = None })
-Adds limits journal entry (Some why) new = Halts limits journal entry why × (new ≡ record { journal = journal; halted = Some why })
+-- what a command may record where nothing halts the run
+abbrev pub MayAddAt : Command → Standing → List Entry → Type 0
+MayAddAt (command_is.Namespace nonce ns) old entries =
+    (entries ≡ []) ⊎ (IsFree old nonce × (Passes old.limits.hard old.journal (submission nonce ns) → ⊥) × (entries ≡ submission nonce ns ∷ []))
+MayAddAt command_is.Settle old entries = AreSteps old entries
+MayAddAt command_is.Procs old entries = entries ≡ []
 
--- what a command leaves that wasn't answered for want of memory: nothing new, or of a settling its steps
-abbrev pub IsUnanswered : Limits → Command → Said → Said → Type 0
-IsUnanswered limits command old new =
-    (new ≡ old) ⊎ ((command ≡ command_is.Settle) × (old.halted ≡ None) × (new.halted ≡ None) × IsWorked limits old.journal new.journal)
+-- what a command may have recorded, answered or not: nothing where the run is halted
+abbrev pub MayAdd : Command → Standing → List Entry → Type 0
+MayAdd command old entries = MatchOption old.halted (MayAddAt command old entries) (λ why. entries ≡ [])
+
+-- the same of a command that wasn't answered: a submission recorded nothing
+abbrev pub MayLeave : Command → Standing → List Entry → Type 0
+MayLeave (command_is.Namespace nonce ns) old entries = entries ≡ []
+MayLeave command old entries = MayAdd command old entries
+
+-- what a command leaves that wasn't answered for want of memory
+abbrev pub IsUnanswered : Command → Standing → Standing → Type 0
+IsUnanswered command old new = (entries : List Entry) × MayLeave command old entries × (new ≡ record old { journal = old.journal ++ entries })
+
+-- what was recorded for the next of these commands, which isn't answered any more
+abbrev pub AreUnsaid : List Command → Standing → List Entry → Type 0
+AreUnsaid [] old entries = entries ≡ []
+AreUnsaid (command ∷ more) old entries = MayLeave command old entries

@@ -1,11 +1,13 @@
 -- The handlers of a run, as their sheets, and how often they were run.
-use Rattle.std.specs.Prelude.{◌≡◌, ◌⊎◌, ℕ, ◌+◌, ◌-◌, ◌^◌, ◌≤◌, List, [], ◌∷◌, ◌++◌, length, sum, Any, All, Option, Some, None, IsTrue}
+use Rattle.std.specs.Prelude.{◌≡◌, ◌⊎◌, ℕ, ◌+◌, ◌-◌, ◌^◌, ◌<◌, ◌≤◌, List, [], ◌∷◌, ◌++◌, length, sum, Any, All, Option, Some, None, IsTrue}
 use Rattle.std.specs.List.{flat_map}
 use Rattle.hm_data.specs.declared.sheet.Sheet.{Sheet}
 use Rattle.hm_data.specs.declared.entry.Entry.{Entry}
 use Rattle.hm_data.specs.declared.entry.Entry.TheVariants as entry_is
 use Rattle.hm_model.specs.Kinds.{running_kinds, is_running_kind}
-use Rattle.hm_model.specs.Sheets.{sheet_for}
+use Rattle.hm_model.specs.Journal.{back}
+use Rattle.hm_model.specs.Sheets.{sheet_for, sheets_of as begun_with}
+use Rattle.hm_top.specs.Ports.{HandsUse}
 
 -- a sheet that is there, as a list
 abbrev pub listed : Option Sheet → List Sheet
@@ -16,27 +18,49 @@ listed (Some sheet) = sheet ∷ []
 abbrev pub own_sheets : List Sheet → List Sheet
 own_sheets sheets = flat_map (λ kind. listed (sheet_for sheets kind)) running_kinds
 
--- two registries have the same sheets for the kinds that the master runs
+-- the same sheets for the kinds that the master runs
 abbrev pub AgreeOn : List Sheet → List Sheet → Type 0
 AgreeOn one other = (kind : ℕ) → IsTrue (is_running_kind kind) → sheet_for one kind ≡ sheet_for other kind
+
+-- the same sheets for all kinds
+abbrev pub AreEqual : List Sheet → List Sheet → Type 0
+AreEqual one other = (kind : ℕ) → kind < 256 → sheet_for one kind ≡ sheet_for other kind
 
 -- the sheets of the first registry
 abbrev pub first_sheets : List (List Sheet) → List Sheet
 first_sheets [] = []
 first_sheets (first ∷ others) = first
 
+-- the sheets of the first of these registries, for the kinds that the master runs
+abbrev pub sheets_used : HandsUse → List Sheet
+sheets_used hands = own_sheets (first_sheets hands.before)
+
 -- there are seventeen registries, one for the caller and sixteen for workers, and their sheets are equal
 pub record HandsAgree (hands : List (List Sheet)) : Type 0 where
   pub seventeen : length hands ≡ 17
-  pub alike : All (AgreeOn (first_sheets hands)) hands
+  pub alike : All (AreEqual (first_sheets hands)) hands
 
--- a count rose by at least so many, or stands at its end
-abbrev pub RisesBy : ℕ → ℕ → ℕ → Type 0
-RisesBy count before now = (before + count ≤ now) ⊎ (2 ^ 64 - 1 ≤ now)
+-- registries that agree, and that have the sheets with which the journal begins
+pub record Serve (hands : List (List Sheet)) (journal : List Entry) : Type 0 where
+  pub agree : HandsAgree hands
+  pub begins : AgreeOn (first_sheets hands) (begun_with (back journal))
 
 -- the sum of counts rose by at least so many, or one of them stands at its end
 abbrev pub SumRisesBy : ℕ → List ℕ → List ℕ → Type 0
 SumRisesBy count before now = (sum before + count ≤ sum now) ⊎ Any (λ n. 2 ^ 64 - 1 ≤ n) now
+
+-- no count fell
+abbrev pub NoneFell : List ℕ → List ℕ → Type 0
+NoneFell [] [] = Unit {0}
+NoneFell [] (n ∷ now) = ⊥
+NoneFell (b ∷ before) [] = ⊥
+NoneFell (b ∷ before) (n ∷ now) = (b ≤ n) × NoneFell before now
+
+-- the registries have the sheets that they had, and together they were run so often at least
+pub record RunBy (hands : HandsUse) (count : ℕ) : Type 0 where
+  pub alike : hands.after ≡ hands.before
+  pub kept : NoneFell hands.runs_before hands.runs_after
+  pub rises : SumRisesBy count hands.runs_before hands.runs_after
 
 -- 1 for a step
 abbrev pub one_step : Entry → ℕ
@@ -54,6 +78,6 @@ abbrev pub steps_in : List Entry → ℕ
 steps_in [] = 0
 steps_in (entry ∷ more) = one_step entry + steps_in more
 
--- the journal grew, and the count rose by at least as many steps as it gained
-abbrev pub Ran : List Entry → List Entry → ℕ → ℕ → Type 0
-Ran old new before now = (added : List Entry) × (new ≡ old ++ added) × RisesBy (steps_in added) before now
+-- the journal grew, and the registries were run once at least for each step that it gained
+abbrev pub Ran : HandsUse → List Entry → List Entry → Type 0
+Ran hands old new = (added : List Entry) × (new ≡ old ++ added) × RunBy hands (steps_in added)

@@ -1,35 +1,36 @@
 -- What a run says where the outside tells its content, and how each status comes.
-use Rattle.std.specs.Prelude.{◌≡◌, ◌⊎◌, ◌<◌, ◌≤◌, ℕ, List, [], ◌∷◌, ◌++◌, length, take, drop, Option, Some, None, Result, Ok, Err}
+use Rattle.std.specs.Prelude.{◌≡◌, ◌⊎◌, ◌+◌, ◌-◌, ◌*◌, ◌<◌, ◌≤◌, ℕ, List, [], ◌∷◌, ◌++◌, length, take, Option, Some, None}
+use Rattle.hm_ports.specs.declared.source.Source as Source
+use Rattle.hm_ports.specs.declared.sink.Sink as Sink
+use Rattle.hm_disk.specs.declared.disk.Disk as Disk
 use Rattle.hm_data.specs.declared.entry.Entry.{Entry}
-use Rattle.hm_data.specs.declared.sheet.Sheet.{Sheet}
 use Rattle.hm_model.specs.Journal.{back}
 use Rattle.hm_hall.specs.declared.fault.Halt.{Halt}
 use Rattle.hm_hall.specs.declared.fault.Halt.TheVariants as halt_is
 use Rattle.hm_journal.specs.declared.limits.Limits.{Limits}
 use Rattle.hm_journal.specs.declared.why.JournalWhy.{JournalWhy}
-use Rattle.hm_journal.specs.declared.why.JournalWhy.TheVariants as journal_why_is
-use Rattle.hm_journal.specs.Stored.{opened}
+use Rattle.hm_journal.specs.Since.{IsFront}
+use Rattle.hm_journal.specs.Stored.{AllStored, IsOnDisk, IsOpening, SameFrames, Spares}
+use Rattle.hm_journal.specs.Verdict.{Refuses}
+use Rattle.hm_log.specs.Opening.{IsMaking}
 use Rattle.hm_top.specs.declared.command.Command.{Command}
-use Rattle.hm_top.specs.declared.command.Command.TheVariants as command_is
 use Rattle.hm_top.specs.declared.answer.Answer.{Answer}
-use Rattle.hm_top.specs.declared.answer.Answer.TheVariants.{Opened}
 use Rattle.hm_top.specs.declared.status.Bad.{Bad}
-use Rattle.hm_top.specs.declared.status.Cut.{Cut}
-use Rattle.hm_top.specs.declared.status.Cut.TheVariants as cut_is
 use Rattle.hm_top.specs.declared.status.LogWhy.{LogWhy}
-use Rattle.hm_top.specs.declared.status.LogWhy.TheVariants as log_why_is
 use Rattle.hm_top.specs.declared.status.RunStatus.{RunStatus}
 use Rattle.hm_top.specs.declared.status.RunStatus.TheVariants.{Done, Usage, BadScript, LogFault, LogRefused, ReadFault, WriteFault, JournalFull, Memory}
 use Rattle.hm_top.specs.declared.status.Why.{Why}
 use Rattle.hm_top.specs.declared.status.Why.TheVariants as why_is
-use Rattle.hm_top.specs.Answer.{answer_text}
+use Rattle.hm_top.specs.Answer.{AreUnsaid}
+use Rattle.hm_top.specs.Ending.{log_why_of}
 use Rattle.hm_top.specs.Faith.{KeepsFaith}
-use Rattle.hm_top.specs.Hands.{steps_in}
-use Rattle.hm_top.specs.Said.{Said, begun}
+use Rattle.hm_top.specs.Got.{Got, Talked}
+use Rattle.hm_top.specs.Hands.{SumRisesBy, sheets_used, steps_in}
+use Rattle.hm_top.specs.Ports.{DiskUse, HandsUse, SinkUse, SourceUse, disk_use, sink_use, source_use}
 use Rattle.hm_top.specs.Script.{lines_of, IsScript, IsFirstWrong}
-use Rattle.hm_top.specs.Settling.{AreSteps}
-use Rattle.hm_top.specs.Status.{last_line}
-use Rattle.hm_top.specs.Transcript.{Transcript, Conversation, text_of}
+use Rattle.hm_top.specs.Standing.{Standing, recording, whole}
+use Rattle.hm_top.specs.Transcript.{Opens, Transcript}
+use Rattle.hm_top.specs.Words.{misfit_of}
 
 -- why bytes are no script: there are too many, or a line says nothing
 abbrev pub IsBadAt : List ℕ → ℕ → Why → Type 0
@@ -45,157 +46,166 @@ IsBad input bad = IsBadAt input bad.line bad.why
 abbrev pub IsRefusal : Bad → Type 0
 IsRefusal bad = ((bad.line ≡ 0) × (bad.why ≡ why_is.TooLong)) ⊎ ((0 < bad.line) × (bad.why ≡ why_is.Word 0))
 
--- A script was refused for this, and all of it was read where it isn't too long.
-abbrev pub IsRefused : (tells : Type 0) (before after : List ℕ) → Bad → Type 0
-IsRefused tells before after bad = IsRefusal bad × (tells → IsBad before bad × (bad.why ≡ why_is.Word 0 → after ≡ []))
+module _ (disk : DiskUse) (hands : HandsUse) where
+  -- each stop left a front of the journal with its tail, no shorter than the old one; first also what it could before
+  abbrev pub StopsLeave : List Entry → Standing → Type 0
+  StopsLeave old new = disk.settles (λ bytes. disk.image_before bytes ⊎ IsMaking disk.before bytes) (IsFront (length old) (whole new))
 
--- The words fit, and the source's bytes, within the limit, are the script of these commands. All of them were read.
-abbrev pub IsRead : (misfit : Option ℕ) (tells : Type 0) (before after : List ℕ) → List Command → Type 0
-IsRead misfit tells before after commands = (misfit ≡ None) × (tells → (length before ≤ 1048576) × IsScript (lines_of before) commands × (after ≡ []))
+  -- the disk held the old journal and holds the new one, each front of which keeps faith; the registries ran its steps
+  pub record IsLeft (old : List Entry) (new : Standing) : Type 0 where
+    pub added : List Entry
+    pub longer : new.journal ≡ old ++ added
+    pub faith : (mark : ℕ) → KeepsFaith (back (take mark (whole new)))
+    pub held : disk.tells → IsOnDisk (sheets_used hands) disk.before old
+    pub holds : disk.tells → AllStored disk.image_after (recording new)
+    pub stops : disk.tells → StopsLeave old new
+    pub called : disk.called (1 + 2 * (length (whole new) - length old))
+    pub ran : SumRisesBy (steps_in added) hands.runs_before hands.runs_after
+    pub cause : new.halted ≡ Some halt_is.LogFault → disk.failed
 
--- Entries that were recorded for the next command, which was not answered any more: none, or steps of a settling where
--- nothing had halted the run.
-abbrev pub AreUnsaid : Limits → Said → List Command → List Entry → Type 0
-AreUnsaid limits said rest unsaid =
-    (unsaid ≡ []) ⊎ ((more : List Command) × (rest ≡ command_is.Settle ∷ more) × (said.halted ≡ None) × AreSteps limits said.journal unsaid)
+  -- each stop left what an opening may leave
+  abbrev pub OnlyOpened : Type 0
+  OnlyOpened = disk.leaves_only (IsOpening (sheets_used hands) disk.before disk.image_before)
 
--- The log was opened, and commands were answered, perhaps not all. The parameters say what the source's bytes are, what
--- the disk held, what it holds and what a stop since may have left of it, that it failed, how often handlers ran at
--- least, and what the sink got, each as far as it tells.
-pub record IsTold (sheets : List Sheet) (limits : Limits) (source : List Command → Type 0) (before : List Entry → Type 0) (stored : List Entry → Option Halt → Type 0)
-    (since : List Entry → Type 0) (disk_rose : Type 0) (ran : ℕ → Type 0) (sink : List Answer → Type 0) (marks : List ℕ) : Type 0 where
-  pub commands : List Command
-  pub answered : List Command
-  pub rest : List Command
-  pub old : List Entry
-  pub new : Said
-  pub added : List Entry
-  pub unsaid : List Entry
-  pub answers : List Answer
-  pub source_is : source commands
-  pub parts : commands ≡ answered ++ rest
-  pub before_is : before old
-  pub transcript : Transcript limits answered (begun sheets old) marks answers new
-  pub longer : new.journal ≡ old ++ added
-  pub unsaid_are : AreUnsaid limits new rest unsaid
-  pub faith : (mark : ℕ) → KeepsFaith (back (take mark (new.journal ++ unsaid)))
-  pub stored_is : stored (new.journal ++ unsaid) new.halted
-  pub since_is : since old
-  pub cause : new.halted ≡ Some halt_is.LogFault → disk_rose
-  pub ran_is : ran (steps_in (added ++ unsaid))
-  pub sink_is : sink (Opened (length (opened sheets old)) ∷ answers)
+  -- the disk still holds the journal that it held
+  abbrev pub IsSpared : Type 0
+  IsSpared = disk.called 3 × (disk.tells → Spares (sheets_used hands) disk.before disk.image_before disk.after disk.image_after × OnlyOpened)
 
--- how a refusal of the journal is told
-abbrev pub log_why_of : JournalWhy → Option LogWhy
-log_why_of journal_why_is.Fault = None
-log_why_of (journal_why_is.NotALog place) = Some (log_why_is.NotALog place)
-log_why_of (journal_why_is.BadFrame place) = Some (log_why_is.BadFrame place)
-log_why_of (journal_why_is.BadEntry number at) = Some (log_why_is.BadEntry number at)
-log_why_of (journal_why_is.Illegal number rule) = Some (log_why_is.Illegal number rule)
-log_why_of (journal_why_is.SheetsDiffer kind) = Some (log_why_is.SheetsDiffer kind)
-log_why_of journal_why_is.Memory = None
+  -- the disk holds no journal, for this reason, and its frames are as they were
+  abbrev pub Refused : JournalWhy → Type 0
+  Refused why = disk.called 3 × (disk.tells → Refuses (sheets_used hands) disk.before why × SameFrames disk.before disk.after disk.image_after × OnlyOpened)
 
--- all commands were answered, nothing was recorded beyond, and this halted the run
-abbrev pub IsToldWhole : (sheets : List Sheet) (limits : Limits) (source : List Command → Type 0) (before : List Entry → Type 0) (stored : List Entry → Option Halt → Type 0)
-    (since : List Entry → Type 0) (disk_rose : Type 0) (ran : ℕ → Type 0) (sink : List Answer → Type 0) (marks : List ℕ) → Option Halt → Type 0
-IsToldWhole sheets limits source before stored since disk_rose ran sink marks halted =
-    (told : IsTold sheets limits source before stored since disk_rose ran sink marks) × (told.rest ≡ []) × (told.unsaid ≡ []) × (told.new.halted ≡ halted)
+  -- a journal that the disk holds isn't refused
+  abbrev pub AcceptsJournal : RunStatus → Type 0
+  AcceptsJournal status = disk.tells → (journal : List Entry) → IsOnDisk (sheets_used hands) disk.before journal → (why : LogWhy) → status ≡ LogRefused why → ⊥
 
--- How a run ended behind the words and the script. `same` says that the disk is as handed in, `spared` that it still holds
--- its journal, `refused` why it holds none.
-abbrev pub Outcome : (sheets : List Sheet) (limits : Limits) (source : List Command → Type 0) (before : List Entry → Type 0) (stored : List Entry → Option Halt → Type 0)
-    (since : List Entry → Type 0) (sink : RunStatus → List Answer → Type 0) (same spared : Type 0) (refused : JournalWhy → Type 0) (disk_rose sink_rose : Type 0) (ran : ℕ → Type 0)
-    (marks : List ℕ) → RunStatus → Type 0
-Outcome sheets limits source before stored since sink same spared refused disk_rose sink_rose ran marks Done =
-    IsToldWhole sheets limits source before stored since disk_rose ran (sink Done) marks None
-Outcome sheets limits source before stored since sink same spared refused disk_rose sink_rose ran marks LogFault =
-    disk_rose × (((marks ≡ []) × spared × sink LogFault [] × ((commands : List Command) × source commands))
-    ⊎ IsToldWhole sheets limits source before stored since disk_rose ran (sink LogFault) marks (Some halt_is.LogFault))
-Outcome sheets limits source before stored since sink same spared refused disk_rose sink_rose ran marks (JournalFull bytes) =
-    IsToldWhole sheets limits source before stored since disk_rose ran (sink (JournalFull bytes)) marks (Some (halt_is.JournalFull bytes))
-Outcome sheets limits source before stored since sink same spared refused disk_rose sink_rose ran marks (LogRefused why) =
-    ((cause : JournalWhy) × (log_why_of cause ≡ Some why) × refused cause) × (marks ≡ []) × sink (LogRefused why) [] × ((commands : List Command) × source commands)
-Outcome sheets limits source before stored since sink same spared refused disk_rose sink_rose ran marks WriteFault =
-    sink_rose × ((told : IsTold sheets limits source before stored since disk_rose ran (sink WriteFault) marks) × (told.unsaid ≡ []))
-Outcome sheets limits source before stored since sink same spared refused disk_rose sink_rose ran marks Memory =
-    ((marks ≡ []) × sink Memory [] × (same ⊎ (spared × ((commands : List Command) × source commands)))) ⊎ IsTold sheets limits source before stored since disk_rose ran (sink Memory) marks
-Outcome sheets limits source before stored since sink same spared refused disk_rose sink_rose ran marks _ = ⊥
+-- commands answered over the ports: which they are, what the sink has of answers under a status, and the marks
+pub record Talk : Type 1 where
+  pub given : List Command → Type 0
+  pub said : RunStatus → List Answer → Type 0
+  pub limits : Limits
+  pub out : SinkUse
+  pub disk : DiskUse
+  pub hands : HandsUse
+  pub marks : List ℕ
 
--- How a run ended, judged in this order: words, script, and then the rest, which `outcome` says. `unread` says that the
--- source is as handed in, `same` that the disk is.
-abbrev pub Ends : (misfit : Option ℕ) (script : Bad → Type 0) (read_rose unread same : Type 0) (sink : RunStatus → List Answer → Type 0) (outcome : RunStatus → Type 0) (marks : List ℕ) → RunStatus → Type 0
-Ends misfit script read_rose unread same sink outcome marks (Usage word) = (misfit ≡ Some word) × unread × same × (marks ≡ []) × sink (Usage word) []
-Ends misfit script read_rose unread same sink outcome marks (BadScript bad) = (misfit ≡ None) × script bad × same × (marks ≡ []) × sink (BadScript bad) []
-Ends misfit script read_rose unread same sink outcome marks ReadFault = (misfit ≡ None) × read_rose × same × (marks ≡ []) × sink ReadFault []
-Ends misfit script read_rose unread same sink outcome marks Memory = outcome Memory
-Ends misfit script read_rose unread same sink outcome marks status = (misfit ≡ None) × outcome status
+module _ (talk : Talk) where
+  open talk use {given, said, limits, out, disk, hands, marks}
 
--- a front of the text
-abbrev pub IsFront : List ℕ → List ℕ → List ℕ → Type 0
-IsFront old new text = (n : ℕ) × (new ≡ old ++ take n text)
+  -- behind the lines of the opening some of these commands were answered in turn; what was recorded for the next is unsaid
+  pub record IsSaid (status : RunStatus) (commands : List Command) (old : List Entry) (new : Standing) (unsaid : List Entry) : Type 0 where
+    pub lines : List Answer
+    pub start : Standing
+    pub opens : Opens limits (sheets_used hands) old lines start
+    pub answered : List Command
+    pub rest : List Command
+    pub parts : commands ≡ answered ++ rest
+    pub answers : List Answer
+    pub transcript : Transcript answered start marks answers new
+    pub unsaid_are : AreUnsaid rest new unsaid
+    pub said_are : said status (lines ++ answers)
 
--- the text of all answers but the last, and so many bytes of the last
-pub record IsCutIn (old new : List ℕ) (answers : List Answer) : Type 0 where
-  pub before : List Answer
-  pub last : Answer
-  pub parts : answers ≡ before ++ last ∷ []
-  pub bytes : ℕ
-  pub got : new ≡ old ++ (text_of before ++ take bytes (answer_text last))
+  -- the log was opened, and commands were answered, perhaps not all
+  pub record IsTold (status : RunStatus) : Type 0 where
+    pub commands : List Command
+    pub given_are : given commands
+    pub old : List Entry
+    pub new : Standing
+    pub unsaid : List Entry
+    pub told : IsSaid status commands old new unsaid
+    pub left : IsLeft disk hands old (record new { journal = new.journal ++ unsaid })
 
--- the last answer lacks a part
-abbrev pub IsShort : List ℕ → List ℕ → List Answer → Type 0
-IsShort old new answers = (cut : IsCutIn old new answers) × (cut.bytes < length (answer_text cut.last))
+  -- all commands were answered, and this halted the run
+  abbrev pub IsToldWhole : RunStatus → Option Halt → Type 0
+  IsToldWhole status halted = (talked : IsTold status) × (talked.told.rest ≡ []) × (talked.new.halted ≡ halted)
 
--- the text of these answers, of which the last may lack a part
-abbrev pub IsNearly : List ℕ → List ℕ → List Answer → Type 0
-IsNearly old new answers = (new ≡ old ++ text_of answers) ⊎ IsCutIn old new answers
+  -- there were commands, and no line was said
+  abbrev pub IsUnopened : RunStatus → Type 0
+  IsUnopened status = (marks ≡ []) × said status [] × ((commands : List Command) × given commands)
 
--- a line of which a part may lack only where the sink's faults rose
-abbrev pub IsLast : (rose : Type 0) (old new line : List ℕ) → Type 0
-IsLast rose old new line = IsFront old new line × ((new ≡ old ++ line) ⊎ rose)
+  -- how it ended
+  abbrev pub Outcome : RunStatus → Type 0
+  Outcome Done = IsToldWhole Done None
+  Outcome LogFault = disk.failed × ((IsUnopened LogFault × IsSpared disk hands) ⊎ IsToldWhole LogFault (Some halt_is.LogFault))
+  Outcome (JournalFull bytes) = IsToldWhole (JournalFull bytes) (Some (halt_is.JournalFull bytes))
+  Outcome (LogRefused why) = IsUnopened (LogRefused why) × ((cause : JournalWhy) × (log_why_of cause ≡ Some why) × Refused disk hands cause)
+  Outcome WriteFault = out.failed × ((talked : IsTold WriteFault) × (talked.unsaid ≡ []))
+  Outcome Memory = ((marks ≡ []) × said Memory [] × disk.untouched) ⊎ ((IsUnopened Memory × IsSpared disk hands) ⊎ IsTold Memory)
+  Outcome _ = ⊥
 
--- what the sink got before the last line: the text of the answers, of which the last lacks a part where the sink failed,
--- and may lack one where memory ran out
-abbrev pub Talked : (old new : List ℕ) → RunStatus → List Answer → Type 0
-Talked old new WriteFault answers = IsShort old new answers
-Talked old new Memory answers = IsNearly old new answers
-Talked old new _ answers = new ≡ old ++ text_of answers
+-- what the sink has of the answers under a status, before the last line
+abbrev pub before_line : SinkUse → RunStatus → List Answer → Type 0
+before_line out status answers = out.tells → Talked out.before out.after status answers
 
--- What the sink got at the end of a run with this status: the text of the answers and the last line, which may lack a part
--- only where the sink's faults rose. Where the sink failed the last answer lacks a part, and where memory ran out it may.
-abbrev pub Got : (rose : Type 0) (old new : List ℕ) → RunStatus → List Answer → Type 0
-Got rose old new Done answers = new ≡ old ++ text_of answers
-Got rose old new WriteFault answers = IsShort old new answers
-Got rose old new Memory answers = IsNearly old new answers
-Got rose old new status answers = IsLast rose (old ++ text_of answers) new (last_line status)
+-- and behind it
+abbrev pub behind_line : SinkUse → RunStatus → List Answer → Type 0
+behind_line out status answers = out.tells → Got out.failed out.before out.after status answers
 
--- the status of an opening that failed
-abbrev pub unopened_status : JournalWhy → RunStatus
-unopened_status journal_why_is.Fault = LogFault
-unopened_status (journal_why_is.NotALog place) = LogRefused (log_why_is.NotALog place)
-unopened_status (journal_why_is.BadFrame place) = LogRefused (log_why_is.BadFrame place)
-unopened_status (journal_why_is.BadEntry number at) = LogRefused (log_why_is.BadEntry number at)
-unopened_status (journal_why_is.Illegal number rule) = LogRefused (log_why_is.Illegal number rule)
-unopened_status (journal_why_is.SheetsDiffer kind) = LogRefused (log_why_is.SheetsDiffer kind)
-unopened_status journal_why_is.Memory = Memory
+-- what a run was handed, and what it left
+pub record Run : Type 1 where
+  pub words : List (List ℕ)
+  pub limits : Limits
+  pub script : SourceUse
+  pub out : SinkUse
+  pub disk : DiskUse
+  pub hands : HandsUse
+  pub marks : List ℕ
 
--- the status of a run that was halted by this, or by nothing
-abbrev pub halted_status : Option Halt → RunStatus
-halted_status None = Done
-halted_status (Some halt_is.LogFault) = LogFault
-halted_status (Some (halt_is.JournalFull bytes)) = JournalFull bytes
+module _ (run : Run) where
+  open run use {words, limits, script, out, disk, hands, marks}
 
--- the status of a conversation that ended
-abbrev pub talked_status : Result (Unit {0}) Cut → Option Halt → RunStatus
-talked_status (Ok done) halted = halted_status halted
-talked_status (Err cut_is.WriteFault) halted = WriteFault
-talked_status (Err cut_is.Memory) halted = Memory
+  -- the words fit
+  abbrev pub WordsFit : Type 0
+  WordsFit = misfit_of words ≡ None
 
--- The first of these commands were answered, one for each mark; the one behind them, if it was begun, left what it
--- leaves where memory runs out.
-pub record IsBrokenOffIn (limits : Limits) (sink : List Answer → Type 0) (commands : List Command) (old : Said) (marks : List ℕ) (new : Said) : Type 0 where
-  pub mid : Said
-  pub said : Conversation limits sink (take (length marks) commands) old marks mid
-  pub unsaid : List Entry
-  pub grown : new ≡ record { journal = mid.journal ++ unsaid; halted = mid.halted }
-  pub unsaid_are : AreUnsaid limits mid (drop (length marks) commands) unsaid
+  -- the script's bytes, within the limit, are these commands, and all of them were read
+  abbrev pub IsRead : List Command → Type 0
+  IsRead commands = WordsFit × (script.tells → (length script.before ≤ 1048576) × IsScript (lines_of script.before) commands × (script.after ≡ []))
+
+  -- the script was refused for this, and all of it was read where it isn't too long
+  abbrev pub IsRefused : Bad → Type 0
+  IsRefused bad = IsRefusal bad × (script.tells → IsBad script.before bad × (bad.why ≡ why_is.Word 0 → script.after ≡ []))
+
+  module _ (said : SinkUse → RunStatus → List Answer → Type 0) where
+    -- the commands of the script, answered
+    abbrev pub talk_of : Talk
+    talk_of = record { given = IsRead; said = said out; limits = limits; out = out; disk = disk; hands = hands; marks = marks }
+
+    -- no line was said, and the disk is as handed in
+    abbrev pub IsIdle : RunStatus → Type 0
+    IsIdle status = disk.untouched × (marks ≡ []) × said out status []
+
+    -- how it ended, judged in this order: words, script, and then the rest
+    abbrev pub EndsBy : RunStatus → Type 0
+    EndsBy (Usage word) = (misfit_of words ≡ Some word) × script.untouched × IsIdle (Usage word)
+    EndsBy (BadScript bad) = WordsFit × IsRefused bad × IsIdle (BadScript bad)
+    EndsBy ReadFault = WordsFit × script.failed × IsIdle ReadFault
+    EndsBy status = WordsFit × Outcome talk_of status
+
+  -- how a run ended before its last line
+  abbrev pub EndsUnfinished : RunStatus → Type 0
+  EndsUnfinished = EndsBy before_line
+
+  -- and behind it
+  abbrev pub Ends : RunStatus → Type 0
+  Ends = EndsBy behind_line
+
+  -- where nothing is wrong and nothing failed it is done, unless the journal is full or memory ran out
+  abbrev pub IsComplete : RunStatus → Type 0
+  IsComplete status =
+      script.tells → disk.tells → (commands : List Command) (journal : List Entry) → WordsFit → length script.before ≤ 1048576 → IsScript (lines_of script.before) commands
+      → IsOnDisk (sheets_used hands) disk.before journal → ¬ script.failed → ¬ out.failed → ¬ disk.failed
+      → (status ≡ Done) ⊎ (((bytes : ℕ) × (status ≡ JournalFull bytes)) ⊎ (status ≡ Memory))
+
+  -- what each run keeps to; the registries have the sheets that they had
+  pub record KeepsTo (status : RunStatus) : Type 0 where
+    pub ends : Ends status
+    pub complete : IsComplete status
+    pub exact : AcceptsJournal disk hands status
+    pub alike : hands.after ≡ hands.before
+
+-- of each run over such ends
+abbrev pub EachRun : {S K D Setting : Type 0} → Source.Ghosts S → Sink.Ghosts K → Disk.Ghosts D Setting → (Run → Type 0) → Type 0
+EachRun {S} {K} {D} source sink disk P =
+    (words : List (List ℕ)) (limits : Limits) (s0 s1 : S) (k0 k1 : K) (d0 d1 : D) (hands : HandsUse) (marks : List ℕ)
+    → P (record { words = words; limits = limits; script = source_use source s0 s1; out = sink_use sink k0 k1; disk = disk_use disk d0 d1; hands = hands; marks = marks })

@@ -1,13 +1,12 @@
 -- The steps that settling makes.
-use Rattle.std.specs.Prelude.{◌+◌, ◌<◌, List, [], ◌∷◌, ◌++◌, length}
+use Rattle.std.specs.Prelude.{◌≡◌, List, [], ◌∷◌, ◌++◌}
 use Rattle.hm_data.specs.declared.entry.Entry.{Entry}
 use Rattle.hm_data.specs.declared.entry.Entry.TheVariants as entry_is
-use Rattle.hm_entry.specs.Spelling.{entry as spelling}
-use Rattle.hm_hall.specs.Recording.{bytes_of}
-use Rattle.hm_journal.specs.declared.limits.Limits.{Limits}
+use Rattle.hm_hall.specs.Recording.{Passes}
 use Rattle.hm_model.specs.Journal.{Past, back}
 use Rattle.hm_model.specs.Rules.{Allowed}
 use Rattle.hm_state.specs.State.{IsFirst}
+use Rattle.hm_top.specs.Standing.{Standing}
 
 -- a step that may stand behind these entries, of the procedure that goes on first
 abbrev pub IsNextStep : Past → Entry → Type 0
@@ -20,12 +19,14 @@ IsNextStep before (entry_is.Up server) = ⊥
 IsNextStep before (entry_is.Down server) = ⊥
 IsNextStep before (entry_is.Abort pid) = ⊥
 
--- an entry would pass the hard mark
-abbrev pub IsTooLong : Limits → List Entry → Entry → Type 0
-IsTooLong limits journal entry = limits.hard < bytes_of journal + length (spelling entry) + 5
+-- each of these entries, one after another, is such a step, and none passes the hard mark
+abbrev pub AreSteps : Standing → List Entry → Type 0
+AreSteps at [] = Unit {0}
+AreSteps at (entry ∷ more) =
+    IsNextStep (back at.journal) entry × (Passes at.limits.hard at.journal entry → ⊥) × AreSteps (record at { journal = at.journal ++ entry ∷ [] }) more
 
--- behind a journal each of these entries is such a step, and none passes the hard mark
-abbrev pub AreSteps : Limits → List Entry → List Entry → Type 0
-AreSteps limits journal [] = Unit {0}
-AreSteps limits journal (entry ∷ more) =
-    IsNextStep (back journal) entry × (IsTooLong limits journal entry → ⊥) × AreSteps limits (journal ++ entry ∷ []) more
+-- it gained steps, and nothing else
+pub record IsWorked (old new : Standing) : Type 0 where
+  pub steps : List Entry
+  pub are_steps : AreSteps old steps
+  pub grown : new ≡ record old { journal = old.journal ++ steps }

@@ -1,31 +1,51 @@
 -- What is said to a list of commands.
-use Rattle.std.specs.Prelude.{◌≡◌, ℕ, List, [], ◌∷◌, length}
+use Rattle.std.specs.Prelude.{◌≡◌, ℕ, List, [], ◌∷◌, ◌++◌, length, take, drop}
 use Rattle.std.specs.List.{flat_map}
+use Rattle.hm_data.specs.declared.entry.Entry.{Entry}
+use Rattle.hm_data.specs.declared.sheet.Sheet.{Sheet}
+use Rattle.hm_journal.specs.Stored.{opened}
 use Rattle.hm_journal.specs.declared.limits.Limits.{Limits}
 use Rattle.hm_top.specs.declared.answer.Answer.{Answer}
+use Rattle.hm_top.specs.declared.answer.Answer.TheVariants.{Opened}
 use Rattle.hm_top.specs.declared.command.Command.{Command}
-use Rattle.hm_top.specs.Answer.{answer_text, Answers}
-use Rattle.hm_top.specs.Said.{Said}
+use Rattle.hm_top.specs.Answer.{answer_text, Answers, AreUnsaid, MayAdd}
+use Rattle.hm_top.specs.Standing.{Standing, begun}
 
 -- the text of answers, one after another
 abbrev pub text_of : List Answer → List ℕ
 text_of answers = flat_map answer_text answers
 
--- one command answered, and the length of the journal then as its mark
-pub record Turn (limits : Limits) (command : Command) (old mid : Said) (marks later : List ℕ) (answers rest : List Answer) : Type 0 where
+-- the lines of an opening of a log with this journal, and where they leave the run
+abbrev pub Opens : Limits → List Sheet → List Entry → List Answer → Standing → Type 0
+Opens limits sheets old lines new = (lines ≡ Opened (length (opened sheets old)) ∷ []) × (new ≡ begun limits sheets old)
+
+-- one command answered, what was recorded for it, and the length of the journal then as its mark
+pub record Exchange (command : Command) (old mid : Standing) (marks later : List ℕ) (answers rest : List Answer) : Type 0 where
   pub answer : Answer
-  pub fits : Answers limits command old answer mid
+  pub fits : Answers command old answer mid
+  pub added : List Entry
+  pub may : MayAdd command old added
+  pub grown : mid.journal ≡ old.journal ++ added
   pub mark : marks ≡ length mid.journal ∷ later
   pub said : answers ≡ answer ∷ rest
 
 -- From old, these commands have these answers, one each, with these marks, and leave new.
-abbrev pub Transcript : Limits → List Command → Said → List ℕ → List Answer → Said → Type 0
-Transcript limits [] old marks answers new = (marks ≡ []) × (answers ≡ []) × (new ≡ old)
-Transcript limits (command ∷ commands) old marks answers new =
-    (mid : Said) × (later : List ℕ) × (rest : List Answer) × Turn limits command old mid marks later answers rest × Transcript limits commands mid later rest new
+abbrev pub Transcript : List Command → Standing → List ℕ → List Answer → Standing → Type 0
+Transcript [] old marks answers new = (marks ≡ []) × (answers ≡ []) × (new ≡ old)
+Transcript (command ∷ commands) old marks answers new =
+    (mid : Standing) × (later : List ℕ) × (rest : List Answer) × Exchange command old mid marks later answers rest × Transcript commands mid later rest new
 
 -- these commands were answered, and the sink has of their answers what `sink` says
-pub record Conversation (limits : Limits) (sink : List Answer → Type 0) (commands : List Command) (old : Said) (marks : List ℕ) (new : Said) : Type 0 where
+pub record Conversation (sink : List Answer → Type 0) (commands : List Command) (old : Standing) (marks : List ℕ) (new : Standing) : Type 0 where
   pub answers : List Answer
-  pub transcript : Transcript limits commands old marks answers new
+  pub transcript : Transcript commands old marks answers new
   pub said : sink answers
+
+-- The first of these commands were answered, one for each mark; the one behind them, if it was begun, left what it may
+-- leave unanswered.
+pub record IsBrokenOffIn (sink : List Answer → Type 0) (commands : List Command) (old : Standing) (marks : List ℕ) (new : Standing) : Type 0 where
+  pub mid : Standing
+  pub said : Conversation sink (take (length marks) commands) old marks mid
+  pub unsaid : List Entry
+  pub unsaid_are : AreUnsaid (drop (length marks) commands) mid unsaid
+  pub grown : new ≡ record mid { journal = mid.journal ++ unsaid }

@@ -1,33 +1,26 @@
 //! A run, from its words to its last line.
-ghost use Rattle.std.specs.Prelude.{◌≡◌, ◌⊎◌, ◌≤◌, List, ℕ, [], length, map, Option, Some, None, string_bytes, IfOk, IfErr, OnOk, All};
-ghost use Rattle.std.specs.List.{flat_map};
+ghost use Rattle.std.specs.Prelude.{◌≡◌, ◌⊎◌, ◌≤◌, List, ℕ, [], length, map, string_bytes, IfOk, IfErr, OnOk, All};
 ghost use Rattle.hm_ports.specs.Faults.{Rose};
-ghost use Rattle.hm_disk.specs.Disk.{LeavesOnly, Settles};
-ghost use Rattle.hm_log.specs.Opening.{IsMaking};
-ghost use Rattle.hm_data.specs.declared.entry.Entry.{Entry as EntryValue};
 ghost use Rattle.hm_sheet.specs.Words.{HasAll};
-ghost use Rattle.hm_journal.specs.Stored.{IsOnDisk, SameFrames, Spares, IsOpening};
-ghost use Rattle.hm_journal.specs.Verdict.{Refuses};
-ghost use Rattle.hm_top.specs.declared.command.Command.{Command as CommandValue};
 ghost use Rattle.hm_top.specs.declared.status.Bad.{Bad as BadValue};
-ghost use Rattle.hm_top.specs.declared.status.LogWhy.{LogWhy as LogWhyValue};
-ghost use Rattle.hm_top.specs.Hands.{HandsAgree, RisesBy, SumRisesBy, first_sheets, own_sheets};
-ghost use Rattle.hm_top.specs.Run.{IsBad, IsRead, IsRefusal, IsRefused, Outcome, Ends, IsLast, Talked, Got, unopened_status, talked_status};
+ghost use Rattle.hm_top.specs.Hands.{HandsAgree};
+ghost use Rattle.hm_top.specs.Ending.{talked_status, unopened_status};
+ghost use Rattle.hm_top.specs.Ports.{disk_use, hands_use, sink_use, source_use};
+ghost use Rattle.hm_sheet.specs.Registry.{sheets_of};
+ghost use Rattle.hm_top.specs.Run.{AcceptsJournal, EndsUnfinished, IsBad, IsRefusal, KeepsTo, Outcome, before_line};
 ghost use Rattle.hm_top.specs.Script.{lines_of, IsScript};
-ghost use Rattle.hm_top.specs.Status.{last_line};
-ghost use Rattle.hm_top.specs.Stored.{AllStored, IsRun};
-ghost use Rattle.hm_top.specs.Words.{misfit_of};
 
 use crate::command::Command;
+use crate::last_line::finish;
 use crate::script::{ScriptWhy, parse};
-use crate::status::{Bad, Cut, LogWhy, RunStatus, Why};
+use crate::status::{Bad, EarlyEnd, LogWhy, RunStatus, Why};
 use crate::talking::talk;
 use crate::words::misfit;
 use crate::world::World;
 use hm_disk::Disk;
 use hm_hall::Halt;
 use hm_journal::{JournalWhy, Limits};
-use hm_ports::{ReadWhy, Sink, Source, read_all, write_all};
+use hm_ports::{ReadWhy, Sink, Source, read_all};
 use hm_sheet::{Handler, Registry};
 use std::alloc::Global;
 
@@ -106,7 +99,7 @@ fn status_of(why: JournalWhy) -> RunStatus
     }
 }
 
-fn status_of_talk(talked: Result<(), Cut>, halted: Option<Halt>) -> RunStatus
+fn status_of_talk(talked: Result<(), EarlyEnd>, halted: Option<Halt>) -> RunStatus
     ensures { result ≡ talked_status talked halted }
 {
     match talked {
@@ -115,8 +108,8 @@ fn status_of_talk(talked: Result<(), Cut>, halted: Option<Halt>) -> RunStatus
             Some(Halt::LogFault) => RunStatus::LogFault,
             Some(Halt::JournalFull(bytes)) => RunStatus::JournalFull(bytes),
         },
-        Err(Cut::WriteFault) => RunStatus::WriteFault,
-        Err(Cut::Memory) => RunStatus::Memory,
+        Err(EarlyEnd::WriteFault) => RunStatus::WriteFault,
+        Err(EarlyEnd::Memory) => RunStatus::Memory,
     }
 }
 
@@ -126,34 +119,28 @@ fn converse<D: Disk, K: Sink>(
     commands: &[Command],
     out: &mut K,
     disk: D,
-    hands: &mut Registry,
+    hands: &mut Vec<Registry>,
     limits: Limits,
     marks: &mut Vec<u64>,
 ) -> (RunStatus, D)
     requires fresh { marks.old.items ≡ [] }
-    requires all { HasAll (flat_map (λ h. (⟦<dyn Handler as Handler>⟧ h.vtable).sheets_are h.value) hands.old.handlers.items) }
+    requires agree { HandsAgree (map (sheets_of ⟦<dyn Handler as Handler>⟧) hands.old.items) }
+    requires all { All HasAll (map (sheets_of ⟦<dyn Handler as Handler>⟧) hands.old.items) }
     requires hard { 65551 ≤ limits.hard }
-    ensures outcome { let sheets = own_sheets (flat_map (λ h. (⟦<dyn Handler as Handler>⟧ h.vtable).sheets_are h.value) hands.old.handlers.items) in
-        Outcome sheets limits
-        (λ read. read ≡ commands.now)
-        (λ journal. D.tells → IsOnDisk sheets (D.seen disk) journal)
-        (λ journal halted. D.tells → AllStored (D.image result.1) journal halted)
-        (λ journal. D.tells → Settles D.moment D.left_since disk result.1 (λ c. D.image disk c ⊎ IsMaking (D.seen disk) c) (IsRun sheets journal))
-        (λ status answers. K.tells → Talked (K.got out.old) (K.got out.new) status answers)
-        (result.1 ≡ disk)
-        (D.tells → Spares sheets (D.seen disk) (D.image disk) (D.seen result.1) (D.image result.1) × LeavesOnly D.moment D.left_since disk result.1 (IsOpening sheets (D.seen disk) (D.image disk)))
-        (λ why. D.tells → Refuses sheets (D.seen disk) why × SameFrames (D.seen disk) (D.seen result.1) (D.image result.1) × LeavesOnly D.moment D.left_since disk result.1 (IsOpening sheets (D.seen disk) (D.image disk)))
-        (Rose (D.faults disk) (D.faults result.1))
-        (Rose (K.faults out.old) (K.faults out.new))
-        (λ count. RisesBy count hands.old.runs hands.new.runs)
-        marks.new.items result.0 }
-    ensures exact { let sheets = own_sheets (flat_map (λ h. (⟦<dyn Handler as Handler>⟧ h.vtable).sheets_are h.value) hands.old.handlers.items) in
-        D.tells → (journal : List EntryValue) → IsOnDisk sheets (D.seen disk) journal → (why : LogWhyValue) → result.0 ≡ RunStatus.LogRefused why → ⊥ }
+    ensures outcome { Outcome (record {
+      given = λ read. read ≡ commands.now;
+      said = before_line (sink_use K.Sink out.old out.new);
+      limits = limits;
+      out = sink_use K.Sink out.old out.new;
+      disk = disk_use D.Disk disk result.1;
+      hands = hands_use ⟦<dyn Handler as Handler>⟧ hands.old.items hands.new.items;
+      marks = marks.new.items;
+    }) result.0 }
+    ensures exact { AcceptsJournal (disk_use D.Disk disk result.1) (hands_use ⟦<dyn Handler as Handler>⟧ hands.old.items hands.new.items) result.0 }
     ensures later { K.faults out.old ≤ K.faults out.new }
-    ensures sheets { flat_map (λ h. (⟦<dyn Handler as Handler>⟧ h.vtable).sheets_are h.value) hands.new.handlers.items
-        ≡ flat_map (λ h. (⟦<dyn Handler as Handler>⟧ h.vtable).sheets_are h.value) hands.old.handlers.items }
+    ensures alike { map (sheets_of ⟦<dyn Handler as Handler>⟧) hands.new.items ≡ map (sheets_of ⟦<dyn Handler as Handler>⟧) hands.old.items }
 {
-    let Ok(sheets) = hands.sheets(alloc) else {
+    let Ok(sheets) = hands[0].sheets(alloc) else {
         return (RunStatus::Memory, disk);
     };
     let mut world = match World::open(alloc, disk, sheets.as_slice(), limits) {
@@ -166,46 +153,32 @@ fn converse<D: Disk, K: Sink>(
 }
 
 // All of a run but its last line.
-fn judge<S: Source, K: Sink, D: Disk>(
+fn answer_script<S: Source, K: Sink, D: Disk>(
     alloc: Global,
     words: &[String],
     script: &mut S,
     out: &mut K,
     disk: D,
-    hands: &mut Registry,
+    hands: &mut Vec<Registry>,
     limits: Limits,
     marks: &mut Vec<u64>,
 ) -> (RunStatus, D)
     requires fresh { marks.old.items ≡ [] }
-    requires all { HasAll (flat_map (λ h. (⟦<dyn Handler as Handler>⟧ h.vtable).sheets_are h.value) hands.old.handlers.items) }
+    requires agree { HandsAgree (map (sheets_of ⟦<dyn Handler as Handler>⟧) hands.old.items) }
+    requires all { All HasAll (map (sheets_of ⟦<dyn Handler as Handler>⟧) hands.old.items) }
     requires hard { 65551 ≤ limits.hard }
-    ensures ends { let sheets = own_sheets (flat_map (λ h. (⟦<dyn Handler as Handler>⟧ h.vtable).sheets_are h.value) hands.old.handlers.items) in
-        Ends
-        (misfit_of (map string_bytes words.now))
-        (IsRefused S.tells (S.left script.old) (S.left script.new))
-        (Rose (S.faults script.old) (S.faults script.new))
-        (script.new ≡ script.old)
-        (result.1 ≡ disk)
-        (λ status answers. K.tells → Talked (K.got out.old) (K.got out.new) status answers)
-        (Outcome sheets limits
-        (IsRead (misfit_of (map string_bytes words.now)) S.tells (S.left script.old) (S.left script.new))
-        (λ journal. D.tells → IsOnDisk sheets (D.seen disk) journal)
-        (λ journal halted. D.tells → AllStored (D.image result.1) journal halted)
-        (λ journal. D.tells → Settles D.moment D.left_since disk result.1 (λ c. D.image disk c ⊎ IsMaking (D.seen disk) c) (IsRun sheets journal))
-        (λ status answers. K.tells → Talked (K.got out.old) (K.got out.new) status answers)
-        (result.1 ≡ disk)
-        (D.tells → Spares sheets (D.seen disk) (D.image disk) (D.seen result.1) (D.image result.1) × LeavesOnly D.moment D.left_since disk result.1 (IsOpening sheets (D.seen disk) (D.image disk)))
-        (λ why. D.tells → Refuses sheets (D.seen disk) why × SameFrames (D.seen disk) (D.seen result.1) (D.image result.1) × LeavesOnly D.moment D.left_since disk result.1 (IsOpening sheets (D.seen disk) (D.image disk)))
-        (Rose (D.faults disk) (D.faults result.1))
-        (Rose (K.faults out.old) (K.faults out.new))
-        (λ count. RisesBy count hands.old.runs hands.new.runs)
-        marks.new.items)
-        marks.new.items result.0 }
-    ensures exact { let sheets = own_sheets (flat_map (λ h. (⟦<dyn Handler as Handler>⟧ h.vtable).sheets_are h.value) hands.old.handlers.items) in
-        D.tells → (journal : List EntryValue) → IsOnDisk sheets (D.seen disk) journal → (why : LogWhyValue) → result.0 ≡ RunStatus.LogRefused why → ⊥ }
+    ensures ends { EndsUnfinished (record {
+      words = map string_bytes words.now;
+      limits = limits;
+      script = source_use S.Source script.old script.new;
+      out = sink_use K.Sink out.old out.new;
+      disk = disk_use D.Disk disk result.1;
+      hands = hands_use ⟦<dyn Handler as Handler>⟧ hands.old.items hands.new.items;
+      marks = marks.new.items;
+    }) result.0 }
+    ensures exact { AcceptsJournal (disk_use D.Disk disk result.1) (hands_use ⟦<dyn Handler as Handler>⟧ hands.old.items hands.new.items) result.0 }
     ensures later { K.faults out.old ≤ K.faults out.new }
-    ensures sheets { flat_map (λ h. (⟦<dyn Handler as Handler>⟧ h.vtable).sheets_are h.value) hands.new.handlers.items
-        ≡ flat_map (λ h. (⟦<dyn Handler as Handler>⟧ h.vtable).sheets_are h.value) hands.old.handlers.items }
+    ensures alike { map (sheets_of ⟦<dyn Handler as Handler>⟧) hands.new.items ≡ map (sheets_of ⟦<dyn Handler as Handler>⟧) hands.old.items }
 {
     if let Some(word) = misfit(words) {
         return (RunStatus::Usage(word), disk);
@@ -216,19 +189,6 @@ fn judge<S: Source, K: Sink, D: Disk>(
         Err(ScriptEnd::ReadFault) => (RunStatus::ReadFault, disk),
         Err(ScriptEnd::Memory) => (RunStatus::Memory, disk),
     }
-}
-
-// Tries the last line once. Its failure changes nothing, but for want of memory to make it.
-fn finish<K: Sink>(alloc: Global, out: &mut K, status: RunStatus) -> RunStatus
-    ensures line { ((result ≡ status) × (K.tells → IsLast (Rose (K.faults out.old) (K.faults out.new)) (K.got out.old) (K.got out.new) (last_line status)))
-        ⊎ ((result ≡ RunStatus.Memory) × (K.tells → K.got out.new ≡ K.got out.old)) }
-    ensures later { K.faults out.old ≤ K.faults out.new }
-{
-    let Ok(line) = status.to_string(alloc) else {
-        return RunStatus::Memory;
-    };
-    let _ = write_all(out, line.as_bytes());
-    status
 }
 
 /// Runs a script over the log on a disk, whose journal may have 67,108,864 bytes, and takes submissions
@@ -242,41 +202,17 @@ pub fn run<S: Source, K: Sink, D: Disk>(
     disk: D,
     hands: Vec<Registry>,
 ) -> Ended<D>
-    requires agree { HandsAgree (map (λ r. flat_map (λ h. (⟦<dyn Handler as Handler>⟧ h.vtable).sheets_are h.value) r.handlers.items) hands.items) }
-    requires all { All HasAll (map (λ r. flat_map (λ h. (⟦<dyn Handler as Handler>⟧ h.vtable).sheets_are h.value) r.handlers.items) hands.items) }
-    ensures ends { let sheets = own_sheets (first_sheets (map (λ r. flat_map (λ h. (⟦<dyn Handler as Handler>⟧ h.vtable).sheets_are h.value) r.handlers.items) hands.items)) in
-        Ends
-        (misfit_of (map string_bytes words.now))
-        (IsRefused S.tells (S.left script.old) (S.left script.new))
-        (Rose (S.faults script.old) (S.faults script.new))
-        (script.new ≡ script.old)
-        (result.disk ≡ disk)
-        (λ status answers. K.tells → Got (Rose (K.faults out.old) (K.faults out.new)) (K.got out.old) (K.got out.new) status answers)
-        (Outcome sheets (record { soft = 50331648; hard = 67108864 })
-        (IsRead (misfit_of (map string_bytes words.now)) S.tells (S.left script.old) (S.left script.new))
-        (λ journal. D.tells → IsOnDisk sheets (D.seen disk) journal)
-        (λ journal halted. D.tells → AllStored (D.image result.disk) journal halted)
-        (λ journal. D.tells → Settles D.moment D.left_since disk result.disk (λ c. D.image disk c ⊎ IsMaking (D.seen disk) c) (IsRun sheets journal))
-        (λ status answers. K.tells → Got (Rose (K.faults out.old) (K.faults out.new)) (K.got out.old) (K.got out.new) status answers)
-        (result.disk ≡ disk)
-        (D.tells → Spares sheets (D.seen disk) (D.image disk) (D.seen result.disk) (D.image result.disk) × LeavesOnly D.moment D.left_since disk result.disk (IsOpening sheets (D.seen disk) (D.image disk)))
-        (λ why. D.tells → Refuses sheets (D.seen disk) why × SameFrames (D.seen disk) (D.seen result.disk) (D.image result.disk) × LeavesOnly D.moment D.left_since disk result.disk (IsOpening sheets (D.seen disk) (D.image disk)))
-        (Rose (D.faults disk) (D.faults result.disk))
-        (Rose (K.faults out.old) (K.faults out.new))
-        (λ count. SumRisesBy count (map (λ r. r.runs) hands.items) (map (λ r. r.runs) result.hands.items))
-        result.marks.items)
-        result.marks.items result.status }
-
-    // Where nothing is wrong and nothing failed it is done, unless the journal is full or memory ran out.
-    ensures complete { let sheets = own_sheets (first_sheets (map (λ r. flat_map (λ h. (⟦<dyn Handler as Handler>⟧ h.vtable).sheets_are h.value) r.handlers.items) hands.items)) in
-        S.tells → D.tells → (commands : List CommandValue) (journal : List EntryValue)
-        → misfit_of (map string_bytes words.now) ≡ None → length (S.left script.old) ≤ 1048576 → IsScript (lines_of (S.left script.old)) commands
-        → IsOnDisk sheets (D.seen disk) journal
-        → ¬ Rose (S.faults script.old) (S.faults script.new) → ¬ Rose (K.faults out.old) (K.faults out.new) → ¬ Rose (D.faults disk) (D.faults result.disk)
-        → (result.status ≡ RunStatus.Done) ⊎ (((bytes : ℕ) × (result.status ≡ RunStatus.JournalFull bytes)) ⊎ (result.status ≡ RunStatus.Memory)) }
-
-    // The registries have the sheets that they had.
-    ensures hands { map (λ r. flat_map (λ h. (⟦<dyn Handler as Handler>⟧ h.vtable).sheets_are h.value) r.handlers.items) result.hands.items ≡ map (λ r. flat_map (λ h. (⟦<dyn Handler as Handler>⟧ h.vtable).sheets_are h.value) r.handlers.items) hands.items }
+    requires agree { HandsAgree (map (sheets_of ⟦<dyn Handler as Handler>⟧) hands.items) }
+    requires all { All HasAll (map (sheets_of ⟦<dyn Handler as Handler>⟧) hands.items) }
+    ensures { KeepsTo (record {
+      words = map string_bytes words.now;
+      limits = record { soft = 50331648; hard = 67108864 };
+      script = source_use S.Source script.old script.new;
+      out = sink_use K.Sink out.old out.new;
+      disk = disk_use D.Disk disk result.disk;
+      hands = hands_use ⟦<dyn Handler as Handler>⟧ hands.items result.hands.items;
+      marks = result.marks.items;
+    }) result.status }
 {
     run_within(alloc, words, script, out, disk, hands, LIMITS)
 }
@@ -291,56 +227,25 @@ pub fn run_within<S: Source, K: Sink, D: Disk>(
     hands: Vec<Registry>,
     limits: Limits,
 ) -> Ended<D>
-    requires agree { HandsAgree (map (λ r. flat_map (λ h. (⟦<dyn Handler as Handler>⟧ h.vtable).sheets_are h.value) r.handlers.items) hands.items) }
-    requires all { All HasAll (map (λ r. flat_map (λ h. (⟦<dyn Handler as Handler>⟧ h.vtable).sheets_are h.value) r.handlers.items) hands.items) }
+    requires agree { HandsAgree (map (sheets_of ⟦<dyn Handler as Handler>⟧) hands.items) }
+    requires all { All HasAll (map (sheets_of ⟦<dyn Handler as Handler>⟧) hands.items) }
     requires hard { 65551 ≤ limits.hard }
-    ensures ends { let sheets = own_sheets (first_sheets (map (λ r. flat_map (λ h. (⟦<dyn Handler as Handler>⟧ h.vtable).sheets_are h.value) r.handlers.items) hands.items)) in
-        Ends
-        (misfit_of (map string_bytes words.now))
-        (IsRefused S.tells (S.left script.old) (S.left script.new))
-        (Rose (S.faults script.old) (S.faults script.new))
-        (script.new ≡ script.old)
-        (result.disk ≡ disk)
-        (λ status answers. K.tells → Got (Rose (K.faults out.old) (K.faults out.new)) (K.got out.old) (K.got out.new) status answers)
-        (Outcome sheets limits
-        (IsRead (misfit_of (map string_bytes words.now)) S.tells (S.left script.old) (S.left script.new))
-        (λ journal. D.tells → IsOnDisk sheets (D.seen disk) journal)
-        (λ journal halted. D.tells → AllStored (D.image result.disk) journal halted)
-        (λ journal. D.tells → Settles D.moment D.left_since disk result.disk (λ c. D.image disk c ⊎ IsMaking (D.seen disk) c) (IsRun sheets journal))
-        (λ status answers. K.tells → Got (Rose (K.faults out.old) (K.faults out.new)) (K.got out.old) (K.got out.new) status answers)
-        (result.disk ≡ disk)
-        (D.tells → Spares sheets (D.seen disk) (D.image disk) (D.seen result.disk) (D.image result.disk) × LeavesOnly D.moment D.left_since disk result.disk (IsOpening sheets (D.seen disk) (D.image disk)))
-        (λ why. D.tells → Refuses sheets (D.seen disk) why × SameFrames (D.seen disk) (D.seen result.disk) (D.image result.disk) × LeavesOnly D.moment D.left_since disk result.disk (IsOpening sheets (D.seen disk) (D.image disk)))
-        (Rose (D.faults disk) (D.faults result.disk))
-        (Rose (K.faults out.old) (K.faults out.new))
-        (λ count. SumRisesBy count (map (λ r. r.runs) hands.items) (map (λ r. r.runs) result.hands.items))
-        result.marks.items)
-        result.marks.items result.status }
-
-    // Where nothing is wrong and nothing failed it is done, unless the journal is full or memory ran out.
-    ensures complete { let sheets = own_sheets (first_sheets (map (λ r. flat_map (λ h. (⟦<dyn Handler as Handler>⟧ h.vtable).sheets_are h.value) r.handlers.items) hands.items)) in
-        S.tells → D.tells → (commands : List CommandValue) (journal : List EntryValue)
-        → misfit_of (map string_bytes words.now) ≡ None → length (S.left script.old) ≤ 1048576 → IsScript (lines_of (S.left script.old)) commands
-        → IsOnDisk sheets (D.seen disk) journal
-        → ¬ Rose (S.faults script.old) (S.faults script.new) → ¬ Rose (K.faults out.old) (K.faults out.new) → ¬ Rose (D.faults disk) (D.faults result.disk)
-        → (result.status ≡ RunStatus.Done) ⊎ (((bytes : ℕ) × (result.status ≡ RunStatus.JournalFull bytes)) ⊎ (result.status ≡ RunStatus.Memory)) }
-
-    // The registries have the sheets that they had.
-    ensures hands { map (λ r. flat_map (λ h. (⟦<dyn Handler as Handler>⟧ h.vtable).sheets_are h.value) r.handlers.items) result.hands.items ≡ map (λ r. flat_map (λ h. (⟦<dyn Handler as Handler>⟧ h.vtable).sheets_are h.value) r.handlers.items) hands.items }
+    ensures { KeepsTo (record {
+      words = map string_bytes words.now;
+      limits = limits;
+      script = source_use S.Source script.old script.new;
+      out = sink_use K.Sink out.old out.new;
+      disk = disk_use D.Disk disk result.disk;
+      hands = hands_use ⟦<dyn Handler as Handler>⟧ hands.items result.hands.items;
+      marks = result.marks.items;
+    }) result.status }
 {
     let mut hands = hands;
     let mut marks = Vec::new(alloc);
-    let (status, disk) = judge(
-        alloc,
-        words,
-        script,
-        out,
-        disk,
-        &mut hands[0],
-        limits,
-        &mut marks,
+    let (status, disk) = answer_script(
+        alloc, words, script, out, disk, &mut hands, limits, &mut marks,
     );
-    let status = finish(alloc, out, status);
+    finish(out, status);
     Ended {
         status,
         disk,

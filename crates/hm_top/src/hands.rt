@@ -1,15 +1,15 @@
 //! The registries of a run.
 ghost use Rattle.std.specs.Prelude.{◌≡◌, ◌↔◌, map, IsTrue};
-ghost use Rattle.std.specs.List.{flat_map};
 ghost use Rattle.hm_model.specs.Sheets.{sheet_for};
-ghost use Rattle.hm_top.specs.Hands.{AgreeOn, HandsAgree};
+ghost use Rattle.hm_top.specs.Hands.{AreEqual, HandsAgree};
+ghost use Rattle.hm_sheet.specs.Registry.{sheets_of};
 
 use hm_names::Same;
-use hm_sheet::{Handler, Registry, is_running_kind};
+use hm_sheet::{Handler, Registry};
 
 // Whether two registries have the same sheet of a kind, or both none.
 fn same_sheet(one: &Registry, other: &Registry, kind: u8) -> bool
-    ensures { IsTrue result ↔ (sheet_for (flat_map (λ h. (⟦<dyn Handler as Handler>⟧ h.vtable).sheets_are h.value) one.now.handlers.items) kind ≡ sheet_for (flat_map (λ h. (⟦<dyn Handler as Handler>⟧ h.vtable).sheets_are h.value) other.now.handlers.items) kind) }
+    ensures { IsTrue result ↔ (sheet_for (sheets_of ⟦<dyn Handler as Handler>⟧ one.now) kind ≡ sheet_for (sheets_of ⟦<dyn Handler as Handler>⟧ other.now) kind) }
 {
     match (one.find(kind), other.find(kind)) {
         (Some(one), Some(other)) => one.sheet().same(other.sheet()),
@@ -18,12 +18,12 @@ fn same_sheet(one: &Registry, other: &Registry, kind: u8) -> bool
     }
 }
 
-// Whether two registries have the same sheets for the kinds that the master runs.
-fn agree(one: &Registry, other: &Registry) -> bool
-    ensures { IsTrue result ↔ AgreeOn (flat_map (λ h. (⟦<dyn Handler as Handler>⟧ h.vtable).sheets_are h.value) one.now.handlers.items) (flat_map (λ h. (⟦<dyn Handler as Handler>⟧ h.vtable).sheets_are h.value) other.now.handlers.items) }
+// Whether two registries have the same sheets.
+fn are_equal(one: &Registry, other: &Registry) -> bool
+    ensures { IsTrue result ↔ AreEqual (sheets_of ⟦<dyn Handler as Handler>⟧ one.now) (sheets_of ⟦<dyn Handler as Handler>⟧ other.now) }
 {
     for kind in 0..=u8::MAX {
-        if is_running_kind(kind) && !same_sheet(one, other, kind) {
+        if !same_sheet(one, other, kind) {
             return false;
         }
     }
@@ -32,7 +32,7 @@ fn agree(one: &Registry, other: &Registry) -> bool
 
 /// Whether there are seventeen registries, one for the caller and sixteen for workers, whose sheets are equal.
 pub fn hands_agree(hands: &[Registry]) -> bool
-    ensures { IsTrue result ↔ HandsAgree (map (λ r. flat_map (λ h. (⟦<dyn Handler as Handler>⟧ h.vtable).sheets_are h.value) r.handlers.items) hands.now) }
+    ensures { IsTrue result ↔ HandsAgree (map (sheets_of ⟦<dyn Handler as Handler>⟧) hands.now) }
 {
     let [first, ..] = hands else {
         return false;
@@ -41,7 +41,7 @@ pub fn hands_agree(hands: &[Registry]) -> bool
         return false;
     }
     for other in hands {
-        if !agree(first, other) {
+        if !are_equal(first, other) {
             return false;
         }
     }

@@ -1,9 +1,31 @@
 //! Laws of the definitions that the contracts cite.
-ghost use Rattle.std.specs.Prelude.{ℕ, List};
+ghost use Rattle.std.specs.Prelude.{◌≡◌, ℕ, List, Some};
+ghost use Rattle.hm_data.specs.declared.entry.Entry.{Entry};
+ghost use Rattle.hm_journal.specs.Stored.{IsOnDisk};
 ghost use Rattle.hm_top.specs.declared.command.Command.{Command};
+ghost use Rattle.hm_top.specs.declared.status.Bad.{Bad};
+ghost use Rattle.hm_top.specs.declared.status.LogWhy.{LogWhy};
+ghost use Rattle.hm_top.specs.declared.status.RunStatus.TheVariants as status_is;
+ghost use Rattle.hm_top.specs.Hands.{sheets_used};
+ghost use Rattle.hm_top.specs.Run.{EachRun, IsBad, KeepsTo};
 ghost use Rattle.hm_top.specs.Script.{IsScript, IsFirstWrong};
+ghost use Rattle.hm_top.specs.Words.{misfit_of};
+
+use hm_disk::Disk;
+use hm_ports::{Sink, Source};
 
 /// A script has no wrong line.
 pub fn right_or_wrong()
     ensures { (lines : List (List ℕ)) (commands : List Command) (number : ℕ) → IsScript lines commands → IsFirstWrong lines number → ⊥ }
+{}
+
+/// What is so at each status of a run that keeps to its contract. So a body that always answered one of them would not.
+pub fn each_status_has_a_cause<S: Source, K: Sink, D: Disk>()
+    ensures usage { (word : ℕ) → EachRun S.Source K.Sink D.Disk (λ run. KeepsTo run (status_is.Usage word) → misfit_of run.words ≡ Some word) }
+    ensures bad_script { (bad : Bad) → EachRun S.Source K.Sink D.Disk (λ run. KeepsTo run (status_is.BadScript bad) → run.script.tells → IsBad run.script.before bad) }
+    ensures log_fault { EachRun S.Source K.Sink D.Disk (λ run. KeepsTo run status_is.LogFault → run.disk.failed) }
+    ensures log_refused { (why : LogWhy) (journal : List Entry) → EachRun S.Source K.Sink D.Disk (λ run. KeepsTo run (status_is.LogRefused why) →
+        run.disk.tells → IsOnDisk (sheets_used run.hands) run.disk.before journal → ⊥) }
+    ensures read_fault { EachRun S.Source K.Sink D.Disk (λ run. KeepsTo run status_is.ReadFault → run.script.failed) }
+    ensures write_fault { EachRun S.Source K.Sink D.Disk (λ run. KeepsTo run status_is.WriteFault → run.out.failed) }
 {}

@@ -5,6 +5,7 @@ mod answer;
 mod command;
 mod ending;
 mod hands;
+mod last_line;
 mod laws;
 mod script;
 mod status;
@@ -15,6 +16,6 @@ mod world;
 
 pub use ending::{Ended, run, run_within};
 pub use hands::hands_agree;
-pub use laws::right_or_wrong;
+pub use laws::{each_status_has_a_cause, right_or_wrong};
 pub use status::{Bad, LogWhy, RunStatus, Why};
 pub use words::log_path;

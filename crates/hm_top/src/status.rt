@@ -93,20 +93,20 @@ impl fmt::Display for LogWhy {
 
 /// Why a conversation ends early.
 #[derive(Clone, Copy, Debug, PartialEq, Eq)]
-pub enum Cut {
+pub enum EarlyEnd {
     /// The sink failed.
     WriteFault,
     /// Memory ran out.
     Memory,
 }
 
-impl From<AllocError> for Cut {
-    ghost use Rattle.hm_top.specs.declared.status.Cut.TheVariants.{Memory};
+impl From<AllocError> for EarlyEnd {
+    ghost use Rattle.hm_top.specs.declared.status.EarlyEnd.TheVariants.{Memory};
 
-    ghost from_gives = { λ _ cut. cut ≡ Memory };
+    ghost from_gives = { λ _ end. end ≡ Memory };
 
     fn from(_: AllocError) -> Self {
-        Cut::Memory
+        EarlyEnd::Memory
     }
 }
 

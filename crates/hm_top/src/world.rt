@@ -1,29 +1,32 @@
 //! A journal, its state, and what is done with them.
-ghost use Rattle.std.specs.Prelude.{◌≡◌, ◌≢◌, ◌⊎◌, ◌+◌, ◌≤◌, ◌↔◌, List, [], ℕ, length, All, IfOk, IfErr, IfSome, IfNone, OnOk, OnErr, MatchOption, MatchResult, IsTrue, Some, None};
-ghost use Rattle.std.specs.List.{flat_map};
+ghost use Rattle.std.specs.Prelude.{◌≡◌, ◌≢◌, ◌⊎◌, ◌+◌, ◌≤◌, ◌↔◌, List, [], ℕ, length, map, All, IfOk, IfErr, IfSome, IfNone, OnOk, OnErr, MatchOption, MatchResult, IsTrue, Some, None};
 ghost use Rattle.hm_ports.specs.Faults.{Rose};
+ghost use Rattle.hm_disk.specs.Called.{IsCalled};
 ghost use Rattle.hm_disk.specs.Disk.{LeavesOnly, Settles};
+ghost use Rattle.hm_log.specs.Format.{Reads};
 ghost use Rattle.hm_log.specs.Opening.{IsMaking};
 ghost use Rattle.hm_data.specs.declared.entry.Entry.{Entry as EntryValue};
 ghost use Rattle.hm_model.specs.Journal.{back};
 ghost use Rattle.hm_model.specs.Nonces.{by_nonce};
 ghost use Rattle.hm_model.specs.Rest.{IsAtRest, IsAvailable};
 ghost use Rattle.hm_model.specs.Rules.{Allowed, AreSheets, IsLegal};
-ghost use Rattle.hm_model.specs.Sheets.{sheets_of};
+ghost use Rattle.hm_model.specs.Sheets.{sheets_of as begun_with};
 ghost use Rattle.hm_model.specs.Steps.{CanRun, answer_of};
 ghost use Rattle.hm_state.specs.State.{IsFirst};
 ghost use Rattle.hm_hall.specs.declared.fault.Halt.TheVariants as halt_is;
 ghost use Rattle.hm_hall.specs.Recording.{CanBeRecorded};
 ghost use Rattle.hm_entry.specs.Fits.{EntryFits};
-ghost use Rattle.hm_journal.specs.Stored.{IsStored as IsKept, IsJournal, IsOnDisk, Spares, SameFrames, IsOpening};
+ghost use Rattle.hm_journal.specs.Since.{Since};
+ghost use Rattle.hm_journal.specs.Stored.{AllStored, IsJournal, frames_of, IsOnDisk, Spares, SameFrames, IsOpening};
 ghost use Rattle.hm_journal.specs.Verdict.{Refuses, IsUnjudged};
 ghost use Rattle.hm_top.specs.declared.command.Command.{Command as CommandValue};
-ghost use Rattle.hm_top.specs.Answer.{Adds, Answers, AnswersAt, IsAsked, IsSoftFull, IsUnanswered, IsWorked, submission as submitted};
-ghost use Rattle.hm_top.specs.Hands.{AgreeOn, Ran, RisesBy};
-ghost use Rattle.hm_top.specs.Said.{begun};
-ghost use Rattle.hm_top.specs.Settling.{IsNextStep};
-ghost use Rattle.hm_top.specs.Stored.{AllStored, Continues, IsRun};
-ghost use Rattle.hm_top.specs.View.{limits_of, said_of, Keeps};
+ghost use Rattle.hm_top.specs.Answer.{Answers, AnswersAt, IsAsked, IsFree, IsUnanswered, submission as submitted};
+ghost use Rattle.hm_top.specs.Hands.{HandsAgree, Ran, RunBy, Serve, first_sheets};
+ghost use Rattle.hm_top.specs.Ports.{hands_use};
+ghost use Rattle.hm_sheet.specs.Registry.{sheets_of};
+ghost use Rattle.hm_top.specs.Settling.{IsNextStep, IsWorked};
+ghost use Rattle.hm_top.specs.Standing.{Comes, Standing as StandingValue, begun, recording, whole};
+ghost use Rattle.hm_top.specs.View.{Fits, standing_in, standing_of};
 
 use crate::answer::Answer;
 use crate::command::Command;
@@ -46,13 +49,13 @@ pub struct World<D: Disk> {
 }
 
 impl<D: Disk> Model for World<D> {
-    ghost use Rattle.hm_top.specs.View.{WorldView, IsSound};
+    ghost use Rattle.hm_top.specs.View.{WorldView, IsWorld};
 
     ghost Value = { WorldView D };
 
-    ghost view = { λ w. record { disk = w.journal.disk; kept = w.journal.kept } };
+    ghost view = { λ w. record { disk = w.journal.disk; opened = w.journal.opened; kept = w.journal.kept } };
 
-    ghost invariant = { λ w. IsSound w.state.entries w.journal.kept };
+    ghost invariant = { λ w. IsWorld w.state.entries w.journal.kept };
 }
 
 // The entry that asks for a namespace.
@@ -95,14 +98,14 @@ fn nothing(alloc: Global) -> StepOut {
 }
 
 // Runs the handler for an input, and gives what it answers.
-fn run_once(alloc: Global, hands: &mut Registry, at: &StepIn) -> Result<StepOut, AllocError>
-    requires { CanRun (flat_map (λ h. (⟦<dyn Handler as Handler>⟧ h.vtable).sheets_are h.value) hands.old.handlers.items) at.now }
-    ensures out { IfOk result (λ out. answer_of (flat_map (λ h. (⟦<dyn Handler as Handler>⟧ h.vtable).sheets_are h.value) hands.old.handlers.items) at.now ≡ Some out) }
-    ensures sheets { flat_map (λ h. (⟦<dyn Handler as Handler>⟧ h.vtable).sheets_are h.value) hands.new.handlers.items
-        ≡ flat_map (λ h. (⟦<dyn Handler as Handler>⟧ h.vtable).sheets_are h.value) hands.old.handlers.items }
-    ensures runs { OnOk result (RisesBy 1 hands.old.runs hands.new.runs) }
-    ensures later { hands.old.runs ≤ hands.new.runs }
+fn run_once(alloc: Global, hands: &mut Vec<Registry>, at: &StepIn) -> Result<StepOut, AllocError>
+    requires agree { HandsAgree (map (sheets_of ⟦<dyn Handler as Handler>⟧) hands.old.items) }
+    requires runs { CanRun (first_sheets (map (sheets_of ⟦<dyn Handler as Handler>⟧) hands.old.items)) at.now }
+    ensures out { IfOk result (λ out. answer_of (first_sheets (map (sheets_of ⟦<dyn Handler as Handler>⟧) hands.old.items)) at.now ≡ Some out) }
+    ensures runs { OnOk result (RunBy (hands_use ⟦<dyn Handler as Handler>⟧ hands.old.items hands.new.items) 1) }
+    ensures later { RunBy (hands_use ⟦<dyn Handler as Handler>⟧ hands.old.items hands.new.items) 0 }
 {
+    let hands = &mut hands[0];
     let _before = hands.runs();
     let mut out = nothing(alloc);
     hands.run(alloc, at, &mut out)?;
@@ -119,18 +122,17 @@ impl<D: Disk> World<D> {
     ) -> Result<World<D>, (D, JournalWhy)>
         requires sheets { AreSheets sheets.now }
         requires hard { 65551 ≤ limits.hard }
-        ensures journal { IfOk result (λ world. (old : List EntryValue) × IsJournal sheets.now old × (said_of world ≡ begun sheets.now old)
-            × (D.tells → IsOnDisk sheets.now (D.seen disk) old
-            × Settles D.moment D.left_since disk world.disk (λ c. D.image disk c ⊎ IsMaking (D.seen disk) c) (IsRun sheets.now old))) }
-        ensures sheets { IfOk result (λ world. sheets_of (back world.kept.entries) ≡ sheets.now) }
-        ensures limits { IfOk result (λ world. limits_of world ≡ limits) }
+        ensures journal { IfOk result (λ world. (old : List EntryValue) × IsJournal sheets.now old × (standing_of world ≡ begun limits sheets.now old)
+            × (world.opened.count ≡ length old) × (D.tells → IsOnDisk sheets.now (D.seen disk) old
+            × Settles D.moment D.left_since disk world.opened.disk (λ c. D.image disk c ⊎ IsMaking (D.seen disk) c) (λ c. Reads c (frames_of old)))) }
+        ensures sheets { IfOk result (λ world. begun_with (back world.kept.entries) ≡ sheets.now) }
         ensures why { D.tells → IfErr result (λ e. Refuses sheets.now (D.seen disk) e.1) }
         ensures exact { D.tells → (journal : List EntryValue) → IsOnDisk sheets.now (D.seen disk) journal → IfErr result (λ e. IsUnjudged e.1) }
         ensures fault { IfErr result (λ e. e.1 ≡ JournalWhy.Fault → Rose (D.faults disk) (D.faults e.0)) }
         ensures same { D.tells → IfErr result (λ e. e.1 ≢ JournalWhy.Fault → SameFrames (D.seen disk) (D.seen e.0) (D.image e.0)) }
         ensures spared { D.tells → IfErr result (λ e. Spares sheets.now (D.seen disk) (D.image disk) (D.seen e.0) (D.image e.0)) }
         ensures any_moment { D.tells → IfErr result (λ e. LeavesOnly D.moment D.left_since disk e.0 (IsOpening sheets.now (D.seen disk) (D.image disk))) }
-        ensures later { MatchResult result (λ world. D.faults disk ≤ D.faults world.disk) (λ e. D.faults disk ≤ D.faults e.0) }
+        ensures called { MatchResult result (λ world. IsCalled D.Disk 1 disk world.opened.disk) (λ e. IsCalled D.Disk 3 disk e.0) }
     {
         let (journal, state) = Journal::open(alloc, disk, sheets, limits)?;
         let _legal = state.entries();
@@ -141,7 +143,6 @@ impl<D: Disk> World<D> {
     /// The length of the journal.
     pub fn entries(&self) -> u64
         ensures length { result ≡ length self.now.kept.entries }
-        ensures stored { D.tells → AllStored (D.image self.now.disk) self.now.kept.entries self.now.kept.halted }
     {
         let _legal = self.state.entries();
         let _halted = self.journal.halted();
@@ -160,9 +161,12 @@ impl<D: Disk> World<D> {
     /// Gives the disk back.
     pub fn into_disk(self) -> D
         ensures disk { result ≡ self.disk }
-        ensures stored { D.tells → AllStored (D.image result) self.kept.entries self.kept.halted }
+        ensures stored { D.tells → AllStored (D.image result) (recording (standing_of self)) }
+        ensures since { Since D.Disk self.opened result self.kept.entries self.kept.tail self.kept.halted }
+        ensures legal { IsLegal (back (whole (standing_of self))) }
     {
         let _length = self.entries();
+        self.is_sound();
         let World { journal, state } = self;
         drop(state);
         journal.into_disk()
@@ -176,13 +180,10 @@ impl<D: Disk> World<D> {
     ) -> Result<Option<Halt>, AllocError>
         requires going { journal.old.kept.halted ≡ None }
         requires fits { CanBeRecorded entry.now }
-        ensures adds { IfOk result (λ halt. Keeps journal.old.kept entry.now halt journal.new.kept) }
-        ensures err { OnErr result (journal.new ≡ journal.old) }
-        ensures spelled { All EntryFits journal.old.kept.entries }
+        ensures comes { IfOk result (λ halt. Comes (standing_in journal.old.kept) entry.now halt (standing_in journal.new.kept)) }
+        ensures err { OnErr result (journal.new.kept ≡ journal.old.kept) }
         ensures whole { journal.old.kept.tail ≡ None }
-        ensures moments { D.tells → LeavesOnly D.moment D.left_since journal.old.disk journal.new.disk (IsKept (record journal.old.kept { tail = Some entry.now })) }
-        ensures later { D.faults journal.old.disk ≤ D.faults journal.new.disk }
-        ensures halts { IfOk result (λ halt. halt ≡ Some halt_is.LogFault → Rose (D.faults journal.old.disk) (D.faults journal.new.disk)) }
+        ensures opened { journal.new.opened ≡ journal.old.opened }
     {
         let _halted = journal.halted();
         let _durable = journal.durable();
@@ -200,12 +201,9 @@ impl<D: Disk> World<D> {
         requires going { self.old.kept.halted ≡ None }
         requires allowed { Allowed (back self.old.kept.entries) entry.now }
         requires fits { CanBeRecorded entry.now }
-        ensures adds { IfOk result (λ halt. Adds (limits_of self.old) self.old.kept.entries entry.now halt (said_of self.new)) }
-        ensures limits { limits_of self.new ≡ limits_of self.old }
-        ensures err { OnErr result (said_of self.new ≡ said_of self.old) }
-        ensures moments { D.tells → LeavesOnly D.moment D.left_since self.old.disk self.new.disk (Continues self.old.kept.entries) }
-        ensures later { D.faults self.old.disk ≤ D.faults self.new.disk }
-        ensures halts { IfOk result (λ halt. halt ≡ Some halt_is.LogFault → Rose (D.faults self.old.disk) (D.faults self.new.disk)) }
+        ensures comes { IfOk result (λ halt. Comes (standing_of self.old) entry.now halt (standing_of self.new)) }
+        ensures err { OnErr result (standing_of self.new ≡ standing_of self.old) }
+        ensures opened { self.new.opened ≡ self.old.opened }
     {
         self.is_sound();
         let _legal = self.state.entries();
@@ -241,8 +239,8 @@ impl<D: Disk> World<D> {
     fn known(&self, nonce: &Nonce, ns: &Ns) -> Option<Answer>
         requires { self.now.kept.halted ≡ None }
         ensures { MatchOption result
-            ((by_nonce (back self.now.kept.entries) nonce.now ≡ None) × (IsSoftFull (limits_of self.now) self.now.kept.entries → ⊥))
-            (λ answer. AnswersAt (limits_of self.now) (CommandValue.Namespace nonce.now ns.now) self.now.kept.entries answer (said_of self.now)) }
+            (IsFree (standing_of self.now) nonce.now)
+            (λ answer. AnswersAt (CommandValue.Namespace nonce.now ns.now) (standing_of self.now) answer (standing_of self.now)) }
     {
         match self.state.by_nonce(nonce) {
             Some(pid) if self.is_asked(pid, ns) => Some(Answer::Repeated(pid.0)),
@@ -257,14 +255,10 @@ impl<D: Disk> World<D> {
     // Records a submission under a new nonce.
     fn ask(&mut self, alloc: Global, nonce: &Nonce, ns: &Ns) -> Result<Answer, AllocError>
         requires going { self.old.kept.halted ≡ None }
-        requires new { by_nonce (back self.old.kept.entries) nonce.now ≡ None }
-        requires room { IsSoftFull (limits_of self.old) self.old.kept.entries → ⊥ }
-        ensures answers { IfOk result (λ answer. AnswersAt (limits_of self.old) (CommandValue.Namespace nonce.now ns.now) self.old.kept.entries answer (said_of self.new)) }
-        ensures limits { limits_of self.new ≡ limits_of self.old }
-        ensures err { OnErr result (said_of self.new ≡ said_of self.old) }
-        ensures moments { D.tells → LeavesOnly D.moment D.left_since self.old.disk self.new.disk (Continues self.old.kept.entries) }
-        ensures later { D.faults self.old.disk ≤ D.faults self.new.disk }
-        ensures halts { self.new.kept.halted ≡ Some halt_is.LogFault → Rose (D.faults self.old.disk) (D.faults self.new.disk) }
+        requires free { IsFree (standing_of self.old) nonce.now }
+        ensures answers { IfOk result (λ answer. AnswersAt (CommandValue.Namespace nonce.now ns.now) (standing_of self.old) answer (standing_of self.new)) }
+        ensures err { OnErr result (standing_of self.new ≡ standing_of self.old) }
+        ensures opened { self.new.opened ≡ self.old.opened }
     {
         self.is_sound();
         let _begun = self.state.entries();
@@ -281,12 +275,9 @@ impl<D: Disk> World<D> {
     // Answers a submission.
     fn submit(&mut self, alloc: Global, nonce: &Nonce, ns: &Ns) -> Result<Answer, AllocError>
         requires going { self.old.kept.halted ≡ None }
-        ensures answers { IfOk result (λ answer. AnswersAt (limits_of self.old) (CommandValue.Namespace nonce.now ns.now) self.old.kept.entries answer (said_of self.new)) }
-        ensures limits { limits_of self.new ≡ limits_of self.old }
-        ensures err { OnErr result (said_of self.new ≡ said_of self.old) }
-        ensures moments { D.tells → LeavesOnly D.moment D.left_since self.old.disk self.new.disk (Continues self.old.kept.entries) }
-        ensures later { D.faults self.old.disk ≤ D.faults self.new.disk }
-        ensures halts { self.new.kept.halted ≡ Some halt_is.LogFault → Rose (D.faults self.old.disk) (D.faults self.new.disk) }
+        ensures answers { IfOk result (λ answer. AnswersAt (CommandValue.Namespace nonce.now ns.now) (standing_of self.old) answer (standing_of self.new)) }
+        ensures err { OnErr result (standing_of self.new ≡ standing_of self.old) }
+        ensures opened { self.new.opened ≡ self.old.opened }
     {
         self.is_sound();
         match self.known(nonce, ns) {
@@ -300,7 +291,6 @@ impl<D: Disk> World<D> {
         ensures legal { IsLegal (back self.now.kept.entries) }
         ensures begun { back self.now.kept.entries ≢ [] }
         ensures fits { All EntryFits self.now.kept.entries }
-        ensures quiet { D.tells → LeavesOnly D.moment D.left_since self.now.disk self.now.disk (Continues self.now.kept.entries) }
     {
         let _ = self.state.entries();
         let _ = self.journal.durable();
@@ -308,16 +298,19 @@ impl<D: Disk> World<D> {
     }
 
     // The step that a procedure makes next, by its handler.
-    fn evaluate(&self, alloc: Global, hands: &mut Registry, pid: Pid) -> Result<Entry, AllocError>
-        requires agree { AgreeOn (flat_map (λ h. (⟦<dyn Handler as Handler>⟧ h.vtable).sheets_are h.value) hands.old.handlers.items) (sheets_of (back self.now.kept.entries)) }
+    fn evaluate(
+        &self,
+        alloc: Global,
+        hands: &mut Vec<Registry>,
+        pid: Pid,
+    ) -> Result<Entry, AllocError>
+        requires hands { Serve (map (sheets_of ⟦<dyn Handler as Handler>⟧) hands.old.items) self.now.kept.entries }
         requires available { IsAvailable (back self.now.kept.entries) pid.0 }
         requires first { IsFirst (back self.now.kept.entries) pid.0 }
         ensures step { IfOk result (IsNextStep (back self.now.kept.entries)) }
         ensures fits { IfOk result CanBeRecorded }
-        ensures sheets { flat_map (λ h. (⟦<dyn Handler as Handler>⟧ h.vtable).sheets_are h.value) hands.new.handlers.items
-            ≡ flat_map (λ h. (⟦<dyn Handler as Handler>⟧ h.vtable).sheets_are h.value) hands.old.handlers.items }
-        ensures runs { OnOk result (RisesBy 1 hands.old.runs hands.new.runs) }
-        ensures later { hands.old.runs ≤ hands.new.runs }
+        ensures runs { OnOk result (RunBy (hands_use ⟦<dyn Handler as Handler>⟧ hands.old.items hands.new.items) 1) }
+        ensures later { RunBy (hands_use ⟦<dyn Handler as Handler>⟧ hands.old.items hands.new.items) 0 }
     {
         self.is_sound();
         let at = self.state.step_in(alloc, pid, None)?;
@@ -334,22 +327,17 @@ impl<D: Disk> World<D> {
     fn step(
         &mut self,
         alloc: Global,
-        hands: &mut Registry,
+        hands: &mut Vec<Registry>,
         pid: Pid,
     ) -> Result<Option<Halt>, AllocError>
         requires going { self.old.kept.halted ≡ None }
-        requires agree { AgreeOn (flat_map (λ h. (⟦<dyn Handler as Handler>⟧ h.vtable).sheets_are h.value) hands.old.handlers.items) (sheets_of (back self.old.kept.entries)) }
+        requires hands { Serve (map (sheets_of ⟦<dyn Handler as Handler>⟧) hands.old.items) self.old.kept.entries }
         requires available { IsAvailable (back self.old.kept.entries) pid.0 }
         requires first { IsFirst (back self.old.kept.entries) pid.0 }
-        ensures adds { IfOk result (λ halt. (entry : EntryValue) × IsNextStep (back self.old.kept.entries) entry × Adds (limits_of self.old) self.old.kept.entries entry halt (said_of self.new)) }
-        ensures limits { limits_of self.new ≡ limits_of self.old }
-        ensures err { OnErr result (said_of self.new ≡ said_of self.old) }
-        ensures moments { D.tells → LeavesOnly D.moment D.left_since self.old.disk self.new.disk (Continues self.old.kept.entries) }
-        ensures later { D.faults self.old.disk ≤ D.faults self.new.disk }
-        ensures halts { IfOk result (λ halt. halt ≡ Some halt_is.LogFault → Rose (D.faults self.old.disk) (D.faults self.new.disk)) }
-        ensures sheets { flat_map (λ h. (⟦<dyn Handler as Handler>⟧ h.vtable).sheets_are h.value) hands.new.handlers.items
-            ≡ flat_map (λ h. (⟦<dyn Handler as Handler>⟧ h.vtable).sheets_are h.value) hands.old.handlers.items }
-        ensures ran { Ran self.old.kept.entries self.new.kept.entries hands.old.runs hands.new.runs }
+        ensures comes { IfOk result (λ halt. (entry : EntryValue) × IsNextStep (back self.old.kept.entries) entry × Comes (standing_of self.old) entry halt (standing_of self.new)) }
+        ensures err { OnErr result (standing_of self.new ≡ standing_of self.old) }
+        ensures opened { self.new.opened ≡ self.old.opened }
+        ensures ran { Ran (hands_use ⟦<dyn Handler as Handler>⟧ hands.old.items hands.new.items) self.old.kept.entries self.new.kept.entries }
     {
         self.is_sound();
         let entry = self.evaluate(alloc, hands, pid)?;
@@ -371,7 +359,7 @@ impl<D: Disk> World<D> {
     fn rested(&self) -> Answer
         requires going { self.now.kept.halted ≡ None }
         requires rest { IsAtRest (back self.now.kept.entries) }
-        ensures { (old : List EntryValue) → IsWorked (limits_of self.now) old self.now.kept.entries → AnswersAt (limits_of self.now) CommandValue.Settle old result (said_of self.now) }
+        ensures { (old : StandingValue) → IsWorked old (standing_of self.now) → AnswersAt CommandValue.Settle old result (standing_of self.now) }
     {
         let at = self.entries();
         match self.state.unfinished() {
@@ -382,18 +370,13 @@ impl<D: Disk> World<D> {
 
     // Works until nothing is left that can go on: the root that has a step and hasn't ended, then the others in the order
     // of their numbers, each to its end.
-    fn settle(&mut self, alloc: Global, hands: &mut Registry) -> Result<Answer, AllocError>
+    fn settle(&mut self, alloc: Global, hands: &mut Vec<Registry>) -> Result<Answer, AllocError>
         requires going { self.old.kept.halted ≡ None }
-        requires agree { AgreeOn (flat_map (λ h. (⟦<dyn Handler as Handler>⟧ h.vtable).sheets_are h.value) hands.old.handlers.items) (sheets_of (back self.old.kept.entries)) }
-        ensures answers { IfOk result (λ answer. AnswersAt (limits_of self.old) CommandValue.Settle self.old.kept.entries answer (said_of self.new)) }
-        ensures limits { limits_of self.new ≡ limits_of self.old }
-        ensures err { OnErr result ((self.new.kept.halted ≡ None) × IsWorked (limits_of self.old) self.old.kept.entries self.new.kept.entries) }
-        ensures moments { D.tells → LeavesOnly D.moment D.left_since self.old.disk self.new.disk (Continues self.old.kept.entries) }
-        ensures later { D.faults self.old.disk ≤ D.faults self.new.disk }
-        ensures halts { self.new.kept.halted ≡ Some halt_is.LogFault → Rose (D.faults self.old.disk) (D.faults self.new.disk) }
-        ensures sheets { flat_map (λ h. (⟦<dyn Handler as Handler>⟧ h.vtable).sheets_are h.value) hands.new.handlers.items
-            ≡ flat_map (λ h. (⟦<dyn Handler as Handler>⟧ h.vtable).sheets_are h.value) hands.old.handlers.items }
-        ensures ran { Ran self.old.kept.entries self.new.kept.entries hands.old.runs hands.new.runs }
+        requires hands { Serve (map (sheets_of ⟦<dyn Handler as Handler>⟧) hands.old.items) self.old.kept.entries }
+        ensures answers { IfOk result (λ answer. AnswersAt CommandValue.Settle (standing_of self.old) answer (standing_of self.new)) }
+        ensures err { OnErr result (IsWorked (standing_of self.old) (standing_of self.new)) }
+        ensures opened { self.new.opened ≡ self.old.opened }
+        ensures ran { Ran (hands_use ⟦<dyn Handler as Handler>⟧ hands.old.items hands.new.items) self.old.kept.entries self.new.kept.entries }
     {
         self.is_sound();
         while let Some(pid) = self.next() {
@@ -404,24 +387,19 @@ impl<D: Disk> World<D> {
         Ok(self.rested())
     }
 
-    /// Answers a command. Where memory runs out all is as before, but for the steps of a settling that were recorded.
-    pub fn answer(
+    // Answers a command of a run that stands as the world has it.
+    fn answer_here(
         &mut self,
         alloc: Global,
-        hands: &mut Registry,
+        hands: &mut Vec<Registry>,
         command: &Command,
     ) -> Result<Answer, AllocError>
-        requires agree { AgreeOn (flat_map (λ h. (⟦<dyn Handler as Handler>⟧ h.vtable).sheets_are h.value) hands.old.handlers.items) (sheets_of (back self.old.kept.entries)) }
-        ensures answers { IfOk result (λ answer. Answers (limits_of self.old) command.now (said_of self.old) answer (said_of self.new)) }
-        ensures limits { limits_of self.new ≡ limits_of self.old }
-        ensures begun { sheets_of (back self.new.kept.entries) ≡ sheets_of (back self.old.kept.entries) }
-        ensures err { OnErr result (IsUnanswered (limits_of self.old) command.now (said_of self.old) (said_of self.new)) }
-        ensures moments { D.tells → LeavesOnly D.moment D.left_since self.old.disk self.new.disk (Continues self.old.kept.entries) }
-        ensures later { D.faults self.old.disk ≤ D.faults self.new.disk }
-        ensures halts { self.old.kept.halted ≡ None → self.new.kept.halted ≡ Some halt_is.LogFault → Rose (D.faults self.old.disk) (D.faults self.new.disk) }
-        ensures sheets { flat_map (λ h. (⟦<dyn Handler as Handler>⟧ h.vtable).sheets_are h.value) hands.new.handlers.items
-            ≡ flat_map (λ h. (⟦<dyn Handler as Handler>⟧ h.vtable).sheets_are h.value) hands.old.handlers.items }
-        ensures ran { Ran self.old.kept.entries self.new.kept.entries hands.old.runs hands.new.runs }
+        requires hands { Serve (map (sheets_of ⟦<dyn Handler as Handler>⟧) hands.old.items) self.old.kept.entries }
+        ensures answers { IfOk result (λ answer. Answers command.now (standing_of self.old) answer (standing_of self.new)) }
+        ensures begun { begun_with (back self.new.kept.entries) ≡ begun_with (back self.old.kept.entries) }
+        ensures err { OnErr result (IsUnanswered command.now (standing_of self.old) (standing_of self.new)) }
+        ensures opened { self.new.opened ≡ self.old.opened }
+        ensures ran { Ran (hands_use ⟦<dyn Handler as Handler>⟧ hands.old.items hands.new.items) self.old.kept.entries self.new.kept.entries }
     {
         self.is_sound();
         if let Some(why) = self.halted() {
@@ -432,5 +410,23 @@ impl<D: Disk> World<D> {
             Command::Settle => self.settle(alloc, hands),
             Command::Procs => Ok(Answer::Table(procs(alloc, &self.state)?)),
         }
+    }
+
+    /// Answers a command, whatever the lines before it know beside the world. Where memory runs out all is as before, but
+    /// for the steps of a settling that were recorded.
+    pub fn answer(
+        &mut self,
+        alloc: Global,
+        hands: &mut Vec<Registry>,
+        command: &Command,
+    ) -> Result<Answer, AllocError>
+        requires hands { Serve (map (sheets_of ⟦<dyn Handler as Handler>⟧) hands.old.items) self.old.kept.entries }
+        ensures answers { (old : StandingValue) → Fits self.old old → IfOk result (λ answer. (new : StandingValue) × Fits self.new new × Answers command.now old answer new) }
+        ensures begun { begun_with (back self.new.kept.entries) ≡ begun_with (back self.old.kept.entries) }
+        ensures err { (old : StandingValue) → Fits self.old old → OnErr result ((new : StandingValue) × Fits self.new new × IsUnanswered command.now old new) }
+        ensures opened { self.new.opened ≡ self.old.opened }
+        ensures ran { Ran (hands_use ⟦<dyn Handler as Handler>⟧ hands.old.items hands.new.items) self.old.kept.entries self.new.kept.entries }
+    {
+        self.answer_here(alloc, hands, command)
     }
 }

@@ -42,19 +42,19 @@ front (suc n) (b ∷ xs) long fits =
     ap (λ (c : ℕ). c ∷ bytes_low_first 1 n (little_number (suc n) (b ∷ xs))) low ∙ ap (λ (ys : List ℕ). b ∷ ys) behind
 
 -- bytes are the spelling of their number
-pub back : (xs : List ℕ) → IsBytes xs → little_bytes (length xs) (little_number (length xs) xs) ≡ xs
-back xs fits = front (length xs) xs (omega arith) fits ∙ take_all (length xs) xs (omega arith)
+pub own_spelling : (xs : List ℕ) → IsBytes xs → little_bytes (length xs) (little_number (length xs) xs) ≡ xs
+own_spelling xs fits = front (length xs) xs (omega arith) fits ∙ take_all (length xs) xs (omega arith)
 
-pub back_2 : (xs : List ℕ) → length xs ≡ 2 → IsBytes xs → little_bytes 2 (little_number 2 xs) ≡ xs
-back_2 xs len fits = front 2 xs (omega arith) fits ∙ take_all 2 xs (omega arith)
+pub own_spelling_2 : (xs : List ℕ) → length xs ≡ 2 → IsBytes xs → little_bytes 2 (little_number 2 xs) ≡ xs
+own_spelling_2 xs len fits = front 2 xs (omega arith) fits ∙ take_all 2 xs (omega arith)
 
-pub back_8 : (xs : List ℕ) → length xs ≡ 8 → IsBytes xs → little_bytes 8 (little_number 8 xs) ≡ xs
-back_8 xs len fits = front 8 xs (omega arith) fits ∙ take_all 8 xs (omega arith)
+pub own_spelling_8 : (xs : List ℕ) → length xs ≡ 8 → IsBytes xs → little_bytes 8 (little_number 8 xs) ≡ xs
+own_spelling_8 xs len fits = front 8 xs (omega arith) fits ∙ take_all 8 xs (omega arith)
 
 -- byte strings of one length with one number are one
 pub same_bytes : (xs ys : List ℕ) → length xs ≡ length ys → IsBytes xs → IsBytes ys → little_number (length xs) xs ≡ little_number (length ys) ys → xs ≡ ys
 same_bytes xs ys len fits_x fits_y number =
-    sym (back xs fits_x) ∙ ap (λ (m : ℕ). little_bytes (length xs) m) number ∙ ap (λ (n : ℕ). little_bytes n (little_number (length ys) ys)) len ∙ back ys fits_y
+    sym (own_spelling xs fits_x) ∙ ap (λ (m : ℕ). little_bytes (length xs) m) number ∙ ap (λ (n : ℕ). little_bytes n (little_number (length ys) ys)) len ∙ own_spelling ys fits_y
 
 -- bytes at the front of bytes
 pub IsBytes-front : (xs ys : List ℕ) → IsBytes (xs ++ ys) → IsBytes xs

@@ -5,8 +5,6 @@ mod fault;
 pub mod laws;
 mod put;
 mod reader;
-#[cfg(test)]
-mod tests;
 
 pub use fault::WireFault;
 pub use put::{put_byte, put_text, put_u16, put_u32, put_u64};

@@ -9,9 +9,8 @@ fn put_bytes(out: &mut Vec<u8>, bytes: &[u8])
     requires { HasRoom out.old (length bytes.now) }
     ensures { Puts out.old bytes.now out.new }
 {
-    match out.extend_from_slice(bytes) {
-        Ok(()) => {}
-        Err(_) => unreachable!(),
+    for byte in bytes {
+        out.push_reserved(*byte);
     }
 }
 

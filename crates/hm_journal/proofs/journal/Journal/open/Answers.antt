@@ -1,11 +1,15 @@
-use Rattle.std.proofs.Common.{◌⊎◌, ◌∙◌, ap, sym, subst, inl, inr, ⊎_elim}
+use Rattle.std.proofs.Common.{◌⊎◌, ◌∙◌, ap, arith, sym, subst, inl, inr, ⊎_elim}
 use Rattle.std.proofs.lemmas.Result.{IfOk-weaker, IfErr-weaker, MatchResult-from_both}
-use Rattle.hm_disk.proofs.Moments.{joined, settles_weaker, stays_settled, weaker}
+use Rattle.hm_disk.specs.Called.{IsCalled}
+use Rattle.hm_disk.specs.Disk.{Settles}
+use Rattle.hm_disk.proofs.Moments.{joined, weaker}
 use Rattle.hm_log.specs.Format.{HoldsFrames, Reads}
 use Rattle.hm_log.specs.Opening.{IsMaking}
-use Rattle.hm_journal.specs.Stored.{GetsFirst, IsOpening, Keeps, frames_of, opened}
+use Rattle.hm_journal.specs.Opened.{Opened}
+use Rattle.hm_journal.specs.Stored.{GetsFirst, IsOpening, frames_of, opened}
 use Rattle.hm_journal.proofs.Images.{opening_first, opening_then, opening_vain, settled_all}
-use Rattle.hm_journal.proofs.Refusing.{not_refused, same_entries}
+use Rattle.hm_journal.proofs.Moving.{called_more, called_then}
+use Rattle.hm_journal.proofs.Refusing.{not_refused, of_kinds, refuses_by, same_entries}
 use Rattle.hm_journal.proofs.journal.Journal.open.Goals as goal
 
 pub returns-in-Ok-clause-journal : goal.returns-in-Ok-clause-journal
@@ -21,12 +25,12 @@ returns-in-Ok-clause-journal g c =
       journal.0,
       journal.1,
       journal.3,
+      ap (λ (o : Opened _). o.count) journal.4,
       λ tells. (
         record { opens = subst (HoldsFrames seen) (sym journal.2) (c.in-Ok.ensures.opens tells); is = journal.1 },
-        stays_settled d.moment d.left_since disk mid r.0.disk (λ bytes. d.image disk bytes ⊎ IsMaking seen bytes) (Keeps sheets journal.0)
-            (settles_weaker d.moment d.left_since disk mid (λ bytes. d.image disk bytes ⊎ IsMaking seen bytes) (λ bytes. Reads bytes frames) (Keeps sheets journal.0)
-            (λ bytes reads. inl (subst (Reads bytes) (sym journal.2) reads)) (c.in-Ok.ensures.settles tells))
-            (journal.4 tells),
+        subst (λ fs. Settles d.moment d.left_since disk r.0.opened.disk (λ bytes. d.image disk bytes ⊎ IsMaking seen bytes) (λ bytes. Reads bytes fs)) (sym journal.2)
+            (subst (λ e. Settles d.moment d.left_since disk e (λ bytes. d.image disk bytes ⊎ IsMaking seen bytes) (λ bytes. Reads bytes frames)) (sym (ap (λ (o : Opened _). o.disk) journal.4))
+            (c.in-Ok.ensures.settles tells)),
       ),
     ))
     c.of_frames.ensures.journal
@@ -37,7 +41,11 @@ returns-in-Ok-clause-exact g c tells journal on =
     let are = sym (c.in-Ok.ensures.exact tells (frames_of journal) on.opens) in
     MatchResult-from_both c.of_frames.result _ _
     (IfOk-weaker c.of_frames.result _ _ (λ r old. old.3 ∙ ap (opened sheets) (same_entries old.0 journal old.1.fits on.is.fits (old.2 ∙ sym are))) c.of_frames.ensures.journal)
-    (IfErr-weaker c.of_frames.result _ _ (λ e. ⊎_elim (λ unjudged. unjudged) (λ none. inr (not_refused sheets journal c.in-Ok.frames e.1 on.is are none))) c.of_frames.ensures.why)
+    (IfErr-weaker c.of_frames.result _ _ (λ e. ⊎_elim (λ unjudged. unjudged) (λ none. inr (not_refused sheets journal c.in-Ok.frames e.1 (of_kinds sheets journal on.is) are none))) c.of_frames.ensures.why)
+
+pub returns-in-Ok-clause-why : goal.returns-in-Ok-clause-why
+returns-in-Ok-clause-why g c tells =
+    IfErr-weaker c.of_frames.result _ _ (λ e none. refuses_by c.args.sheets.now (g.D.Disk.seen c.args.disk) c.in-Ok.frames e.1 (c.in-Ok.ensures.opens tells) none) c.of_frames.ensures.why
 
 pub returns-in-Ok-clause-same : goal.returns-in-Ok-clause-same
 returns-in-Ok-clause-same g c tells =
@@ -86,3 +94,14 @@ returns-in-Err-clause-any_moment g c tells =
     let seen = d.seen c.args.disk in
     let image = d.image c.args.disk in
     weaker d.moment d.left_since c.args.disk c.in-Err.refused.0 _ (IsOpening c.args.sheets.now seen image) (opening_vain c.args.sheets.now seen image) (c.in-Err.ensures.any_moment tells)
+
+pub returns-in-Ok-clause-called : goal.returns-in-Ok-clause-called
+returns-in-Ok-clause-called g c =
+    let d = g.D.Disk in
+    let called = c.in-Ok.ensures.called in
+    MatchResult-from_both c.of_frames.result _ _
+    (IfOk-weaker c.of_frames.result _ _ (λ r journal. subst (λ e. IsCalled d 1 c.args.disk e) (sym (ap (λ (o : Opened _). o.disk) journal.4)) called) c.of_frames.ensures.journal)
+    (IfErr-weaker c.of_frames.result _ _ (λ e then. called_then d 1 2 c.args.disk c.in-Ok.log.disk e.0 called then) c.of_frames.ensures.called)
+
+pub returns-in-Err-clause-called : goal.returns-in-Err-clause-called
+returns-in-Err-clause-called g c = called_more g.D.Disk 1 3 c.args.disk c.in-Err.refused.0 (omega arith) c.in-Err.ensures.called

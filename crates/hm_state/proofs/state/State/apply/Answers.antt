@@ -4,12 +4,12 @@ use Rattle.hm_data.specs.declared.entry.Entry.{Entry}
 use Rattle.hm_data.specs.declared.entry.Entry.TheVariants as entry_is
 use Rattle.hm_model.specs.Journal.{back}
 use Rattle.hm_model.specs.Rules.{Allowed}
-use Rattle.hm_state.specs.Ready.{request_in, edits_in}
+use Rattle.hm_state.specs.Ready.{entry_request, entry_edits}
 use Rattle.hm_state.proofs.Judged.{no_other}
 use Rattle.hm_state.proofs.state.State.apply.Goals as goal
 
 pub unreachable-requires : goal.unreachable-requires
-unreachable-requires c = c.in_default-asked.not-Some c.in-Submit.request (c.ready.invariant.0 ∙ ap request_in c.in-Submit.is)
+unreachable-requires c = c.in_default-asked.not-Some c.in-Submit.request (c.ready.invariant.0 ∙ ap entry_request c.in-Submit.is)
 
 pub unreachable-unreachable : goal.unreachable-unreachable
 unreachable-unreachable c = c.unreachable.result
@@ -18,7 +18,7 @@ pub submit-requires-clause-allowed : goal.submit-requires-clause-allowed
 submit-requires-clause-allowed c = subst (λ (e : Entry). Allowed (back c.args.self.now.entries) e) (sym c.ready.view_is ∙ c.in-Submit.is) c.requires.allowed
 
 pub submit-requires-clause-copied : goal.submit-requires-clause-copied
-submit-requires-clause-copied c = same_Some c.in-Some.asked c.in-Submit.request (sym c.in-Some.is ∙ c.ready.invariant.0 ∙ ap request_in c.in-Submit.is)
+submit-requires-clause-copied c = same_Some c.in-Some.asked c.in-Submit.request (sym c.in-Some.is ∙ c.ready.invariant.0 ∙ ap entry_request c.in-Submit.is)
 
 pub submit-requires-clause-room : goal.submit-requires-clause-room
 submit-requires-clause-room c = c.requires.room
@@ -29,11 +29,14 @@ returns-in-Submit-clause-entries c = c.submit.ensures.entries ∙ ap (λ (e : En
 pub returns-in-Submit-clause-spare : goal.returns-in-Submit-clause-spare
 returns-in-Submit-clause-spare c = c.submit.ensures.spare
 
+pub returns-in-Submit-clause-room : goal.returns-in-Submit-clause-room
+returns-in-Submit-clause-room c = c.submit.ensures.room
+
 pub step-requires-clause-allowed : goal.step-requires-clause-allowed
 step-requires-clause-allowed c = subst (λ (e : Entry). Allowed (back c.args.self.now.entries) e) (sym c.ready.view_is ∙ c.in-Step.is) c.requires.allowed
 
 pub step-requires-clause-copied : goal.step-requires-clause-copied
-step-requires-clause-copied c = c.ready.invariant.1 ∙ ap edits_in c.in-Step.is
+step-requires-clause-copied c = c.ready.invariant.1 ∙ ap entry_edits c.in-Step.is
 
 pub step-requires-clause-room : goal.step-requires-clause-room
 step-requires-clause-room c = c.requires.room
@@ -43,6 +46,9 @@ returns-in-Step-clause-entries c = c.step.ensures.entries ∙ ap (λ (e : Entry)
 
 pub returns-in-Step-clause-spare : goal.returns-in-Step-clause-spare
 returns-in-Step-clause-spare c = c.step.ensures.spare
+
+pub returns-in-Step-clause-room : goal.returns-in-Step-clause-room
+returns-in-Step-clause-room c = c.step.ensures.room
 
 pub refuse_start-requires : goal.refuse_start-requires
 refuse_start-requires c =
@@ -54,6 +60,9 @@ returns-in-Start-clause-entries c = absurd c.refuse_start.ensures
 
 pub returns-in-Start-clause-spare : goal.returns-in-Start-clause-spare
 returns-in-Start-clause-spare c = absurd c.refuse_start.ensures
+
+pub returns-in-Start-clause-room : goal.returns-in-Start-clause-room
+returns-in-Start-clause-room c = absurd c.refuse_start.ensures
 
 pub unreachable-requires-in_default : goal.unreachable-requires-in_default
 unreachable-requires-in_default c =

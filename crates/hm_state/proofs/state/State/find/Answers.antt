@@ -1,6 +1,6 @@
 use Rattle.std.proofs.Common.{◌≡◌, ◌+◌, ◌-◌, arith, ap, sym}
 use Rattle.hm_model.specs.Journal.{back}
-use Rattle.hm_state.specs.State.{Kept}
+use Rattle.hm_state.specs.State.{StateView}
 use Rattle.hm_state.proofs.Readings.{no_record_zero}
 use Rattle.hm_state.proofs.state.State.find.Goals as goal
 
@@ -9,7 +9,7 @@ returns-then-pid-eq0 c = sym (no_record_zero (back c.args.self.now.entries) c.ar
 
 pub returns : goal.returns
 returns c =
-    let same = ap (λ (k : Kept). k.entries) c.self.view_is in
+    let same = ap (λ (k : StateView). k.entries) c.self.view_is in
     let found = c.self.invariant.records_are (c.args.pid.0 - 1) in
     let up : c.args.pid.0 - 1 + 1 ≡ c.args.pid.0 = omega arith in
     rw (c.record_at.ensures, c.deref.ensures.value, found, up, same)

@@ -1,6 +1,6 @@
 use Rattle.std.proofs.Common.{ap, sym}
 use Rattle.hm_model.specs.Journal.{back}
-use Rattle.hm_state.specs.State.{Kept}
+use Rattle.hm_state.specs.State.{StateView}
 use Rattle.hm_state.proofs.Readings.{not_there_by}
 use Rattle.hm_state.proofs.state.State.made.Goals as goal
 
@@ -12,7 +12,7 @@ unreachable-unreachable c = c.unreachable.result
 
 pub returns-clause-legal : goal.returns-clause-legal
 returns-clause-legal c =
-    let same = ap (λ (k : Kept). k.entries) c.self.view_is in
+    let same = ap (λ (k : StateView). k.entries) c.self.view_is in
     rw same at c.self.invariant.legal
 
 pub returns-clause-found : goal.returns-clause-found

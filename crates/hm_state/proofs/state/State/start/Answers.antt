@@ -14,7 +14,7 @@ same-rows c = refl
 
 pub invariant_of-result : goal.invariant_of-result
 invariant_of-result c =
-    rw (c.in_ok-push.ensures.items, c.new-entries.ensures.items, c.new.ensures.items, c.new-2.ensures, c.in_ok-valid.ensures, c.as_slice.ensures)
+    rw (c.in_ok-push.ensures.items, c.new-entries.ensures.items, c.new-2.ensures.items, c.in_ok-nonces.ensures, c.in_ok-valid.ensures, c.as_slice.ensures)
     (indexed_start c.args.sheets c.in_ok-rows.rows.pairs c.requires c.in_ok-rows.ensures)
 
 pub returns : goal.returns

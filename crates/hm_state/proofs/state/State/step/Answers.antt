@@ -8,16 +8,16 @@ use Rattle.hm_model.specs.Journal.{back}
 use Rattle.hm_model.specs.Counts.{one_if}
 use Rattle.hm_model.specs.Rules.{Allowed}
 use Rattle.hm_model.proofs.Counting.{unfinished_on}
-use Rattle.hm_state.specs.State.{Kept, Beside}
+use Rattle.hm_state.specs.State.{StateView, Beside}
 use Rattle.hm_state.proofs.Keeps.{indexed_step, edits_few}
 use Rattle.hm_state.proofs.state.State.step.Goals as goal
 
 pub set_rows-requires : goal.set_rows-requires
 set_rows-requires c =
     let f = c.self.inside in
-    let same = ap (λ (k : Kept). k.entries) c.self.view_is in
+    let same = ap (λ (k : StateView). k.entries) c.self.view_is in
     let allowed : Allowed (back c.self.inside.entries.items) (entry_is.Step c.args.pid c.args.pick c.args.out) = subst (λ (es : List Entry). Allowed (back es) (entry_is.Step c.args.pid c.args.pick c.args.out)) (sym same) c.requires.allowed in
-    let spare = ap (λ (k : Kept). k.spare) c.self.view_is in
+    let spare = ap (λ (k : StateView). k.spare) c.self.view_is in
     let beside : Beside = record { records = f.records.items; nonces = f.nonces.pairs; rows = f.rows.pairs; sheets = f.sheets.items; running = f.running; ended_below = f.ended_below; unfinished = f.unfinished } in
     let few = edits_few (back f.entries.items) beside c.self.invariant c.args.pid c.args.pick c.args.out allowed in
     rw c.requires.copied (omega (arith, few, spare, c.requires.room))
@@ -25,7 +25,7 @@ set_rows-requires c =
 pub unfinished_after-self-inside-requires : goal.unfinished_after-self-inside-requires
 unfinished_after-self-inside-requires c =
     let f = c.self.inside in
-    let same = ap (λ (k : Kept). k.entries) c.self.view_is in
+    let same = ap (λ (k : StateView). k.entries) c.self.view_is in
     let allowed : Allowed (back c.self.inside.entries.items) (entry_is.Step c.args.pid c.args.pick c.args.out) = subst (λ (es : List Entry). Allowed (back es) (entry_is.Step c.args.pid c.args.pick c.args.out)) (sym same) c.requires.allowed in
     let on = unfinished_on (entry_is.Step c.args.pid c.args.pick c.args.out) (back f.entries.items) (c.self.invariant.legal, allowed) in
     let is = c.self.invariant.unfinished_is in
@@ -34,7 +34,7 @@ unfinished_after-self-inside-requires c =
 pub invariant_of-self : goal.invariant_of-self
 invariant_of-self c =
     let f = c.self.inside in
-    let same = ap (λ (k : Kept). k.entries) c.self.view_is in
+    let same = ap (λ (k : StateView). k.entries) c.self.view_is in
     let allowed : Allowed (back c.self.inside.entries.items) (entry_is.Step c.args.pid c.args.pick c.args.out) = subst (λ (es : List Entry). Allowed (back es) (entry_is.Step c.args.pid c.args.pick c.args.out)) (sym same) c.requires.allowed in
     let beside : Beside = record { records = f.records.items; nonces = f.nonces.pairs; rows = f.rows.pairs; sheets = f.sheets.items; running = f.running; ended_below = f.ended_below; unfinished = f.unfinished } in
     let place = c.place_of-place.result in
@@ -50,15 +50,15 @@ invariant_of-self c =
 
 pub returns-clause-entries : goal.returns-clause-entries
 returns-clause-entries c =
-    let same = ap (λ (k : Kept). k.entries) c.self.view_is in
+    let same = ap (λ (k : StateView). k.entries) c.self.view_is in
     rw (c.put.ensures.items, same)
 
 pub returns-clause-spare : goal.returns-clause-spare
 returns-clause-spare c =
     let f = c.self.inside in
-    let same = ap (λ (k : Kept). k.entries) c.self.view_is in
+    let same = ap (λ (k : StateView). k.entries) c.self.view_is in
     let allowed : Allowed (back c.self.inside.entries.items) (entry_is.Step c.args.pid c.args.pick c.args.out) = subst (λ (es : List Entry). Allowed (back es) (entry_is.Step c.args.pid c.args.pick c.args.out)) (sym same) c.requires.allowed in
-    let spare = ap (λ (k : Kept). k.spare) c.self.view_is in
+    let spare = ap (λ (k : StateView). k.spare) c.self.view_is in
     let beside : Beside = record { records = f.records.items; nonces = f.nonces.pairs; rows = f.rows.pairs; sheets = f.sheets.items; running = f.running; ended_below = f.ended_below; unfinished = f.unfinished } in
     let few = edits_few (back f.entries.items) beside c.self.invariant c.args.pid c.args.pick c.args.out allowed in
     let used = rw c.requires.copied at c.set_rows.ensures.spare in

@@ -9,7 +9,7 @@ use Rattle.hm_model.specs.Records.{record_at, record_of}
 use Rattle.hm_model.specs.Rules.{IsLegal}
 use Rattle.hm_model.specs.Tree.{Node, node_of}
 use Rattle.hm_model.proofs.Grown.{simple_all}
-use Rattle.hm_top.specs.Answer.{IsAsked, asks_for}
+use Rattle.hm_top.specs.Answer.{IsAsked, args_of}
 use Rattle.hm_top.specs.View.{WorldView}
 use Rattle.hm_top.proofs.world.World.is_asked.Goals as goal
 
@@ -18,7 +18,7 @@ asked_by : (J : Past) → IsLegal J → (p : ℕ) (ns : List ℕ) (found : Recor
     → ((first : ℕ) × (found.args ≡ args_are.Root (request_is.CreateNamespace ns) first)) ↔ IsAsked J p ns
 asked_by J legal p ns found is = by (node_of J p) refl
   where
-    by : (o : Option Node) → node_of J p ≡ o → ((first : ℕ) × (found.args ≡ args_are.Root (request_is.CreateNamespace ns) first)) ↔ (asks_for (node_of J p) ≡ Some (args_are.Root (request_is.CreateNamespace ns) 1))
+    by : (o : Option Node) → node_of J p ≡ o → ((first : ℕ) × (found.args ≡ args_are.Root (request_is.CreateNamespace ns) first)) ↔ (args_of (node_of J p) ≡ Some (args_are.Root (request_is.CreateNamespace ns) 1))
     by None e = absurd (none-some found (sym (ap (option_map (record_at J p)) e) ∙ is))
     by (Some node) e =
         let same : node.args ≡ found.args = ap (λ (r : Record). r.args) (same_Some (record_at J p node) found (sym (ap (option_map (record_at J p)) e) ∙ is)) in
@@ -27,9 +27,9 @@ asked_by J legal p ns found is = by (node_of J p) refl
           λ asked.
               let one : args_are.Root (request_is.CreateNamespace simple.0) 1 ≡ args_are.Root (request_is.CreateNamespace ns) asked.0 = sym args ∙ same ∙ asked.1 in
               let named : simple.0 ≡ ns = cc in
-              ap asks_for e ∙ ap Some (args ∙ ap (λ n. args_are.Root (request_is.CreateNamespace n) 1) named),
+              ap args_of e ∙ ap Some (args ∙ ap (λ n. args_are.Root (request_is.CreateNamespace n) 1) named),
           λ asked.
-              (1, sym same ∙ same_Some node.args (args_are.Root (request_is.CreateNamespace ns) 1) (sym (ap asks_for e) ∙ asked)),
+              (1, sym same ∙ same_Some node.args (args_are.Root (request_is.CreateNamespace ns) 1) (sym (ap args_of e) ∙ asked)),
         )
 
 asked_in : (J K : Past) → J ≡ K → IsLegal J → (p : ℕ) (ns : List ℕ) (found : Record) → Some found ≡ record_of J p

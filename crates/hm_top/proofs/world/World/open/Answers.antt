@@ -1,11 +1,7 @@
-use Rattle.std.proofs.Common.{◌⊎◌, List, inl}
+use Rattle.std.proofs.Common.{List}
 use Rattle.std.proofs.lemmas.Result.{err_from_is_err_and}
-use Rattle.hm_disk.proofs.Moments.{settles_weaker}
-use Rattle.hm_log.specs.Opening.{IsMaking}
 use Rattle.hm_data.specs.declared.entry.Entry.{Entry}
-use Rattle.hm_journal.specs.Stored.{Keeps}
-use Rattle.hm_top.specs.Stored.{IsRun}
-use Rattle.hm_top.proofs.Stores.{opened_said}
+use Rattle.hm_top.proofs.Stores.{opened_standing}
 use Rattle.hm_top.proofs.world.World.open.Goals as goal
 
 pub returns-in_err-journal-clause-same : goal.returns-in_err-journal-clause-same
@@ -18,15 +14,12 @@ returns-in_err-journal-clause-spared g c tells =
 
 pub returns-clause-journal : goal.returns-clause-journal
 returns-clause-journal g c =
-    let d = g.D.Disk in
     let found = c.in_ok-journal.ensures.journal in
     let old : List Entry = found.0 in
     let kept = c.in_ok-journal.journal.kept in (
       old,
       found.1,
-      opened_said c.args.sheets.now old kept found.2 c.in_ok-journal.ensures.fresh.2,
-      λ tells. let disk = found.3 tells in (
-        disk.0,
-        settles_weaker d.moment d.left_since c.args.disk c.in_ok-journal.journal.disk (λ bytes. d.image c.args.disk bytes ⊎ IsMaking (d.seen c.args.disk) bytes) (Keeps c.args.sheets.now old) (IsRun c.args.sheets.now old) (λ bytes is. inl is) disk.1,
-      ),
+      opened_standing c.args.sheets.now old kept c.args.limits found.2 c.in_ok-journal.ensures.fresh.1 c.in_ok-journal.ensures.fresh.2 c.in_ok-journal.ensures.limits.0 c.in_ok-journal.ensures.limits.1,
+      found.3,
+      found.4,
     )

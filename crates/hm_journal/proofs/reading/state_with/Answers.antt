@@ -1,0 +1,15 @@
+use Rattle.std.proofs.Common.{◌∷◌, sym, subst}
+use Rattle.std.proofs.lemmas.Bool.{false≢true}
+use Rattle.hm_data.specs.declared.entry.Entry.{Entry}
+use Rattle.hm_model.specs.Rules.{AreSheets}
+use Rattle.hm_journal.specs.Verdict.{IsFirstIllegal}
+use Rattle.hm_journal.proofs.Judging.{no_start, wrong_start}
+use Rattle.hm_journal.proofs.reading.state_with.Goals as goal
+
+pub returns-in_default : goal.returns-in_default
+returns-in_default c = record { state = tt; begun = tt; why = λ more. no_start c.args.sheets.now c.args.first.now more c.in_default.not-Start }
+
+pub returns-then-not-are_sheets-clause-why : goal.returns-then-not-are_sheets-clause-why
+returns-then-not-are_sheets-clause-why c more =
+    subst (λ (e : Entry). IsFirstIllegal c.args.sheets.now (e ∷ more) 0 1) (sym c.in-Start.is)
+    (wrong_start c.args.sheets.now c.in-Start.own more (λ are. false≢true (c.if-not-are_sheets.ensures.1 (subst AreSheets (sym c.as_slice.ensures) are))))

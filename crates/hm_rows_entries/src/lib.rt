@@ -1,0 +1,7 @@
+//! Fields and entries as bytes, in tables. This library is empty but for its tests.
+#![tactic(auto)]
+
+#[cfg(test)]
+mod entries;
+#[cfg(test)]
+mod fields;

@@ -1,0 +1,153 @@
+-- What registries ran for a journal.
+use Rattle.std.proofs.Common.{◌≡◌, ◌≢◌, ◌<◌, ◌≤◌, ◌+◌, ◌-◌, ◌^◌, ◌⊎◌, ℕ, zero, suc, min, List, [], ◌∷◌, ◌++◌, length, map, sum, get_or, set, slice_index_or, Any, Option, Some, None, Result, Ok, Err, refl, sym, ap, ◌∙◌, subst, inl, inr, append-nil, append_assoc, arith}
+use Rattle.std.specs.Prelude.{IfOk, OnErr}
+use Rattle.std.proofs.lemmas.List.Sums.{sum_by-cons}
+use Rattle.hm_data.specs.declared.entry.Entry.{Entry}
+use Rattle.hm_data.specs.declared.sheet.Sheet.{Sheet}
+use Rattle.hm_hall.specs.declared.fault.Halt.{Halt}
+use Rattle.hm_model.specs.Journal.{back}
+use Rattle.hm_names.specs.declared.nonce.Nonce.{Nonce}
+use Rattle.hm_top.specs.declared.answer.Answer.{Answer}
+use Rattle.hm_top.specs.declared.answer.Answer.TheVariants as answer_is
+use Rattle.hm_top.specs.declared.command.Command.TheVariants as command_is
+use Rattle.hm_top.specs.Answer.{AnswersAt, submission}
+use Rattle.hm_top.specs.Hands.{NoneFell, Ran, RunBy, SumRisesBy, one_step, steps_in}
+use Rattle.hm_top.specs.Ports.{HandsUse}
+use Rattle.hm_top.specs.Settling.{IsNextStep}
+use Rattle.hm_top.specs.Standing.{Comes, Standing}
+use Rattle.hm_top.proofs.Growth.{entry_added, halt_leaves, steps_more}
+use Rattle.hm_top.proofs.Steps.{one_next}
+
+none_fell_on : (a b c : List ℕ) → NoneFell a b → NoneFell b c → NoneFell a c
+none_fell_on [] [] [] first then = tt
+none_fell_on [] [] (z ∷ c) first then = absurd then
+none_fell_on [] (y ∷ b) c first then = absurd first
+none_fell_on (x ∷ a) [] c first then = absurd first
+none_fell_on (x ∷ a) (y ∷ b) [] first then = absurd then
+none_fell_on (x ∷ a) (y ∷ b) (z ∷ c) first then =
+    let one = first.0 in
+    let two = then.0 in
+    (omega arith, none_fell_on a b c first.1 then.1)
+
+none_fell_here : (a : List ℕ) → NoneFell a a
+none_fell_here [] = tt
+none_fell_here (x ∷ a) = (omega arith, none_fell_here a)
+
+-- counts none of which fell have a sum that didn't
+sum_later : (a b : List ℕ) → NoneFell a b → sum a ≤ sum b
+sum_later [] [] later = omega arith
+sum_later [] (y ∷ b) later = absurd later
+sum_later (x ∷ a) [] later = absurd later
+sum_later (x ∷ a) (y ∷ b) later =
+    let here = later.0 in
+    let rest = sum_later a b later.1 in
+    omega (arith, here, rest, sum_by-cons (λ n. n) x a, sum_by-cons (λ n. n) y b)
+
+full_at : (k n : ℕ) (a b : List ℕ) → NoneFell a b → k < length a → slice_index_or a k n ≡ n → 2 ^ 64 - 1 ≤ n → Any (λ m. 2 ^ 64 - 1 ≤ m) b
+full_at k n [] b later within is big = absurd (omega arith)
+full_at k n (x ∷ a) [] later within is big = absurd later
+full_at zero n (x ∷ a) (y ∷ b) later within is big = let here = later.0 in let same : x ≡ n = is in (0, y, omega arith, refl, omega arith)
+full_at (suc k) n (x ∷ a) (y ∷ b) later within is big =
+    let rest = full_at k n a b later.1 (omega arith) is big in
+    let inside = rest.2 in
+    (suc rest.0, rest.1, omega arith, rest.3, rest.4)
+
+-- a count that stands at its end still does
+full_later : (a b : List ℕ) → NoneFell a b → Any (λ m. 2 ^ 64 - 1 ≤ m) a → Any (λ m. 2 ^ 64 - 1 ≤ m) b
+full_later a b later full = full_at full.0 full.1 a b later full.2 full.3 full.4
+
+rises_on : (i j : ℕ) (a b c : List ℕ) → NoneFell b c → SumRisesBy i a b → SumRisesBy j b c → SumRisesBy (i + j) a c
+rises_on i j a b c later (inl some) (inl more) = inl (omega arith)
+rises_on i j a b c later (inl some) (inr full) = inr full
+rises_on i j a b c later (inr full) then = inr (full_later b c later full)
+
+-- one call after another
+pub run_on : (i j : ℕ) (before mid after : List (List Sheet)) (a b c : List ℕ) → RunBy (record { before = before; after = mid; runs_before = a; runs_after = b }) i
+    → RunBy (record { before = mid; after = after; runs_before = b; runs_after = c }) j → RunBy (record { before = before; after = after; runs_before = a; runs_after = c }) (i + j)
+run_on i j before mid after a b c first then = record {
+  alike = then.alike ∙ first.alike;
+  kept = none_fell_on a b c first.kept then.kept;
+  rises = rises_on i j a b c then.kept first.rises then.rises;
+}
+
+-- no call
+pub run_none : (sheets : List (List Sheet)) (runs : List ℕ) → RunBy (record { before = sheets; after = sheets; runs_before = runs; runs_after = runs }) 0
+run_none sheets runs = record { alike = refl; kept = none_fell_here runs; rises = inl (omega arith) }
+
+-- one call after another, each for its part of the journal
+pub ran_on : (old mid new : List Entry) (before between after : List (List Sheet)) (a b c : List ℕ) → Ran (record { before = before; after = between; runs_before = a; runs_after = b }) old mid
+    → Ran (record { before = between; after = after; runs_before = b; runs_after = c }) mid new → Ran (record { before = before; after = after; runs_before = a; runs_after = c }) old new
+ran_on old mid new before between after a b c first then = (
+  first.0 ++ then.0,
+  then.1 ∙ ap (λ l. l ++ then.0) first.1 ∙ append_assoc old first.0 then.0,
+  subst (RunBy (record { before = before; after = after; runs_before = a; runs_after = c })) (sym (steps_more first.0 then.0)) (run_on (steps_in first.0) (steps_in then.0) before between after a b c first.2 then.2),
+)
+
+-- nothing was recorded
+pub ran_idle : (hands : HandsUse) (old new : List Entry) → new ≡ old → RunBy hands 0 → Ran hands old new
+ran_idle hands old new same run = ([], same ∙ sym (append-nil old), run)
+
+rises_less : (before now : List ℕ) → SumRisesBy 1 before now → SumRisesBy 0 before now
+rises_less before now (inl rose) = inl (omega arith)
+rises_less before now (inr full) = inr full
+
+-- one run is none at least
+pub run_less : (hands : HandsUse) → RunBy hands 1 → RunBy hands 0
+run_less hands run = record { alike = run.alike; kept = run.kept; rises = rises_less hands.runs_before hands.runs_after run.rises }
+
+-- a step that was evaluated was run once, whether it was added or not
+pub ran_step : {E : Type 0} (hands : HandsUse) (old new : Standing) (entry : Entry) (r : Result (Option Halt) E) → IsNextStep (back old.journal) entry → RunBy hands 1
+    → IfOk r (λ halt. Comes old entry halt new) → OnErr r (new ≡ old) → Ran hands old.journal new.journal
+ran_step hands old new entry (Ok None) next run comes err =
+    let one : steps_in (entry ∷ []) ≡ 1 = omega (arith, one_next (back old.journal) entry next) in
+    (entry ∷ [], entry_added old new entry comes, subst (RunBy hands) (sym one) run)
+ran_step hands old new entry (Ok (Some why)) next run comes err = ran_idle hands old.journal new.journal (halt_leaves old new entry why comes) (run_less hands run)
+ran_step hands old new entry (Err e) next run comes err = ran_idle hands old.journal new.journal (ap (λ (s : Standing). s.journal) err) (run_less hands run)
+
+-- a submission runs nothing
+pub submit_ran : {E : Type 0} (nonce : Nonce) (ns : List ℕ) (old new : Standing) (r : Result Answer E) (hands : HandsUse) → RunBy hands 0 → IfOk r (λ answer. AnswersAt (command_is.Namespace nonce ns) old answer new) → OnErr r (new ≡ old)
+    → Ran hands old.journal new.journal
+submit_ran nonce ns old new (Ok (answer_is.Opened at)) hands run answers err = absurd answers
+submit_ran nonce ns old new (Ok (answer_is.Pid pid)) hands run answers err = (submission nonce ns ∷ [], entry_added old new (submission nonce ns) answers.2, run)
+submit_ran nonce ns old new (Ok (answer_is.Repeated pid)) hands run answers err = ran_idle hands old.journal new.journal (ap (λ (s : Standing). s.journal) answers.2) run
+submit_ran nonce ns old new (Ok (answer_is.NonceClash pid)) hands run answers err = ran_idle hands old.journal new.journal (ap (λ (s : Standing). s.journal) answers.2) run
+submit_ran nonce ns old new (Ok (answer_is.JournalFull bytes)) hands run answers err = ran_idle hands old.journal new.journal (ap (λ (s : Standing). s.journal) answers.2) run
+submit_ran nonce ns old new (Ok (answer_is.Settled at)) hands run answers err = absurd answers
+submit_ran nonce ns old new (Ok (answer_is.Waiting at roots)) hands run answers err = absurd answers
+submit_ran nonce ns old new (Ok (answer_is.Table text)) hands run answers err = absurd answers
+submit_ran nonce ns old new (Ok (answer_is.Halted why)) hands run answers err = ran_idle hands old.journal new.journal (halt_leaves old new (submission nonce ns) why answers.1) run
+submit_ran nonce ns old new (Err fault) hands run answers err = ran_idle hands old.journal new.journal (ap (λ (s : Standing). s.journal) err) run
+
+-- a count that was raised rose by one, or stands at its end
+pub one_run : (before now : ℕ) → now ≡ min (before + 1) (2 ^ 64 - 1) → (before + 1 ≤ now) ⊎ (2 ^ 64 - 1 ≤ now)
+one_run before now raised = by ((2 ^ 64 - 1) - before) refl
+  where
+    by : (left : ℕ) → (2 ^ 64 - 1) - before ≡ left → (before + 1 ≤ now) ⊎ (2 ^ 64 - 1 ≤ now)
+    by zero e = inr (omega arith)
+    by (suc left) e = inl (omega arith)
+
+module _ {R : Type 0} (f : R → List Sheet) (runs : R → ℕ) where
+  -- the first was called, and the others weren't
+  abbrev pub first_use : List R → R → HandsUse
+  first_use hands y = record { before = map f hands; after = map f (set hands 0 y); runs_before = map runs hands; runs_after = map runs (set hands 0 y) }
+
+  first_alike : (hands : List R) (x y : R) → x ≡ get_or hands 0 x → f y ≡ f x → map f (set hands 0 y) ≡ map f hands
+  first_alike [] x y is same = refl
+  first_alike (r ∷ rs) x y is same = ap (λ s. s ∷ map f rs) (same ∙ ap f is)
+
+  first_later : (hands : List R) (x y : R) → x ≡ get_or hands 0 x → runs x ≤ runs y → NoneFell (map runs hands) (map runs (set hands 0 y))
+  first_later [] x y is later = tt
+  first_later (r ∷ rs) x y is later = let same : runs x ≡ runs r = ap runs is in (omega arith, none_fell_here (map runs rs))
+
+  first_rises : (hands : List R) (x y : R) (count : ℕ) → 0 < length hands → x ≡ get_or hands 0 x → (runs x + count ≤ runs y) ⊎ (2 ^ 64 - 1 ≤ runs y) → SumRisesBy count (map runs hands) (map runs (set hands 0 y))
+  first_rises [] x y count some is rises = absurd (omega arith)
+  first_rises (r ∷ rs) x y count some is (inl more) = let same : runs x ≡ runs r = ap runs is in inl (omega (arith, sum_by-cons (λ n. n) (runs r) (map runs rs), sum_by-cons (λ n. n) (runs y) (map runs rs)))
+  first_rises (r ∷ rs) x y count some is (inr full) = inr (0, runs y, omega arith, refl, full)
+
+  -- it was run so often at least
+  pub first_run : (hands : List R) (x y : R) (count : ℕ) → 0 < length hands → x ≡ get_or hands 0 x → f y ≡ f x → runs x ≤ runs y → (runs x + count ≤ runs y) ⊎ (2 ^ 64 - 1 ≤ runs y) → RunBy (first_use hands y) count
+  first_run hands x y count some is same later rises = record {
+    alike = first_alike hands x y is same;
+    kept = first_later hands x y is later;
+    rises = first_rises hands x y count some is rises;
+  }

@@ -1,0 +1,19 @@
+use Rattle.std.proofs.Common.{map, string_bytes, sym, ◌∙◌}
+use Rattle.hm_top.specs.Ports.{source_use}
+use Rattle.hm_top.proofs.Runs.{script_read}
+use Rattle.hm_top.proofs.ending.answer_script.Goals as goal
+
+pub returns-in-Ok-clause-ends : goal.returns-in-Ok-clause-ends
+returns-in-Ok-clause-ends g c =
+    let read = c.in-Ok.ensures in
+    script_read
+    (record {
+      words = map string_bytes c.args.words.now;
+      limits = _;
+      script = source_use g.S.Source c.args.script.now c.read_script.new.script;
+      out = _;
+      disk = _;
+      hands = _;
+      marks = _;
+    })
+    c.deref.result.now c.in-Ok.commands.items _ (sym c.misfit.ensures ∙ c.in_default.is) read.within read.ok c.deref.ensures.value read.end c.converse.ensures.outcome

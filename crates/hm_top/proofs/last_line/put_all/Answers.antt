@@ -1,0 +1,12 @@
+use Rattle.hm_top.proofs.Pieces.{written_front, written_part}
+use Rattle.hm_top.proofs.last_line.put_all.Goals as goal
+
+pub returns-in_err-put-clause-part : goal.returns-in_err-put-clause-part
+returns-in_err-put-clause-part g c told =
+    let k = g.K.Sink in
+    written_part c.args.pieces.now c.loop-piece.piece-index (k.got c.args.out.now) (k.got c.loop-piece.out) (k.got c.put.new.out) c.loop-piece-test.true (c.loop-piece.invariant.written told) _ (c.put.ensures.part told)
+
+pub returns-clause-part : goal.returns-clause-part
+returns-clause-part g c told =
+    let k = g.K.Sink in
+    written_front c.args.pieces.now c.loop-piece.piece-index (k.got c.args.out.now) (k.got c.loop-piece.out) (c.loop-piece.invariant.written told)

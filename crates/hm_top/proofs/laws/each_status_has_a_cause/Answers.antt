@@ -1,0 +1,20 @@
+use Rattle.std.proofs.Common.{refl}
+use Rattle.hm_top.proofs.laws.each_status_has_a_cause.Goals as goal
+
+pub returns-clause-usage : goal.returns-clause-usage
+returns-clause-usage g c word words limits s0 s1 k0 k1 d0 d1 hands marks keeps = keeps.ends.0
+
+pub returns-clause-bad_script : goal.returns-clause-bad_script
+returns-clause-bad_script g c bad words limits s0 s1 k0 k1 d0 d1 hands marks keeps told = (keeps.ends.1.1 told).0
+
+pub returns-clause-log_fault : goal.returns-clause-log_fault
+returns-clause-log_fault g c words limits s0 s1 k0 k1 d0 d1 hands marks keeps = keeps.ends.1.0
+
+pub returns-clause-log_refused : goal.returns-clause-log_refused
+returns-clause-log_refused g c why journal words limits s0 s1 k0 k1 d0 d1 hands marks keeps told on = keeps.exact told journal on why refl
+
+pub returns-clause-read_fault : goal.returns-clause-read_fault
+returns-clause-read_fault g c words limits s0 s1 k0 k1 d0 d1 hands marks keeps = keeps.ends.1
+
+pub returns-clause-write_fault : goal.returns-clause-write_fault
+returns-clause-write_fault g c words limits s0 s1 k0 k1 d0 d1 hands marks keeps = keeps.ends.1.0

@@ -1,0 +1,156 @@
+//! The last line of a run, which takes no memory.
+ghost use Rattle.std.specs.Prelude.{◌≡◌, ◌++◌, ◌≤◌, List, ℕ, OnOk};
+ghost use Rattle.std.specs.List.{flat_map};
+ghost use Rattle.hm_ports.specs.Faults.{HasCause, Rose};
+ghost use Rattle.hm_top.specs.Got.{IsFrontOf, IsLast};
+ghost use Rattle.hm_top.specs.Status.{last_line, log_text, why_text};
+ghost use Rattle.hm_top.specs.Pieces.{piece_text};
+
+use crate::status::{LogWhy, RunStatus, Why};
+use hm_names::NameFault;
+use hm_ports::{Failed, Sink, write_all};
+use itoa::Buffer;
+
+// A part of a line.
+#[derive(Clone, Copy)]
+enum Piece {
+    Text(&'static str),
+    Number(u64),
+}
+
+use Piece::{Number, Text};
+
+// A part that isn't there.
+const NONE: Piece = Text("");
+
+// What is wrong with a line of a script, in parts.
+fn why_pieces(why: Why) -> [Piece; 2]
+    ensures { flat_map piece_text result ≡ why_text why }
+{
+    match why {
+        Why::Word(at) => [Text("Word "), Number(at)],
+        Why::Missing => [Text("Missing"), NONE],
+        Why::Extra => [Text("Extra"), NONE],
+        Why::Name(NameFault::Empty) => [Text("Name Empty"), NONE],
+        Why::Name(NameFault::TooLong(length)) => [Text("Name TooLong "), Number(length)],
+        Why::Name(NameFault::BadByte(at)) => [Text("Name BadByte "), Number(at)],
+        Why::Name(NameFault::BadNumber(at)) => [Text("Name BadNumber "), Number(at)],
+        Why::Name(NameFault::Memory) => [Text("Name Memory"), NONE],
+        Why::Number => [Text("Number"), NONE],
+        Why::Order => [Text("Order"), NONE],
+        Why::TooLong => [Text("TooLong"), NONE],
+        Why::Memory => [Text("Memory"), NONE],
+    }
+}
+
+// Why a log is refused, in parts.
+fn log_pieces(why: LogWhy) -> [Piece; 4]
+    ensures { flat_map piece_text result ≡ log_text why }
+{
+    match why {
+        LogWhy::NotALog(at) => [Text("NotALog "), Number(at), NONE, NONE],
+        LogWhy::BadFrame(at) => [Text("BadFrame "), Number(at), NONE, NONE],
+        LogWhy::BadEntry { number, at } => [
+            Text("BadEntry "),
+            Number(number),
+            Text(" "),
+            Number(at),
+        ],
+        LogWhy::Illegal { number, rule } => {
+            [
+                Text("Illegal "),
+                Number(number),
+                Text(" "),
+                Number(u64::from(rule)),
+            ]
+        }
+        LogWhy::SheetsDiffer(kind) => [Text("SheetsDiffer "), Number(u64::from(kind)), NONE, NONE],
+        LogWhy::NotEmpty(entries) => [Text("NotEmpty "), Number(entries), NONE, NONE],
+    }
+}
+
+// The last line, in parts.
+fn pieces(status: RunStatus) -> [Piece; 6]
+    ensures { flat_map piece_text result ≡ last_line status }
+{
+    let end = Text("\n");
+    match status {
+        RunStatus::Done | RunStatus::WriteFault | RunStatus::Memory => [NONE; 6],
+        RunStatus::Usage(word) => {
+            [
+                Text("hmaster: usage: word "),
+                Number(word),
+                end,
+                NONE,
+                NONE,
+                NONE,
+            ]
+        }
+        RunStatus::BadScript(bad) => {
+            let [word, number] = why_pieces(bad.why);
+            [
+                Text("hmaster: script: line "),
+                Number(bad.line),
+                Text(": "),
+                word,
+                number,
+                end,
+            ]
+        }
+        RunStatus::LogFault => [Text("hmaster: log fault\n"), NONE, NONE, NONE, NONE, NONE],
+        RunStatus::LogRefused(why) => {
+            let [word, first, space, second] = log_pieces(why);
+            [
+                Text("hmaster: log refused: "),
+                word,
+                first,
+                space,
+                second,
+                end,
+            ]
+        }
+        RunStatus::ReadFault => [Text("hmaster: read fault\n"), NONE, NONE, NONE, NONE, NONE],
+        RunStatus::JournalFull(bytes) => {
+            [
+                Text("hmaster: journal full: "),
+                Number(bytes),
+                end,
+                NONE,
+                NONE,
+                NONE,
+            ]
+        }
+    }
+}
+
+// Writes a part.
+fn put<K: Sink>(out: &mut K, piece: &Piece) -> Result<(), Failed>
+    ensures all { K.tells → OnOk result (K.got out.new ≡ K.got out.old ++ piece_text piece.now) }
+    ensures part { K.tells → IsFrontOf (K.got out.old) (K.got out.new) (piece_text piece.now) }
+    ensures cause { HasCause (K.faults out.old) (K.faults out.new) result }
+{
+    match piece {
+        Text(text) => write_all(out, text.as_bytes()),
+        Number(number) => write_all(out, Buffer::new().format(*number).as_bytes()),
+    }
+}
+
+// Writes parts, up to the first that fails.
+fn put_all<K: Sink>(out: &mut K, pieces: &[Piece]) -> Result<(), Failed>
+    ensures all { K.tells → OnOk result (K.got out.new ≡ K.got out.old ++ flat_map piece_text pieces.now) }
+    ensures part { K.tells → IsFrontOf (K.got out.old) (K.got out.new) (flat_map piece_text pieces.now) }
+    ensures cause { HasCause (K.faults out.old) (K.faults out.new) result }
+{
+    for piece in pieces {
+        put(out, piece)?;
+    }
+    Ok(())
+}
+
+/// Tries the last line once. Its failure changes nothing.
+pub(crate) fn finish<K: Sink>(out: &mut K, status: RunStatus)
+    ensures line { K.tells → IsLast (Rose (K.faults out.old) (K.faults out.new)) (K.got out.old) (K.got out.new) (last_line status) }
+    ensures later { K.faults out.old ≤ K.faults out.new }
+{
+    let _ = put_all(out, &pieces(status));
+}
