@@ -11,7 +11,7 @@ use Rattle.std.proofs.lemmas.Bool.{cases_Bool, cases_lt, cases_eq}
 use Rattle.std.proofs.lemmas.Cmp.{alike_right}
 use Rattle.std.proofs.lemmas.List.{get_or-set_same, get_or-set_other}
 use Rattle.std.proofs.lemmas.List.Edits.{length-insert, get_or-insert_below, get_or-insert_at, get_or-insert_above}
-use Rattle.hm_index.specs.Index.{IsRising, find, placed, pairs_from}
+use Rattle.hm_index.specs.Index.{IsRising, find, placed, changed, pairs_from}
 use Rattle.hm_index.specs.Blocks.{compared, KeysRise, HasAt, HasGap}
 
 module _ {K : Type 0} (cmp : K → K → Ordering) (total : IsTotalOrder cmp) where
@@ -167,6 +167,29 @@ module _ {K V : Type 0} (cmp : K → K → Ordering) (total : IsTotalOrder cmp) 
   placed-insert (pair ∷ pairs) key value zero gap = rw (gap.greater zero pair (omega arith) (omega arith)) refl
   placed-insert (pair ∷ pairs) key value (suc i) gap =
       rw (gap.less zero pair (omega arith)) (ap (λ l. pair ∷ l) (placed-insert pairs key value i (gap_tail pair pairs key i gap)))
+
+  changed-set : (pairs : List (K × V)) (key : K) (pair : K × V) (value : V) (i : ℕ) → KeysRise cmp pairs → HasAt cmp pairs key i → get_or pairs i pair ≡ pair
+      → changed cmp pairs key value ≡ set pairs i (pair.0, value)
+  changed-set [] key pair value i rising has is = absurd (omega (arith, has.within))
+  changed-set (first ∷ pairs) key pair value zero rising has is = rw (has.ties first) (ap (λ (p : K × V). (p.0, value) ∷ pairs) is)
+  changed-set (first ∷ pairs) key pair value (suc i) rising has is =
+      rw (first_less first pairs key i rising has) (ap (λ l. first ∷ l) (changed-set pairs key pair value i (rising_tail first pairs rising) (has_tail first pairs key i has) is))
+
+  -- another value for the pair at the place of a key
+  pub with_value : (pairs : List (K × V)) (key : K) (pair : K × V) (value : V) (i : ℕ) → KeysRise cmp pairs → HasAt cmp pairs key i → get_or pairs i pair ≡ pair
+      → record {
+        order : changed cmp pairs key value ≡ set pairs i (pair.0, value);
+        found : (other : K) → find cmp (set pairs i (pair.0, value)) other ≡ (if is_eq (cmp key other) then Some value else find cmp pairs other);
+        rises : KeysRise cmp (set pairs i (pair.0, value));
+      }
+  with_value pairs key pair value i rising has is =
+      let ties : cmp pair.0 key ≡ Equal = ap (λ (p : K × V). cmp p.0 key) (sym is) ∙ has.ties pair in
+      let here : HasAt cmp pairs pair.0 i = record { within = has.within; ties = λ d. alike_right total pair.0 key (get_or pairs i d).0 ties ∙ has.ties d } in
+      record {
+        order = changed-set pairs key pair value i rising has is;
+        found = λ other. find-set pairs pair.0 value i rising here other ∙ ap (λ o. if is_eq o then Some value else find cmp pairs other) (total.congr pair.0 key other ties);
+        rises = rising-set pairs pair.0 value i rising here;
+      }
 
   -- the pairs from a key on, or from the gap for it
   pub from-has : (pairs : List (K × V)) (key : K) (i : ℕ) → KeysRise cmp pairs → HasAt cmp pairs key i → pairs_from cmp pairs key ≡ drop i pairs

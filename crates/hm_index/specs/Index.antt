@@ -1,12 +1,14 @@
 -- An index as callers see it: pairs of a key and a value, in the order of their keys.
-use Rattle.std.specs.Prelude.{◌≡◌, ℕ, ◌<◌, List, [], ◌∷◌, Option, Some, None, if◌then◌else◌, slice_get}
+use Rattle.std.specs.Prelude.{◌≡◌, ℕ, ◌<◌, List, [], ◌∷◌, Option, Some, None, if◌then◌else◌, ◌==◌, slice_get}
 use Rattle.std.specs.Ordering.{is_eq}
 use Rattle.std.specs.declared.cmp.Ordering.{Ordering}
 use Rattle.std.specs.declared.cmp.Ordering.TheVariants.{Less, Equal, Greater}
 
--- the pairs in the order of their keys, for how many more there is room, and how much memory there is
+-- the pairs in the order of their keys and in the order in which they came, for how many more there is room, and how much
+-- memory there is
 pub record IndexView (K V : Type 0) : Type 0 where
   pub pairs : List (K × V)
+  pub came : List (K × V)
   pub spare : ℕ
   pub room : ℕ
 
@@ -39,3 +41,17 @@ or_more Greater pair more rest = pair ∷ more
 abbrev pub pairs_from : {K V : Type 0} → (K → K → Ordering) → List (K × V) → K → List (K × V)
 pairs_from cmp [] key = []
 pairs_from cmp (pair ∷ more) key = or_more (cmp pair.0 key) pair more (pairs_from cmp more key)
+
+-- the pairs with another value for the first one whose key ties with this one
+abbrev pub changed : {K V : Type 0} → (K → K → Ordering) → List (K × V) → K → V → List (K × V)
+changed cmp [] key value = []
+changed cmp ((here, old) ∷ more) key value = if is_eq (cmp here key) then (here, value) ∷ more else ((here, old) ∷ changed cmp more key value)
+
+-- the key of a pair, if there is one
+abbrev pub key_if : {K V : Type 0} → Option (K × V) → Option K
+key_if None = None
+key_if (Some pair) = Some pair.0
+
+-- an item stands at a number, and at each other number what stood there
+abbrev pub PutAt : {X : Type 0} → ℕ → X → List X → List X → Type 0
+PutAt number item before after = (n : ℕ) → slice_get after n ≡ (if n == number then Some item else slice_get before n)

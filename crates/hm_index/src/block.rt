@@ -5,6 +5,7 @@ ghost use Rattle.std.specs.List.Sorted.{IsSearchInRange, IsBinarySearchResult};
 ghost use Rattle.hm_index.specs.Blocks.{lead, rank_at};
 
 use crate::room::{put_all, put_at};
+use crate::sought::Sought;
 use std::alloc::{AllocError, Global};
 use std::cmp::Ordering;
 use std::marker::Model;
@@ -77,8 +78,12 @@ impl Block {
     }
 
     // How the key of the first place compares with this one. A block with no place stands lowest.
-    pub(crate) fn compare_first<K: Ord, V>(&self, pairs: &[(K, V)], key: &K) -> Ordering
-        ensures { result ≡ lead (rank_at K.cmp pairs.now key.now) self.now }
+    pub(crate) fn compare_first<K: Ord, V, S: Sought<K>>(
+        &self,
+        pairs: &[(K, V)],
+        key: &S,
+    ) -> Ordering
+        ensures { result ≡ lead (rank_at K.cmp pairs.now (S.stands_for key.now)) self.now }
     {
         if self.places.is_empty() {
             return Ordering::Less;
@@ -87,10 +92,14 @@ impl Block {
     }
 
     // Where among the places a key stands, or where it belongs.
-    pub(crate) fn search<K: Ord, V>(&self, pairs: &[(K, V)], key: &K) -> Result<usize, usize>
+    pub(crate) fn search<K: Ord, V, S: Sought<K>>(
+        &self,
+        pairs: &[(K, V)],
+        key: &S,
+    ) -> Result<usize, usize>
         ensures limit { IfOk result (λ at. at < 512) }
         ensures range { IsSearchInRange result (length self.now) }
-        ensures position { IsBinarySearchResult (rank_at K.cmp pairs.now key.now) self.now result }
+        ensures position { IsBinarySearchResult (rank_at K.cmp pairs.now (S.stands_for key.now)) self.now result }
     {
         self.places
             .binary_search_by(|place| compare_at(pairs, *place as usize, key))
@@ -98,11 +107,11 @@ impl Block {
 }
 
 // How the key of the pair at a place compares with this one. A place without a pair would stand lowest.
-fn compare_at<K: Ord, V>(pairs: &[(K, V)], place: usize, key: &K) -> Ordering
-    ensures { result ≡ rank_at K.cmp pairs.now key.now place }
+fn compare_at<K: Ord, V, S: Sought<K>>(pairs: &[(K, V)], place: usize, key: &S) -> Ordering
+    ensures { result ≡ rank_at K.cmp pairs.now (S.stands_for key.now) place }
 {
     match pairs.get(place) {
-        Some(pair) => pair.0.cmp(key),
+        Some(pair) => key.compared(&pair.0),
         None => Ordering::Less,
     }
 }

@@ -6,6 +6,7 @@ ghost use Rattle.hm_index.specs.Blocks.{laid, start, block_at, split_at, IsBlock
 
 use crate::block::{BLOCK, Block, HALF};
 use crate::room::put_at;
+use crate::sought::Sought;
 use std::alloc::{AllocError, Global};
 use std::marker::Model;
 
@@ -69,9 +70,13 @@ impl Order {
     }
 
     // Where a key stands, or where it belongs.
-    pub(crate) fn search<K: Ord, V>(&self, pairs: &[(K, V)], key: &K) -> Result<Spot, Spot>
-        ensures found { IfOk result (λ spot. IsFound (rank_at K.cmp pairs.now key.now) self.now.blocks spot.block spot.at) }
-        ensures absent { IfErr result (λ spot. IsAbsent (rank_at K.cmp pairs.now key.now) self.now.blocks spot.block spot.at) }
+    pub(crate) fn search<K: Ord, V, S: Sought<K>>(
+        &self,
+        pairs: &[(K, V)],
+        key: &S,
+    ) -> Result<Spot, Spot>
+        ensures found { IfOk result (λ spot. IsFound (rank_at K.cmp pairs.now (S.stands_for key.now)) self.now.blocks spot.block spot.at) }
+        ensures absent { IfErr result (λ spot. IsAbsent (rank_at K.cmp pairs.now (S.stands_for key.now)) self.now.blocks spot.block spot.at) }
     {
         let block = self.block_for(pairs, key);
         match self.blocks[block].search(pairs, key) {
@@ -81,9 +86,9 @@ impl Order {
     }
 
     // The block in which a key stands or belongs.
-    fn block_for<K: Ord, V>(&self, pairs: &[(K, V)], key: &K) -> usize
+    fn block_for<K: Ord, V, S: Sought<K>>(&self, pairs: &[(K, V)], key: &S) -> usize
         ensures within { result < length self.now.blocks }
-        ensures block { IsBlockFor (rank_at K.cmp pairs.now key.now) self.now.blocks result }
+        ensures block { IsBlockFor (rank_at K.cmp pairs.now (S.stands_for key.now)) self.now.blocks result }
     {
         match self
             .blocks

@@ -2,8 +2,8 @@
 ghost use Rattle.std.specs.Prelude.{◌≡◌, ◌+◌, ◌≤◌, ◌<◌, ◌++◌, length, vec_len, vec_capacity};
 ghost use Rattle.std.specs.List.{insert as inserted};
 
-// Adds an item at a place.
-pub(crate) fn put_at<T: Drop>(items: &mut Vec<T>, place: usize, item: T)
+/// Adds an item at a place, in room that is there.
+pub fn put_at<T: Drop>(items: &mut Vec<T>, place: usize, item: T)
     requires bound { place ≤ vec_len items.old }
     requires room { vec_len items.old < vec_capacity items.old }
     ensures items { items.new.items ≡ inserted items.old.items place item }

@@ -29,10 +29,6 @@ module _ {D : Type 0} (moment : D → ℕ) (left_since : D → ℕ → List ℕ 
   image_now old new P leaves c is = leaves.each c (counts new (moment old) c leaves.later is)
 
 module _ {D : Type 0} (moment : D → ℕ) (left_since : D → ℕ → List ℕ → Type 0) (image : D → List ℕ → Type 0) (only : (d : D) (c : List ℕ) → left_since d (moment d) c → image d c) where
-  -- a disk that isn't called leaves what it could
-  pub quiet_as : (disk : D) (P : List ℕ → Type 0) → ((c : List ℕ) → image disk c → P c) → LeavesOnly moment left_since disk disk P
-  quiet_as disk P so = started moment left_since disk P (λ c left. so c (only disk c left))
-
   -- what settled left at each moment what it could before, or what it can since
   pub settled_all : (old new : D) (Q P : List ℕ → Type 0) → ((c : List ℕ) → image old c → Q c) → Settles moment left_since old new Q P → LeavesOnly moment left_since old new (λ c. Q c ⊎ P c)
   settled_all old new Q P was run = record {

@@ -63,14 +63,6 @@ begun_more sheets front more entry was is allowed =
       begins = subst (SameSheets sheets) (sym same) was.begins;
     }
 
--- a start of sheets that are the same by kind
-pub begun_start : (sheets own : List Sheet) → AreSheets own → SameSheets sheets own → IsBegun sheets (entry_is.Start own ∷ [])
-begun_start sheets own are same = record {
-  legal = (tt, ((refl, are), tt));
-  some = λ none. absurd (cc);
-  begins = same;
-}
-
 -- what has begun so is a journal that has the same sheet of each kind
 pub by_kind : (sheets : List Sheet) (entries : List Entry) → All EntryFits entries → IsBegun sheets entries → IsJournalByKind sheets entries
 by_kind sheets entries fits begun = (sheets_of (back entries), begun.begins, record { legal = begun.legal; fits = fits; begins = λ some. refl })

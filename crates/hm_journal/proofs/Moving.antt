@@ -89,17 +89,6 @@ module _ {D Setting : Type 0} (d : Disk.Ghosts D Setting) (opened : Opened D) wh
         failed = λ fault. omega (arith, rose, was.called.fault);
       }
 
-  -- halted by another cause
-  pub since_halted : (disk : D) (entries : List Entry) (tail : Option Entry) (halted : Option Halt) → halted ≢ Some halt_is.LogFault → Since d opened disk entries tail None
-      → Since d opened disk entries tail halted
-  since_halted disk entries tail halted other was = record {
-    grown = was.grown;
-    leaves = was.leaves;
-    called = was.called;
-    least = was.least;
-    failed = λ fault. absurd (other fault);
-  }
-
   -- a journal that is going has no tail
   pub since_going : (disk : D) (entries : List Entry) (tail : Option Entry) (halted : Option Halt) → halted ≡ None → (tail ≢ None → halted ≡ Some halt_is.LogFault)
       → Since d opened disk entries tail halted → Since d opened disk entries None None

@@ -30,8 +30,8 @@ use Rattle.hm_model.specs.Kinds.{is_running_kind, request_kind}
 use Rattle.hm_model.specs.Rules.{Allowed, AreSheets, IsLegal}
 use Rattle.hm_model.specs.Stages.{IsShaped, IsStep, adding, creating}
 use Rattle.hm_model.specs.Tree.{Node, made, node_of, submitted}
-use Rattle.hm_model.proofs.Grown.{grown_all, step_node, step_plain, submit_new, submit_old}
-use Rattle.hm_model.proofs.Stages.{shaped, step_all}
+use Rattle.hm_model.proofs.Grown.{grown_all, step_node, submit_new, submit_old}
+use Rattle.hm_model.proofs.Stages.{shaped, step_all, step_plain}
 use Rattle.hm_journal.proofs.Sizes.{IsShortRow, added_short, edit_short, either_short, none_short, nonce_long, ns_short, out_short, sheets_short}
 
 -- sheets, one for each kind that the master runs
@@ -70,12 +70,12 @@ asked_fits (entry_is.Submit given asked ∷ before) legal fit p node is = elim (
   | inr old ↦ asked_fits before legal.0 (All-tail EntryFits (entry_is.Submit given asked) before fit) p node (sym (submit_old given asked before p old) ∙ is)
 ]
 asked_fits (entry_is.Step pid pick o ∷ before) legal fit p node is =
-    asked_fits before legal.0 (All-tail EntryFits (entry_is.Step pid pick o) before fit) p node (sym (step_node pid pick o before (step_plain before pid pick o legal.1).0 (grown_all before legal.0) p) ∙ is)
-asked_fits (entry_is.Undo pid row o ∷ before) legal fit p node is = absurd legal.1.1.0
-asked_fits (entry_is.Report call told ∷ before) legal fit p node is = absurd legal.1.1.0
-asked_fits (entry_is.Up on ∷ before) legal fit p node is = absurd legal.1.1.0
-asked_fits (entry_is.Down on ∷ before) legal fit p node is = absurd legal.1.1.0
-asked_fits (entry_is.Abort pid ∷ before) legal fit p node is = absurd legal.1.1.0
+    asked_fits before legal.0 (All-tail EntryFits (entry_is.Step pid pick o) before fit) p node (sym (step_node pid pick o before (step_plain pid pick o before legal).0 (grown_all before legal.0) p) ∙ is)
+asked_fits (entry_is.Undo pid row o ∷ before) legal fit p node is = absurd (false≢true legal.1.1.0.0)
+asked_fits (entry_is.Report call told ∷ before) legal fit p node is = absurd (false≢true legal.1.1.0.0)
+asked_fits (entry_is.Up on ∷ before) legal fit p node is = absurd (false≢true legal.1.1.0.0)
+asked_fits (entry_is.Down on ∷ before) legal fit p node is = absurd (false≢true legal.1.1.0.0)
+asked_fits (entry_is.Abort pid ∷ before) legal fit p node is = absurd (false≢true legal.1.1.0.0)
 
 -- the row of a namespace is short: it was there from the start, or a step added it
 ns_row : (J : Past) → IsLegal J → (ns : List ℕ) → IsShortRow (cat J (key_is.Ns ns))
@@ -89,11 +89,11 @@ ns_row (entry_is.Step pid pick o ∷ before) legal ns =
       | inl none ↦ subst (λ es. IsShortRow (edited es (key_is.Ns ns) (cat before (key_is.Ns ns)))) (sym none) row
       | inr one ↦ subst (λ es. IsShortRow (edited es (key_is.Ns ns) (cat before (key_is.Ns ns)))) (sym one) (either_short (same_key (key_is.Ns ns) (key_is.Ns step.ns)) (Some row_is.Ns) (cat before (key_is.Ns ns)) added_short row)
     ]
-ns_row (entry_is.Undo pid row o ∷ before) legal ns = absurd legal.1.1.0
-ns_row (entry_is.Report call told ∷ before) legal ns = absurd legal.1.1.0
-ns_row (entry_is.Up on ∷ before) legal ns = absurd legal.1.1.0
-ns_row (entry_is.Down on ∷ before) legal ns = absurd legal.1.1.0
-ns_row (entry_is.Abort pid ∷ before) legal ns = absurd legal.1.1.0
+ns_row (entry_is.Undo pid row o ∷ before) legal ns = absurd (false≢true legal.1.1.0.0)
+ns_row (entry_is.Report call told ∷ before) legal ns = absurd (false≢true legal.1.1.0.0)
+ns_row (entry_is.Up on ∷ before) legal ns = absurd (false≢true legal.1.1.0.0)
+ns_row (entry_is.Down on ∷ before) legal ns = absurd (false≢true legal.1.1.0.0)
+ns_row (entry_is.Abort pid ∷ before) legal ns = absurd (false≢true legal.1.1.0.0)
 
 edits_short : (J : Past) → IsLegal J → (ns : List ℕ) → length ns ≤ 64 → (edits : List Edit) → (edits ≡ []) ⊎ (edits ≡ adding J ns ∷ []) → length (list edit edits) ≤ 73
 edits_short J legal ns short edits are = elim are [

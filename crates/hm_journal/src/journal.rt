@@ -58,6 +58,7 @@ impl<D: Disk> Journal<D> {
             (λ _. self.new.kept ≡ with_next self.old.kept entry.now)
             (λ _. self.new.kept ≡ self.old.kept) }
         ensures last { OnErr result (Accepts self.old.kept entry.now) }
+        ensures fits { OnOk result (Accepts self.old.kept entry.now → EntryFits entry.now) }
         ensures disk { self.new.disk ≡ self.old.disk }
         ensures opened { self.new.opened ≡ self.old.opened }
     {
@@ -72,8 +73,8 @@ impl<D: Disk> Journal<D> {
         Ok(())
     }
 
-    // Whether the journal is halted, or the entry would pass the hard mark.
-    fn will_refuse(&self, entry: &Entry) -> bool
+    /// Whether recording this entry would be refused: the journal is halted, or the entry would pass the hard mark.
+    pub fn will_refuse(&self, entry: &Entry) -> bool
         requires { CanBeRecorded entry.now }
         ensures refused { IsTrue result → (self.now.kept.halted ≢ None) ⊎ Passes self.now.kept.hard self.now.kept.entries entry.now }
         ensures accepted { result ≡ false → Accepts self.now.kept entry.now }

@@ -14,11 +14,11 @@ use Rattle.hm_lists.proofs.Grown.{without_lists, more_nodes, more_lists, nothing
 use Rattle.hm_lists.proofs.Rings.{head_of, joined_first, joined_same}
 use Rattle.hm_lists.proofs.Linked.{pushed_linked, last_there, taken_linked, x_there, p_there, n_there, node_there}
 
-walk_none : (n : ℕ) (s : Chains) → walk n s None ≡ []
+pub walk_none : (n : ℕ) (s : Chains) → walk n s None ≡ []
 walk_none zero s = refl
 walk_none (suc n) s = refl
 
-walk_joined : (s : Chains) (l : ℕ) (a : Option ℕ) (xs : List ℕ) (n : ℕ) → Joined (next_in s l) (prev_in s l) a xs None → length xs ≤ n → walk n s (next_in s l a) ≡ xs
+pub walk_joined : (s : Chains) (l : ℕ) (a : Option ℕ) (xs : List ℕ) (n : ℕ) → Joined (next_in s l) (prev_in s l) a xs None → length xs ≤ n → walk n s (next_in s l a) ≡ xs
 walk_joined s l a [] n j le = ap (walk n s) j.0 ∙ walk_none n s
 walk_joined s l a (x ∷ xs) zero j le = absurd (grind (arith, common_steps))
 walk_joined s l a (x ∷ xs) (suc n) j le =

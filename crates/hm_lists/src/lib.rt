@@ -5,7 +5,9 @@
 mod links;
 mod lists;
 mod node;
+mod nodes;
 mod steps;
 
 pub use lists::Lists;
+pub use nodes::Nodes;
 pub use steps::Steps;

@@ -102,7 +102,7 @@ impl Links {
     }
 
     // The first node of a list.
-    fn first_of(&self, list: u32) -> Option<u32>
+    pub(crate) fn first_of(&self, list: u32) -> Option<u32>
         requires { list < vec_len self.now.ends }
         ensures { result ≡ (ends_at (chains_of self.now) list).first }
     {

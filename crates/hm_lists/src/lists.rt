@@ -4,6 +4,7 @@ ghost use Rattle.hm_lists.specs.Chains.{IsIn, list_at};
 ghost use Rattle.hm_lists.specs.Map.{AreApart, IsHeld, IsOut, without};
 
 use crate::links::Links;
+use crate::nodes::Nodes;
 use crate::steps::Steps;
 use std::alloc::{AllocError, Global};
 use std::marker::Model;
@@ -93,6 +94,14 @@ impl Lists {
     {
         steps.tick();
         self.links.unlink(node);
+    }
+
+    /// Goes over the nodes of a list, from the first on.
+    pub fn iter(&self, list: u32) -> Nodes<'_>
+        requires { list < length self.now.lists }
+        ensures { result ≡ list_at self.now.lists list }
+    {
+        Nodes::new(&self.links, list)
     }
 
     /// The list that a node is in; none for a node that isn't there.

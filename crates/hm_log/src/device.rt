@@ -12,7 +12,7 @@ use hm_ports::Failed;
 use std::alloc::Global;
 
 // Writes and syncs.
-pub(crate) fn settle<D: Disk>(disk: &mut D, at: u64, bytes: &[u8]) -> Result<(), Failed>
+pub(crate) fn write_through<D: Disk>(disk: &mut D, at: u64, bytes: &[u8]) -> Result<(), Failed>
     requires place { D.tells → at ≤ length (D.seen disk.old) }
     requires some { 0 < length bytes.now }
     requires only { Only (D.seen disk.old) (D.image disk.old) }

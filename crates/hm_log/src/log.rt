@@ -7,7 +7,7 @@ ghost use Rattle.hm_log.specs.Format.{laid, log_of, size_with, IsFrame, IsWhole,
 ghost use Rattle.hm_log.specs.Opening.{IsMaking, Reopens, IsUntouched, OnlyReads};
 ghost use Rattle.hm_log.specs.declared.why.OpenWhy.TheVariants.{Fault, NotALog, BadFrame, Memory};
 
-use crate::device::settle;
+use crate::device::write_through;
 use crate::open::{Ready, prepare};
 use crate::pieces::fetch;
 use crate::{Frames, OpenWhy};
@@ -229,8 +229,8 @@ fn add<D: Disk>(disk: &mut D, gate: u64, bytes: &[u8]) -> Result<(), Failed>
     ensures changes { OnOk result (Rises 2 (D.changes disk.old) (D.changes disk.new)) }
     ensures called { IsCalled D.Disk 2 disk.old disk.new }
 {
-    settle(disk, gate + 1, bytes)?;
-    settle(disk, gate, b"+")
+    write_through(disk, gate + 1, bytes)?;
+    write_through(disk, gate, b"+")
 }
 
 // Writes the length, the frame and a closed gate to the buffer.

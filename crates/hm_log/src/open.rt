@@ -7,7 +7,7 @@ ghost use Rattle.hm_log.specs.Format.{log_of, size_with, IsFrame, Reads, HoldsFr
 ghost use Rattle.hm_log.specs.Opening.{IsMaking, Reopens, IsUntouched};
 ghost use Rattle.hm_log.specs.declared.why.OpenWhy.TheVariants.{Fault, NotALog, BadFrame, Memory};
 
-use crate::device::{settle, trim};
+use crate::device::{trim, write_through};
 use crate::pieces::{Found, load};
 use crate::{Frames, OpenWhy};
 use hm_disk::Disk;
@@ -62,7 +62,7 @@ pub(crate) fn prepare<D: Disk>(alloc: Global, disk: &mut D) -> Result<Ready, Ope
         buffer,
     };
     if size == 0 {
-        settle(disk, 0, &NEW)?;
+        write_through(disk, 0, &NEW)?;
         return Ok(ready);
     }
     if size == gate + 1 {

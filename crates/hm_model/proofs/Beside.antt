@@ -2,12 +2,13 @@
 use Rattle.std.proofs.Common.{List, None, Some, [], codes, false, refl, true, ◌∷◌, ◌≡◌}
 use Rattle.hm_data.specs.declared.sheet.Sheet.{Sheet}
 use Rattle.hm_model.specs.Catalog.{cat}
-use Rattle.hm_model.specs.Deeds.{in_turn}
+use Rattle.hm_model.specs.Serial.{serial}
+use Rattle.hm_model.specs.Entries.{entries_of}
 use Rattle.hm_model.specs.Journal.{Past}
 use Rattle.hm_model.specs.Outs.{calls, places, spawns}
 use Rattle.hm_model.specs.Places.{load}
 use Rattle.hm_model.specs.Records.{unfinished}
-use Rattle.hm_model.specs.Steps.{gives}
+use Rattle.hm_model.specs.Outs.{gives}
 use Rattle.hm_model.specs.Tree.{drawn}
 use Rattle.hm_data.specs.declared.entry.Entry.TheVariants as entry_is
 use Rattle.hm_data.specs.declared.answer.Answer.TheVariants as answer_is
@@ -26,7 +27,7 @@ use Rattle.hm_data.specs.declared.place.Goal.TheVariants as goal_is
 use Rattle.hm_data.specs.declared.place.RegionState.TheVariants as place_is
 use Rattle.hm_data.specs.declared.record.Phase.TheVariants as phase_is
 use Rattle.hm_model.specs.Ranges.{live_ranges}
-use Rattle.hm_model.proofs.ByHand.{edit, one, phase_of, pid, price_of, region, row, says, sheet, table}
+use Rattle.hm_model.proofs.ByHand.{edit, one, phase_of, pid, cost_of, region, row, says, sheet, table}
 
 abbrev sheets : List Sheet
 sheets =
@@ -234,11 +235,17 @@ namespace_too : phase_of beside34 2 ≡ Some phase_is.Success
 namespace_too = refl
 
 -- the entries of the create, with its submission, are 30
-create_costs : price_of beside34 1 ≡ 30
+create_costs : cost_of beside34 1 ≡ 30
 create_costs = refl
 
-namespace_costs : price_of beside34 2 ≡ 3
+create_takes : entries_of beside34 1 ≡ 30
+create_takes = refl
+
+namespace_costs : cost_of beside34 2 ≡ 3
 namespace_costs = refl
+
+namespace_takes : entries_of beside34 2 ≡ 3
+namespace_takes = refl
 
 ranges : live_ranges beside34 table ≡ record { start = []; end = codes "g" } ∷ record { start = codes "g"; end = codes "p" } ∷ record { start = codes "p"; end = [] } ∷ []
 ranges = refl
@@ -249,11 +256,11 @@ loads = refl
 drawn_ids : drawn beside34 table ≡ 3
 drawn_ids = refl
 
-table_by_deed : in_turn beside34 (key_is.Table table) ≡ cat beside34 (key_is.Table table)
+table_by_deed : serial beside34 (key_is.Table table) ≡ cat beside34 (key_is.Table table)
 table_by_deed = refl
 
-second_by_deed : in_turn beside34 (key_is.Region (region 2)) ≡ cat beside34 (key_is.Region (region 2))
+second_by_deed : serial beside34 (key_is.Region (region 2)) ≡ cat beside34 (key_is.Region (region 2))
 second_by_deed = refl
 
-namespace_by_deed : in_turn beside34 (key_is.Ns (codes "shop")) ≡ Some row_is.Ns
+namespace_by_deed : serial beside34 (key_is.Ns (codes "shop")) ≡ Some row_is.Ns
 namespace_by_deed = refl

@@ -13,11 +13,11 @@ use Rattle.hm_data.specs.declared.record.Phase.{Phase}
 use Rattle.hm_data.specs.declared.sheet.Row.{Row}
 use Rattle.hm_data.specs.declared.sheet.Sheet.{Sheet}
 use Rattle.hm_data.specs.declared.step.StepOut.{StepOut}
-use Rattle.hm_model.specs.Legality.{answers}
+use Rattle.hm_model.specs.Costs.{cost}
+use Rattle.hm_model.specs.Inputs.{answers}
 use Rattle.hm_model.specs.Journal.{Past}
 use Rattle.hm_model.specs.Phase.{phase}
 use Rattle.hm_model.specs.Picks.{pick_fits}
-use Rattle.hm_model.specs.Prices.{price}
 use Rattle.hm_model.specs.Tree.{node_of}
 
 abbrev pub pid : ℕ → Pid
@@ -54,8 +54,8 @@ abbrev pub phase_of : Past → ℕ → Option Phase
 phase_of J p = elim (node_of J p) as (λ n. Option Phase) [ None ↦ None | Some node ↦ Some (phase J p node) ]
 
 -- what a root costs
-abbrev pub price_of : Past → ℕ → ℕ
-price_of J r = elim (node_of J r) as (λ n. ℕ) [ None ↦ 0 | Some node ↦ price J r node.args ]
+abbrev pub cost_of : Past → ℕ → ℕ
+cost_of J r = elim (node_of J r) as (λ n. ℕ) [ None ↦ 0 | Some node ↦ cost J r node.args ]
 
 -- a server fits as the pick of a procedure's next step
 abbrev pub fits_at : Past → ℕ → Server → Bool

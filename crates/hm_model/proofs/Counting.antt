@@ -1,5 +1,5 @@
 -- How many procedures haven't ended, and when none can go on.
-use Rattle.std.proofs.Common.{Bool, List, None, Option, Some, ap, arith, false, inl, inr, is_some, not, refl, suc, sym, true, zero, ℕ, ◌&&◌, ◌+◌, ◌<◌, ◌↔◌, ◌∙◌, ◌∷◌, ◌≡◌, ◌≢◌, ◌≤◌, ◌⊎◌}
+use Rattle.std.proofs.Common.{Bool, List, [], None, Option, Some, ap, arith, false, inl, inr, is_some, not, refl, suc, sym, true, zero, ℕ, ◌&&◌, ◌||◌, ◌+◌, ◌<◌, ◌↔◌, ◌∙◌, ◌∷◌, ◌≡◌, ◌≢◌, ◌≤◌, ◌⊎◌}
 use Rattle.std.proofs.lemmas.Bool.{and_from, and_parts, cases_Bool, cases_eq, false_from_ne_true, false≢true, not-true, not_from_false, true_from_ne_false, true≢false}
 use Rattle.std.proofs.lemmas.Option.{none-some}
 use Rattle.hm_data.specs.declared.answer.Answer.{Answer}
@@ -10,19 +10,24 @@ use Rattle.hm_data.specs.declared.step.StepOut.{StepOut}
 use Rattle.hm_names.specs.Server.{Server}
 use Rattle.hm_names.specs.declared.nonce.Nonce.{Nonce}
 use Rattle.hm_names.specs.declared.pid.Pid.{Pid}
-use Rattle.hm_model.proofs.Grown.{grown_all, made_up_to, not_stepped, simple_all, step_made, step_node, stepped, submit_new, submit_old}
+use Rattle.hm_model.proofs.Grown.{grown_all, made_up_to, not_stepped, step_made, step_node, stepped, submit_new, submit_old}
 use Rattle.hm_model.proofs.Holders.{root_there}
-use Rattle.hm_model.proofs.Stages.{flat_all, runs_by, shaped, staged_all, step_all}
+use Rattle.hm_model.proofs.Stages.{flat_all, runs_by, runs_there, shaped, simple_all, staged_all, step_all, unpicked}
 use Rattle.hm_model.specs.Answers.{is_stop, is_stopped, last_answer}
 use Rattle.hm_model.specs.Counts.{count_below, one_if}
 use Rattle.hm_model.specs.Journal.{Past}
+use Rattle.hm_model.specs.Kinds.{is_running_kind, kind_of}
 use Rattle.hm_model.specs.Locks.{Holds}
 use Rattle.hm_model.specs.Phase.{cause, ended}
 use Rattle.hm_model.specs.Records.{unfinished}
-use Rattle.hm_model.specs.Rest.{IsAtRest, IsAvailable}
-use Rattle.hm_model.specs.Rules.{IsLegal, MayBegin, MayStep}
+use Rattle.hm_model.specs.Picks.{PicksRight, has_pick, is_pick_right, needs_server}
+use Rattle.hm_model.specs.Fleet.{has_live}
+use Rattle.hm_model.specs.Holding.{MayBegin}
+use Rattle.hm_model.specs.Rest.{IsAtRest, IsAvailable, IsReady, MayStep, MayStepPicked}
+use Rattle.hm_model.specs.Rules.{IsLegal}
 use Rattle.hm_model.specs.Sheets.{sheets_of}
-use Rattle.hm_model.specs.Stages.{IsShaped, IsStep, Stage, creating, is_ending, is_submission, simple_phase}
+use Rattle.hm_model.specs.StageLaws.{is_ending, is_submission}
+use Rattle.hm_model.specs.Stages.{IsShaped, IsStep, Stage, creating, simple_phase}
 use Rattle.hm_model.specs.Tree.{Node, is_root, is_root_in, is_top, made, node_of, submitted}
 use Rattle.hm_data.specs.declared.entry.Entry.TheVariants as entry_is
 use Rattle.hm_data.specs.declared.answer.Answer.TheVariants as answer_is
@@ -186,30 +191,24 @@ unfinished_on (entry_is.Step pid pick out) before legal = elim (cases_Bool (is_s
       let none : one_if (is_stop out.answer) ≡ 0 = ap one_if goes in
       omega (arith, now, none)
 ]
-unfinished_on (entry_is.Undo pid row out) before legal = absurd legal.1.1.0
-unfinished_on (entry_is.Report call told) before legal = absurd legal.1.1.0
-unfinished_on (entry_is.Up server) before legal = absurd legal.1.1.0
-unfinished_on (entry_is.Down server) before legal = absurd legal.1.1.0
-unfinished_on (entry_is.Abort pid) before legal = absurd legal.1.1.0
+unfinished_on (entry_is.Undo pid row out) before legal = absurd (false≢true legal.1.1.0.0)
+unfinished_on (entry_is.Report call told) before legal = absurd (false≢true legal.1.1.0.0)
+unfinished_on (entry_is.Up server) before legal = absurd (false≢true legal.1.1.0.0)
+unfinished_on (entry_is.Down server) before legal = absurd (false≢true legal.1.1.0.0)
+unfinished_on (entry_is.Abort pid) before legal = absurd (false≢true legal.1.1.0.0)
 
 -- none is unfinished exactly where each root has ended
 pub none_unfinished : (J : Past) → IsLegal J → unfinished J ≡ 0 → (p : ℕ) → is_root J p ≡ true → ended J p ≡ true
 none_unfinished J legal none p root =
     let node = root_node_of J p root in
     let low = (made_up_to J (grown_all J legal) p node.0 node.1).1 in
-    let ended_is = (flat_all J legal).ended_is_stopped p in
-    elim (cases_Bool (is_stopped (last_answer J p))) [
-      | inl on ↦ ended_is ∙ on
-      | inr off ↦
-          let some = count_some (made J + 1) (is_open J) p (omega (arith, low)) (open_of J legal p node.0 node.1 off) in
-          let e = unfinished_is J legal in
-          absurd (omega (arith, some, e, none))
-    ]
+    true_from_ne_false (ended J p) (λ off.
+    let some = count_some (made J + 1) (λ q. is_root J q && not (ended J q)) p (omega (arith, low)) (and_from (is_root J p) (not (ended J p)) root (not_from_false (ended J p) off)) in
+    omega (arith, some, none))
 
-pub all_ended : (J : Past) → IsLegal J → ((p : ℕ) → is_root J p ≡ true → ended J p ≡ true) → unfinished J ≡ 0
-all_ended J legal each =
-    unfinished_is J legal
-    ∙ count_none (made J + 1) (is_open J) (λ q lt. false_from_ne_true (is_open J q) (λ on. let parts = open_parts J q on in true≢false (sym (each q parts.0) ∙ (flat_all J legal).ended_is_stopped q ∙ parts.1)))
+pub all_ended : (J : Past) → ((p : ℕ) → is_root J p ≡ true → ended J p ≡ true) → unfinished J ≡ 0
+all_ended J each =
+    count_none (made J + 1) (λ q. is_root J q && not (ended J q)) (λ q lt. false_from_ne_true (is_root J q && not (ended J q)) (λ on. let parts = and_parts (is_root J q) (not (ended J q)) on in true≢false (sym (each q parts.0) ∙ not-true (ended J q) parts.1)))
 
 runnable_by : (sheets : List Sheet) (last : Option Answer) → Stage sheets last → is_stopped last ≡ false → simple_phase last ≡ phase_is.Runnable
 runnable_by sheets None stage runs = refl
@@ -221,13 +220,23 @@ runnable_by sheets (Some (answer_is.Fail cause)) stage runs = absurd (true≢fal
 runnable_by sheets (Some answer_is.Undone) stage runs = absurd (true≢false runs)
 
 -- a procedure may step exactly where it is there and hasn't ended
+ready : (J : Past) → IsLegal J → (p : ℕ) (node : Node) → node_of J p ≡ Some node → is_stopped (last_answer J p) ≡ false → IsReady J p node
+ready J legal p node is runs =
+    let c = (simple_all J legal).creates p node is in
+    (ap (λ (n : Node). is_running_kind (kind_of n.args)) c.1, inl ((flat_all J legal).phase_is_simple p node is ∙ runnable_by (sheets_of J) (last_answer J p) ((staged_all J legal).staged p) runs))
+
 pub may_step : (J : Past) → IsLegal J → (p : ℕ) (node : Node) → node_of J p ≡ Some node → is_stopped (last_answer J p) ≡ false → MayStep J p
-may_step J legal p node is runs =
-    (node, is, inl ((flat_all J legal).phase_is_simple p node is ∙ runnable_by (sheets_of J) (last_answer J p) ((staged_all J legal).staged p) runs))
+may_step J legal p node is runs = (node, is, ready J legal p node is runs)
+
+-- no server is to be picked for it
+pub may_step_picked : (J : Past) → IsLegal J → (p : ℕ) (node : Node) → node_of J p ≡ Some node → is_stopped (last_answer J p) ≡ false → MayStepPicked J p
+may_step_picked J legal p node is runs =
+    let c = (simple_all J legal).creates p node is in
+    (node, is, ready J legal p node is runs, ap (λ n. has_pick J p n) c.1 ∙ ap (λ b. not b || has_live J) ((flat_all J legal).picks_none p c.0))
 
 pub steps_unstopped : (J : Past) → IsLegal J → (p : ℕ) (may : MayStep J p) → is_stopped (last_answer J p) ≡ false
 steps_unstopped J legal p may =
-    let runs : simple_phase (last_answer J p) ≡ phase_is.Runnable = elim may.2 [ inl run ↦ sym ((flat_all J legal).phase_is_simple p may.0 may.1) ∙ run | inr wait ↦ absurd (wait.1 ((simple_all J legal).unreported p)) ] in
+    let runs = runs_there J (simple_all J legal) (flat_all J legal) p may in
     elim (runs_by (sheets_of J) (last_answer J p) ((staged_all J legal).staged p) runs) [ inl none ↦ ap is_stopped none | inr more ↦ ap is_stopped more.1 ]
 
 -- a root may begin exactly where none holds
@@ -241,9 +250,9 @@ begins_alone J legal p root may q holds unstepped =
 pub begun_goes_on : (J : Past) (p : ℕ) → last_answer J p ≢ None → MayBegin J p
 begun_goes_on J p some root unstepped = absurd (some unstepped)
 
-pub available_unstopped : (J : Past) → IsLegal J → (p : ℕ) → IsAvailable J p → (node : Node) × (node_of J p ≡ Some node) × (is_stopped (last_answer J p) ≡ false)
-available_unstopped J legal p available = elim available.1 [
-  | inl may ↦ (may.0, may.1, steps_unstopped J legal p may)
+pub available_unstopped : (J : Past) → IsLegal J → (p : ℕ) → IsAvailable J [] [] p → (node : Node) × (node_of J p ≡ Some node) × (is_stopped (last_answer J p) ≡ false)
+available_unstopped J legal p available = elim available.2 [
+  | inl may ↦ (may.0, may.1, steps_unstopped J legal p (may.0, may.1, may.2))
   | inr undo ↦ absurd (true≢false (sym undo.2 ∙ (flat_all J legal).undoes_nothing p undo.0))
 ]
 
@@ -282,16 +291,16 @@ holder J legal = elim (find_below (made J + 1) (is_holder J)) [
 ]
 
 -- where one is unfinished, one can go on
-pub goes_somewhere : (J : Past) → IsLegal J → unfinished J ≢ 0 → (p : ℕ) × IsAvailable J p
+pub goes_somewhere : (J : Past) → IsLegal J → unfinished J ≢ 0 → (p : ℕ) × IsAvailable J [] [] p
 goes_somewhere J legal some = elim (holder J legal) [
   | inl held ↦
       let node = root_node_of J held.0 (root_there J legal held.0 held.1.0) in
-      (held.0, (begun_goes_on J held.0 held.1.0, inl (may_step J legal held.0 node.0 node.1 (sym ((flat_all J legal).ended_is_stopped held.0) ∙ held.1.1))))
+      (held.0, (λ none. none, begun_goes_on J held.0 held.1.0, inl (may_step_picked J legal held.0 node.0 node.1 (sym ((flat_all J legal).ended_is_stopped held.0) ∙ held.1.1))))
   | inr none ↦ elim (find_below (made J + 1) (is_open J)) [
     | inl found ↦
         let parts = open_parts J found.0 found.2 in
         let node = root_node_of J found.0 parts.0 in
-        (found.0, (may_begin J legal found.0 (λ q holds. absurd (none q holds)), inl (may_step J legal found.0 node.0 node.1 parts.1)))
+        (found.0, (λ none. none, may_begin J legal found.0 (λ q holds. absurd (none q holds)), inl (may_step_picked J legal found.0 node.0 node.1 parts.1)))
     | inr each ↦ absurd (some (unfinished_is J legal ∙ count_none (made J + 1) (is_open J) each))
   ]
 ]
@@ -310,3 +319,12 @@ may_begin_iff J legal p root = (
   λ may unstepped q holds. begins_alone J legal p root may q holds unstepped,
   λ none there unstepped q differs other some. true_from_ne_false (ended J q) (λ off. none unstepped q (some, off)),
 )
+
+-- no step needs a server to be picked
+pub picks_iff : (J : Past) → IsLegal J → (p : ℕ) (pick : Option Server) → MayStep J p → PicksRight J p pick ↔ (pick ≡ None)
+picks_iff J legal p pick may =
+    let c = (simple_all J legal).creates p may.0 may.1 in
+    let there : node_of J p ≡ Some (creating p c.0) = may.1 ∙ ap Some c.1 in (
+      unpicked J (flat_all J legal) p c.0 pick there,
+      λ none. (may.0, may.1, ap (is_pick_right J p may.0 pick) (ap (needs_server J p) c.1 ∙ (flat_all J legal).picks_none p c.0) ∙ ap (λ o. is_pick_right J p may.0 o false) none),
+    )

@@ -2,13 +2,14 @@
 use Rattle.std.proofs.Common.{List, None, Some, [], false, inl, refl, true, ◌∷◌, ◌≡◌}
 use Rattle.hm_data.specs.declared.sheet.Sheet.{Sheet}
 use Rattle.hm_model.specs.Catalog.{cat}
-use Rattle.hm_model.specs.Deeds.{in_turn}
+use Rattle.hm_model.specs.Serial.{serial}
+use Rattle.hm_model.specs.Entries.{entries_of}
 use Rattle.hm_model.specs.Fleet.{is_fenced, is_live}
 use Rattle.hm_model.specs.Journal.{Past}
 use Rattle.hm_model.specs.Outs.{calls, places, spawns}
 use Rattle.hm_model.specs.Places.{load, on_server, place_of, tries_of}
 use Rattle.hm_model.specs.Records.{unfinished}
-use Rattle.hm_model.specs.Steps.{gives}
+use Rattle.hm_model.specs.Outs.{gives}
 use Rattle.hm_model.specs.Tree.{made}
 use Rattle.hm_data.specs.declared.entry.Entry.TheVariants as entry_is
 use Rattle.hm_data.specs.declared.answer.Answer.TheVariants as answer_is
@@ -27,7 +28,7 @@ use Rattle.hm_data.specs.declared.place.Goal.TheVariants as goal_is
 use Rattle.hm_data.specs.declared.place.RegionState.TheVariants as place_is
 use Rattle.hm_data.specs.declared.record.Phase.TheVariants as phase_is
 use Rattle.hm_model.specs.Locks.{Conflict}
-use Rattle.hm_model.proofs.ByHand.{fits_at, edit, one, phase_of, pid, price_of, region, row, says, sheet, table, two}
+use Rattle.hm_model.proofs.ByHand.{fits_at, edit, one, phase_of, pid, cost_of, region, row, says, sheet, table, two}
 
 abbrev sheets : List Sheet
 sheets =
@@ -293,19 +294,22 @@ loads : load crash39 one ≡ 1
 loads = refl
 
 -- from the entry that made it, the crash has just the entries that it costs: numbers 27 to 39
-crash_costs : price_of crash39 7 ≡ 13
+crash_costs : cost_of crash39 7 ≡ 13
 crash_costs = refl
 
-create_costs : price_of crash39 1 ≡ 18
+crash_takes : entries_of crash39 7 ≡ 13
+crash_takes = refl
+
+create_costs : cost_of crash39 1 ≡ 18
 create_costs = refl
 
 enabled : cat crash39 (key_is.Table table) ≡ Some (row_is.Table state_is.Enabled 1)
 enabled = refl
 
-by_deed : in_turn crash39 (key_is.Table table) ≡ Some (row_is.Table state_is.Enabled 1)
+by_deed : serial crash39 (key_is.Table table) ≡ Some (row_is.Table state_is.Enabled 1)
 by_deed = refl
 
-region_by_deed : in_turn crash39 (key_is.Region (region 1)) ≡ cat crash39 (key_is.Region (region 1))
+region_by_deed : serial crash39 (key_is.Region (region 1)) ≡ cat crash39 (key_is.Region (region 1))
 region_by_deed = refl
 
 -- behind a failed open the region goes to the other server

@@ -1,95 +1,91 @@
 -- What a legal journal made.
-use Rattle.std.proofs.Common.{Bool, IsTrue, List, None, Option, Some, [], ap, arith, false, if◌then◌else◌, inl, inr, length, nat_lt, not, refl, slice_get, subst, sym, true, ℕ, ◌&&◌, ◌+◌, ◌-◌, ◌==◌, ◌∙◌, ◌∷◌, ◌≡◌, ◌≢◌, ◌≤◌}
-use Rattle.std.proofs.lemmas.Bool.{cases_Bool, cases_eq, cases_lt, cond-false, cond-true, eq-eqb, false≢true, le-ltb, lt-ltb, ne_eqb}
-use Rattle.std.proofs.lemmas.Option.{none-some, same_Some}
-use Rattle.hm_data.specs.declared.act.Act.{Act}
-use Rattle.hm_data.specs.declared.args.Args.{Args}
-use Rattle.hm_data.specs.declared.catalog.CatKey.{CatKey}
-use Rattle.hm_data.specs.declared.catalog.CatRow.{CatRow}
+use Rattle.std.proofs.Common.{IsTrue, List, None, Option, Some, [], ap, arith, false, inl, inr, length, nat_lt, refl, slice_get, subst, sym, true, ℕ, ◌&&◌, ◌+◌, ◌<◌, ◌-◌, ◌==◌, ◌∙◌, ◌∷◌, ◌≡◌, ◌≢◌, ◌≤◌}
+use Rattle.std.proofs.lemmas.Bool.{and_right, cases_Bool, cases_eq, cases_lt, cond-false, cond-true, eq-eqb, false≢true, le-ltb, lt-ltb, ne_eqb}
+use Rattle.std.proofs.lemmas.Option.{none-some, same_Some, slice_get_cases, slice_get_past}
+use Rattle.std.specs.Option.{option_map, option_or}
+use Rattle.hm_data.specs.declared.args.Args.TheVariants as args_are
+use Rattle.hm_data.specs.declared.call.Told.{Told}
 use Rattle.hm_data.specs.declared.entry.Entry.{Entry}
 use Rattle.hm_data.specs.declared.request.Request.{Request}
-use Rattle.hm_data.specs.declared.sheet.Row.{Row}
-use Rattle.hm_data.specs.declared.step.StepIn.{StepIn}
+use Rattle.hm_data.specs.declared.sheet.Sheet.{Sheet}
 use Rattle.hm_data.specs.declared.step.StepOut.{StepOut}
-use Rattle.hm_data.specs.declared.step.Turn.{Turn}
 use Rattle.hm_names.specs.Server.{Server}
 use Rattle.hm_names.specs.declared.nonce.Nonce.{Nonce}
 use Rattle.hm_names.specs.declared.pid.Pid.{Pid}
-use Rattle.hm_model.proofs.Sheets.{said_by_row}
 use Rattle.hm_model.specs.Answers.{is_aborted, last_answer, report_of}
-use Rattle.hm_model.specs.Catalog.{row_at}
-use Rattle.hm_model.specs.Inputs.{IsEvaluated, input}
 use Rattle.hm_model.specs.Journal.{Past}
-use Rattle.hm_model.specs.Kinds.{is_running_kind, request_kind}
+use Rattle.hm_model.specs.Keys.{same_table}
+use Rattle.hm_model.specs.Kinds.{is_running_kind, request_kind, table_of_request}
+use Rattle.hm_model.proofs.KeyTests.{same_table-is}
+use Rattle.hm_names.specs.declared.table.TableName.{TableName}
 use Rattle.hm_model.specs.Laws.{IsGrown, IsUnder, StartIsOldest}
 use Rattle.hm_model.specs.Nonces.{by_nonce, is_same}
+use Rattle.hm_model.specs.Places.{has_failed, one_more, tries_of}
+use Rattle.hm_model.specs.Reports.{verb_of}
 use Rattle.hm_model.specs.Rules.{Allowed, AreSheets, IsLegal}
-use Rattle.hm_model.specs.Sheets.{row_in, sheet_for, sheets_of}
-use Rattle.hm_model.specs.Stages.{IsPlain, IsSimple}
-use Rattle.hm_model.specs.Steps.{act_out, check_namespace_free, eval, eval_row, fails, gives, namespace_of, on_to, out_of, set_row, step_out, with_namespace}
-use Rattle.hm_model.specs.Tree.{Node, args_in, children_of, made, node_of, submitted}
+use Rattle.hm_model.specs.Sheets.{sheets_of}
+use Rattle.hm_model.specs.Stages.{IsSimple}
+use Rattle.hm_model.specs.Tree.{Node, args_in, child_of, children_of, drawn, ids_for, is_root, is_root_in, made, new_ids, node_of, root_node, submitted}
 use Rattle.hm_data.specs.declared.entry.Entry.TheVariants as entry_is
-use Rattle.hm_data.specs.declared.answer.Cause.TheVariants as cause_is
 use Rattle.hm_data.specs.declared.request.Request.TheVariants as request_is
-use Rattle.hm_data.specs.declared.catalog.CatKey.TheVariants as key_is
-use Rattle.hm_data.specs.declared.catalog.CatRow.TheVariants as row_is
-use Rattle.hm_data.specs.declared.act.Act.TheVariants as act_is
-use Rattle.hm_data.specs.declared.step.Turn.TheVariants as turn_is
-
-plain_with : (ns : Option (List ℕ)) (next : ℕ) (does : List ℕ → StepOut) → ((name : List ℕ) → IsPlain (does name)) → IsPlain (with_namespace ns next does)
-plain_with None next does each = (refl, refl, refl)
-plain_with (Some ns) next does each = each ns
-
-plain_check : (next : ℕ) (row : Option CatRow) → IsPlain (check_namespace_free next row)
-plain_check next None = (refl, refl, refl)
-plain_check next (Some row) = (refl, refl, refl)
-
-plain_act : (act : Act) (next : ℕ) (args : Args) (rows : List (CatKey × CatRow)) → IsPlain (act_out act next args rows)
-plain_act act_is.CheckNamespaceFree next args rows = plain_with (namespace_of args) next (λ ns. check_namespace_free next (row_at rows (key_is.Ns ns))) (λ ns. plain_check next (row_at rows (key_is.Ns ns)))
-plain_act act_is.AddNamespace next args rows = plain_with (namespace_of args) next (λ ns. gives (on_to next) (set_row rows (key_is.Ns ns) (Some row_is.Ns) ∷ [])) (λ ns. (refl, refl, refl))
-plain_act act next args rows = (refl, refl, refl)
-
-plain_step : (row : Row) (aborted : Bool) (args : Args) (rows : List (CatKey × CatRow)) → IsPlain (step_out row aborted args rows)
-plain_step row aborted args rows = by (aborted && not row.after)
-  where
-    by : (b : Bool) → IsPlain (if b then fails cause_is.Aborted else act_out row.act row.next args rows)
-    by true = (refl, refl, refl)
-    by false = plain_act row.act row.next args rows
-
-plain_turn : (row : Row) (at : StepIn) (turn : Turn) → IsPlain (out_of row at turn)
-plain_turn row at turn_is.Step = plain_step row at.aborted at.args at.rows
-plain_turn row at (turn_is.Undo edits) = (refl, refl, refl)
-
-plain_row : (row : Option Row) (at : StepIn) (out : StepOut) → eval_row row at ≡ Some out → IsPlain out
-plain_row None at out is = absurd (none-some out is)
-plain_row (Some row) at out is = subst IsPlain (same_Some (eval row at) out is) (plain_turn row at at.turn)
-
--- while no act asks for more: a step makes no procedures, calls nobody and places nothing
-pub evaluated_plain : (before : Past) (p : ℕ) (pick : Option Server) (out : StepOut) → IsEvaluated before p pick out → IsPlain out
-evaluated_plain before p pick out ev =
-    let at = input before p ev.0 pick in
-    plain_row (row_in (sheet_for (sheets_of before) at.kind) at.row) at out (sym (said_by_row (sheets_of before) at) ∙ ev.2)
-
-pub step_plain : (before : Past) (pid : Pid) (pick : Option Server) (out : StepOut) → Allowed before (entry_is.Step pid pick out) → IsPlain out
-step_plain before pid pick out allowed = evaluated_plain before pid.0 pick out allowed.1.1.1.1.0
 
 no_child : (pid : ℕ) (up : Option Node) → children_of pid up None ≡ None
 no_child pid None = refl
 no_child pid (Some up) = refl
 
 pub grown_nothing : IsGrown []
-grown_nothing = record { none = refl; numbered = λ p lt. refl; there = λ p ge le. absurd (omega (arith, ge, le)); unmade = λ p e. refl; unreported = λ p e. refl; unaborted = λ p e. refl }
+grown_nothing = record { none = refl; numbered = λ p lt. refl; there = λ p ge le. absurd (omega (arith, ge, le)); unmade = λ p e. refl; uncalled = λ p e. refl; unreported = λ p e. refl; unaborted = λ p e. refl }
 
--- two pasts with the same procedures and steps
-pub same_grown : (J J' : Past) → made J' ≡ made J → ((p : ℕ) → node_of J' p ≡ node_of J p) → ((p : ℕ) → node_of J p ≡ None → last_answer J' p ≡ None) → ((p : ℕ) → report_of J' p ≡ report_of J p) → ((p : ℕ) → is_aborted J' p ≡ is_aborted J p) → IsGrown J → IsGrown J'
-same_grown J J' made_is node_is unmade told aborts grown = record {
+pub made_up_to : (J : Past) → IsGrown J → (p : ℕ) (node : Node) → node_of J p ≡ Some node → (1 ≤ p) × (p ≤ made J)
+made_up_to J grown p node is = elim (cases_lt (made J) p) [
+  | inl lt ↦ absurd (none-some node (sym (grown.numbered p lt) ∙ is))
+  | inr le ↦ elim (cases_eq p 0) [
+    | inl zero_is ↦ absurd (none-some node (sym (ap (node_of J) zero_is ∙ grown.none) ∙ is))
+    | inr positive ↦ (omega (arith, positive), le)
+  ]
+]
+
+-- what wasn't there has no more behind one entry
+pub record StaysUntold (J J' : Past) : Type 0 where
+  pub unmade : (p : ℕ) → node_of J p ≡ None → last_answer J p ≡ None → last_answer J' p ≡ None
+  pub uncalled : (p : ℕ) → node_of J p ≡ None → verb_of J p ≡ None → verb_of J' p ≡ None
+  pub unreported : (p : ℕ) → node_of J p ≡ None → report_of J p ≡ None → report_of J' p ≡ None
+  pub unaborted : (p : ℕ) → node_of J p ≡ None → is_aborted J p ≡ false → is_aborted J' p ≡ false
+
+-- the same procedures
+same_grown : (J J' : Past) → made J' ≡ made J → ((p : ℕ) → node_of J' p ≡ node_of J p) → StaysUntold J J' → IsGrown J → IsGrown J'
+same_grown J J' made_is node_is untold grown = record {
   none = node_is 0 ∙ grown.none;
   numbered = λ p lt. node_is p ∙ grown.numbered p (omega (arith, lt, made_is));
   there = λ p ge le. let t = grown.there p ge (omega (arith, le, made_is)) in (t.0, node_is p ∙ t.1);
-  unmade = λ p h. unmade p (sym (node_is p) ∙ h);
-  unreported = λ p h. told p ∙ grown.unreported p (sym (node_is p) ∙ h);
-  unaborted = λ p h. aborts p ∙ grown.unaborted p (sym (node_is p) ∙ h);
+  unmade = λ p h. let was = sym (node_is p) ∙ h in untold.unmade p was (grown.unmade p was);
+  uncalled = λ p h. let was = sym (node_is p) ∙ h in untold.uncalled p was (grown.uncalled p was);
+  unreported = λ p h. let was = sym (node_is p) ∙ h in untold.unreported p was (grown.unreported p was);
+  unaborted = λ p h. let was = sym (node_is p) ∙ h in untold.unaborted p was (grown.unaborted p was);
 }
+
+-- more procedures, numbered behind the others
+module _ (J J' : Past) (count : ℕ) (made_is : made J' ≡ made J + count) (old : (q : ℕ) → q ≤ made J → node_of J' q ≡ node_of J q) (new : (q : ℕ) → made J < q → q ≤ made J + count → (x : Node) × (node_of J' q ≡ Some x)) (past : (q : ℕ) → made J + count < q → node_of J' q ≡ None) (untold : StaysUntold J J') (grown : IsGrown J) where
+  -- what is not there now wasn't before
+  more_none : (q : ℕ) → node_of J' q ≡ None → node_of J q ≡ None
+  more_none q h = elim (cases_lt (made J) q) [
+    | inl lt ↦ grown.numbered q lt
+    | inr le ↦ sym (old q le) ∙ h
+  ]
+
+  more_grown : IsGrown J'
+  more_grown = record {
+    none = old 0 (omega arith) ∙ grown.none;
+    numbered = λ p lt. past p (omega (arith, lt, made_is));
+    there = λ p ge le. elim (cases_lt (made J) p) [
+      | inl lt ↦ new p lt (omega (arith, le, made_is))
+      | inr few ↦ let t = grown.there p ge few in (t.0, old p few ∙ t.1)
+    ];
+    unmade = λ p h. let was = more_none p h in untold.unmade p was (grown.unmade p was);
+    uncalled = λ p h. let was = more_none p h in untold.uncalled p was (grown.uncalled p was);
+    unreported = λ p h. let was = more_none p h in untold.unreported p was (grown.unreported p was);
+    unaborted = λ p h. let was = more_none p h in untold.unaborted p was (grown.unaborted p was);
+  }
 
 module _ (nonce : Nonce) (request : Request) (before : Past) where
   pub submit_old : (q : ℕ) → q ≢ made before + 1 → node_of (entry_is.Submit nonce request ∷ before) q ≡ node_of before q
@@ -98,25 +94,13 @@ module _ (nonce : Nonce) (request : Request) (before : Past) where
   pub submit_new : (q : ℕ) → q ≡ made before + 1 → node_of (entry_is.Submit nonce request ∷ before) q ≡ Some (submitted before request q)
   submit_new q same = cond-true (q == made before + 1) (Some (submitted before request q)) (node_of before q) (eq-eqb q (made before + 1) same)
 
-  -- what is not there now wasn't before
-  submit_none : (p : ℕ) → node_of (entry_is.Submit nonce request ∷ before) p ≡ None → node_of before p ≡ None
-  submit_none p h = elim (cases_eq p (made before + 1)) [
-    | inl new ↦ absurd (none-some (submitted before request p) (sym h ∙ submit_new p new))
-    | inr old ↦ sym (submit_old p old) ∙ h
-  ]
-
   pub grown_submit : IsGrown before → IsGrown (entry_is.Submit nonce request ∷ before)
-  grown_submit grown = record {
-    none = submit_old 0 (λ e. omega (arith, e)) ∙ grown.none;
-    numbered = λ p lt. submit_old p (λ e. omega (arith, lt, e)) ∙ grown.numbered p (omega (arith, lt));
-    there = λ p ge le. elim (cases_eq p (made before + 1)) [
-      | inl new ↦ (submitted before request p, submit_new p new)
-      | inr old ↦ let t = grown.there p ge (omega (arith, le, old)) in (t.0, submit_old p old ∙ t.1)
-    ];
-    unmade = λ p h. grown.unmade p (submit_none p h);
-    unreported = λ p h. grown.unreported p (submit_none p h);
-    unaborted = λ p h. grown.unaborted p (submit_none p h);
-  }
+  grown_submit grown = more_grown before (entry_is.Submit nonce request ∷ before) 1 refl
+      (λ q le. submit_old q (λ e. omega (arith, le, e)))
+      (λ q lt le. (submitted before request q, submit_new q (omega (arith, lt, le))))
+      (λ q lt. submit_old q (λ e. omega (arith, lt, e)) ∙ grown.numbered q (omega (arith, lt)))
+      (record { unmade = λ p h e. e; uncalled = λ p h e. e; unreported = λ p h e. e; unaborted = λ p h e. e })
+      grown
 
 module _ (pid : Pid) (pick : Option Server) (out : StepOut) (before : Past) where
   pub stepped : last_answer (entry_is.Step pid pick out ∷ before) pid.0 ≡ Some out.answer
@@ -139,36 +123,106 @@ module _ (pid : Pid) (pick : Option Server) (out : StepOut) (before : Past) wher
       | inr le ↦ cond-false (nat_lt (made before) q) (children_of pid.0 (node_of before pid.0) (slice_get (args_in out.children) (q - made before - 1))) (node_of before q) (le-ltb (made before) q le)
     ]
 
-    pub grown_step : (node : Node) → node_of before pid.0 ≡ Some node → IsGrown before → IsGrown (entry_is.Step pid pick out ∷ before)
-    grown_step node is grown = same_grown before (entry_is.Step pid pick out ∷ before) step_made (step_node grown) (λ q h. not_stepped q (λ e. none-some node (sym h ∙ ap (node_of before) e ∙ is)) ∙ grown.unmade q h) (λ p. refl) (λ p. refl) grown
+  pub step_new : (q : ℕ) → made before < q → node_of (entry_is.Step pid pick out ∷ before) q ≡ children_of pid.0 (node_of before pid.0) (slice_get (args_in out.children) (q - made before - 1))
+  step_new q lt = cond-true (nat_lt (made before) q) (children_of pid.0 (node_of before pid.0) (slice_get (args_in out.children) (q - made before - 1))) (node_of before q) (lt-ltb (made before) q lt)
 
--- while the master runs only requests for namespaces, there are no other entries than these three
+  pub step_old : (q : ℕ) → q ≤ made before → node_of (entry_is.Step pid pick out ∷ before) q ≡ node_of before q
+  step_old q le = cond-false (nat_lt (made before) q) (children_of pid.0 (node_of before pid.0) (slice_get (args_in out.children) (q - made before - 1))) (node_of before q) (le-ltb (made before) q le)
+
+  -- it adds its children
+  pub grown_step : (node : Node) → node_of before pid.0 ≡ Some node → IsGrown before → IsGrown (entry_is.Step pid pick out ∷ before)
+  grown_step node is grown = more_grown before (entry_is.Step pid pick out ∷ before) (length (args_in out.children)) refl step_old new past (record {
+    unmade = λ p h e. not_stepped p (not_own p h) ∙ e;
+    uncalled = λ p h e. cond-false (p == pid.0) (option_or out.call (verb_of before p)) (verb_of before p) (ne_eqb p pid.0 (not_own p h)) ∙ e;
+    unreported = λ p h e. e;
+    unaborted = λ p h e. e;
+  }) grown
+    where
+      not_own : (p : ℕ) → node_of before p ≡ None → p ≢ pid.0
+      not_own p h e = none-some node (sym h ∙ ap (node_of before) e ∙ is)
+
+      new : (q : ℕ) → made before < q → q ≤ made before + length (args_in out.children) → (x : Node) × (node_of (entry_is.Step pid pick out ∷ before) q ≡ Some x)
+      new q lt le = elim ((slice_get_cases (args_in out.children) (q - made before - 1)).1) [
+        | inl there ↦ (child_of pid.0 node there.0, step_new q lt ∙ ap (λ up. children_of pid.0 up (slice_get (args_in out.children) (q - made before - 1))) is ∙ ap (children_of pid.0 (Some node)) there.2)
+        | inr none ↦ (let few = none.0 in absurd (omega (arith, few, lt, le)))
+      ]
+
+      past : (q : ℕ) → made before + length (args_in out.children) < q → node_of (entry_is.Step pid pick out ∷ before) q ≡ None
+      past q lt = step_new q (omega (arith, lt)) ∙ ap (children_of pid.0 (node_of before pid.0)) (slice_get_past (args_in out.children) (q - made before - 1) (omega (arith, lt))) ∙ no_child pid.0 (node_of before pid.0)
+
+module _ (pid : Pid) (row : ℕ) (out : StepOut) (before : Past) where
+  pub undo_new : (q : ℕ) → made before < q → node_of (entry_is.Undo pid row out ∷ before) q ≡ option_map (λ args. root_node q args 1) (slice_get (args_in out.followers) (q - made before - 1))
+  undo_new q lt = cond-true (nat_lt (made before) q) (option_map (λ args. root_node q args 1) (slice_get (args_in out.followers) (q - made before - 1))) (node_of before q) (lt-ltb (made before) q lt)
+
+  pub undo_old : (q : ℕ) → q ≤ made before → node_of (entry_is.Undo pid row out ∷ before) q ≡ node_of before q
+  undo_old q le = cond-false (nat_lt (made before) q) (option_map (λ args. root_node q args 1) (slice_get (args_in out.followers) (q - made before - 1))) (node_of before q) (le-ltb (made before) q le)
+
+  -- it adds its followers
+  pub grown_undo : IsGrown before → IsGrown (entry_is.Undo pid row out ∷ before)
+  grown_undo grown = more_grown before (entry_is.Undo pid row out ∷ before) (length (args_in out.followers)) refl undo_old
+      (λ q lt le. elim ((slice_get_cases (args_in out.followers) (q - made before - 1)).1) [
+        | inl there ↦ (root_node q there.0 1, undo_new q lt ∙ ap (option_map (λ args. root_node q args 1)) there.2)
+        | inr none ↦ (let few = none.0 in absurd (omega (arith, few, lt, le)))
+      ])
+      (λ q lt. undo_new q (omega (arith, lt)) ∙ ap (option_map (λ args. root_node q args 1)) (slice_get_past (args_in out.followers) (q - made before - 1) (omega (arith, lt))))
+      (record { unmade = λ p h e. e; uncalled = λ p h e. e; unreported = λ p h e. e; unaborted = λ p h e. e })
+      grown
+
+module _ (server : Server) (before : Past) where
+  pub down_old : (q : ℕ) → q ≢ made before + 1 → node_of (entry_is.Down server ∷ before) q ≡ node_of before q
+  down_old q differs = cond-false (q == made before + 1) (Some (root_node q (args_are.Crash server) 1)) (node_of before q) (ne_eqb q (made before + 1) differs)
+
+  pub down_new : (q : ℕ) → q ≡ made before + 1 → node_of (entry_is.Down server ∷ before) q ≡ Some (root_node q (args_are.Crash server) 1)
+  down_new q same = cond-true (q == made before + 1) (Some (root_node q (args_are.Crash server) 1)) (node_of before q) (eq-eqb q (made before + 1) same)
+
+  pub grown_down : IsGrown before → IsGrown (entry_is.Down server ∷ before)
+  grown_down grown = more_grown before (entry_is.Down server ∷ before) 1 refl
+      (λ q le. down_old q (λ e. omega (arith, le, e)))
+      (λ q lt le. (root_node q (args_are.Crash server) 1, down_new q (omega (arith, lt, le))))
+      (λ q lt. down_old q (λ e. omega (arith, lt, e)) ∙ grown.numbered q (omega (arith, lt)))
+      (record { unmade = λ p h e. e; uncalled = λ p h e. e; unreported = λ p h e. e; unaborted = λ p h e. e })
+      grown
+
+grown_report : (call : Pid) (told : Told) (before : Past) → verb_of before call.0 ≢ None → IsGrown before → IsGrown (entry_is.Report call told ∷ before)
+grown_report call told before called grown = same_grown before (entry_is.Report call told ∷ before) refl (λ p. refl) (record {
+  unmade = λ p h e. e;
+  uncalled = λ p h e. e;
+  unreported = λ p h e. cond-false (p == call.0) (Some told) (report_of before p) (ne_eqb p call.0 (λ same. called (ap (verb_of before) (sym same) ∙ grown.uncalled p h))) ∙ e;
+  unaborted = λ p h e. e;
+}) grown
+
+grown_abort : (pid : Pid) (before : Past) → is_root before pid.0 ≡ true → IsGrown before → IsGrown (entry_is.Abort pid ∷ before)
+grown_abort pid before root grown = same_grown before (entry_is.Abort pid ∷ before) refl (λ p. refl) (record {
+  unmade = λ p h e. e;
+  uncalled = λ p h e. e;
+  unreported = λ p h e. e;
+  unaborted = λ p h e. cond-false (p == pid.0) true (is_aborted before p) (ne_eqb p pid.0 (λ same. false≢true (sym (ap is_root_in h) ∙ ap (is_root before) same ∙ root))) ∙ e;
+}) grown
+
 pub grown_all : (J : Past) → IsLegal J → IsGrown J
 grown_all [] legal = grown_nothing
-grown_all (entry_is.Start sheets ∷ before) legal =
-    let grown = grown_all before legal.0 in
-    same_grown before (entry_is.Start sheets ∷ before) refl (λ p. refl) (λ p h. grown.unmade p h) (λ p. refl) (λ p. refl) grown
+grown_all (entry_is.Start sheets ∷ before) legal = same_grown before (entry_is.Start sheets ∷ before) refl (λ p. refl) (record { unmade = λ p h e. e; uncalled = λ p h e. e; unreported = λ p h e. e; unaborted = λ p h e. e }) (grown_all before legal.0)
 grown_all (entry_is.Submit nonce request ∷ before) legal = grown_submit nonce request before (grown_all before legal.0)
-grown_all (entry_is.Step pid pick out ∷ before) legal =
-    let may = legal.1.1.0 in
-    grown_step pid pick out before (step_plain before pid pick out legal.1).0 may.0 may.1 (grown_all before legal.0)
-grown_all (entry_is.Undo pid row out ∷ before) legal = absurd legal.1.1.0
-grown_all (entry_is.Report call told ∷ before) legal = absurd legal.1.1.0
-grown_all (entry_is.Up server ∷ before) legal = absurd legal.1.1.0
-grown_all (entry_is.Down server ∷ before) legal = absurd legal.1.1.0
-grown_all (entry_is.Abort pid ∷ before) legal = absurd legal.1.1.0
+grown_all (entry_is.Step pid pick out ∷ before) legal = let may = legal.1.1.0 in grown_step pid pick out before may.0 may.1 (grown_all before legal.0)
+grown_all (entry_is.Undo pid row out ∷ before) legal = grown_undo pid row out before (grown_all before legal.0)
+grown_all (entry_is.Report call told ∷ before) legal = grown_report call told before legal.1.1.0.1.0 (grown_all before legal.0)
+grown_all (entry_is.Up server ∷ before) legal = same_grown before (entry_is.Up server ∷ before) refl (λ p. refl) (record { unmade = λ p h e. e; uncalled = λ p h e. e; unreported = λ p h e. e; unaborted = λ p h e. e }) (grown_all before legal.0)
+grown_all (entry_is.Down server ∷ before) legal = grown_down server before (grown_all before legal.0)
+grown_all (entry_is.Abort pid ∷ before) legal = grown_abort pid before legal.1.1.0.1.0 (grown_all before legal.0)
 
-pub made_up_to : (J : Past) → IsGrown J → (p : ℕ) (node : Node) → node_of J p ≡ Some node → (1 ≤ p) × (p ≤ made J)
-made_up_to J grown p node is = elim (cases_lt (made J) p) [
-  | inl lt ↦ absurd (none-some node (sym (grown.numbered p lt) ∙ is))
-  | inr le ↦ elim (cases_eq p 0) [
-    | inl zero_is ↦ absurd (none-some node (sym (ap (node_of J) zero_is ∙ grown.none) ∙ is))
-    | inr positive ↦ (omega (arith, positive), le)
-  ]
-]
+-- what was made stays as it is
+pub nodes_stay : (entry : Entry) (before : Past) → IsLegal (entry ∷ before) → (q : ℕ) (x : Node) → node_of before q ≡ Some x → node_of (entry ∷ before) q ≡ Some x
+nodes_stay (entry_is.Start sheets) before legal q x is = is
+nodes_stay (entry_is.Submit nonce request) before legal q x is = let few = (made_up_to before (grown_all before legal.0) q x is).1 in submit_old nonce request before q (λ e. omega (arith, e, few)) ∙ is
+nodes_stay (entry_is.Step pid pick out) before legal q x is = step_old pid pick out before q (made_up_to before (grown_all before legal.0) q x is).1 ∙ is
+nodes_stay (entry_is.Undo pid row out) before legal q x is = undo_old pid row out before q (made_up_to before (grown_all before legal.0) q x is).1 ∙ is
+nodes_stay (entry_is.Report call told) before legal q x is = is
+nodes_stay (entry_is.Up server) before legal q x is = is
+nodes_stay (entry_is.Down server) before legal q x is = let few = (made_up_to before (grown_all before legal.0) q x is).1 in down_old server before q (λ e. omega (arith, e, few)) ∙ is
+nodes_stay (entry_is.Abort pid) before legal q x is = is
 
 -- the kind of a request that may be submitted is that of a namespace
-runs_one : (request : Request) → IsTrue (is_running_kind (request_kind request)) → (ns : List ℕ) × (request ≡ request_is.CreateNamespace ns)
+pub runs_one : (request : Request) → IsTrue (is_running_kind (request_kind request)) → (ns : List ℕ) × (request ≡ request_is.CreateNamespace ns)
 runs_one (request_is.CreateNamespace ns) runs = (ns, refl)
 runs_one (request_is.DropNamespace ns) runs = absurd (false≢true runs)
 runs_one (request_is.CreateTable table keys) runs = absurd (false≢true runs)
@@ -181,16 +235,17 @@ runs_one (request_is.MergeRegions regions) runs = absurd (false≢true runs)
 runs_one (request_is.Move region to) runs = absurd (false≢true runs)
 
 pub submits_one : (before : Past) (nonce : Nonce) (request : Request) → Allowed before (entry_is.Submit nonce request) → (ns : List ℕ) × (request ≡ request_is.CreateNamespace ns)
-submits_one before nonce request allowed = runs_one request allowed.1.0
+submits_one before nonce request allowed = runs_one request allowed.1.0.1
 
-pub simple_all : (J : Past) → IsLegal J → IsSimple J
-simple_all [] legal = record { creates = λ p node is. absurd (none-some node is); unreported = λ p. refl; unaborted = λ p. refl; made_bound = omega arith }
-simple_all (entry_is.Start sheets ∷ before) legal =
-    let simple = simple_all before legal.0 in
-    record { creates = simple.creates; unreported = simple.unreported; unaborted = simple.unaborted; made_bound = omega (arith, simple.made_bound) }
-simple_all (entry_is.Submit nonce request ∷ before) legal =
-    let simple = simple_all before legal.0 in
-    let one = submits_one before nonce request legal.1 in
+pub simple_nothing : IsSimple []
+simple_nothing = record { creates = λ p node is. absurd (none-some node is); unreported = λ p. refl; unaborted = λ p. refl; untried = λ p. refl; made_bound = omega arith }
+
+pub simple_start : (sheets : List Sheet) (before : Past) → IsSimple before → IsSimple (entry_is.Start sheets ∷ before)
+simple_start sheets before simple = record { creates = simple.creates; unreported = simple.unreported; unaborted = simple.unaborted; untried = simple.untried; made_bound = omega (arith, simple.made_bound) }
+
+pub simple_submit : (nonce : Nonce) (request : Request) (before : Past) → Allowed before (entry_is.Submit nonce request) → IsSimple before → IsSimple (entry_is.Submit nonce request ∷ before)
+simple_submit nonce request before allowed simple =
+    let one = submits_one before nonce request allowed in
     record {
       creates = λ p node is. elim (cases_eq p (made before + 1)) [
         | inl new ↦ (one.0, sym (same_Some (submitted before request p) node (sym (submit_new nonce request before p new) ∙ is)) ∙ ap (λ r. submitted before r p) one.1)
@@ -198,22 +253,19 @@ simple_all (entry_is.Submit nonce request ∷ before) legal =
       ];
       unreported = simple.unreported;
       unaborted = simple.unaborted;
+      untried = simple.untried;
       made_bound = omega (arith, simple.made_bound);
     }
-simple_all (entry_is.Step pid pick out ∷ before) legal =
-    let simple = simple_all before legal.0 in
-    let plain = step_plain before pid pick out legal.1 in
-    record {
-      creates = λ p node is. simple.creates p node (sym (step_node pid pick out before plain.0 (grown_all before legal.0) p) ∙ is);
-      unreported = simple.unreported;
-      unaborted = simple.unaborted;
-      made_bound = let e = step_made pid pick out before plain.0 in omega (arith, e, simple.made_bound);
-    }
-simple_all (entry_is.Undo pid row out ∷ before) legal = absurd legal.1.1.0
-simple_all (entry_is.Report call told ∷ before) legal = absurd legal.1.1.0
-simple_all (entry_is.Up server ∷ before) legal = absurd legal.1.1.0
-simple_all (entry_is.Down server ∷ before) legal = absurd legal.1.1.0
-simple_all (entry_is.Abort pid ∷ before) legal = absurd legal.1.1.0
+
+-- a step that makes no procedures
+pub simple_step : (pid : Pid) (pick : Option Server) (out : StepOut) (before : Past) → out.children ≡ [] → out.place ≡ None → IsGrown before → IsSimple before → IsSimple (entry_is.Step pid pick out ∷ before)
+simple_step pid pick out before childless unplaced grown simple = record {
+  creates = λ p node is. simple.creates p node (sym (step_node pid pick out before childless grown p) ∙ is);
+  unreported = simple.unreported;
+  unaborted = simple.unaborted;
+  untried = λ p. cond-false ((p == pid.0) && has_failed out.place) (one_more (tries_of before p)) (tries_of before p) (and_right (p == pid.0) (has_failed out.place) (ap has_failed unplaced)) ∙ simple.untried p;
+  made_bound = let e = step_made pid pick out before childless in omega (arith, e, simple.made_bound);
+}
 
 -- the start comes first, and only there
 pub start_oldest : (J : Past) → IsLegal J → J ≢ [] → StartIsOldest J
@@ -225,11 +277,21 @@ start_oldest (entry_is.Submit nonce request ∷ before) legal some =
 start_oldest (entry_is.Step pid pick out ∷ before) legal some =
     let old = start_oldest before legal.0 legal.1.0 in
     (entry_is.Step pid pick out ∷ old.0, ap (λ b. entry_is.Step pid pick out ∷ b) old.1, old.2)
-start_oldest (entry_is.Undo pid row out ∷ before) legal some = absurd legal.1.1.0
-start_oldest (entry_is.Report call told ∷ before) legal some = absurd legal.1.1.0
-start_oldest (entry_is.Up server ∷ before) legal some = absurd legal.1.1.0
-start_oldest (entry_is.Down server ∷ before) legal some = absurd legal.1.1.0
-start_oldest (entry_is.Abort pid ∷ before) legal some = absurd legal.1.1.0
+start_oldest (entry_is.Undo pid row out ∷ before) legal some =
+    let old = start_oldest before legal.0 legal.1.0 in
+    (entry_is.Undo pid row out ∷ old.0, ap (λ b. entry_is.Undo pid row out ∷ b) old.1, old.2)
+start_oldest (entry_is.Report call told ∷ before) legal some =
+    let old = start_oldest before legal.0 legal.1.0 in
+    (entry_is.Report call told ∷ old.0, ap (λ b. entry_is.Report call told ∷ b) old.1, old.2)
+start_oldest (entry_is.Up server ∷ before) legal some =
+    let old = start_oldest before legal.0 legal.1.0 in
+    (entry_is.Up server ∷ old.0, ap (λ b. entry_is.Up server ∷ b) old.1, old.2)
+start_oldest (entry_is.Down server ∷ before) legal some =
+    let old = start_oldest before legal.0 legal.1.0 in
+    (entry_is.Down server ∷ old.0, ap (λ b. entry_is.Down server ∷ b) old.1, old.2)
+start_oldest (entry_is.Abort pid ∷ before) legal some =
+    let old = start_oldest before legal.0 legal.1.0 in
+    (entry_is.Abort pid ∷ old.0, ap (λ b. entry_is.Abort pid ∷ b) old.1, old.2)
 
 -- the sheets of a journal are those of the kinds that the master runs
 pub sheets_are : (J : Past) → IsLegal J → J ≢ [] → AreSheets (sheets_of J)
@@ -237,11 +299,11 @@ sheets_are [] legal some = absurd (some refl)
 sheets_are (entry_is.Start sheets ∷ before) legal some = legal.1.0.1
 sheets_are (entry_is.Submit nonce request ∷ before) legal some = sheets_are before legal.0 legal.1.0
 sheets_are (entry_is.Step pid pick out ∷ before) legal some = sheets_are before legal.0 legal.1.0
-sheets_are (entry_is.Undo pid row out ∷ before) legal some = absurd legal.1.1.0
-sheets_are (entry_is.Report call told ∷ before) legal some = absurd legal.1.1.0
-sheets_are (entry_is.Up server ∷ before) legal some = absurd legal.1.1.0
-sheets_are (entry_is.Down server ∷ before) legal some = absurd legal.1.1.0
-sheets_are (entry_is.Abort pid ∷ before) legal some = absurd legal.1.1.0
+sheets_are (entry_is.Undo pid row out ∷ before) legal some = sheets_are before legal.0 legal.1.0
+sheets_are (entry_is.Report call told ∷ before) legal some = sheets_are before legal.0 legal.1.0
+sheets_are (entry_is.Up server ∷ before) legal some = sheets_are before legal.0 legal.1.0
+sheets_are (entry_is.Down server ∷ before) legal some = sheets_are before legal.0 legal.1.0
+sheets_are (entry_is.Abort pid ∷ before) legal some = sheets_are before legal.0 legal.1.0
 
 -- what stands under a nonce behind one more entry that makes nothing new of it
 under_on : (entry : Entry) (J : Past) (nonce : Nonce) (p : ℕ) (under : IsUnder J nonce p) → ((node : Node) → node_of J p ≡ Some node → node_of (entry ∷ J) p ≡ Some node) → IsUnder (entry ∷ J) nonce p
@@ -265,14 +327,14 @@ by_nonce_under (entry_is.Submit used request ∷ before) legal nonce p is = elim
       record { newer = []; used = used; request = request; older = before; splits = refl; same = on; place = new; node_is = submit_new used request before p new }
   | inr off ↦
       let under = by_nonce_under before legal.0 nonce p (sym (cond-false (is_same used nonce) (Some (made before + 1)) (by_nonce before nonce) off) ∙ is) in
-      under_on (entry_is.Submit used request) before nonce p under (λ node h. submit_old used request before p (λ e. let le = (made_up_to before (grown_all before legal.0) p node h).1 in omega (arith, e, le)) ∙ h)
+      under_on (entry_is.Submit used request) before nonce p under (nodes_stay (entry_is.Submit used request) before legal p)
 ]
-by_nonce_under (entry_is.Step pid pick out ∷ before) legal nonce p is = under_on (entry_is.Step pid pick out) before nonce p (by_nonce_under before legal.0 nonce p is) (λ node h. step_node pid pick out before (step_plain before pid pick out legal.1).0 (grown_all before legal.0) p ∙ h)
-by_nonce_under (entry_is.Undo pid row out ∷ before) legal nonce p is = absurd legal.1.1.0
-by_nonce_under (entry_is.Report call told ∷ before) legal nonce p is = absurd legal.1.1.0
-by_nonce_under (entry_is.Up server ∷ before) legal nonce p is = absurd legal.1.1.0
-by_nonce_under (entry_is.Down server ∷ before) legal nonce p is = absurd legal.1.1.0
-by_nonce_under (entry_is.Abort pid ∷ before) legal nonce p is = absurd legal.1.1.0
+by_nonce_under (entry_is.Step pid pick out ∷ before) legal nonce p is = under_on (entry_is.Step pid pick out) before nonce p (by_nonce_under before legal.0 nonce p is) (nodes_stay (entry_is.Step pid pick out) before legal p)
+by_nonce_under (entry_is.Undo pid row out ∷ before) legal nonce p is = under_on (entry_is.Undo pid row out) before nonce p (by_nonce_under before legal.0 nonce p is) (nodes_stay (entry_is.Undo pid row out) before legal p)
+by_nonce_under (entry_is.Report call told ∷ before) legal nonce p is = under_on (entry_is.Report call told) before nonce p (by_nonce_under before legal.0 nonce p is) (nodes_stay (entry_is.Report call told) before legal p)
+by_nonce_under (entry_is.Up server ∷ before) legal nonce p is = under_on (entry_is.Up server) before nonce p (by_nonce_under before legal.0 nonce p is) (nodes_stay (entry_is.Up server) before legal p)
+by_nonce_under (entry_is.Down server ∷ before) legal nonce p is = under_on (entry_is.Down server) before nonce p (by_nonce_under before legal.0 nonce p is) (nodes_stay (entry_is.Down server) before legal p)
+by_nonce_under (entry_is.Abort pid ∷ before) legal nonce p is = under_on (entry_is.Abort pid) before nonce p (by_nonce_under before legal.0 nonce p is) (nodes_stay (entry_is.Abort pid) before legal p)
 
 pub by_nonce_made : (J : Past) → IsLegal J → (nonce : Nonce) (p : ℕ) → by_nonce J nonce ≡ Some p → (1 ≤ p) × (p ≤ made J)
 by_nonce_made J legal nonce p is =
@@ -281,3 +343,25 @@ by_nonce_made J legal nonce p is =
 
 pub stepper_made : (pid : Pid) (pick : Option Server) (out : StepOut) (before : Past) → IsLegal (entry_is.Step pid pick out ∷ before) → (1 ≤ pid.0) × (pid.0 ≤ made before)
 stepper_made pid pick out before legal = let may = legal.1.1.0 in made_up_to before (grown_all before legal.0) pid.0 may.0 may.1
+
+-- region ids stay within their limit
+pub ids_within : (J : Past) → IsLegal J → (table : TableName) → drawn J table ≤ 4096
+ids_within [] legal table = omega arith
+ids_within (entry_is.Submit nonce request ∷ before) legal table = by (ids_within before legal.0 table) (table_of_request request) refl
+  where
+    was : drawn before table ≤ 4096 → drawn before table + 0 ≤ 4096
+    was le = omega (arith, le)
+
+    by : drawn before table ≤ 4096 → (o : Option TableName) → table_of_request request ≡ o → drawn before table + ids_for o (new_ids request) table ≤ 4096
+    by le None e = was le
+    by le (Some own) e = elim (cases_Bool (same_table own table)) [
+      | inl on ↦ rw on (subst (λ t. drawn before t + new_ids request ≤ 4096) (same_table-is own table on) (legal.1.1.1.1.0 own e))
+      | inr off ↦ rw off (was le)
+    ]
+ids_within (entry_is.Start sheets ∷ before) legal table = ids_within before legal.0 table
+ids_within (entry_is.Step pid pick out ∷ before) legal table = ids_within before legal.0 table
+ids_within (entry_is.Undo pid row out ∷ before) legal table = ids_within before legal.0 table
+ids_within (entry_is.Report call told ∷ before) legal table = ids_within before legal.0 table
+ids_within (entry_is.Up server ∷ before) legal table = ids_within before legal.0 table
+ids_within (entry_is.Down server ∷ before) legal table = ids_within before legal.0 table
+ids_within (entry_is.Abort pid ∷ before) legal table = ids_within before legal.0 table

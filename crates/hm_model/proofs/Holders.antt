@@ -1,17 +1,17 @@
 -- One procedure at a time has begun and hasn't ended, and no nonce acts twice.
 use Rattle.std.proofs.Common.{None, Option, Some, [], ap, arith, false, inl, inr, refl, sym, true, ℕ, ◌+◌, ◌∙◌, ◌∷◌, ◌≡◌, ◌≢◌}
-use Rattle.std.proofs.lemmas.Bool.{cases_eq, cond-false, true≢false}
+use Rattle.std.proofs.lemmas.Bool.{cases_eq, cond-false, false≢true, true≢false}
 use Rattle.std.proofs.lemmas.Bool.Decides.{nat_tests}
 use Rattle.std.proofs.lemmas.Option.{none-some}
 use Rattle.hm_data.specs.declared.step.StepOut.{StepOut}
 use Rattle.hm_names.specs.Server.{Server}
 use Rattle.hm_names.specs.declared.nonce.Nonce.{Nonce}
 use Rattle.hm_names.specs.declared.pid.Pid.{Pid}
-use Rattle.hm_model.proofs.Grown.{grown_all, not_stepped, simple_all}
-use Rattle.hm_model.proofs.Stages.{flat_all, shaped, step_all}
+use Rattle.hm_model.proofs.Grown.{grown_all, not_stepped}
+use Rattle.hm_model.proofs.Stages.{flat_all, shaped, simple_all, step_all}
 use Rattle.hm_model.specs.Answers.{is_stopped, last_answer}
 use Rattle.hm_model.specs.Journal.{Past}
-use Rattle.hm_model.specs.Laws.{OneHolds}
+use Rattle.hm_model.specs.StageLaws.{OneHolds}
 use Rattle.hm_model.specs.Locks.{Holds, NoneConflict}
 use Rattle.hm_model.specs.Nonces.{NoncesActOnce, by_nonce, is_same}
 use Rattle.hm_model.specs.Rules.{IsFresh, IsLegal}
@@ -55,11 +55,11 @@ one_holds (entry_is.Step pid pick out ∷ before) legal p q holds other =
       | inl here ↦ elim (cases_eq q pid.0) [ inl there ↦ here ∙ sym there | inr differs ↦ absurd (alone q differs (was q differs other)) ]
       | inr differs ↦ absurd (alone p differs (was p differs holds))
     ]
-one_holds (entry_is.Undo pid row out ∷ before) legal p q holds other = absurd legal.1.1.0
-one_holds (entry_is.Report call told ∷ before) legal p q holds other = absurd legal.1.1.0
-one_holds (entry_is.Up server ∷ before) legal p q holds other = absurd legal.1.1.0
-one_holds (entry_is.Down server ∷ before) legal p q holds other = absurd legal.1.1.0
-one_holds (entry_is.Abort pid ∷ before) legal p q holds other = absurd legal.1.1.0
+one_holds (entry_is.Undo pid row out ∷ before) legal p q holds other = absurd (false≢true legal.1.1.0.0)
+one_holds (entry_is.Report call told ∷ before) legal p q holds other = absurd (false≢true legal.1.1.0.0)
+one_holds (entry_is.Up server ∷ before) legal p q holds other = absurd (false≢true legal.1.1.0.0)
+one_holds (entry_is.Down server ∷ before) legal p q holds other = absurd (false≢true legal.1.1.0.0)
+one_holds (entry_is.Abort pid ∷ before) legal p q holds other = absurd (false≢true legal.1.1.0.0)
 
 pub none_conflict : (J : Past) → IsLegal J → NoneConflict J
 none_conflict J legal p q differs holds other clash = differs (one_holds J legal p q holds other)

@@ -3,13 +3,28 @@ pub mod KeyTests
 pub mod Prefixes
 pub mod Rows
 pub mod Sheets
+pub mod Forms
 pub mod Grown
+pub mod Forest
+pub mod Apart
+pub mod Waiting
+pub mod Touched
+pub mod Calls
 pub mod ValidSheets
 pub mod Stages
 pub mod Ranges
 pub mod Holders
 pub mod Counting
 pub mod ByHand
+pub mod PlainActs
+pub mod ExactRows
+pub mod CallSteps
+pub mod Said
+pub mod LegalSteps
+pub mod StepDoes
+pub mod Trees
+pub mod UndoMakes
 mod Crashed
 mod Undone
 mod Beside
+pub mod NameTies

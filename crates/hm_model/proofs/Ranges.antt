@@ -1,26 +1,37 @@
 -- The rows that procedures are at.
-use Rattle.std.proofs.Common.{List, None, Option, Some, [], ap, arith, false, length, refl, subst, sym, ℕ, ◌<◌, ◌∙◌, ◌≡◌, ◌≢◌}
-use Rattle.std.proofs.lemmas.Bool.{true≢false}
-use Rattle.std.proofs.lemmas.Option.{none-some, slice_get_within}
+use Rattle.std.proofs.Common.{List, None, Option, Some, [], ap, arith, false, inl, inr, length, not, refl, slice_get, subst, sym, ℕ, ◌&&◌, ◌<◌, ◌∙◌, ◌∷◌, ◌≡◌, ◌≢◌}
+use Rattle.std.proofs.lemmas.Bool.{cases_eq, false≢true, true≢false}
+use Rattle.std.proofs.lemmas.Option.{none-some, same_Some, slice_get_within}
 use Rattle.hm_data.specs.declared.answer.Answer.{Answer}
 use Rattle.hm_data.specs.declared.args.Args.{Args}
 use Rattle.hm_data.specs.declared.place.Goal.{Goal}
 use Rattle.hm_data.specs.declared.request.Request.{Request}
 use Rattle.hm_data.specs.declared.sheet.Row.{Row}
 use Rattle.hm_data.specs.declared.sheet.Sheet.{Sheet}
-use Rattle.hm_model.proofs.Grown.{sheets_are, simple_all}
-use Rattle.hm_model.proofs.Stages.{flat_all, staged_all}
-use Rattle.hm_model.proofs.ValidSheets.{leads_to_add, sheet_there}
+use Rattle.hm_data.specs.declared.step.StepIn.{StepIn}
+use Rattle.hm_data.specs.declared.step.StepOut.{StepOut}
+use Rattle.hm_names.specs.Server.{Server}
+use Rattle.hm_names.specs.declared.pid.Pid.{Pid}
+use Rattle.hm_model.proofs.Grown.{not_stepped, sheets_are, stepped}
+use Rattle.hm_model.proofs.Stages.{flat_all, simple_all, staged_all}
+use Rattle.hm_model.proofs.Forms.{row_formed}
+use Rattle.hm_model.proofs.Trees.{grown_all as trees_all, step_of}
+use Rattle.hm_model.proofs.ValidSheets.{leads_to_add, row_there as there_at, sheet_there, valid_row}
 use Rattle.hm_model.specs.Answers.{is_stopped, last_answer, row_after, row_of}
+use Rattle.hm_model.specs.Inputs.{step_input}
 use Rattle.hm_model.specs.Journal.{Past}
+use Rattle.hm_model.specs.Validity.{IsValid}
 use Rattle.hm_model.specs.Kinds.{first_row_of, goal_row, request_row}
 use Rattle.hm_model.specs.Phase.{cause}
 use Rattle.hm_model.specs.Rules.{IsLegal}
 use Rattle.hm_model.specs.Sheets.{row_in, sheets_of}
-use Rattle.hm_model.specs.Stages.{IsPlaced, LeadsToAdd, Stage, create_row, creating}
-use Rattle.hm_model.specs.Steps.{CanStep}
+use Rattle.hm_model.specs.StageLaws.{IsPlaced}
+use Rattle.hm_model.specs.Stages.{LeadsToAdd, Stage, create_row, creating, creating_input}
+use Rattle.hm_model.specs.Evaluation.{CanStep, is_cut_off, is_picking, is_step, picks_at, wants_server}
 use Rattle.hm_model.specs.Tree.{Node, node_of}
+use Rattle.hm_model.specs.Views.{region_of}
 use Rattle.hm_data.specs.declared.answer.Answer.TheVariants as answer_is
+use Rattle.hm_data.specs.declared.entry.Entry.TheVariants as entry_is
 use Rattle.hm_data.specs.declared.args.Args.TheVariants as args_are
 use Rattle.hm_data.specs.declared.request.Request.TheVariants as request_is
 use Rattle.hm_data.specs.declared.place.Goal.TheVariants as goal_is
@@ -54,45 +65,96 @@ first_row_low (args_are.FenceCall server) = omega arith
 first_row_low (args_are.LayoutCall root) = omega arith
 first_row_low (args_are.SweepLayout root) = omega arith
 
-row_after_low : (sheets : List Sheet) (first : ℕ) (last : Option Answer) → first < 6 → Stage sheets last → row_after first last < 256
-row_after_low sheets first None low stage = omega (arith, low)
-row_after_low sheets first (Some (answer_is.More next)) low stage = let lt = stage.3 in omega (arith, lt)
-row_after_low sheets first (Some (answer_is.Wait next)) low stage = absurd stage
-row_after_low sheets first (Some (answer_is.Await next)) low stage = absurd stage
-row_after_low sheets first (Some (answer_is.Done told)) low stage = omega arith
-row_after_low sheets first (Some (answer_is.Fail cause)) low stage = omega arith
-row_after_low sheets first (Some answer_is.Undone) low stage = absurd stage
+-- the row behind an answer doesn't hang on the first one
+row_behind : (first : ℕ) (answer : Answer) → row_after first (Some answer) ≡ row_after 0 (Some answer)
+row_behind first (answer_is.More next) = refl
+row_behind first (answer_is.Wait next) = refl
+row_behind first (answer_is.Await next) = refl
+row_behind first (answer_is.Done told) = refl
+row_behind first (answer_is.Fail cause) = refl
+row_behind first answer_is.Undone = refl
+
+-- the next row of a valid sheet's row is one of the first 32, or none
+next_low : (sheet : Sheet) → IsValid sheet → (place : ℕ) (row : Row) → slice_get sheet.rows place ≡ Some row → row.next < 256
+next_low sheet valid place row is = elim (valid_row sheet valid place row is).0 [
+  | inl end ↦ omega (arith, end)
+  | inr within ↦
+      let there = there_at sheet.rows row.next within in
+      let low = (valid_row sheet valid row.next there.0 there.1).1 in
+      omega (arith, low)
+]
+
+step_low : (pid : Pid) (pick : Option Server) (out : StepOut) (before : Past) → IsLegal (entry_is.Step pid pick out ∷ before) → row_after 0 (Some out.answer) < 256
+step_low pid pick out before legal =
+    let step = step_of pid pick out before (trees_all before legal.0) legal in
+    let low = next_low step.sheet step.valid (row_of before pid.0 step.node) step.row step.row_is in
+    let leads = (row_formed step.row (step_input before pid.0 step.node pick)).leads in
+    subst (λ (o : StepOut). row_after 0 (Some o.answer) < 256) (sym step.out_is) (elim leads [
+      | inl next ↦ omega (arith, next, low)
+      | inr other ↦ elim other [ inl first ↦ omega (arith, first) | inr end ↦ omega (arith, end) ]
+    ])
+
+answers_low : (J : Past) → IsLegal J → (p : ℕ) (answer : Answer) → last_answer J p ≡ Some answer → row_after 0 (Some answer) < 256
+answers_low [] legal p answer is = absurd (none-some answer is)
+answers_low (entry_is.Start sheets ∷ before) legal p answer is = answers_low before legal.0 p answer is
+answers_low (entry_is.Submit nonce request ∷ before) legal p answer is = answers_low before legal.0 p answer is
+answers_low (entry_is.Step pid pick out ∷ before) legal p answer is = elim (cases_eq p pid.0) [
+  | inl same ↦
+      let own : out.answer ≡ answer = same_Some out.answer answer (sym (stepped pid pick out before) ∙ ap (last_answer (entry_is.Step pid pick out ∷ before)) (sym same) ∙ is) in
+      subst (λ a. row_after 0 (Some a) < 256) own (step_low pid pick out before legal)
+  | inr differs ↦ answers_low before legal.0 p answer (sym (not_stepped pid pick out before p differs) ∙ is)
+]
+answers_low (entry_is.Undo pid row out ∷ before) legal p answer is = answers_low before legal.0 p answer is
+answers_low (entry_is.Report call told ∷ before) legal p answer is = answers_low before legal.0 p answer is
+answers_low (entry_is.Up server ∷ before) legal p answer is = answers_low before legal.0 p answer is
+answers_low (entry_is.Down server ∷ before) legal p answer is = answers_low before legal.0 p answer is
+answers_low (entry_is.Abort pid ∷ before) legal p answer is = answers_low before legal.0 p answer is
 
 -- a row is a byte
 pub row_fits : (J : Past) → IsLegal J → (p : ℕ) (node : Node) → row_of J p node < 256
-row_fits J legal p node = row_after_low (sheets_of J) (first_row_of node.args) (last_answer J p) (first_row_low node.args) ((staged_all J legal).staged p)
+row_fits J legal p node = by (last_answer J p) refl
+  where
+    by : (last : Option Answer) → last_answer J p ≡ last → row_after (first_row_of node.args) last < 256
+    by None e = let low = first_row_low node.args in omega (arith, low)
+    by (Some answer) e = subst (λ n. n < 256) (sym (row_behind (first_row_of node.args) answer)) (answers_low J legal p answer e)
 
 begun : (J : Past) (p : ℕ) (node : Node) → node_of J p ≡ Some node → J ≢ []
 begun J p node is e = none-some node (sym (ap (λ b. node_of b p) e) ∙ is)
 
 -- the row of an unfinished procedure is there
-row_there : (sheets : List Sheet) (last : Option Answer) → LeadsToAdd sheets → Stage sheets last → is_stopped last ≡ false → (row : Row) × (create_row sheets (row_after 0 last) ≡ Some row)
-row_there sheets None leads stage runs = (leads.0, leads.1)
-row_there sheets (Some (answer_is.More next)) leads stage runs = (stage.0, stage.1)
+row_there : (sheets : List Sheet) (last : Option Answer) → LeadsToAdd sheets → Stage sheets last → is_stopped last ≡ false → (row : Row) × (create_row sheets (row_after 0 last) ≡ Some row) × (is_picking row.act ≡ false)
+row_there sheets None leads stage runs = (leads.0, leads.1, ap is_picking leads.2.act)
+row_there sheets (Some (answer_is.More next)) leads stage runs = (stage.0, stage.1, ap is_picking stage.2.act)
 row_there sheets (Some (answer_is.Wait next)) leads stage runs = absurd stage
 row_there sheets (Some (answer_is.Await next)) leads stage runs = absurd stage
 row_there sheets (Some (answer_is.Done told)) leads stage runs = absurd (true≢false runs)
 row_there sheets (Some (answer_is.Fail cause)) leads stage runs = absurd (true≢false runs)
 row_there sheets (Some answer_is.Undone) leads stage runs = absurd stage
 
+-- an act that places no region needs no pick
+unpicking : (row : Row) (at : StepIn) → is_picking row.act ≡ false → picks_at (Some row) at ≡ false
+unpicking row at none = ap (λ b. b && (is_step at.turn && (not (is_cut_off row at) && wants_server (region_of at.args) at))) none
+
 placed_creating : (J : Past) → IsLegal J → J ≢ [] → (p : ℕ) (ns : List ℕ) → is_stopped (last_answer J p) ≡ false → IsPlaced J p (creating p ns)
 placed_creating J legal some p ns runs =
     let are = sheets_are J legal some in
     let there = sheet_there (sheets_of J) are in
     let row = row_there (sheets_of J) (last_answer J p) (leads_to_add (sheets_of J) are) ((staged_all J legal).staged p) runs in
-    let within : row_of J p (creating p ns) < length there.0.rows = slice_get_within there.0.rows (row_of J p (creating p ns)) row.0 (ap (λ s. row_in s (row_of J p (creating p ns))) (sym there.1) ∙ row.1) in
+    let row_is : slice_get there.0.rows (row_of J p (creating p ns)) ≡ Some row.0 = ap (λ s. row_in s (row_of J p (creating p ns))) (sym there.1) ∙ row.1 in
+    let within : row_of J p (creating p ns) < length there.0.rows = slice_get_within there.0.rows (row_of J p (creating p ns)) row.0 row_is in
     record {
       sheet = there.0;
       sheet_is = there.1;
       row = row.0;
       row_is = row.1;
       within = within;
-      can = λ pick. subst (CanStep there.0) (sym ((flat_all J legal).sees p ns pick)) (there.3, refl, within);
+      can = λ pick. subst (CanStep there.0) (sym ((flat_all J legal).sees p ns pick)) (record {
+        kind = there.3;
+        row = within;
+        ids = (omega arith, tt);
+        first = omega arith;
+        pick = λ picked. absurd (false≢true (sym (ap (λ o. picks_at o (creating_input J p ns pick)) row_is ∙ unpicking row.0 (creating_input J p ns pick) row.2) ∙ picked));
+      });
     }
 
 pub placed : (J : Past) → IsLegal J → (p : ℕ) (node : Node) → node_of J p ≡ Some node → is_stopped (last_answer J p) ≡ false → IsPlaced J p node

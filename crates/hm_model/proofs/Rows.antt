@@ -16,7 +16,7 @@ use Rattle.hm_model.specs.Catalog.{Catalog, at_start, cat, edited, keep, keys_of
 use Rattle.hm_model.specs.Inputs.{rows_read}
 use Rattle.hm_model.specs.Journal.{Past}
 use Rattle.hm_model.specs.Keys.{same_key}
-use Rattle.hm_model.specs.Laws.{AllBehind, AreInOrder}
+use Rattle.hm_model.specs.RowLaws.{AllBehind, AreInOrder}
 use Rattle.hm_model.specs.Locks.{IsIn, is_ns, reads}
 use Rattle.hm_data.specs.declared.entry.Entry.TheVariants as entry_is
 use Rattle.hm_data.specs.declared.args.Args.TheVariants as args_are
@@ -197,3 +197,89 @@ read_one J ns first row some = one_read (is_ns ns) (cat J) (keys_of J) (key_is.N
 
 pub row_of_ns : (J : Past) (ns : List ℕ) (first : ℕ) → row_at (rows_read J (args_are.Root (request_is.CreateNamespace ns) first)) (key_is.Ns ns) ≡ cat J (key_is.Ns ns)
 row_of_ns J ns first = row_read J (args_are.Root (request_is.CreateNamespace ns) first) (key_is.Ns ns) (reads_ns ns first)
+
+-- each of the keys is left
+abbrev AllLeft : (CatKey → Type 0) → List CatKey → Type 0
+AllLeft Left [] = Unit {0}
+AllLeft Left (key ∷ keys) = Left key × AllLeft Left keys
+
+-- the keys that are left but one
+abbrev But : (CatKey → Type 0) → CatKey → CatKey → Type 0
+But Left key q = Left q × (q ≢ key)
+
+-- two lists of rows in key order are the same where what is asked for is the same
+module _ (asked : CatKey → Bool) (one other : Catalog) (agree : (q : CatKey) → asked q ≡ true → one q ≡ other q) where
+  -- of the keys that are left, those that are asked for and have a row are listed
+  abbrev Lists : Catalog → (CatKey → Type 0) → List CatKey → Type 0
+  Lists there Left keys = (q : CatKey) → Left q → asked q ≡ true → there q ≢ None → IsIn q keys
+
+  -- a key without a row adds none
+  skip : (there : Catalog) (key : CatKey) (more : List (CatKey × CatRow)) → (asked key ≡ true → there key ≢ None → ⊥) → keep (asked key) key (there key) more ≡ more
+  skip there key more none = by (asked key) refl (there key) refl
+    where
+      by : (b : Bool) → asked key ≡ b → (o : Option CatRow) → there key ≡ o → keep b key o more ≡ more
+      by false e o e' = refl
+      by true e None e' = refl
+      by true e (Some row) e' = absurd (none e (λ h. none-some row (sym h ∙ e')))
+
+  same_keep : (key : CatKey) (more : List (CatKey × CatRow)) → keep (asked key) key (one key) more ≡ keep (asked key) key (other key) more
+  same_keep key more = by (asked key) refl
+    where
+      by : (b : Bool) → asked key ≡ b → keep b key (one key) more ≡ keep b key (other key) more
+      by false e = refl
+      by true e = ap (λ o. keep true key o more) (agree key e)
+
+  behind_differs : (key q : CatKey) → key_cmp key q ≡ Less → q ≢ key
+  behind_differs key q less same = let tied : key_cmp key q ≡ Equal = key_cmp-same key q (sym same) in cc (tied, less)
+
+  left_behind : (Left : CatKey → Type 0) (key : CatKey) (keys : List CatKey) → AllBehind key keys → AllLeft Left keys → AllLeft (But Left key) keys
+  left_behind Left key [] behind left = tt
+  left_behind Left key (q ∷ keys) behind left = ((left.0, behind_differs key q behind.0), left_behind Left key keys behind.1 left.1)
+
+  listed_behind : (there : Catalog) (Left : CatKey → Type 0) (key : CatKey) (keys : List CatKey) → Lists there Left (key ∷ keys) → Lists there (But Left key) keys
+  listed_behind there Left key keys lists q left on some = elim (lists q left.0 on some) [ inl same ↦ absurd (left.1 same) | inr later ↦ later ]
+
+  listed_still : (there : Catalog) (Left : CatKey → Type 0) (key : CatKey) (keys : List CatKey) → Lists there Left keys → Lists there (But Left key) keys
+  listed_still there Left key keys lists q left on some = lists q left.0 on some
+
+  none_left : (Left : CatKey → Type 0) (more : List CatKey) → AllLeft Left more → Lists one Left [] → rows_at asked other more ≡ []
+  none_left Left [] left lists = refl
+  none_left Left (key ∷ more) left lists =
+      skip other key (rows_at asked other more) (λ on some. lists key left.0 on (λ e. some (sym (agree key on) ∙ e)))
+      ∙ none_left Left more left.1 lists
+
+  abbrev Again : List CatKey → Type 1
+  Again keys = (more : List CatKey) (Left : CatKey → Type 0) → AreInOrder keys → AreInOrder more → AllLeft Left keys → AllLeft Left more → Lists one Left keys → Lists other Left more → rows_at asked one keys ≡ rows_at asked other more
+
+  alike : (keys more : List CatKey) (Left : CatKey → Type 0) → AreInOrder keys → AreInOrder more → AllLeft Left keys → AllLeft Left more → Lists one Left keys → Lists other Left more → rows_at asked one keys ≡ rows_at asked other more
+  alike [] more Left order order' left left' lists lists' = sym (none_left Left more left' lists)
+  alike (key ∷ keys) more Left order order' left left' lists lists' = go (alike keys) more Left order' left.0 left.1 left' lists lists'
+    where
+      go : Again keys → (more : List CatKey) (Left : CatKey → Type 0) → AreInOrder more → Left key → AllLeft Left keys → AllLeft Left more → Lists one Left (key ∷ keys) → Lists other Left more → rows_at asked one (key ∷ keys) ≡ rows_at asked other more
+      go again [] Left order' here left left' lists lists' =
+          skip one key (rows_at asked one keys) (λ on some. lists' key here on (λ e. some (agree key on ∙ e)))
+          ∙ again [] (But Left key) order.1 tt (left_behind Left key keys order.0 left) tt (listed_behind one Left key keys lists) (listed_still other Left key [] lists')
+      go again (first ∷ more) Left order' here left left' lists lists' = by (go again more) (key_cmp key first) refl
+        where
+          by : ((Left : CatKey → Type 0) → AreInOrder more → Left key → AllLeft Left keys → AllLeft Left more → Lists one Left (key ∷ keys) → Lists other Left more → rows_at asked one (key ∷ keys) ≡ rows_at asked other more) → (o : Ordering) → key_cmp key first ≡ o → rows_at asked one (key ∷ keys) ≡ rows_at asked other (first ∷ more)
+          by on Less e =
+              skip one key (rows_at asked one keys) (λ asks some. behind_out key (first ∷ more) (e, behind_further key first more e order'.0) (lists' key here asks (λ h. some (agree key asks ∙ h))))
+              ∙ again (first ∷ more) (But Left key) order.1 order' (left_behind Left key keys order.0 left) (left_behind Left key (first ∷ more) (e, behind_further key first more e order'.0) left') (listed_behind one Left key keys lists) (listed_still other Left key (first ∷ more) lists')
+          by on Equal e =
+              let same = key_cmp-is key first e in
+              same_keep key (rows_at asked one keys)
+              ∙ ap (keep (asked key) key (other key)) (again more (But Left key) order.1 order'.1 (left_behind Left key keys order.0 left) (left_behind Left key more (subst (λ k. AllBehind k more) (sym same) order'.0) left'.1) (listed_behind one Left key keys lists) (listed_behind other Left key more (subst (λ k. Lists other Left (k ∷ more)) (sym same) lists')))
+              ∙ ap (λ k. keep (asked k) k (other k) (rows_at asked other more)) same
+          by on Greater e =
+              let less = turned_back key first e in
+              on (But Left first) order'.1 (here, λ same. behind_differs first key less same) (left_behind Left first keys (behind_further first key keys less order.0) left) (left_behind Left first more order'.0 left'.1) (listed_still one Left first (key ∷ keys) lists) (listed_behind other Left first more lists')
+              ∙ sym (skip other first (rows_at asked other more) (λ asks some. behind_out first (key ∷ keys) (less, behind_further first key keys less order.0) (lists first left'.0 asks (λ h. some (sym (agree first asks) ∙ h)))))
+
+all_there : (keys : List CatKey) → AllLeft (λ q. Unit {0}) keys
+all_there [] = tt
+all_there (key ∷ keys) = (tt, all_there keys)
+
+-- the rows read are the same where each row that is asked for is
+pub read_alike : (J J' : Past) (args : Args) → ((key : CatKey) → reads args key ≡ true → cat J key ≡ cat J' key) → rows_read J args ≡ rows_read J' args
+read_alike J J' args agree =
+    alike (reads args) (cat J) (cat J') agree (keys_of J) (keys_of J') (λ q. Unit {0}) (keys_in_order J) (keys_in_order J') (all_there (keys_of J)) (all_there (keys_of J')) (λ q left on some. has_key J q some) (λ q left on some. has_key J' q some)

@@ -1,6 +1,6 @@
 -- How far the procedures of a legal journal are, while the master runs only requests for namespaces.
-use Rattle.std.proofs.Common.{Bool, List, None, Option, Some, [], ap, false, if◌then◌else◌, inl, inr, is_some, not, refl, subst, suc, sym, true, zero, ℕ, ◌&&◌, ◌++◌, ◌+◌, ◌==◌, ◌||◌, ◌∙◌, ◌∷◌, ◌≡◌, ◌⊎◌}
-use Rattle.std.proofs.lemmas.Bool.{and_from, and_right, cases_eq, cond-false, cond-true, eq-eqb, ne_eqb, not_from_false, or_left}
+use Rattle.std.proofs.Common.{Bool, List, None, Option, Some, [], ap, false, if◌then◌else◌, inl, inr, is_some, nat_lt, not, refl, subst, suc, sym, true, zero, ℕ, ◌&&◌, ◌++◌, ◌+◌, ◌==◌, ◌||◌, ◌∙◌, ◌∷◌, ◌≡◌, ◌⊎◌}
+use Rattle.std.proofs.lemmas.Bool.{and_from, and_right, cases_eq, cond-false, cond-true, eq-eqb, false≢true, ne_eqb, not_from_false, or_left}
 use Rattle.std.proofs.lemmas.Option.{same_Some}
 use Rattle.hm_data.specs.declared.answer.Answer.{Answer}
 use Rattle.hm_data.specs.declared.catalog.CatKey.{CatKey}
@@ -12,22 +12,29 @@ use Rattle.hm_data.specs.declared.step.StepIn.{StepIn}
 use Rattle.hm_data.specs.declared.step.StepOut.{StepOut}
 use Rattle.hm_names.specs.Server.{Server}
 use Rattle.hm_names.specs.declared.pid.Pid.{Pid}
-use Rattle.hm_model.proofs.Grown.{grown_all, not_stepped, sheets_are, simple_all, stepped}
+use Rattle.hm_model.proofs.Grown.{grown_all, not_stepped, sheets_are, simple_nothing, simple_start, simple_step, simple_submit, stepped}
 use Rattle.hm_model.proofs.Rows.{row_of_ns}
-use Rattle.hm_model.proofs.Sheets.{said_by_row}
 use Rattle.hm_model.proofs.ValidSheets.{leads_to_add}
 use Rattle.hm_model.specs.Answers.{done_with, failing, is_aborted, is_stopped, last_answer, no_row, report_of, row_after, row_of}
-use Rattle.hm_model.specs.Catalog.{cat}
-use Rattle.hm_model.specs.Inputs.{input, rows_read, step_input, turn_input, undoes}
+use Rattle.hm_model.specs.Acts.{act_answer}
+use Rattle.hm_model.specs.Catalog.{cat, row_at}
+use Rattle.hm_model.specs.Checks.{namespace_free}
+use Rattle.hm_model.specs.Evaluation.{answer_at, answer_of, is_cut_off, is_picking, picks_at, picks_by}
+use Rattle.hm_model.specs.Inputs.{ends_below, fenced_if, input, is_new_child, made_at_step, rows_read, step_input, turn_input, undoes}
 use Rattle.hm_model.specs.Journal.{Past}
 use Rattle.hm_model.specs.Laws.{IsGrown}
-use Rattle.hm_model.specs.Phase.{all_below, all_stopped, cause, child_in, children_ended, end_of, ended_node, ends_below, in_tree, is_parent, or_else, own_phase, phase, phase_table, rolled_back, root_ended, root_over, stopped_in}
+use Rattle.hm_model.specs.Outs.{checked, gives, on_to}
+use Rattle.hm_model.specs.Phase.{all_below, all_stopped, cause, child_in, children_ended, end_of, ended_node, in_tree, is_parent, or_else, own_phase, phase, phase_table, rolled_back, root_ended, root_over, stopped_in}
+use Rattle.hm_model.specs.Picks.{PicksRight, is_pick_right, needs_server}
+use Rattle.hm_model.specs.Places.{tries_of}
+use Rattle.hm_model.specs.Procedures.{sheet_at}
+use Rattle.hm_model.specs.Rest.{MayStep}
 use Rattle.hm_model.specs.Rules.{Allowed, IsLegal}
-use Rattle.hm_model.specs.Sheets.{sheets_of, undo_by, undo_of_next}
-use Rattle.hm_model.specs.Stages.{AddsIt, FindsFree, FindsTaken, IsAddPlace, IsFlat, IsShaped, IsSimple, IsStaged, IsStep, LeadsToAdd, Stage, adding, create_row, creating, creating_input, failing_in, simple_phase}
-use Rattle.hm_model.specs.Steps.{act_out, answer_of, check_namespace_free, eval_row, gives, on_to, set_row}
+use Rattle.hm_model.specs.Sheets.{row_in, sheets_of, undo_by, undo_of_next}
+use Rattle.hm_model.specs.Stages.{AddsIt, FindsFree, FindsTaken, IsAddPlace, IsFlat, IsPlain, IsShaped, IsSimple, IsStaged, IsStep, LeadsToAdd, Stage, adding, create_row, creating, creating_input, failing_in, simple_phase}
 use Rattle.hm_model.specs.Tree.{Node, is_top, made, node_of, root_in, root_of}
 use Rattle.hm_model.specs.Undo.{Undoable, is_empty, pushed, row_if_there, stack}
+use Rattle.hm_model.specs.Whereabouts.{called_by}
 use Rattle.hm_data.specs.declared.entry.Entry.TheVariants as entry_is
 use Rattle.hm_data.specs.declared.answer.Answer.TheVariants as answer_is
 use Rattle.hm_data.specs.declared.args.Args.TheVariants as args_are
@@ -57,8 +64,8 @@ childless_all J simple p = all_below-of (made J + 1) (λ q. not (child_in p (nod
 ends_none : (J : Past) → IsSimple J → (p n : ℕ) → ends_below J p n ≡ []
 ends_none J simple p zero = refl
 ends_none J simple p (suc n) =
-    ap (λ l. l ++ (if child_in p (node_of J n) then end_of n (done_with (last_answer J n)) else [])) (ends_none J simple p n)
-    ∙ cond-false (child_in p (node_of J n)) (end_of n (done_with (last_answer J n))) [] (no_child_in J simple p n)
+    ap (λ l. l ++ (if is_new_child J p n then end_of n (done_with (last_answer J n)) else [])) (ends_none J simple p n)
+    ∙ cond-false (is_new_child J p n) (end_of n (done_with (last_answer J n))) [] (and_right (nat_lt (made_at_step J p) n) (child_in p (node_of J n)) (no_child_in J simple p n))
 
 stopped_all : (J : Past) → IsSimple J → (r : ℕ) → all_stopped J r ≡ true
 stopped_all J simple r = all_below-of (made J + 1) (stopped_in J r) (λ q. by q (node_of J q) refl)
@@ -120,9 +127,21 @@ module _ (J : Past) (grown : IsGrown J) (simple : IsSimple J) (staged : IsStaged
   sees_creating : (p : ℕ) (ns : List ℕ) (pick : Option Server) → input J p (creating p ns) pick ≡ creating_input J p ns pick
   sees_creating p ns pick =
       ap (λ b. turn_input J b (stack J p) (step_input J p (creating p ns) pick)) (undoes_none p (creating p ns))
-      ∙ ap (λ l. let at : StepIn = record (creating_input J p ns pick) { ends = l; report = report_of J p; aborted = is_aborted J p } in at) (ends_none J simple p (made J + 1))
-      ∙ ap (λ o. let at : StepIn = record (creating_input J p ns pick) { report = o; aborted = is_aborted J p } in at) (simple.unreported p)
-      ∙ ap (λ b. let at : StepIn = record (creating_input J p ns pick) { aborted = b } in at) (simple.unaborted p)
+      ∙ ap (λ l. let at : StepIn = record (creating_input J p ns pick) { tries = tries_of J p; ends = l; report = report_of J p; aborted = is_aborted J p } in at) (ends_none J simple p (made J + 1))
+      ∙ ap (λ o. let at : StepIn = record (creating_input J p ns pick) { tries = tries_of J p; report = o; aborted = is_aborted J p } in at) (simple.unreported p)
+      ∙ ap (λ b. let at : StepIn = record (creating_input J p ns pick) { tries = tries_of J p; aborted = b } in at) (simple.unaborted p)
+      ∙ ap (λ n. let at : StepIn = record (creating_input J p ns pick) { tries = n } in at) (simple.untried p)
+
+  -- no row of a procedure without a region picks a server
+  picks_no_row : (p : ℕ) (ns : List ℕ) (row : Option Row) → picks_at row (creating_input J p ns None) ≡ false
+  picks_no_row p ns None = refl
+  picks_no_row p ns (Some row) =
+      and_right (is_picking row.act) (not (is_cut_off row (creating_input J p ns None)) && false) (and_right (not (is_cut_off row (creating_input J p ns None))) false refl)
+
+  picks_nothing : (p : ℕ) (ns : List ℕ) → needs_server J p (creating p ns) ≡ false
+  picks_nothing p ns =
+      ap (λ at. picks_by (sheet_at J at) at) (sees_creating p ns None)
+      ∙ picks_no_row p ns (row_in (sheet_at J (creating_input J p ns None)) (row_of J p (creating p ns)))
 
   pub flat_from : IsFlat J
   flat_from = record {
@@ -134,6 +153,7 @@ module _ (J : Past) (grown : IsGrown J) (simple : IsSimple J) (staged : IsStaged
     ended_is_stopped = λ p. ended_is p (node_of J p) refl;
     undoes_nothing = undoes_none;
     sees = sees_creating;
+    picks_none = picks_nothing;
   }
 
 -- what may step hasn't stopped
@@ -146,24 +166,45 @@ runs_by sheets (Some (answer_is.Done told)) stage h = cc
 runs_by sheets (Some (answer_is.Fail cause)) stage h = cc
 runs_by sheets (Some answer_is.Undone) stage h = absurd stage
 
+-- what a procedure that may step is
+pub runs_there : (J : Past) → IsSimple J → IsFlat J → (p : ℕ) → MayStep J p → simple_phase (last_answer J p) ≡ phase_is.Runnable
+runs_there J simple flat p may = elim may.2.1 [
+  | inl run ↦ sym (flat.phase_is_simple p may.0 may.1) ∙ run
+  | inr wait ↦ elim wait.1 [
+    | inl told ↦ absurd (told (simple.unreported p))
+    | inr fenced ↦
+        let c = simple.creates p may.0 may.1 in
+        absurd (false≢true (ap (λ (n : Node). fenced_if J (called_by n.args)) (sym c.1) ∙ fenced))
+  ]
+]
+
+-- a pick of a procedure that makes a namespace is none
+pub unpicked : (J : Past) → IsFlat J → (p : ℕ) (ns : List ℕ) (pick : Option Server) → node_of J p ≡ Some (creating p ns) → PicksRight J p pick → pick ≡ None
+unpicked J flat p ns pick node_is right =
+    by pick (ap (is_pick_right J p (creating p ns) pick) (sym (flat.picks_none p ns)) ∙ ap (λ n. is_pick_right J p n pick (needs_server J p n)) (same_Some (creating p ns) right.0 (sym node_is ∙ right.1)) ∙ right.2)
+  where
+    by : (pick : Option Server) → is_pick_right J p (creating p ns) pick false ≡ true → pick ≡ None
+    by None e = refl
+    by (Some server) e = absurd (false≢true e)
+
 module _ (before : Past) (p : ℕ) (ns : List ℕ) (pick : Option Server) (flat : IsFlat before) where
   abbrev rows : List (CatKey × CatRow)
   rows = rows_read before (args_are.Root (request_is.CreateNamespace ns) 1)
 
-  said_row : (row : Row) → create_row (sheets_of before) (row_of before p (creating p ns)) ≡ Some row → answer_of (sheets_of before) (input before p (creating p ns) pick) ≡ Some (act_out row.act row.next (args_are.Root (request_is.CreateNamespace ns) 1) rows)
-  said_row row is = ap (answer_of (sheets_of before)) (flat.sees p ns pick) ∙ said_by_row (sheets_of before) (creating_input before p ns pick) ∙ ap (λ o. eval_row o (creating_input before p ns pick)) is
+  said_row : (row : Row) → create_row (sheets_of before) (row_of before p (creating p ns)) ≡ Some row → answer_of (sheets_of before) (input before p (creating p ns) pick) ≡ Some (act_answer row.act row.next (creating_input before p ns pick))
+  said_row row is = ap (answer_of (sheets_of before)) (flat.sees p ns pick) ∙ ap (λ o. answer_at o (creating_input before p ns pick)) is
 
-  said_check : (row : Row) → create_row (sheets_of before) (row_of before p (creating p ns)) ≡ Some row → row.act ≡ act_is.CheckNamespaceFree → answer_of (sheets_of before) (input before p (creating p ns) pick) ≡ Some (check_namespace_free row.next (cat before (key_is.Ns ns)))
+  said_check : (row : Row) → create_row (sheets_of before) (row_of before p (creating p ns)) ≡ Some row → row.act ≡ act_is.CheckNamespaceFree → answer_of (sheets_of before) (input before p (creating p ns) pick) ≡ Some (checked row.next (namespace_free (cat before (key_is.Ns ns))))
   said_check row is act =
       said_row row is
-      ∙ ap (λ a. Some (act_out a row.next (args_are.Root (request_is.CreateNamespace ns) 1) rows)) act
-      ∙ ap (λ o. Some (check_namespace_free row.next o)) (row_of_ns before ns 1)
+      ∙ ap (λ a. Some (act_answer a row.next (creating_input before p ns pick))) act
+      ∙ ap (λ o. Some (checked row.next (namespace_free o))) (row_of_ns before ns 1)
 
   said_add : (row : Row) → create_row (sheets_of before) (row_of before p (creating p ns)) ≡ Some row → row.act ≡ act_is.AddNamespace → row.next ≡ no_row → answer_of (sheets_of before) (input before p (creating p ns) pick) ≡ Some (gives (answer_is.Done told_is.Nothing) (adding before ns ∷ []))
   said_add row is act ends =
       said_row row is
-      ∙ ap (λ a. Some (act_out a row.next (args_are.Root (request_is.CreateNamespace ns) 1) rows)) act
-      ∙ ap (λ n. Some (gives (on_to n) (set_row rows (key_is.Ns ns) (Some row_is.Ns) ∷ []))) ends
+      ∙ ap (λ a. Some (act_answer a row.next (creating_input before p ns pick))) act
+      ∙ ap (λ n. let edit : Edit = record { key = key_is.Ns ns; before = row_at rows (key_is.Ns ns); after = Some row_is.Ns } in Some (gives (on_to n) (edit ∷ []))) ends
       ∙ ap (λ o. let edit : Edit = record { key = key_is.Ns ns; before = o; after = Some row_is.Ns } in Some (gives (answer_is.Done told_is.Nothing) (edit ∷ []))) (row_of_ns before ns 1)
 
 module _ (pid : Pid) (pick : Option Server) (out : StepOut) (before : Past) (grown : IsGrown before) (simple : IsSimple before) (staged : IsStaged before) (flat : IsFlat before) (leads : LeadsToAdd (sheets_of before)) where
@@ -183,9 +224,9 @@ module _ (pid : Pid) (pick : Option Server) (out : StepOut) (before : Past) (gro
           does = by (cat before (key_is.Ns ns)) refl (sym said_is ∙ gives_out);
         }
       where
-        by : (o : Option CatRow) → cat before (key_is.Ns ns) ≡ o → Some (check_namespace_free leads.0.next (cat before (key_is.Ns ns))) ≡ Some out → FindsFree before pid.0 ns out ⊎ (FindsTaken before pid.0 ns out ⊎ AddsIt before pid.0 ns out)
-        by None e h = inl (record { unstepped = none; free = e; next = leads.0.next; adds_then = leads.3; out_is = sym (same_Some (check_namespace_free leads.0.next (cat before (key_is.Ns ns))) out h) ∙ ap (check_namespace_free leads.0.next) e })
-        by (Some row) e h = inr (inl (record { unstepped = none; row = row; taken = e; out_is = sym (same_Some (check_namespace_free leads.0.next (cat before (key_is.Ns ns))) out h) ∙ ap (check_namespace_free leads.0.next) e }))
+        by : (o : Option CatRow) → cat before (key_is.Ns ns) ≡ o → Some (checked leads.0.next (namespace_free (cat before (key_is.Ns ns)))) ≡ Some out → FindsFree before pid.0 ns out ⊎ (FindsTaken before pid.0 ns out ⊎ AddsIt before pid.0 ns out)
+        by None e h = inl (record { unstepped = none; free = e; next = leads.0.next; adds_then = leads.3; out_is = sym (same_Some (checked leads.0.next (namespace_free (cat before (key_is.Ns ns)))) out h) ∙ ap (λ o. checked leads.0.next (namespace_free o)) e })
+        by (Some row) e h = inr (inl (record { unstepped = none; row = row; taken = e; out_is = sym (same_Some (checked leads.0.next (namespace_free (cat before (key_is.Ns ns)))) out h) ∙ ap (λ o. checked leads.0.next (namespace_free o)) e }))
 
     at_add : (next : ℕ) → last_answer before pid.0 ≡ Some (answer_is.More next) → IsAddPlace (sheets_of before) next → IsStep pid pick out before
     at_add next checked place =
@@ -210,10 +251,11 @@ module _ (pid : Pid) (pick : Option Server) (out : StepOut) (before : Past) (gro
       let node_is : node_of before pid.0 ≡ Some (creating pid.0 c.0) = may.1 ∙ ap Some c.1 in
       let own : ev.0 ≡ creating pid.0 c.0 = same_Some ev.0 (creating pid.0 c.0) (sym ev.1 ∙ node_is) in
       let gives_out : answer_of (sheets_of before) (input before pid.0 (creating pid.0 c.0) pick) ≡ Some out = ap (λ n. answer_of (sheets_of before) (input before pid.0 n pick)) (sym own) ∙ ev.2 in
-      let runs : simple_phase (last_answer before pid.0) ≡ phase_is.Runnable = elim may.2 [ inl run ↦ sym (flat.phase_is_simple pid.0 may.0 may.1) ∙ run | inr wait ↦ absurd (wait.1 (simple.unreported pid.0)) ] in
+      let runs = runs_there before simple flat pid.0 may in
+      let none = unpicked before flat pid.0 c.0 pick node_is allowed.1.1.1.0 in
       elim (runs_by (sheets_of before) (last_answer before pid.0) (staged.staged pid.0) runs) [
-        | inl none ↦ at_check c.0 node_is allowed.1.1.1.0 gives_out none
-        | inr more ↦ at_add c.0 node_is allowed.1.1.1.0 gives_out more.0 more.1 more.2
+        | inl none_yet ↦ at_check c.0 node_is none gives_out none_yet
+        | inr more ↦ at_add c.0 node_is none gives_out more.0 more.1 more.2
       ]
 
 stage_step : (pid : Pid) (pick : Option Server) (out : StepOut) (before : Past) → IsStep pid pick out before → Stage (sheets_of before) (Some out.answer)
@@ -253,39 +295,6 @@ staged_step pid pick out before step staged = record {
     either true l = refl
     either false l = refl
 
-step_behind : (pid : Pid) (pick : Option Server) (out : StepOut) (before : Past) → IsLegal before → Allowed before (entry_is.Step pid pick out) → IsStaged before → IsStep pid pick out before
-step_behind pid pick out before legal allowed staged =
-    let grown = grown_all before legal in
-    let simple = simple_all before legal in
-    step_from pid pick out before grown simple staged (flat_from before grown simple staged) (leads_to_add (sheets_of before) (sheets_are before legal allowed.0)) allowed
-
-pub staged_all : (J : Past) → IsLegal J → IsStaged J
-staged_all [] legal = record { staged = λ p. tt; stacked = λ p. refl; caused = λ p. refl }
-staged_all (entry_is.Start sheets ∷ before) legal = record { staged = λ p. restaged p (last_answer before p) (none_at_first p); stacked = (staged_all before legal.0).stacked; caused = (staged_all before legal.0).caused }
-  where
-    none_at_first : (p : ℕ) → last_answer before p ≡ None
-    none_at_first p = ap (λ b. last_answer b p) legal.1.0.0
-
-    restaged : (p : ℕ) (o : Option Answer) → o ≡ None → Stage sheets o
-    restaged p o e = subst (Stage sheets) (sym e) tt
-staged_all (entry_is.Submit nonce request ∷ before) legal =
-    let was = staged_all before legal.0 in
-    record { staged = was.staged; stacked = was.stacked; caused = was.caused }
-staged_all (entry_is.Step pid pick out ∷ before) legal =
-    let was = staged_all before legal.0 in
-    staged_step pid pick out before (step_behind pid pick out before legal.0 legal.1 was) was
-staged_all (entry_is.Undo pid row out ∷ before) legal = absurd legal.1.1.0
-staged_all (entry_is.Report call told ∷ before) legal = absurd legal.1.1.0
-staged_all (entry_is.Up server ∷ before) legal = absurd legal.1.1.0
-staged_all (entry_is.Down server ∷ before) legal = absurd legal.1.1.0
-staged_all (entry_is.Abort pid ∷ before) legal = absurd legal.1.1.0
-
-pub step_all : (pid : Pid) (pick : Option Server) (out : StepOut) (before : Past) → IsLegal (entry_is.Step pid pick out ∷ before) → IsStep pid pick out before
-step_all pid pick out before legal = step_behind pid pick out before legal.0 legal.1 (staged_all before legal.0)
-
-pub flat_all : (J : Past) → IsLegal J → IsFlat J
-flat_all J legal = flat_from J (grown_all J legal) (simple_all J legal) (staged_all J legal)
-
 pub shaped : (pid : Pid) (pick : Option Server) (out : StepOut) (before : Past) (step : IsStep pid pick out before) → IsShaped before pid.0 step.ns out
 shaped pid pick out before step = elim step.does [
   | inl free ↦ subst (IsShaped before pid.0 step.ns) (sym free.out_is) (record { childless = refl; followerless = refl; uncalled = refl; unplaced = refl; runs = inl free.unstepped; answers = inl (free.next, refl); edits = inl refl })
@@ -294,3 +303,62 @@ shaped pid pick out before step = elim step.does [
     | inr adds ↦ subst (IsShaped before pid.0 step.ns) (sym adds.out_is) (record { childless = refl; followerless = refl; uncalled = refl; unplaced = refl; runs = inr (adds.next, adds.checked); answers = inr (inl refl); edits = inr refl })
   ]
 ]
+
+-- what is kept of a legal journal, together
+pub record IsKept (J : Past) : Type 0 where
+  pub simple : IsSimple J
+  pub staged : IsStaged J
+
+step_behind : (pid : Pid) (pick : Option Server) (out : StepOut) (before : Past) → IsLegal before → Allowed before (entry_is.Step pid pick out) → IsKept before → IsStep pid pick out before
+step_behind pid pick out before legal allowed kept =
+    let grown = grown_all before legal in
+    step_from pid pick out before grown kept.simple kept.staged (flat_from before grown kept.simple kept.staged) (leads_to_add (sheets_of before) (sheets_are before legal allowed.0)) allowed
+
+kept_step : (pid : Pid) (pick : Option Server) (out : StepOut) (before : Past) → IsLegal before → Allowed before (entry_is.Step pid pick out) → IsKept before → IsKept (entry_is.Step pid pick out ∷ before)
+kept_step pid pick out before legal allowed was =
+    let step = step_behind pid pick out before legal allowed was in
+    let shape = shaped pid pick out before step in
+    record {
+      simple = simple_step pid pick out before shape.childless shape.unplaced (grown_all before legal) was.simple;
+      staged = staged_step pid pick out before step was.staged;
+    }
+
+staged_start : (sheets : List Sheet) (before : Past) → before ≡ [] → IsStaged before → IsStaged (entry_is.Start sheets ∷ before)
+staged_start sheets before first staged = record { staged = λ p. restaged (last_answer before p) (ap (λ b. last_answer b p) first); stacked = staged.stacked; caused = staged.caused }
+  where
+    restaged : (o : Option Answer) → o ≡ None → Stage sheets o
+    restaged o e = subst (Stage sheets) (sym e) tt
+
+-- while the master runs only requests for namespaces, there are no other entries than these three
+pub kept_all : (J : Past) → IsLegal J → IsKept J
+kept_all [] legal = record { simple = simple_nothing; staged = record { staged = λ p. tt; stacked = λ p. refl; caused = λ p. refl } }
+kept_all (entry_is.Start sheets ∷ before) legal =
+    let was = kept_all before legal.0 in
+    record { simple = simple_start sheets before was.simple; staged = staged_start sheets before legal.1.0.0 was.staged }
+kept_all (entry_is.Submit nonce request ∷ before) legal =
+    let was = kept_all before legal.0 in
+    record { simple = simple_submit nonce request before legal.1 was.simple; staged = record { staged = was.staged.staged; stacked = was.staged.stacked; caused = was.staged.caused } }
+kept_all (entry_is.Step pid pick out ∷ before) legal = kept_step pid pick out before legal.0 legal.1 (kept_all before legal.0)
+kept_all (entry_is.Undo pid row out ∷ before) legal = absurd (false≢true legal.1.1.0.0)
+kept_all (entry_is.Report call told ∷ before) legal = absurd (false≢true legal.1.1.0.0)
+kept_all (entry_is.Up server ∷ before) legal = absurd (false≢true legal.1.1.0.0)
+kept_all (entry_is.Down server ∷ before) legal = absurd (false≢true legal.1.1.0.0)
+kept_all (entry_is.Abort pid ∷ before) legal = absurd (false≢true legal.1.1.0.0)
+
+pub simple_all : (J : Past) → IsLegal J → IsSimple J
+simple_all J legal = (kept_all J legal).simple
+
+pub staged_all : (J : Past) → IsLegal J → IsStaged J
+staged_all J legal = (kept_all J legal).staged
+
+pub step_all : (pid : Pid) (pick : Option Server) (out : StepOut) (before : Past) → IsLegal (entry_is.Step pid pick out ∷ before) → IsStep pid pick out before
+step_all pid pick out before legal = step_behind pid pick out before legal.0 legal.1 (kept_all before legal.0)
+
+-- a step makes no procedures, calls nobody and places nothing
+pub step_plain : (pid : Pid) (pick : Option Server) (out : StepOut) (before : Past) → IsLegal (entry_is.Step pid pick out ∷ before) → IsPlain out
+step_plain pid pick out before legal =
+    let shape = shaped pid pick out before (step_all pid pick out before legal) in
+    (shape.childless, shape.uncalled, shape.unplaced)
+
+pub flat_all : (J : Past) → IsLegal J → IsFlat J
+flat_all J legal = let kept = kept_all J legal in flat_from J (grown_all J legal) kept.simple kept.staged

@@ -3,11 +3,13 @@ use Rattle.std.proofs.Common.{List, None, Some, [], codes, false, refl, true, �
 use Rattle.hm_data.specs.declared.catalog.Edit.{Edit}
 use Rattle.hm_data.specs.declared.sheet.Sheet.{Sheet}
 use Rattle.hm_model.specs.Catalog.{cat}
-use Rattle.hm_model.specs.Deeds.{in_turn}
+use Rattle.hm_model.specs.Serial.{serial}
+use Rattle.hm_model.specs.Entries.{entries_of}
 use Rattle.hm_model.specs.Journal.{Past}
 use Rattle.hm_model.specs.Outs.{calls, spawns}
 use Rattle.hm_model.specs.Records.{unfinished}
-use Rattle.hm_model.specs.Steps.{fails, gives, turned, turned_round}
+use Rattle.hm_model.specs.Outs.{fails, gives}
+use Rattle.hm_model.specs.Undoing.{turned, turned_round}
 use Rattle.hm_model.specs.Tree.{drawn, node_of}
 use Rattle.hm_data.specs.declared.entry.Entry.TheVariants as entry_is
 use Rattle.hm_data.specs.declared.answer.Answer.TheVariants as answer_is
@@ -24,7 +26,7 @@ use Rattle.hm_data.specs.declared.act.Back.TheVariants as back_is
 use Rattle.hm_data.specs.declared.call.Told.TheVariants as told_is
 use Rattle.hm_data.specs.declared.call.Verb.TheVariants as verb_is
 use Rattle.hm_data.specs.declared.record.Phase.TheVariants as phase_is
-use Rattle.hm_model.proofs.ByHand.{edit, phase_of, pid, price_of, row, says, sheet, table, region}
+use Rattle.hm_model.proofs.ByHand.{edit, phase_of, pid, cost_of, row, says, sheet, table, region}
 
 abbrev sheets : List Sheet
 sheets =
@@ -117,7 +119,7 @@ table_added = refl
 table_gone : cat undone9 (key_is.Table table) ≡ None
 table_gone = refl
 
-no_deed : in_turn undone12 (key_is.Table table) ≡ None
+no_deed : serial undone12 (key_is.Table table) ≡ None
 no_deed = refl
 
 drawn_ids : drawn undone12 table ≡ 2
@@ -127,8 +129,11 @@ follower_is_root : node_of undone8 3 ≡ Some (record { above = []; root = 3; ar
 follower_is_root = refl
 
 -- the follower has just the entries that it costs: numbers 8 and 10 to 12
-follower_costs : price_of undone12 3 ≡ 4
+follower_costs : cost_of undone12 3 ≡ 4
 follower_costs = refl
+
+follower_takes : entries_of undone12 3 ≡ 4
+follower_takes = refl
 
 swept : phase_of undone12 3 ≡ Some phase_is.Success
 swept = refl

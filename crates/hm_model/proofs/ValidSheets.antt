@@ -101,7 +101,7 @@ fits_is line row h =
       ],
     )
 
-row_there : (rows : List Row) (place : ℕ) → place < length rows → (row : Row) × (slice_get rows place ≡ Some row)
+pub row_there : (rows : List Row) (place : ℕ) → place < length rows → (row : Row) × (slice_get rows place ≡ Some row)
 row_there [] place lt = absurd (omega (arith, lt))
 row_there (row ∷ rows) zero lt = (row, refl)
 row_there (row ∷ rows) (suc place) lt = row_there rows place (omega (arith, lt))

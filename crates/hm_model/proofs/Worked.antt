@@ -9,14 +9,18 @@ use Rattle.hm_data.specs.declared.sheet.Sheet.{Sheet}
 use Rattle.hm_data.specs.declared.step.StepOut.{StepOut}
 use Rattle.hm_names.specs.Server.{Server}
 use Rattle.hm_model.specs.Catalog.{cat}
+use Rattle.hm_model.specs.Holding.{MayBegin}
 use Rattle.hm_model.specs.Inputs.{IsEvaluated, input}
 use Rattle.hm_model.specs.Journal.{Past}
 use Rattle.hm_model.specs.Phase.{ended, phase}
 use Rattle.hm_model.specs.Records.{unfinished}
-use Rattle.hm_model.specs.Rules.{AreSheets, Breaks, IsLegal, MayBegin, MayStep}
+use Rattle.hm_model.specs.Picks.{PicksRight, is_pick_right, needs_server}
+use Rattle.hm_model.specs.Rest.{MayStep}
+use Rattle.hm_model.specs.Rules.{AreSheets, Breaks, IsLegal}
 use Rattle.hm_model.specs.Serial.{serial}
 use Rattle.hm_model.specs.Sheets.{sheets_of}
-use Rattle.hm_model.specs.Steps.{answer_of, gives}
+use Rattle.hm_model.specs.Evaluation.{answer_of}
+use Rattle.hm_model.specs.Outs.{gives}
 use Rattle.hm_model.specs.Tree.{Node, node_of}
 use Rattle.hm_model.specs.Validity.{IsFirstFault, IsValid, first_broken, sheet_rules}
 use Rattle.hm_data.specs.declared.entry.Entry.TheVariants as entry_is
@@ -108,16 +112,16 @@ submitted_legal : IsLegal submitted
 submitted_legal = (
   (
     (tt, ((refl, sheets_right), tt)),
-    ((λ e. cc), (refl, (inr refl, tt))),
+    ((λ e. cc), ((refl, refl), (inr refl, ((λ table e. absurd (none-some table e)), tt)))),
   ),
-  ((λ e. cc), (refl, (inr refl, tt))),
+  ((λ e. cc), ((refl, refl), (inr refl, ((λ table e. absurd (none-some table e)), tt)))),
 )
 
 first_begins : MayBegin submitted 1
 first_begins root unstepped q differs other some = absurd (some refl)
 
 refused_legal : IsLegal refused
-refused_legal = (submitted_legal, ((λ e. cc), ((node 1 (codes "default"), refl, inl refl), (first_begins, (refl, ((node 1 (codes "default"), refl, refl), tt))))))
+refused_legal = (submitted_legal, ((λ e. cc), ((node 1 (codes "default"), refl, (refl, inl refl)), (first_begins, ((node 1 (codes "default"), refl, refl), ((node 1 (codes "default"), refl, refl), tt))))))
 
 second_begins : MayBegin refused 2
 second_begins root unstepped q differs other some = elim (cases_eq q 1) [
@@ -126,14 +130,14 @@ second_begins root unstepped q differs other some = elim (cases_eq q 1) [
 ]
 
 checked_legal : IsLegal checked
-checked_legal = (refused_legal, ((λ e. cc), ((node 2 (codes "shop"), refl, inl refl), (second_begins, (refl, ((node 2 (codes "shop"), refl, refl), tt))))))
+checked_legal = (refused_legal, ((λ e. cc), ((node 2 (codes "shop"), refl, (refl, inl refl)), (second_begins, ((node 2 (codes "shop"), refl, refl), ((node 2 (codes "shop"), refl, refl), tt))))))
 
 second_goes_on : MayBegin checked 2
 second_goes_on root unstepped q differs other some = absurd (none-some (answer_is.More 1) (sym unstepped))
 
 -- the whole journal is legal
 pub added_legal : IsLegal added
-added_legal = (checked_legal, ((λ e. cc), ((node 2 (codes "shop"), refl, inl refl), (second_goes_on, (refl, ((node 2 (codes "shop"), refl, refl), tt))))))
+added_legal = (checked_legal, ((λ e. cc), ((node 2 (codes "shop"), refl, (refl, inl refl)), (second_goes_on, ((node 2 (codes "shop"), refl, refl), ((node 2 (codes "shop"), refl, refl), tt))))))
 
 -- what a step answers otherwise than its sheet
 not_said : (before : Past) (p : ℕ) (out said : StepOut) (its : Node) → node_of before p ≡ Some its → answer_of (sheets_of before) (input before p its None) ≡ Some said → said.answer ≢ out.answer → IsEvaluated before p None out → ⊥
@@ -145,8 +149,8 @@ done_at_once : Breaks refused (entry_is.Step (record { 0 = 2 }) None (gives (ans
 done_at_once = inr (
   (λ e. cc),
   inr (
-    (node 2 (codes "shop"), refl, inl refl),
-    inr (second_begins, inr (refl, inl (refl, not_said refused 2 (gives (answer_is.Done told_is.Nothing) []) (gives (answer_is.More 1) []) (node 2 (codes "shop")) refl refl (λ e. cc)))),
+    (node 2 (codes "shop"), refl, (refl, inl refl)),
+    inr (second_begins, inr ((node 2 (codes "shop"), refl, refl), inl (refl, not_said refused 2 (gives (answer_is.Done told_is.Nothing) []) (gives (answer_is.More 1) []) (node 2 (codes "shop")) refl refl (λ e. cc)))),
   ),
 )
 
@@ -157,7 +161,7 @@ third_not_there = inr ((λ e. cc), inl (refl, λ may. none-some may.0 may.1))
 not_running : (before : Past) (p : ℕ) (its : Node) → node_of before p ≡ Some its → phase before p its ≢ phase_is.Runnable → phase before p its ≢ phase_is.Awaiting → MayStep before p → ⊥
 not_running before p its is run wait may =
     let same : its ≡ may.0 = same_Some its may.0 (sym is ∙ may.1) in
-    elim may.2 [ inl runs ↦ run (ap (phase before p) same ∙ runs) | inr waits ↦ wait (ap (phase before p) same ∙ waits.0) ]
+    elim may.2.1 [ inl runs ↦ run (ap (phase before p) same ∙ runs) | inr waits ↦ wait (ap (phase before p) same ∙ waits.0) ]
 
 first_has_failed : Breaks refused (entry_is.Step (record { 0 = 1 }) None (gives (answer_is.More 1) [])) 5
 first_has_failed = inr ((λ e. cc), inl (refl, not_running refused 1 (node 1 (codes "default")) refl (λ e. cc) (λ e. cc)))
@@ -174,12 +178,12 @@ begun =
 begun_legal : IsLegal begun
 begun_legal = (
   (
-    ((tt, ((refl, sheets_right), tt)), ((λ e. cc), (refl, (inr refl, tt)))),
-    ((λ e. cc), (refl, (inr refl, tt))),
+    ((tt, ((refl, sheets_right), tt)), ((λ e. cc), ((refl, refl), (inr refl, ((λ table e. absurd (none-some table e)), tt))))),
+    ((λ e. cc), ((refl, refl), (inr refl, ((λ table e. absurd (none-some table e)), tt)))),
   ),
   (
     (λ e. cc),
-    ((node 1 (codes "shop"), refl, inl refl), ((λ root unstepped q differs other some. absurd (some refl)), (refl, ((node 1 (codes "shop"), refl, refl), tt)))),
+    ((node 1 (codes "shop"), refl, (refl, inl refl)), ((λ root unstepped q differs other some. absurd (some refl)), ((node 1 (codes "shop"), refl, refl), ((node 1 (codes "shop"), refl, refl), tt)))),
   ),
 )
 
@@ -187,16 +191,16 @@ second_too_early : Breaks begun (entry_is.Step (record { 0 = 2 }) None (gives (a
 second_too_early = inr (
   (λ e. cc),
   inr (
-    (node 2 (codes "blog"), refl, inl refl),
+    (node 2 (codes "blog"), refl, (refl, inl refl)),
     inl (refl, λ may. false≢true (may refl refl 1 (λ e. omega (arith, e)) refl (λ e. none-some (answer_is.More 1) (sym e)))),
   ),
 )
 
 nonce_again : Breaks submitted (asked 1 (codes "shop")) 3
-nonce_again = inr ((λ e. cc), inr (refl, inl (refl, λ fresh. elim fresh [ inl none ↦ omega (arith, none) | inr new ↦ none-some 1 (sym new) ])))
+nonce_again = inr ((λ e. cc), inr ((refl, refl), inl (refl, λ fresh. elim fresh [ inl none ↦ omega (arith, none) | inr new ↦ none-some 1 (sym new) ])))
 
 not_yet : Breaks submitted (entry_is.Submit (record { group = 1; number = 3 }) (request_is.DropNamespace (codes "shop"))) 2
-not_yet = inr ((λ e. cc), inl (refl, λ runs. false≢true runs))
+not_yet = inr ((λ e. cc), inl (refl, λ runs. false≢true runs.1))
 
 start_again : Breaks added (entry_is.Start (create_sheet ∷ [])) 1
 start_again = inl (refl, λ start. (let e = start.0 in cc))
@@ -207,11 +211,16 @@ step_first = inl (refl, λ some. some refl)
 abbrev server : Server
 server = record { host = codes "one"; port = 1; start = 1 }
 
+picked_wrong : PicksRight checked 2 (Some server) → ⊥
+picked_wrong right =
+    let same : node 2 (codes "shop") ≡ right.0 = same_Some (node 2 (codes "shop")) right.0 right.1 in
+    false≢true (ap (λ n. is_pick_right checked 2 n (Some server) (needs_server checked 2 n)) same ∙ right.2)
+
 picked : Breaks checked (entry_is.Step (record { 0 = 2 }) (Some server) (gives (answer_is.Done told_is.Nothing) (shop_added ∷ []))) 7
-picked = inr ((λ e. cc), inr ((node 2 (codes "shop"), refl, inl refl), inr (second_goes_on, inl (refl, λ none. none-some server (sym none)))))
+picked = inr ((λ e. cc), inr ((node 2 (codes "shop"), refl, (refl, inl refl)), inr (second_goes_on, inl (refl, picked_wrong))))
 
 nothing_undone : Breaks refused (entry_is.Undo (record { 0 = 1 }) 0 (gives answer_is.Undone [])) 9
-nothing_undone = inr ((λ e. cc), inl (refl, λ never. never))
+nothing_undone = inr ((λ e. cc), inl (refl, λ never. false≢true never.0))
 
 abbrev check : ℕ → Row
 check next = record { act = act_is.CheckNamespaceFree; next = next; after = false; undo = back_is.Nothing }

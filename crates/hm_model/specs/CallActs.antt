@@ -6,8 +6,7 @@ use Rattle.hm_data.specs.declared.call.Told.{Told}
 use Rattle.hm_data.specs.declared.call.Told.TheVariants as told_is
 use Rattle.hm_data.specs.declared.call.Verb.TheVariants as verb_is
 use Rattle.hm_data.specs.declared.step.StepOut.{StepOut}
-use Rattle.hm_model.specs.Outs.{given, calls, ends_with}
-use Rattle.hm_model.specs.Steps.{fails}
+use Rattle.hm_model.specs.Outs.{fails, given, calls, ends_with}
 use Rattle.hm_model.specs.Views.{region_of}
 use Rattle.hm_model.specs.Wanted.{server_of, layout_of}
 

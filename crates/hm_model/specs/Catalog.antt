@@ -23,6 +23,10 @@ abbrev pub edited : List Edit → CatKey → Option CatRow → Option CatRow
 edited [] key row = row
 edited (edit ∷ edits) key row = edited edits key (if same_key key edit.key then edit.after else row)
 
+-- a row of the catalog set, told with the row that was there
+abbrev pub set_to : Catalog → CatKey → Option CatRow → Edit
+set_to there key after = record { key = key; before = there key; after = after }
+
 -- the namespaces `default` and `hbase` are there from the start
 abbrev pub at_start : Catalog
 at_start (key_is.Ns ns) = if bytes_eq ns (codes "default") || bytes_eq ns (codes "hbase") then Some row_is.Ns else None

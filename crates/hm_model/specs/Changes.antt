@@ -11,17 +11,17 @@ use Rattle.hm_data.specs.declared.catalog.CatRow.{CatRow}
 use Rattle.hm_data.specs.declared.catalog.CatRow.TheVariants as row_is
 use Rattle.hm_data.specs.declared.catalog.Edit.{Edit}
 use Rattle.hm_data.specs.declared.catalog.Status.TheVariants as status_is
-use Rattle.hm_model.specs.Catalog.{Catalog}
-use Rattle.hm_model.specs.Checks.{Part, parts_of, by_start, hull}
+use Rattle.hm_model.specs.declared.part.Part.{Part}
+use Rattle.hm_model.specs.Catalog.{Catalog, set_to}
+use Rattle.hm_model.specs.Checks.{parts_of, by_start, hull}
 use Rattle.hm_model.specs.Locks.{in_name_order}
 use Rattle.hm_model.specs.RowsSaid.{range_in, in_status}
-use Rattle.hm_model.specs.Serial.{set_to}
 
 -- a row that is changed where it is there
 abbrev pub changed : Catalog → CatKey → (CatRow → CatRow) → Edit
 changed there key change = set_to there key (option_map change (there key))
 
--- a live region without parents, as a row
+-- a live region with these parents, as a row
 abbrev pub live_row : KeyRange → List ℕ → CatRow
 live_row range parents = row_is.Region range status_is.Live parents
 

@@ -13,43 +13,44 @@ use Rattle.hm_data.specs.declared.catalog.CatKey.TheVariants as key_is
 use Rattle.hm_data.specs.declared.catalog.CatRow.{CatRow}
 use Rattle.hm_data.specs.declared.catalog.TableState.{TableState}
 use Rattle.hm_data.specs.declared.catalog.TableState.TheVariants as state_is
+use Rattle.hm_model.specs.declared.part.Part.{Part}
 use Rattle.hm_model.specs.Catalog.{Catalog}
 use Rattle.hm_model.specs.Phase.{or_else}
 use Rattle.hm_model.specs.RowsSaid.{table_state_in, status_in, range_in, same_state, is_live_status}
 
--- a namespace to create isn't there
+-- the cause against a namespace to create where it is there
 abbrev pub namespace_free : Option CatRow → Option Cause
 namespace_free None = None
 namespace_free (Some row) = Some cause_is.NsExists
 
--- a namespace is there
+-- the cause against a namespace where it isn't there
 abbrev pub namespace_there : Option CatRow → Option Cause
 namespace_there None = Some cause_is.NsMissing
 namespace_there (Some row) = None
 
--- a namespace to drop is there, and has no table
+-- the cause against dropping a namespace: it isn't there, or has a table
 abbrev pub namespace_empty : Option CatRow → Bool → Option Cause
 namespace_empty row has_table = or_else (namespace_there row) (if has_table then Some cause_is.NsNotEmpty else None)
 
--- a table isn't there
+-- the cause against a table to create where it is there
 abbrev pub table_absent : Option CatRow → Option Cause
 table_absent None = None
 table_absent (Some row) = Some cause_is.TableExists
 
--- the namespace of a table to create is there, and the table isn't
+-- the cause against creating a table: its namespace isn't there, or the table is
 abbrev pub table_free : Option CatRow → Option CatRow → Option Cause
 table_free ns table = or_else (namespace_there ns) (table_absent table)
 
--- a table is there, and in the state that is asked for
+-- the cause against a table: it isn't there, or not in the state that is asked for
 abbrev pub table_in : TableState → Cause → Option TableState → Option Cause
 table_in wanted cause None = Some cause_is.TableMissing
 table_in wanted cause (Some state) = if same_state wanted state then None else Some cause
 
--- a table is there and disabled
+-- the cause against a table that isn't there and disabled
 abbrev pub table_disabled : Option CatRow → Option Cause
 table_disabled table = table_in state_is.Disabled cause_is.NotDisabled (table_state_in table)
 
--- a table is there and enabled
+-- the cause against a table that isn't there and enabled
 abbrev pub table_enabled : Option CatRow → Option Cause
 table_enabled table = table_in state_is.Enabled cause_is.NotEnabled (table_state_in table)
 
@@ -71,11 +72,6 @@ region_ready table region = or_else (table_enabled table) (regions_live (region 
 -- a region can be split at a key
 abbrev pub can_split : Option CatRow → Option CatRow → List ℕ → Option Cause
 can_split table region key = or_else (region_ready table region) (key_inside (range_in region) key)
-
--- a region that is merged, by its id, and its range
-pub record Part : Type 0 where
-  pub id : ℕ
-  pub range : KeyRange
 
 -- a region in front of others, where its range is known
 abbrev pub keep_part : ℕ → Option KeyRange → List Part → List Part

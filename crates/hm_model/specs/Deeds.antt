@@ -1,29 +1,29 @@
--- The deeds of all requests: what each does to a catalog at once.
-use Rattle.std.specs.Prelude.{ℕ, List, [], ◌∷◌, ◌++◌, Option, Some, None, true, Ok, Err}
+-- The deeds of requests: what each does to a catalog at once.
+use Rattle.std.specs.Prelude.{ℕ, List, [], ◌∷◌, ◌++◌, Option, Some, None, true, Result, Ok, Err}
 use Rattle.hm_names.specs.Region.{Region}
 use Rattle.hm_names.specs.declared.table.TableName.{TableName}
 use Rattle.hm_data.specs.declared.answer.Cause.{Cause}
+use Rattle.hm_data.specs.declared.args.Args.{Args}
 use Rattle.hm_data.specs.declared.catalog.CatKey.{CatKey}
 use Rattle.hm_data.specs.declared.catalog.CatKey.TheVariants as key_is
 use Rattle.hm_data.specs.declared.catalog.CatRow.TheVariants as row_is
 use Rattle.hm_data.specs.declared.catalog.Edit.{Edit}
 use Rattle.hm_data.specs.declared.catalog.TableState.TheVariants as state_is
-use Rattle.hm_data.specs.declared.entry.Entry.TheVariants as entry_is
 use Rattle.hm_data.specs.declared.request.Request.{Request}
 use Rattle.hm_data.specs.declared.request.Request.TheVariants as request_is
-use Rattle.hm_data.specs.declared.answer.Answer.{Answer}
-use Rattle.hm_model.specs.Catalog.{Catalog, edited, at_start, keys_of, rows_at}
+use Rattle.hm_model.specs.Catalog.{Catalog, set_to, rows_at}
 use Rattle.hm_model.specs.Changes.{changed, add_ranges, remove_regions, split_edits, merge_edits}
 use Rattle.hm_model.specs.Checks.{namespace_free, namespace_empty, table_free, table_disabled, table_enabled, region_ready, can_split, can_merge}
-use Rattle.hm_model.specs.Journal.{Past}
 use Rattle.hm_model.specs.Kinds.{table_of_first}
 use Rattle.hm_model.specs.Locks.{is_ns_or_table_in, is_region_in}
 use Rattle.hm_model.specs.NamespaceActs.{has_table}
 use Rattle.hm_model.specs.Pieces.{ranges_between}
 use Rattle.hm_model.specs.RowsSaid.{Rows, all_among, in_state, in_version}
-use Rattle.hm_model.specs.Serial.{Deed, set_to, edits_in, at_end, if_root}
-use Rattle.hm_model.specs.Tree.{Node, node_of}
 use Rattle.hm_model.specs.Views.{Asked, asked_of}
+
+-- the edits of a whole request at once, or the first cause against it
+abbrev pub Deed : Type 0
+Deed = Result (List Edit) Cause
 
 -- a cause against a request, or else its edits
 abbrev pub unless : Option Cause → List Edit → Deed
@@ -67,43 +67,29 @@ cause_of_merge (Some table) there regions = can_merge (there (key_is.Table table
 
 -- the deed of a request in a catalog, some of whose keys are listed, with the first id that was drawn: the first cause
 -- against it, or its edits
-abbrev pub whole_deed : Request → ℕ → List CatKey → Catalog → Deed
-whole_deed (request_is.CreateNamespace ns) first keys there = adding_namespace ns there
-whole_deed (request_is.DropNamespace ns) first keys there = dropping_namespace ns keys there
-whole_deed (request_is.CreateTable table split) first keys there = creating_table table ([] ∷ split ++ [] ∷ []) first there
-whole_deed (request_is.DeleteTable table) first keys there = deleting_table table keys there
-whole_deed (request_is.EnableTable table) first keys there =
+abbrev pub deed : Request → ℕ → List CatKey → Catalog → Deed
+deed (request_is.CreateNamespace ns) first keys there = adding_namespace ns there
+deed (request_is.DropNamespace ns) first keys there = dropping_namespace ns keys there
+deed (request_is.CreateTable table split) first keys there = creating_table table ([] ∷ split ++ [] ∷ []) first there
+deed (request_is.DeleteTable table) first keys there = deleting_table table keys there
+deed (request_is.EnableTable table) first keys there =
     unless (table_disabled (there (key_is.Table table))) (changed there (key_is.Table table) (in_state state_is.Enabled) ∷ [])
-whole_deed (request_is.DisableTable table) first keys there =
+deed (request_is.DisableTable table) first keys there =
     unless (table_enabled (there (key_is.Table table))) (changed there (key_is.Table table) (in_state state_is.Disabled) ∷ [])
-whole_deed (request_is.ModifyTable table version) first keys there =
+deed (request_is.ModifyTable table version) first keys there =
     unless (table_disabled (there (key_is.Table table))) (changed there (key_is.Table table) (in_version version) ∷ [])
-whole_deed (request_is.SplitRegion region key) first keys there =
+deed (request_is.SplitRegion region key) first keys there =
     unless (can_split (there (key_is.Table region.table)) (there (key_is.Region region)) key) (split_edits there region key first)
-whole_deed (request_is.MergeRegions regions) first keys there =
+deed (request_is.MergeRegions regions) first keys there =
     unless (cause_of_merge (table_of_first regions) there regions) (merge_edits there regions first)
-whole_deed (request_is.Move region to) first keys there =
+deed (request_is.Move region to) first keys there =
     unless (region_ready (there (key_is.Table region.table)) (there (key_is.Region region))) []
 
--- what nobody asked for has no deed
-abbrev pub deed_asked : Option Asked → List CatKey → Catalog → Deed
-deed_asked None keys there = Ok []
-deed_asked (Some asked) keys there = whole_deed asked.request asked.first keys there
+-- the same of what was asked for, where anybody asked
+abbrev pub deed_if : Option Asked → List CatKey → Catalog → Deed
+deed_if None keys there = Ok []
+deed_if (Some asked) keys there = deed asked.request asked.first keys there
 
--- the deed that a step ends: that of a root that it ends well
-abbrev pub deed_ended : Option Node → Answer → List CatKey → Catalog → Deed
-deed_ended None answer keys there = Ok []
-deed_ended (Some node) answer keys there = if_root node.above (at_end answer (deed_asked (asked_of node.args) keys there))
-
--- the catalog after the deeds of the roots that ended well, in the order in which they ended
-abbrev pub in_turn : Past → Catalog
-in_turn [] key = at_start key
-in_turn (entry_is.Start sheets ∷ before) key = in_turn before key
-in_turn (entry_is.Submit nonce request ∷ before) key = in_turn before key
-in_turn (entry_is.Step pid pick out ∷ before) key =
-    edited (edits_in (deed_ended (node_of before pid.0) out.answer (keys_of before) (in_turn before))) key (in_turn before key)
-in_turn (entry_is.Undo pid row out ∷ before) key = in_turn before key
-in_turn (entry_is.Report call told ∷ before) key = in_turn before key
-in_turn (entry_is.Up server ∷ before) key = in_turn before key
-in_turn (entry_is.Down server ∷ before) key = in_turn before key
-in_turn (entry_is.Abort pid ∷ before) key = in_turn before key
+-- the deed of a procedure; what nobody asked for has none
+abbrev pub deed_of : Args → List CatKey → Catalog → Deed
+deed_of args keys there = deed_if (asked_of args) keys there

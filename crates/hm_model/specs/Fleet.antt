@@ -45,7 +45,7 @@ servers_of (entry_is.Up server ∷ before) = with_server server (servers_of befo
 servers_of (entry_is.Down server ∷ before) = servers_of before
 servers_of (entry_is.Abort pid ∷ before) = servers_of before
 
--- a server came up once
+-- a server ever came up
 abbrev pub came_up : Past → Server → Bool
 came_up before server = list_any (λ other. same_server server other) (servers_of before)
 

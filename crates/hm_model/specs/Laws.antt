@@ -1,9 +1,8 @@
 -- What legal journals keep.
 use Rattle.std.specs.List.{list_any}
 use Rattle.std.specs.Prelude.{Bool, Decides, List, None, Option, Some, [], drop, false, take, true, ℕ, ◌++◌, ◌+◌, ◌<◌, ◌↔◌, ◌∷◌, ◌≡◌, ◌≢◌, ◌≤◌}
-use Rattle.std.specs.declared.cmp.Ordering.TheVariants.{Equal, Less}
+use Rattle.std.specs.declared.cmp.Ordering.TheVariants.{Equal}
 use Rattle.hm_data.specs.Keys.{key_cmp}
-use Rattle.hm_data.specs.declared.args.Args.{Args}
 use Rattle.hm_data.specs.declared.catalog.CatKey.{CatKey}
 use Rattle.hm_data.specs.declared.entry.Entry.{Entry}
 use Rattle.hm_data.specs.declared.request.Request.{Request}
@@ -14,36 +13,25 @@ use Rattle.hm_names.specs.declared.nonce.Nonce.{Nonce}
 use Rattle.hm_names.specs.declared.pid.Pid.{Pid}
 use Rattle.hm_names.specs.declared.table.TableName.{TableName}
 use Rattle.hm_model.specs.Answers.{is_aborted, last_answer, report_of}
-use Rattle.hm_model.specs.Catalog.{cat, keys_of, row_at}
-use Rattle.hm_model.specs.Inputs.{rows_read}
 use Rattle.hm_model.specs.Journal.{Past, back}
 use Rattle.hm_model.specs.Keys.{same_key, same_region, same_table}
-use Rattle.hm_model.specs.Locks.{Holds, IsIn, NoneConflict, reads}
+use Rattle.hm_model.specs.Locks.{NoneConflict}
 use Rattle.hm_model.specs.Nonces.{NoncesActOnce, by_nonce, is_same}
 use Rattle.hm_model.specs.Phase.{ended}
 use Rattle.hm_model.specs.Records.{unfinished}
-use Rattle.hm_model.specs.Rest.{IsAvailable}
+use Rattle.hm_model.specs.Reports.{verb_of}
 use Rattle.hm_model.specs.Rules.{AreSheets, IsLegal}
 use Rattle.hm_model.specs.Sheets.{sheets_of}
-use Rattle.hm_model.specs.Tree.{Node, is_root, made, node_of, submitted}
+use Rattle.hm_model.specs.Tree.{Node, drawn, is_root, made, node_of, submitted}
 use Rattle.hm_data.specs.declared.entry.Entry.TheVariants as entry_is
 
--- each of the keys comes behind this one
-abbrev pub AllBehind : CatKey → List CatKey → Type 0
-AllBehind key [] = Unit {0}
-AllBehind key (first ∷ more) = (key_cmp key first ≡ Less) × AllBehind key more
-
--- each key comes behind those before it
-abbrev pub AreInOrder : List CatKey → Type 0
-AreInOrder [] = Unit {0}
-AreInOrder (key ∷ keys) = AllBehind key keys × AreInOrder keys
-
--- what a journal made: procedures numbered from 1 on, one after another; no steps, reports or aborts but theirs
+-- what a journal made: procedures numbered from 1 on, one after another; no steps, calls, reports or aborts but theirs
 pub record IsGrown (J : Past) : Type 0 where
   pub none : node_of J 0 ≡ None
   pub numbered : (p : ℕ) → made J < p → node_of J p ≡ None
   pub there : (p : ℕ) → 1 ≤ p → p ≤ made J → (node : Node) × (node_of J p ≡ Some node)
   pub unmade : (p : ℕ) → node_of J p ≡ None → last_answer J p ≡ None
+  pub uncalled : (p : ℕ) → node_of J p ≡ None → verb_of J p ≡ None
   pub unreported : (p : ℕ) → node_of J p ≡ None → report_of J p ≡ None
   pub unaborted : (p : ℕ) → node_of J p ≡ None → is_aborted J p ≡ false
 
@@ -74,13 +62,15 @@ pub record IsUnder (J : Past) (nonce : Nonce) (p : ℕ) : Type 0 where
   pub place : p ≡ made older + 1
   pub node_is : node_of J p ≡ Some (submitted older request p)
 
--- the tests of names and keys tell what is equal
+-- the test of tables tells what is equal
 abbrev pub TablesDecided : Type 0
 TablesDecided = (a b : TableName) → Decides (same_table a b) (a ≡ b)
 
+-- so do those of regions
 abbrev pub RegionsDecided : Type 0
 RegionsDecided = (a b : Region) → Decides (same_region a b) (a ≡ b)
 
+-- and those of keys
 abbrev pub KeysDecided : Type 0
 KeysDecided = (a b : CatKey) → Decides (same_key a b) (a ≡ b)
 
@@ -104,6 +94,7 @@ BackIsCut = (k : ℕ) (journal : List Entry) → back journal ≡ back (drop k j
 abbrev pub PushIsNewest : Type 0
 PushIsNewest = (journal : List Entry) (entry : Entry) → back (journal ++ entry ∷ []) ≡ entry ∷ back journal
 
+-- each legal journal made procedures so
 abbrev pub AllGrown : Type 0
 AllGrown = (J : Past) → IsLegal J → IsGrown J
 
@@ -123,18 +114,6 @@ NoncesFind =
     (J : Past) → IsLegal J → (nonce : Nonce) (p : ℕ) → by_nonce J nonce ≡ Some p
     → IsUnder J nonce p × (1 ≤ p) × (p ≤ made J)
 
--- a step reads of a row that it asks for what the catalog has
-abbrev pub RowsAreRead : Type 0
-RowsAreRead = (J : Past) (args : Args) (key : CatKey) → reads args key ≡ true → row_at (rows_read J args) key ≡ cat J key
-
--- the keys of a journal are in order, and a key that has a row is one
-abbrev pub KeysAreListed : Type 0
-KeysAreListed = (J : Past) → AreInOrder (keys_of J) × ((key : CatKey) → cat J key ≢ None → IsIn key (keys_of J))
-
--- one root at a time has a step and hasn't ended
-abbrev pub OneHolds : Past → Type 0
-OneHolds J = (p q : ℕ) → Holds J p → Holds J q → p ≡ q
-
 -- no two procedures that hold what they ask for conflict, in any legal journal
 abbrev pub NoneEverConflict : Type 0
 NoneEverConflict = (J : Past) → IsLegal J → NoneConflict J
@@ -147,6 +126,6 @@ NoncesActOnceInAll = (J : Past) → IsLegal J → NoncesActOnce J
 abbrev pub UnfinishedTells : Type 0
 UnfinishedTells = (J : Past) → IsLegal J → (unfinished J ≡ 0) ↔ ((p : ℕ) → is_root J p ≡ true → ended J p ≡ true)
 
--- where a root is unfinished, a procedure can go on
-abbrev pub UnfinishedGoesOn : Type 0
-UnfinishedGoesOn = (J : Past) → IsLegal J → unfinished J ≢ 0 → (p : ℕ) × IsAvailable J p
+-- no more than 4096 region ids are ever drawn for a table
+abbrev pub IdsStayWithin : Type 0
+IdsStayWithin = (J : Past) → IsLegal J → (table : TableName) → drawn J table ≤ 4096

@@ -10,14 +10,12 @@ use Rattle.hm_data.specs.declared.catalog.CatRow.TheVariants as row_is
 use Rattle.hm_data.specs.declared.catalog.TableState.{TableState}
 use Rattle.hm_data.specs.declared.catalog.TableState.TheVariants as state_is
 use Rattle.hm_data.specs.declared.step.StepOut.{StepOut}
-use Rattle.hm_model.specs.Catalog.{row_at}
+use Rattle.hm_model.specs.Catalog.{row_at, set_to}
 use Rattle.hm_model.specs.Changes.{changed}
 use Rattle.hm_model.specs.Checks.{namespace_free, namespace_empty, table_free, table_disabled, table_enabled}
 use Rattle.hm_model.specs.Outs.{given, checked, edits_rows, spawns}
 use Rattle.hm_model.specs.RowsSaid.{Rows, is_table_in, in_state, in_version}
-use Rattle.hm_model.specs.Serial.{set_to}
-use Rattle.hm_model.specs.Steps.{namespace_of}
-use Rattle.hm_model.specs.Views.{Asked, asked_of, table_of}
+use Rattle.hm_model.specs.Views.{Asked, asked_of, namespace_of, table_of}
 use Rattle.hm_model.specs.Wanted.{version_of_request}
 
 -- a namespace has a table among rows

@@ -1,15 +1,28 @@
 -- The forms of what a step answers.
-use Rattle.std.specs.Prelude.{ℕ, List, [], ◌∷◌, Option, Some, None}
+use Rattle.std.specs.Prelude.{ℕ, List, [], ◌∷◌, Option, Some, None, ◌==◌, if◌then◌else◌}
 use Rattle.hm_data.specs.declared.answer.Answer.{Answer}
 use Rattle.hm_data.specs.declared.answer.Answer.TheVariants as answer_is
 use Rattle.hm_data.specs.declared.answer.Cause.{Cause}
 use Rattle.hm_data.specs.declared.args.Child.{Child}
 use Rattle.hm_data.specs.declared.call.Told.{Told}
+use Rattle.hm_data.specs.declared.call.Told.TheVariants as told_is
 use Rattle.hm_data.specs.declared.call.Verb.{Verb}
 use Rattle.hm_data.specs.declared.catalog.Edit.{Edit}
 use Rattle.hm_data.specs.declared.place.Place.{Place}
 use Rattle.hm_data.specs.declared.step.StepOut.{StepOut}
-use Rattle.hm_model.specs.Steps.{gives, fails, on_to}
+use Rattle.hm_model.specs.Answers.{no_row}
+
+-- an answer with edits, and nothing else
+abbrev pub gives : Answer → List Edit → StepOut
+gives answer edits = record { answer = answer; edits = edits; children = []; call = None; place = None; followers = [] }
+
+-- the end, where no row follows, and else that row
+abbrev pub on_to : ℕ → Answer
+on_to next = if next == no_row then answer_is.Done told_is.Nothing else answer_is.More next
+
+-- a failure
+abbrev pub fails : Cause → StepOut
+fails cause = gives (answer_is.Fail cause) []
 
 -- on to the next row, or the end
 abbrev pub goes_on : ℕ → StepOut

@@ -1,5 +1,5 @@
 -- How far a procedure is.
-use Rattle.std.specs.Prelude.{ℕ, zero, suc, ◌+◌, List, [], ◌∷◌, ◌++◌, Option, Some, None, Bool, true, false, not, ◌==◌, ◌&&◌, ◌||◌, if◌then◌else◌, is_some}
+use Rattle.std.specs.Prelude.{ℕ, zero, suc, ◌+◌, List, [], ◌∷◌, Option, Some, None, Bool, true, false, not, ◌==◌, ◌&&◌, ◌||◌, if◌then◌else◌, is_some}
 use Rattle.hm_names.specs.declared.pid.Pid.{Pid}
 use Rattle.hm_data.specs.declared.answer.Answer.{Answer}
 use Rattle.hm_data.specs.declared.answer.Answer.TheVariants as answer_is
@@ -91,17 +91,6 @@ children_ended before p =
 abbrev pub end_of : ℕ → Option Told → List (Pid × Told)
 end_of q None = []
 end_of q (Some told) = (record { 0 = q }, told) ∷ []
-
--- what the children of p among the procedures below n ended with, in the order of their numbers
-abbrev pub ends_below : Past → ℕ → ℕ → List (Pid × Told)
-ends_below before p zero = []
-ends_below before p (suc n) =
-    ends_below before p n
-    ++ (if child_in p (node_of before n) then end_of n (done_with (last_answer before n)) else [])
-
--- what the children of a procedure ended with
-abbrev pub ends_of : Past → ℕ → List (Pid × Told)
-ends_of before p = ends_below before p (made before + 1)
 
 -- what the last step of a procedure decides, whose children have ended or not
 abbrev pub own_phase : Option Answer → Bool → Phase

@@ -9,7 +9,7 @@ use Rattle.hm_model.specs.Fleet.{same_server, is_live, has_live, has_other_live}
 use Rattle.hm_model.specs.Journal.{Past}
 use Rattle.hm_model.specs.Places.{is_the_server}
 use Rattle.hm_model.specs.Procedures.{sheet_at}
-use Rattle.hm_model.specs.Sight.{sight}
+use Rattle.hm_model.specs.Inputs.{input}
 use Rattle.hm_model.specs.TransitActs.{is_state, told_place}
 use Rattle.hm_model.specs.Tree.{Node, node_of}
 use Rattle.hm_model.specs.Wanted.{wanted_of}
@@ -26,17 +26,17 @@ is_another before place server =
     not (is_state place_is.FailedOpen place) || (not (is_the_server server place.server) || not (has_other_live before server))
 
 -- a pick fits what a step sees: it is live, the one that is wanted, and not the one that failed
-abbrev pub fits_sight : Past → StepIn → Server → Bool
-fits_sight before at server =
+abbrev pub fits_input : Past → StepIn → Server → Bool
+fits_input before at server =
     is_live before server && (is_as_wanted before (wanted_of at.args) at.tries server && is_another before (told_place at.place) server)
 
 -- the next step of a procedure needs a server to be picked
 abbrev pub needs_server : Past → ℕ → Node → Bool
-needs_server before p node = let at = sight before p node None in picks_by (sheet_at before at) at
+needs_server before p node = let at = input before p node None in picks_by (sheet_at before at) at
 
 -- a server fits as the pick of its next step
 abbrev pub pick_fits : Past → ℕ → Node → Server → Bool
-pick_fits before p node server = fits_sight before (sight before p node None) server
+pick_fits before p node server = fits_input before (input before p node None) server
 
 -- a pick is there exactly where one is needed, and it fits
 abbrev pub is_pick_right : Past → ℕ → Node → Option Server → Bool → Bool

@@ -10,7 +10,7 @@ use Rattle.hm_data.specs.declared.catalog.CatRow.TheVariants as row_is
 use Rattle.hm_data.specs.declared.catalog.Status.TheVariants as status_is
 use Rattle.hm_model.specs.Catalog.{Catalog, cat, keys_of}
 use Rattle.hm_model.specs.Journal.{Past}
-use Rattle.hm_model.specs.Prices.{region_rows}
+use Rattle.hm_model.specs.Costs.{region_rows}
 use Rattle.hm_model.specs.RowsSaid.{range_in, live_among}
 
 -- a live region of a catalog, with its range

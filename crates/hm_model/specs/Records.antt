@@ -1,20 +1,16 @@
 -- A procedure as it is shown.
 use Rattle.std.specs.Prelude.{ℕ, ◌+◌, Option, not, ◌&&◌}
 use Rattle.std.specs.Option.{option_map}
-use Rattle.hm_names.specs.declared.pid.Pid.{Pid}
 use Rattle.hm_data.specs.declared.record.Record.{Record}
 use Rattle.hm_model.specs.Counts.{count_below}
 use Rattle.hm_model.specs.Journal.{Past}
 use Rattle.hm_model.specs.Kinds.{kind_of}
-use Rattle.hm_model.specs.Tree.{Node, made, node_of, is_root, parent_in}
+use Rattle.hm_model.specs.Places.{tries_of}
+use Rattle.hm_model.specs.Tree.{Node, pid_of, made, node_of, is_root, parent_in}
 use Rattle.hm_model.specs.Answers.{row_of, is_aborted}
 use Rattle.hm_model.specs.Phase.{phase, ended}
 
--- a procedure's number
-abbrev pub pid_of : ℕ → Pid
-pid_of p = record { 0 = p }
-
--- all that is told of a procedure. No transit tries anything yet.
+-- all that is told of a procedure
 abbrev pub record_at : Past → ℕ → Node → Record
 record_at before p node = record {
   pid = pid_of p;
@@ -23,7 +19,7 @@ record_at before p node = record {
   kind = kind_of node.args;
   row = row_of before p node;
   args = node.args;
-  tries = 0;
+  tries = tries_of before p;
   aborted = is_aborted before p;
   phase = phase before p node;
 }

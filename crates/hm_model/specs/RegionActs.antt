@@ -15,7 +15,7 @@ use Rattle.hm_model.specs.Kinds.{table_of_first}
 use Rattle.hm_model.specs.Outs.{given, checked, edits_rows, spawns, ends_with}
 use Rattle.hm_model.specs.Pieces.{numbers_from, ranges_between, adding, dropping, transits}
 use Rattle.hm_model.specs.RowsSaid.{Rows, live_among, all_among}
-use Rattle.hm_model.specs.Steps.{closed_by}
+use Rattle.hm_model.specs.Undoing.{closed_by}
 use Rattle.hm_model.specs.Views.{Asked, asked_of, table_of, region_of, regions_in, bounds_of, first_id_of}
 use Rattle.hm_model.specs.Wanted.{cut_of_request, ids_of}
 

@@ -16,10 +16,9 @@ use Rattle.hm_data.specs.declared.call.Verb.TheVariants as verb_is
 use Rattle.hm_data.specs.declared.entry.Entry.TheVariants as entry_is
 use Rattle.hm_model.specs.Journal.{Past}
 use Rattle.hm_model.specs.Keys.{same_region}
-use Rattle.hm_model.specs.Tree.{Node, node_of}
+use Rattle.hm_model.specs.Tree.{Node, pid_of, node_of}
 use Rattle.hm_model.specs.Answers.{report_of}
 use Rattle.hm_model.specs.Phase.{ended}
-use Rattle.hm_model.specs.Records.{pid_of}
 
 -- the call of a procedure: the latest that a step of it recorded. Its id is the procedure's number.
 abbrev pub verb_of : Past → ℕ → Option Verb

@@ -57,7 +57,7 @@ abbrev pub is_live_status : Option Status → Bool
 is_live_status None = false
 is_live_status (Some status) = same_status status status_is.Live
 
--- a row of the table of a namespace
+-- a key of a table of the namespace
 abbrev pub is_table_in : List ℕ → CatKey → Bool
 is_table_in ns (key_is.Ns other) = false
 is_table_in ns (key_is.Table table) = bytes_eq ns table.ns

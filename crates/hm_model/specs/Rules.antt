@@ -1,19 +1,29 @@
 -- Which entries may follow one another.
-use Rattle.std.specs.Prelude.{◌≡◌, ◌≢◌, ℕ, List, [], ◌∷◌, map, Option, Some, None, true, ◌⊎◌, IsTrue}
-use Rattle.hm_names.specs.Server.{Server}
+use Rattle.std.specs.Prelude.{◌≡◌, ◌≢◌, ℕ, List, [], ◌∷◌, map, Some, None, true, false, ◌⊎◌}
 use Rattle.hm_names.specs.declared.nonce.Nonce.{Nonce}
+use Rattle.hm_data.specs.declared.call.Told.{Told}
+use Rattle.hm_data.specs.declared.call.Verb.{Verb}
 use Rattle.hm_data.specs.declared.entry.Entry.{Entry}
 use Rattle.hm_data.specs.declared.entry.Entry.TheVariants as entry_is
-use Rattle.hm_data.specs.declared.record.Phase.TheVariants as phase_is
+use Rattle.hm_data.specs.declared.sheet.Row.{Row}
 use Rattle.hm_data.specs.declared.sheet.Sheet.{Sheet}
+use Rattle.hm_model.specs.Answers.{report_of, is_aborted}
+use Rattle.hm_model.specs.Fleet.{is_live, has_newer, has_older_live}
+use Rattle.hm_model.specs.Holding.{IsClear}
+use Rattle.hm_model.specs.Inputs.{IsEvaluated, undoes}
 use Rattle.hm_model.specs.Journal.{Past}
-use Rattle.hm_model.specs.Kinds.{running_kinds, request_kind, is_running_kind}
-use Rattle.hm_model.specs.Tree.{Node, node_of, is_root}
-use Rattle.hm_model.specs.Answers.{last_answer, report_of}
-use Rattle.hm_model.specs.Phase.{phase, ended}
+use Rattle.hm_model.specs.Kinds.{running_kinds}
 use Rattle.hm_model.specs.Nonces.{by_nonce}
+use Rattle.hm_model.specs.Phase.{cause, ended}
+use Rattle.hm_model.specs.Picks.{PicksRight}
+use Rattle.hm_model.specs.Procedures.{latest, left_to_undo}
+use Rattle.hm_model.specs.Reports.{verb_of, fits_verb}
+use Rattle.hm_model.specs.Requests.{MaySubmit, StaysWithin, MayCome}
+use Rattle.hm_model.specs.Rest.{MayStep}
+use Rattle.hm_model.specs.Sheets.{next_row}
+use Rattle.hm_model.specs.Tree.{Node, node_of, root_of, is_root}
+use Rattle.hm_model.specs.Undo.{Undoable}
 use Rattle.hm_model.specs.Validity.{AllValid}
-use Rattle.hm_model.specs.Inputs.{IsEvaluated}
 
 -- valid sheets, one for each kind that the master runs, in the order of the kinds
 abbrev pub AreSheets : List Sheet → Type 0
@@ -23,34 +33,72 @@ AreSheets sheets = (map (λ sheet. sheet.kind) sheets ≡ running_kinds) × AllV
 abbrev pub IsFresh : Past → Nonce → Type 0
 IsFresh before nonce = (nonce.number ≡ 0) ⊎ (by_nonce before nonce ≡ None)
 
--- the procedure may make a step: it is runnable, or its call was answered
-abbrev pub MayStep : Past → ℕ → Type 0
-MayStep before p =
-    (node : Node) × (node_of before p ≡ Some node)
-    × ((phase before p node ≡ phase_is.Runnable) ⊎ ((phase before p node ≡ phase_is.Awaiting) × (report_of before p ≢ None)))
+-- a step is the latest that can be undone of a failed root whose descendants have ended
+abbrev pub IsLatest : Past → ℕ → ℕ → Type 0
+IsLatest before p row =
+    (root : Node) × (node_of before (root_of before p) ≡ Some root) × (undoes before (root_of before p) root ≡ true)
+    × (step : Undoable) × (latest (left_to_undo before (root_of before p)) ≡ Some step) × (step.pid ≡ p) × (step.row ≡ row)
 
--- a root makes its first step only where every other root that has a step has ended
-abbrev pub MayBegin : Past → ℕ → Type 0
-MayBegin before p =
-    is_root before p ≡ true → last_answer before p ≡ None
-    → (q : ℕ) → q ≢ p → is_root before q ≡ true → last_answer before q ≢ None → ended before q ≡ true
+-- a call is recorded, has no report, and its procedure hasn't ended
+abbrev pub IsOutstanding : Past → ℕ → Type 0
+IsOutstanding before p = (verb_of before p ≢ None) × (report_of before p ≡ None) × (ended before p ≡ false)
 
--- a pick is there exactly where one is needed: no step needs one yet
-abbrev pub IsPickRight : Option Server → Type 0
-IsPickRight pick = pick ≡ None
+-- an answer fits the call
+abbrev pub FitsCall : Past → ℕ → Told → Type 0
+FitsCall before p told = (verb : Verb) → verb_of before p ≡ Some verb → fits_verb verb told ≡ true
 
--- the rules for an entry behind others, by number. What the master can't do yet breaks the lowest rule of its kind.
+-- an unfinished root that hasn't failed and isn't aborted
+abbrev pub CanAbort : Past → ℕ → Type 0
+CanAbort before p =
+    (is_root before p ≡ true) × (ended before p ≡ false) × (cause before p ≡ None) × (is_aborted before p ≡ false)
+
+-- the row that it runs next isn't after the point
+abbrev pub IsBeforePoint : Past → ℕ → Type 0
+IsBeforePoint before p =
+    (node : Node) × (node_of before p ≡ Some node) × (row : Row) × (next_row before p node ≡ Some row) × (row.after ≡ false)
+
+-- the rules for an entry behind others, by number. What may not come yet breaks the lowest rule of its own.
 abbrev pub rules : Past → Entry → List (ℕ × Type 0)
-rules before (entry_is.Start sheets) = (1, (before ≡ []) × AreSheets sheets) ∷ []
+rules before (entry_is.Start sheets) =
+    (1, (before ≡ []) × AreSheets sheets)
+    ∷ []
 rules before (entry_is.Submit nonce request) =
-    (1, before ≢ []) ∷ (2, IsTrue (is_running_kind (request_kind request))) ∷ (3, IsFresh before nonce) ∷ []
+    (1, before ≢ [])
+    ∷ (2, MaySubmit request)
+    ∷ (3, IsFresh before nonce)
+    ∷ (4, StaysWithin before request)
+    ∷ []
 rules before (entry_is.Step pid pick out) =
-    (1, before ≢ []) ∷ (5, MayStep before pid.0) ∷ (6, MayBegin before pid.0) ∷ (7, IsPickRight pick) ∷ (8, IsEvaluated before pid.0 pick out) ∷ []
-rules before (entry_is.Undo pid row out) = (1, before ≢ []) ∷ (9, ⊥) ∷ []
-rules before (entry_is.Report call told) = (1, before ≢ []) ∷ (11, ⊥) ∷ []
-rules before (entry_is.Up server) = (1, before ≢ []) ∷ (13, ⊥) ∷ []
-rules before (entry_is.Down server) = (1, before ≢ []) ∷ (15, ⊥) ∷ []
-rules before (entry_is.Abort pid) = (1, before ≢ []) ∷ (16, ⊥) ∷ []
+    (1, before ≢ [])
+    ∷ (5, MayStep before pid.0)
+    ∷ (6, IsClear before [] pid.0)
+    ∷ (7, PicksRight before pid.0 pick)
+    ∷ (8, IsEvaluated before pid.0 pick out)
+    ∷ []
+rules before (entry_is.Undo pid row out) =
+    (1, before ≢ [])
+    ∷ (9, MayCome (entry_is.Undo pid row out) × IsLatest before pid.0 row)
+    ∷ (10, IsEvaluated before (root_of before pid.0) None out)
+    ∷ []
+rules before (entry_is.Report call told) =
+    (1, before ≢ [])
+    ∷ (11, MayCome (entry_is.Report call told) × IsOutstanding before call.0)
+    ∷ (12, FitsCall before call.0 told)
+    ∷ []
+rules before (entry_is.Up server) =
+    (1, before ≢ [])
+    ∷ (13, MayCome (entry_is.Up server) × (has_newer before server ≡ false))
+    ∷ (14, has_older_live before server ≡ false)
+    ∷ []
+rules before (entry_is.Down server) =
+    (1, before ≢ [])
+    ∷ (15, MayCome (entry_is.Down server) × (is_live before server ≡ true))
+    ∷ []
+rules before (entry_is.Abort pid) =
+    (1, before ≢ [])
+    ∷ (16, MayCome (entry_is.Abort pid) × CanAbort before pid.0)
+    ∷ (17, IsBeforePoint before pid.0)
+    ∷ []
 
 -- all of numbered rules hold
 abbrev pub AllHold : List (ℕ × Type 0) → Type 0

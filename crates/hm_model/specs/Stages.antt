@@ -1,10 +1,9 @@
 -- How far the procedures are that the master runs so far: requests for namespaces alone.
-use Rattle.std.specs.Prelude.{Bool, List, None, Option, Some, [], false, length, true, ℕ, ◌+◌, ◌<◌, ◌↔◌, ◌∷◌, ◌≡◌, ◌≢◌, ◌≤◌, ◌⊎◌}
+use Rattle.std.specs.Prelude.{List, None, Option, Some, [], false, length, true, ℕ, ◌<◌, ◌∷◌, ◌≡◌, ◌≢◌, ◌≤◌, ◌⊎◌}
 use Rattle.hm_data.specs.declared.answer.Answer.{Answer}
 use Rattle.hm_data.specs.declared.answer.Cause.{Cause}
 use Rattle.hm_data.specs.declared.catalog.CatRow.{CatRow}
 use Rattle.hm_data.specs.declared.catalog.Edit.{Edit}
-use Rattle.hm_data.specs.declared.entry.Entry.{Entry}
 use Rattle.hm_data.specs.declared.record.Phase.{Phase}
 use Rattle.hm_data.specs.declared.sheet.Row.{Row}
 use Rattle.hm_data.specs.declared.sheet.Sheet.{Sheet}
@@ -12,23 +11,17 @@ use Rattle.hm_data.specs.declared.step.StepIn.{StepIn}
 use Rattle.hm_data.specs.declared.step.StepOut.{StepOut}
 use Rattle.hm_names.specs.Server.{Server}
 use Rattle.hm_names.specs.declared.pid.Pid.{Pid}
-use Rattle.hm_model.specs.Answers.{failing, is_aborted, is_stop, is_stopped, last_answer, no_row, report_of, row_of}
-use Rattle.hm_model.specs.Catalog.{cat, row_at}
-use Rattle.hm_model.specs.Counts.{one_if}
-use Rattle.hm_model.specs.Inputs.{input, rows_read, undoes}
+use Rattle.hm_model.specs.Answers.{failing, is_aborted, is_stopped, last_answer, no_row, report_of, row_of}
+use Rattle.hm_model.specs.Catalog.{cat}
+use Rattle.hm_model.specs.Inputs.{ends_of, input, rows_read, undoes}
 use Rattle.hm_model.specs.Journal.{Past}
-use Rattle.hm_model.specs.Kinds.{kind_of}
-use Rattle.hm_model.specs.Laws.{OneHolds}
-use Rattle.hm_model.specs.Locks.{Holds}
-use Rattle.hm_model.specs.Phase.{all_stopped, cause, children_ended, ended, ends_of, phase, rolled_back}
-use Rattle.hm_model.specs.Records.{unfinished}
-use Rattle.hm_model.specs.Rest.{IsAtRest}
-use Rattle.hm_model.specs.Rules.{IsLegal, MayBegin, MayStep}
+use Rattle.hm_model.specs.Outs.{fails, gives}
+use Rattle.hm_model.specs.Phase.{all_stopped, cause, children_ended, ended, phase, rolled_back}
+use Rattle.hm_model.specs.Picks.{needs_server}
+use Rattle.hm_model.specs.Places.{tries_of}
 use Rattle.hm_model.specs.Sheets.{next_row, row_in, sheet_for, sheets_of}
-use Rattle.hm_model.specs.Steps.{CanStep, fails, gives}
-use Rattle.hm_model.specs.Tree.{Node, is_root, made, node_of, root_node}
+use Rattle.hm_model.specs.Tree.{Node, made, node_of, root_node}
 use Rattle.hm_model.specs.Undo.{stack}
-use Rattle.hm_data.specs.declared.entry.Entry.TheVariants as entry_is
 use Rattle.hm_data.specs.declared.answer.Answer.TheVariants as answer_is
 use Rattle.hm_data.specs.declared.answer.Cause.TheVariants as cause_is
 use Rattle.hm_data.specs.declared.args.Args.TheVariants as args_are
@@ -45,12 +38,13 @@ use Rattle.hm_data.specs.declared.record.Phase.TheVariants as phase_is
 abbrev pub creating : ℕ → List ℕ → Node
 creating p ns = root_node p (args_are.Root (request_is.CreateNamespace ns) 1) 1
 
--- while the master runs only requests for namespaces: each procedure is one, nothing is reported and nobody aborts, and
--- each was an entry of its own
+-- while the master runs only requests for namespaces: each procedure is one, nothing is reported, nobody aborts and
+-- no transit tries, and each was an entry of its own
 pub record IsSimple (J : Past) : Type 0 where
   pub creates : (p : ℕ) (node : Node) → node_of J p ≡ Some node → (ns : List ℕ) × (node ≡ creating p ns)
   pub unreported : (p : ℕ) → report_of J p ≡ None
   pub unaborted : (p : ℕ) → is_aborted J p ≡ false
+  pub untried : (p : ℕ) → tries_of J p ≡ 0
   pub made_bound : made J ≤ length J
 
 -- what is answered makes no procedures, calls nobody and places nothing
@@ -182,6 +176,7 @@ pub record IsFlat (J : Past) : Type 0 where
   pub ended_is_stopped : (p : ℕ) → ended J p ≡ is_stopped (last_answer J p)
   pub undoes_nothing : (p : ℕ) (node : Node) → undoes J p node ≡ false
   pub sees : (p : ℕ) (ns : List ℕ) (pick : Option Server) → input J p (creating p ns) pick ≡ creating_input J p ns pick
+  pub picks_none : (p : ℕ) (ns : List ℕ) → needs_server J p (creating p ns) ≡ false
 
 -- while the master runs only requests for namespaces: what a step answers, and where
 pub record IsShaped (before : Past) (p : ℕ) (ns : List ℕ) (out : StepOut) : Type 0 where
@@ -192,91 +187,3 @@ pub record IsShaped (before : Past) (p : ℕ) (ns : List ℕ) (out : StepOut) : 
   pub runs : (last_answer before p ≡ None) ⊎ ((next : ℕ) × (last_answer before p ≡ Some (answer_is.More next)))
   pub answers : ((next : ℕ) × (out.answer ≡ answer_is.More next)) ⊎ ((out.answer ≡ answer_is.Done told_is.Nothing) ⊎ (out.answer ≡ answer_is.Fail cause_is.NsExists))
   pub edits : (out.edits ≡ []) ⊎ (out.edits ≡ adding before ns ∷ [])
-
--- each of these holds of each legal journal while the master runs only requests for namespaces
-abbrev pub AllSimple : Type 0
-AllSimple = (J : Past) → IsLegal J → IsSimple J
-
-abbrev pub AllStaged : Type 0
-AllStaged = (J : Past) → IsLegal J → IsStaged J
-
-abbrev pub AllFlat : Type 0
-AllFlat = (J : Past) → IsLegal J → IsFlat J
-
-abbrev pub AllSteps : Type 0
-AllSteps =
-    (pid : Pid) (pick : Option Server) (out : StepOut) (before : Past) → IsLegal (entry_is.Step pid pick out ∷ before)
-    → (step : IsStep pid pick out before) × IsShaped before pid.0 step.ns out
-
--- a request for a namespace reads the namespace's row, and no other
-abbrev pub NamespaceIsRead : Type 0
-NamespaceIsRead =
-    (J : Past) (ns : List ℕ) (first : ℕ)
-    → (cat J (key_is.Ns ns) ≡ None → rows_read J (args_are.Root (request_is.CreateNamespace ns) first) ≡ [])
-    × ((row : CatRow) → cat J (key_is.Ns ns) ≡ Some row → rows_read J (args_are.Root (request_is.CreateNamespace ns) first) ≡ (key_is.Ns ns, row) ∷ [])
-    × (row_at (rows_read J (args_are.Root (request_is.CreateNamespace ns) first)) (key_is.Ns ns) ≡ cat J (key_is.Ns ns))
-
--- an unfinished procedure's row is in its sheet, which can be asked for its step
-pub record IsPlaced (J : Past) (p : ℕ) (node : Node) : Type 0 where
-  pub sheet : Sheet
-  pub sheet_is : sheet_for (sheets_of J) (kind_of node.args) ≡ Some sheet
-  pub row : Row
-  pub row_is : next_row J p node ≡ Some row
-  pub within : row_of J p node < length sheet.rows
-  pub can : (pick : Option Server) → CanStep sheet (input J p node pick)
-
--- an entry that ends a root, while nothing is undone
-abbrev pub is_ending : Entry → Bool
-is_ending (entry_is.Start sheets) = false
-is_ending (entry_is.Submit nonce request) = false
-is_ending (entry_is.Step pid pick out) = is_stop out.answer
-is_ending (entry_is.Undo pid row out) = false
-is_ending (entry_is.Report call told) = false
-is_ending (entry_is.Up server) = false
-is_ending (entry_is.Down server) = false
-is_ending (entry_is.Abort pid) = false
-
--- a submission
-abbrev pub is_submission : Entry → Bool
-is_submission (entry_is.Start sheets) = false
-is_submission (entry_is.Submit nonce request) = true
-is_submission (entry_is.Step pid pick out) = false
-is_submission (entry_is.Undo pid row out) = false
-is_submission (entry_is.Report call told) = false
-is_submission (entry_is.Up server) = false
-is_submission (entry_is.Down server) = false
-is_submission (entry_is.Abort pid) = false
-
--- the row that a procedure is at is a byte
-abbrev pub RowsFit : Type 0
-RowsFit = (J : Past) → IsLegal J → (p : ℕ) (node : Node) → row_of J p node < 256
-
-abbrev pub AllPlaced : Type 0
-AllPlaced =
-    (J : Past) → IsLegal J → (p : ℕ) (node : Node) → node_of J p ≡ Some node → is_stopped (last_answer J p) ≡ false
-    → IsPlaced J p node
-
-abbrev pub AllOneHolds : Type 0
-AllOneHolds = (J : Past) → IsLegal J → OneHolds J
-
--- a procedure may step where it is there and its last step didn't end it
-abbrev pub StepsWhileRunning : Type 0
-StepsWhileRunning =
-    (J : Past) → IsLegal J → (p : ℕ)
-    → MayStep J p ↔ ((node : Node) × (node_of J p ≡ Some node) × (is_stopped (last_answer J p) ≡ false))
-
--- a root may begin where none has a step and is unfinished
-abbrev pub BeginsAlone : Type 0
-BeginsAlone =
-    (J : Past) → IsLegal J → (p : ℕ) → is_root J p ≡ true
-    → MayBegin J p ↔ (last_answer J p ≡ None → (q : ℕ) → Holds J q → ⊥)
-
--- a submission makes one more unfinished, a step that ends its procedure one less, and nothing else changes that
-abbrev pub UnfinishedCounts : Type 0
-UnfinishedCounts =
-    (entry : Entry) (before : Past) → IsLegal (entry ∷ before)
-    → unfinished (entry ∷ before) + one_if (is_ending entry) ≡ unfinished before + one_if (is_submission entry)
-
--- nothing can go on exactly where none is unfinished
-abbrev pub RestIsDone : Type 0
-RestIsDone = (J : Past) → IsLegal J → IsAtRest J ↔ (unfinished J ≡ 0)

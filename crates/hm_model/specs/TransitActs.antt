@@ -63,7 +63,8 @@ abbrev pub lost_if : Bool → Option Place
 lost_if false = None
 lost_if true = Some (nowhere place_is.AbnormallyClosed)
 
--- act 31: where the region may be opened and isn't open, it is placed at the server that was picked
+-- act 31: where the region may be opened and isn't open, it is placed at the server that was picked; else the end, and a
+-- region whose server is lost loses its place
 abbrev pub candidate : ℕ → Bool → Place → Bool → Option Server → StepOut
 candidate next false place fenced pick =
     places (answer_is.Done told_is.Nothing) (lost_if (is_placed place && fenced))

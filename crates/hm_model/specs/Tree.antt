@@ -2,6 +2,7 @@
 use Rattle.std.specs.Prelude.{ℕ, ◌+◌, ◌-◌, List, [], ◌∷◌, length, map, Option, Some, None, Bool, true, false, ◌==◌, nat_lt, if◌then◌else◌, slice_get}
 use Rattle.std.specs.List.{flat_map}
 use Rattle.std.specs.Option.{option_map}
+use Rattle.hm_names.specs.declared.pid.Pid.{Pid}
 use Rattle.hm_names.specs.declared.table.TableName.{TableName}
 use Rattle.hm_data.specs.declared.args.Args.{Args}
 use Rattle.hm_data.specs.declared.args.Args.TheVariants as args_are
@@ -21,6 +22,10 @@ pub record Node : Type 0 where
   pub root : ℕ
   pub args : Args
   pub first : ℕ
+
+-- a procedure's number
+abbrev pub pid_of : ℕ → Pid
+pid_of p = record { 0 = p }
 
 -- the procedures that a child stands for: one transit for each id
 abbrev pub child_args : Child → List Args
@@ -58,7 +63,7 @@ new_ids (request_is.SplitRegion region key) = 2
 new_ids (request_is.MergeRegions regions) = 1
 new_ids (request_is.Move region to) = 0
 
--- how many of them are a table's
+-- so many ids where the request is about this table, else none
 abbrev pub ids_for : Option TableName → ℕ → TableName → ℕ
 ids_for None count table = 0
 ids_for (Some own) count table = if same_table own table then count else 0
@@ -134,7 +139,7 @@ abbrev pub is_root_in : Option Node → Bool
 is_root_in None = false
 is_root_in (Some node) = is_top node.above
 
--- a number of a root
+-- it is the number of a root
 abbrev pub is_root : Past → ℕ → Bool
 is_root before p = is_root_in (node_of before p)
 

@@ -2,9 +2,9 @@
 use Rattle.std.specs.Prelude.{◌≡◌, ℕ, ◌+◌, ◌<◌, List, [], ◌∷◌, ◌++◌, length, Option, Some, None, Bool, true, false, not, ◌==◌, ◌&&◌, ◌||◌, nat_lt, nat_le, if◌then◌else◌, slice_get}
 use Rattle.std.specs.List.{list_any}
 use Rattle.hm_data.specs.Numbers.{act_number, back_number}
-use Rattle.hm_data.specs.declared.act.Act.{Act}
 use Rattle.hm_data.specs.declared.sheet.Row.{Row}
 use Rattle.hm_data.specs.declared.sheet.Sheet.{Sheet}
+use Rattle.hm_model.specs.ActSorts.{is_check, is_layout, is_edit, editing_kinds}
 use Rattle.hm_model.specs.Answers.{no_row}
 use Rattle.hm_model.specs.Lists.{Line, lines_of, exact_rows}
 
@@ -15,29 +15,6 @@ is_among numbers n = list_any (λ m. m == n) numbers
 -- two flags are equal
 abbrev pub same_flag : Bool → Bool → Bool
 same_flag a b = if a then b else not b
-
--- acts that only test
-abbrev pub is_check : Act → Bool
-is_check act = is_among (1 ∷ 3 ∷ 5 ∷ 12 ∷ 15 ∷ 20 ∷ 25 ∷ 36 ∷ []) (act_number act)
-
--- the act that asks for the layout of files
-abbrev pub is_layout : Act → Bool
-is_layout act = act_number act == 7
-
--- the kinds whose root asks exclusively for all that an act edits; none for an act that edits nothing
-abbrev pub editing_kinds : ℕ → List ℕ
-editing_kinds act =
-    if is_among (2 ∷ 4 ∷ []) act then 1 ∷ 2 ∷ []
-    else (if is_among (6 ∷ 9 ∷ 11 ∷ 14 ∷ 16 ∷ 18 ∷ 19 ∷ []) act then 3 ∷ 4 ∷ 5 ∷ 6 ∷ 7 ∷ []
-    else (if act == 22 then 8 ∷ []
-    else (if act == 27 then 9 ∷ []
-    else (if act == 29 then 20 ∷ []
-    else (if act == 30 then 21 ∷ []
-    else [])))))
-
--- acts that edit the catalog
-abbrev pub is_edit : Act → Bool
-is_edit act = nat_lt 0 (length (editing_kinds (act_number act)))
 
 -- the row at a place, if there is one, is after the point or not, as asked
 abbrev pub is_none_or_marked : Bool → Option Row → Bool
@@ -61,7 +38,7 @@ row_rules kind rows place row =
     ∷ (4, not (row.after && (is_check row.act || is_layout row.act)))
     ∷ (5, not (is_layout row.act) || is_none_or_marked false (follower rows row.next))
     ∷ (6, not (is_edit row.act) || (row.after || (ends_root kind row || (back_number row.undo == 1))))
-    ∷ (7, not (is_edit row.act) || is_among (editing_kinds (act_number row.act)) kind)
+    ∷ (7, not (is_edit row.act) || is_among (editing_kinds row.act) kind)
     ∷ []
 
 -- the rules of the row at a place, if there is one

@@ -26,12 +26,38 @@ asked_of (args_are.FenceCall server) = None
 asked_of (args_are.LayoutCall root) = None
 asked_of (args_are.SweepLayout root) = None
 
+-- the namespace that a request is about, where it reads that namespace's row
+abbrev pub namespace_of_request : Request → Option (List ℕ)
+namespace_of_request (request_is.CreateNamespace ns) = Some ns
+namespace_of_request (request_is.DropNamespace ns) = Some ns
+namespace_of_request (request_is.CreateTable table keys) = Some table.ns
+namespace_of_request (request_is.DeleteTable table) = None
+namespace_of_request (request_is.EnableTable table) = None
+namespace_of_request (request_is.DisableTable table) = None
+namespace_of_request (request_is.ModifyTable table version) = None
+namespace_of_request (request_is.SplitRegion region key) = None
+namespace_of_request (request_is.MergeRegions regions) = None
+namespace_of_request (request_is.Move region to) = None
+
+-- the same of a procedure
+abbrev pub namespace_of : Args → Option (List ℕ)
+namespace_of (args_are.Root request first) = namespace_of_request request
+namespace_of (args_are.Transit region goal to) = None
+namespace_of (args_are.Crash server) = None
+namespace_of (args_are.AddRegions table first bounds) = None
+namespace_of (args_are.DropRegions table ids) = None
+namespace_of (args_are.AssignCall region server) = None
+namespace_of (args_are.CloseCall region server) = None
+namespace_of (args_are.FenceCall server) = None
+namespace_of (args_are.LayoutCall root) = None
+namespace_of (args_are.SweepLayout root) = None
+
 -- the regions of one table, by their ids
 abbrev pub regions_in : TableName → List ℕ → List Region
 regions_in table [] = []
 regions_in table (id ∷ ids) = record { table = table; id = id } ∷ regions_in table ids
 
--- the table that the rows are of which a procedure adds, removes or changes
+-- the table of what a procedure works on
 abbrev pub table_of : Args → Option TableName
 table_of (args_are.Root request first) = table_of_request request
 table_of (args_are.Transit region goal to) = Some region.table

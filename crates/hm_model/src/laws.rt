@@ -1,6 +1,13 @@
 //! What every legal journal keeps: laws, as functions that do nothing.
-ghost use Rattle.hm_model.specs.Laws.{TablesDecided, RegionsDecided, KeysDecided, KeysTied, OlderIsLegal, FrontIsLegal, BackIsCut, PushIsNewest, AllGrown, SteppersAreMade, AllBegin, NoncesFind, RowsAreRead, KeysAreListed, NoneEverConflict, NoncesActOnceInAll, UnfinishedTells, UnfinishedGoesOn};
-ghost use Rattle.hm_model.specs.Stages.{AllSimple, AllStaged, AllFlat, AllSteps, NamespaceIsRead, RowsFit, AllPlaced, AllOneHolds, StepsWhileRunning, BeginsAlone, UnfinishedCounts, RestIsDone};
+ghost use Rattle.hm_model.specs.Laws.{TablesDecided, RegionsDecided, KeysDecided, KeysTied, OlderIsLegal, FrontIsLegal, BackIsCut, PushIsNewest, AllGrown, SteppersAreMade, AllBegin, NoncesFind, IdsStayWithin, NoneEverConflict, NoncesActOnceInAll, UnfinishedTells};
+ghost use Rattle.hm_model.specs.Apart.{OthersStay};
+ghost use Rattle.hm_model.specs.Calls.{CallsAreOwn, CallsStay, ReportsFit};
+ghost use Rattle.hm_model.specs.Forest.{AllForest, AllRooted, NodesStay, RootsWait};
+ghost use Rattle.hm_model.specs.Forms.{StepsAreFormed, UndosAreFormed};
+ghost use Rattle.hm_model.specs.RowLaws.{KeysAreListed, RowsAreRead, RowsFit, RowsReadAlike};
+ghost use Rattle.hm_model.specs.Touched.{StepsEnd, StepsLetGo};
+ghost use Rattle.hm_model.specs.Waiting.{OpenChildrenTell, OpenChildrenChange, OpenUnderTell, OpenUnderChange};
+ghost use Rattle.hm_model.specs.StageLaws.{AllSimple, AllStaged, AllFlat, AllSteps, NamespaceIsRead, AllPlaced, AllOneHolds, StepsWhileRunning, BeginsAlone, UnfinishedCounts, UnfinishedGoesOn, RestIsDone};
 
 /// The tests of tables, regions and keys tell what is equal, and so does the order of keys.
 pub fn keys_are_decided()
@@ -19,51 +26,95 @@ pub fn parts_are_legal()
 {}
 
 /// Procedures are numbered from 1 without a gap, and what was never made makes no steps; a journal begins with its only
-/// start; what is found under a nonce was submitted under it.
+/// start; what is found under a nonce was submitted under it; region ids stay within their limit.
 pub fn journals_grow()
     ensures grown { AllGrown }
     ensures steppers { SteppersAreMade }
     ensures begin { AllBegin }
     ensures nonces { NoncesFind }
+    ensures ids { IdsStayWithin }
 {}
 
-/// The keys of a journal are in order, and each row that a step asks for is read as it is.
+/// What is made stays, ancestors stand up to the root, each made before its children; whoever goes on has a parent and a
+/// root that wait; only roots are aborted.
+pub fn trees_stand()
+    ensures stay { NodesStay }
+    ensures forest { AllForest }
+    ensures rooted { AllRooted }
+    ensures wait { RootsWait }
+{}
+
+/// An entry leaves alone all that is told of the trees that it doesn't belong to.
+pub fn others_stay()
+    ensures { OthersStay }
+{}
+
+/// By a step only its procedure, the parent and the root may come to go on, and only the procedure and the root may end.
+pub fn steps_touch_few()
+    ensures go { StepsLetGo }
+    ensures end { StepsEnd }
+{}
+
+/// How many children of a procedure and how many descendants of a root haven't ended, and what each entry changes of it.
+pub fn open_are_counted()
+    ensures children { OpenChildrenTell }
+    ensures children_change { OpenChildrenChange }
+    ensures under { OpenUnderTell }
+    ensures under_change { OpenUnderChange }
+{}
+
+/// A step that makes children waits for them, one that calls awaits the answer; what undoes a step does neither.
+pub fn answers_are_formed()
+    ensures steps { StepsAreFormed }
+    ensures undos { UndosAreFormed }
+{}
+
+/// The verb of a call is its procedure's and never changes, and a report fits it.
+pub fn calls_are_own()
+    ensures own { CallsAreOwn }
+    ensures stay { CallsStay }
+    ensures fit { ReportsFit }
+{}
+
+/// The keys of a journal are in order, and each row that a step asks for is read as it is, whatever else there is; the
+/// row of its sheet that a procedure is at is a byte.
 pub fn rows_are_read()
     ensures listed { KeysAreListed }
     ensures read { RowsAreRead }
+    ensures alike { RowsReadAlike }
+    ensures bytes { RowsFit }
     ensures namespace { NamespaceIsRead }
 {}
 
 /// While the master runs only requests for namespaces: each procedure is one, checks at its first step and adds at its
-/// second, has no children and nothing to undo.
+/// second, has no children and nothing to undo; the row of an unfinished one stands in its sheet.
 pub fn namespaces_are_made()
     ensures simple { AllSimple }
     ensures staged { AllStaged }
     ensures flat { AllFlat }
     ensures steps { AllSteps }
-{}
-
-/// While the master runs only requests for namespaces: each row that a procedure is at is a byte, and that of an
-/// unfinished one stands in its sheet.
-pub fn rows_fit()
-    ensures bytes { RowsFit }
     ensures placed { AllPlaced }
 {}
 
-/// No two procedures that hold what they ask for conflict, and no nonce acts twice. While the master runs only requests
-/// for namespaces, one procedure at a time has a step and hasn't ended.
-pub fn one_at_a_time()
+/// No nonce acts twice, and none is unfinished exactly where each root has ended.
+pub fn roots_are_told()
+    ensures nonces { NoncesActOnceInAll }
+    ensures tells { UnfinishedTells }
+{}
+
+/// While the master runs only requests for namespaces: one procedure at a time has a step and hasn't ended, so that no
+/// two that hold what they ask for conflict.
+pub fn one_namespace_at_a_time()
     ensures holds { AllOneHolds }
     ensures conflicts { NoneEverConflict }
-    ensures nonces { NoncesActOnceInAll }
     ensures steps { StepsWhileRunning }
     ensures begins { BeginsAlone }
 {}
 
-/// How many roots are unfinished, what changes that, and that none are where nothing can go on.
-pub fn unfinished_go_on()
+/// While the master runs only requests for namespaces: what changes how many roots are unfinished, and that none are
+/// where nothing can go on.
+pub fn namespaces_go_on()
     ensures counts { UnfinishedCounts }
-    ensures tells { UnfinishedTells }
     ensures on { UnfinishedGoesOn }
     ensures rest { RestIsDone }
 {}

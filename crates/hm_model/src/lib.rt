@@ -4,5 +4,7 @@
 
 pub mod laws;
 mod lock;
+mod part;
 
 pub use lock::{Ask, Resource};
+pub use part::Part;

@@ -17,7 +17,9 @@ struct Counted {
 impl Handler for Counted {
     ghost sheets_are = { λ hands. ⟦<TableHands as Handler>⟧.sheets_are hands.tables };
 
-    ghost calls_are = { λ hands. ⟦<TableHands as Handler>⟧.calls_are hands.tables };
+    ghost steps_are = { λ hands. ⟦<TableHands as Handler>⟧.steps_are hands.tables };
+
+    ghost undos_are = { λ hands. ⟦<TableHands as Handler>⟧.undos_are hands.tables };
 
     fn sheets(&self) -> &[Valid] {
         self.tables.sheets()

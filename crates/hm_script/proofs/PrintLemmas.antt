@@ -19,7 +19,7 @@ use Rattle.hm_script.specs.declared.keyword.Keyword.TheVariants.{Workers, OfNs, 
 use Rattle.hm_script.specs.Lines.{lines_of}
 use Rattle.hm_script.specs.Printing.{IsReadBack, FitRest, Fit, IsFitting}
 use Rattle.hm_script.specs.Reading.{may_stand}
-use Rattle.hm_script.specs.Script.{IsSpelled, IsLater, IsPrintable, onto_others, read_lines, read_script, line_text, script_text}
+use Rattle.hm_script.specs.Script.{IsSpelled, IsLater, IsPrintable, every, if_had, onto_others, read_lines, read_script, line_text, script_text}
 use Rattle.hm_script.specs.Shapes.{nothing, many}
 use Rattle.hm_script.specs.Spellings.{spelling, behind_space, command_text}
 use Rattle.hm_script.specs.Values.{Need, region, number, target, Value, of_region, of_number, of_server, named, numbered, read}
@@ -84,15 +84,15 @@ script_more out new commands i c within is so_far written =
 
 -- the lines of a command and those behind it
 line_more : (n : ℕ) (first : Bool) (command : Command) (rest : List ℕ) → may_stand first (spelling command).keyword ≡ true → IsFitting (spelling command)
-    → read_lines n first (lines_of ((command_text command ++ 10 ∷ []) ++ rest)) ≡ onto_others (spelling command) (read_lines (n + 1) false (lines_of rest))
+    → read_lines every n first (lines_of ((command_text command ++ 10 ∷ []) ++ rest)) ≡ onto_others (spelling command) (read_lines every (n + 1) false (lines_of rest))
 line_more n first command rest stands fit =
     let said = spelling command in
-    ap (λ bs. read_lines n first (lines_of bs)) (append_assoc (command_text command) (10 ∷ []) rest)
-    ∙ ap (read_lines n first) (lines_right (command_text command) rest (command_right said.keyword said.values fit))
-    ∙ lines_said n first (command_text command) (lines_of rest) said (keyword_unskipped said.keyword _) (line_read first said.keyword said.values stands fit)
+    ap (λ bs. read_lines every n first (lines_of bs)) (append_assoc (command_text command) (10 ∷ []) rest)
+    ∙ ap (read_lines every n first) (lines_right (command_text command) rest (command_right said.keyword said.values fit))
+    ∙ lines_said every n first (command_text command) (lines_of rest) said (keyword_unskipped said.keyword _) (ap (if_had every (command_text command)) (line_read first said.keyword said.values stands fit))
 
 later_read : (n : ℕ) (commands : List Command) → All IsLater commands → All (λ c. IsFitting (spelling c)) commands
-    → read_lines n false (lines_of (script_text commands)) ≡ Ok (map spelling commands)
+    → read_lines every n false (lines_of (script_text commands)) ≡ Ok (map spelling commands)
 later_read n [] later fit = refl
 later_read n (command ∷ commands) later fit =
     line_more n false command (script_text commands) (All-head IsLater command commands later) (All-head (λ c. IsFitting (spelling c)) command commands fit)
@@ -115,7 +115,7 @@ stands_first Cut = refl
 stands_first (Alone word) = refl
 
 all_read : (commands : List Command) → IsPrintable commands → All (λ c. IsFitting (spelling c)) commands
-    → read_lines 1 true (lines_of (script_text commands)) ≡ Ok (map spelling commands)
+    → read_lines every 1 true (lines_of (script_text commands)) ≡ Ok (map spelling commands)
 all_read [] printable fit = refl
 all_read (command ∷ commands) printable fit =
     line_more 1 true command (script_text commands) (stands_first (spelling command).keyword) (All-head (λ c. IsFitting (spelling c)) command commands fit)
@@ -123,6 +123,6 @@ all_read (command ∷ commands) printable fit =
 
 -- a script that isn't too long is read back
 pub script_read : (commands : List Command) → All (λ c. IsSpelled c → IsFitting (spelling c)) commands → IsPrintable commands → length (script_text commands) ≤ 1048576
-    → read_script (script_text commands) ≡ Ok (map spelling commands)
+    → read_script every (script_text commands) ≡ Ok (map spelling commands)
 script_read commands fit printable short =
-    script_lines (script_text commands) short ∙ all_read commands printable (λ k d within. fit k d within (printable.0 k d within))
+    script_lines every (script_text commands) short ∙ all_read commands printable (λ k d within. fit k d within (printable.0 k d within))

@@ -3,10 +3,10 @@ use Rattle.std.specs.Prelude.{◌≡◌, ℕ, ◌+◌, ◌≤◌, Bool, true, fa
 use Rattle.std.specs.List.{flat_map}
 use Rattle.hm_script.specs.declared.bad.Bad.{Bad}
 use Rattle.hm_script.specs.declared.bad.Why.{Why}
-use Rattle.hm_script.specs.declared.bad.Why.TheVariants.{TooLong}
+use Rattle.hm_script.specs.declared.bad.Why.TheVariants.{TooLong, Word}
 use Rattle.hm_script.specs.declared.command.Command.{Command}
 use Rattle.hm_script.specs.declared.command.Command.TheVariants.{Workers, Merge}
-use Rattle.hm_script.specs.Lines.{lines_of, is_skipped}
+use Rattle.hm_script.specs.Lines.{indent_of, is_skipped, lines_of}
 use Rattle.hm_script.specs.Reading.{may_stand, read_line}
 use Rattle.hm_script.specs.Spellings.{Spelling, spelling, command_text}
 
@@ -20,25 +20,44 @@ abbrev pub before_others : ℕ → Result Spelling Why → Result (List Spelling
 before_others number (Ok said) others = onto_others said others
 before_others number (Err why) others = Err (record { line = number; why = why })
 
--- what lines say that are numbered from `number` on; `first` tells whether no command stands before them
-abbrev pub read_lines : ℕ → Bool → List (List ℕ) → Result (List Spelling) Bad
-read_lines number first [] = Ok []
-read_lines number first (line ∷ lines) =
-    if is_skipped line then read_lines (number + 1) first lines
-    else before_others number (read_line first line) (read_lines (number + 1) false lines)
+-- where a program doesn't have the command of a line, its first word is wrong
+abbrev pub if_had : (Spelling → Bool) → List ℕ → Result Spelling Why → Result Spelling Why
+if_had has line (Ok said) = if has said then Ok said else Err (Word (indent_of line))
+if_had has line (Err why) = Err why
 
--- what a script says: the commands of its lines, or its first line that says none, and that line's first fault
-unfoldable pub read_script : List ℕ → Result (List Spelling) Bad
-read_script bytes =
-    if nat_lt 1048576 (length bytes) then Err (record { line = 0; why = TooLong }) else read_lines 1 true (lines_of bytes)
+-- what lines say to a program with these commands. They are numbered from `number` on; `first` tells whether no command
+-- stands before them.
+abbrev pub read_lines : (Spelling → Bool) → ℕ → Bool → List (List ℕ) → Result (List Spelling) Bad
+read_lines has number first [] = Ok []
+read_lines has number first (line ∷ lines) =
+    if is_skipped line then read_lines has (number + 1) first lines
+    else before_others number (if_had has line (read_line first line)) (read_lines has (number + 1) false lines)
+
+-- what a script says to such a program: the commands of its lines, or its first line that says none, and that line's
+-- first fault
+unfoldable pub read_script : (Spelling → Bool) → List ℕ → Result (List Spelling) Bad
+read_script has bytes =
+    if nat_lt 1048576 (length bytes) then Err (record { line = 0; why = TooLong }) else read_lines has 1 true (lines_of bytes)
+
+-- to such a program the bytes are a script of these commands
+abbrev pub IsScriptTo : (Spelling → Bool) → List ℕ → List Command → Type 0
+IsScriptTo has bytes commands = read_script has bytes ≡ Ok (map spelling commands)
+
+-- to such a program the bytes are no script, and this is their first fault
+abbrev pub IsFaultTo : (Spelling → Bool) → List ℕ → Bad → Type 0
+IsFaultTo has bytes bad = read_script has bytes ≡ Err bad
+
+-- each command
+abbrev pub every : Spelling → Bool
+every said = true
 
 -- the bytes are a script of these commands
 abbrev pub IsScript : List ℕ → List Command → Type 0
-IsScript bytes commands = read_script bytes ≡ Ok (map spelling commands)
+IsScript bytes commands = IsScriptTo every bytes commands
 
 -- the bytes are no script, and this is their first fault
 abbrev pub IsFaultOf : List ℕ → Bad → Type 0
-IsFaultOf bytes bad = read_script bytes ≡ Err bad
+IsFaultOf bytes bad = IsFaultTo every bytes bad
 
 -- the line that says a command, with its newline
 abbrev pub line_text : Command → List ℕ

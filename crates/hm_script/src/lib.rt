@@ -13,4 +13,4 @@ mod words;
 pub use bad::{Bad, Why};
 pub use command::Command;
 pub use printing::print;
-pub use script::parse;
+pub use script::{Commands, Whole, parse, parse_for};

@@ -12,11 +12,13 @@ use Rattle.hm_data.specs.declared.catalog.CatRow.TheVariants as row_is
 use Rattle.hm_data.specs.declared.request.Request.TheVariants as request_is
 use Rattle.hm_data.specs.declared.sheet.Row.{Row}
 use Rattle.hm_model.specs.Answers.{no_row}
-use Rattle.hm_model.specs.Catalog.{Catalog}
+use Rattle.hm_model.specs.Catalog.{Catalog, row_at, set_to}
 use Rattle.hm_model.specs.Lists.{plain}
 use Rattle.hm_model.specs.Locks.{covers, reads, guards}
-use Rattle.hm_model.specs.Serial.{set_to, create_namespace}
-use Rattle.hm_model.specs.Steps.{gives, on_to, set_row, check_namespace_free}
+use Rattle.hm_model.specs.Checks.{namespace_free}
+use Rattle.hm_model.specs.Deeds.{unless}
+use Rattle.hm_model.specs.Checks.{namespace_free}
+use Rattle.hm_model.specs.Outs.{checked, gives, on_to}
 use Rattle.hm_model.proofs.KeyTests.{bytes_eq-refl}
 use Rattle.hm_model.proofs.ValidSheets.{Leads}
 use Rattle.hm_serial.proofs.Roots.{adds_namespace, RootOut, fails_out, goes_out, ends_out}
@@ -33,15 +35,15 @@ module _ (ns : List ℕ) (first : ℕ) where
 
   module _ (rows : List Row) (base there others : Catalog) (keys : List CatKey) (undo : Back) (next : ℕ) where
     -- the check, by the row that was found
-    pub checks : (row : Option CatRow) → base (key_is.Ns ns) ≡ row → Leads rows next (plain act_is.AddNamespace ∷ []) → RootOut (args_are.Root (request_is.CreateNamespace ns) first) rows base there others keys [] false undo (check_namespace_free next row)
+    pub checks : (row : Option CatRow) → base (key_is.Ns ns) ≡ row → Leads rows next (plain act_is.AddNamespace ∷ []) → RootOut (args_are.Root (request_is.CreateNamespace ns) first) rows base there others keys [] false undo (checked next (namespace_free row))
     checks None is leads = goes_out (args_are.Root (request_is.CreateNamespace ns) first) rows base there others keys [] undo false next (plain act_is.AddNamespace ∷ []) (λ e. absurd (false≢true e)) leads (adds_namespace is)
     checks (Some row) is leads = fails_out (args_are.Root (request_is.CreateNamespace ns) first) rows base there others keys [] undo cause_is.NsExists
 
     -- the edit, where the namespace wasn't there
-    pub adds : (seen : List (CatKey × CatRow)) → (next == no_row) ≡ true → (set_row seen (key_is.Ns ns) (Some row_is.Ns)).before ≡ there (key_is.Ns ns) → base (key_is.Ns ns) ≡ None → others (key_is.Ns ns) ≡ base (key_is.Ns ns) → RootOut (args_are.Root (request_is.CreateNamespace ns) first) rows base there others keys [] false undo (gives (on_to next) (set_row seen (key_is.Ns ns) (Some row_is.Ns) ∷ []))
-    adds seen last told none same = ends_out (args_are.Root (request_is.CreateNamespace ns) first) rows base there others keys [] undo false next (set_row seen (key_is.Ns ns) (Some row_is.Ns)) last told covers_it (record {
+    pub adds : (seen : List (CatKey × CatRow)) → (next == no_row) ≡ true → (set_to (row_at seen) (key_is.Ns ns) (Some row_is.Ns)).before ≡ there (key_is.Ns ns) → base (key_is.Ns ns) ≡ None → others (key_is.Ns ns) ≡ base (key_is.Ns ns) → RootOut (args_are.Root (request_is.CreateNamespace ns) first) rows base there others keys [] false undo (gives (on_to next) (set_to (row_at seen) (key_is.Ns ns) (Some row_is.Ns) ∷ []))
+    adds seen last told none same = ends_out (args_are.Root (request_is.CreateNamespace ns) first) rows base there others keys [] undo false next (set_to (row_at seen) (key_is.Ns ns) (Some row_is.Ns)) last told covers_it (record {
       edits = set_to others (key_is.Ns ns) (Some row_is.Ns) ∷ [];
-      deed_is = ap (create_namespace others ns) (same ∙ none);
+      deed_is = ap (λ o. unless (namespace_free o) (set_to others (key_is.Ns ns) (Some row_is.Ns) ∷ [])) (same ∙ none);
       within = (covers_it, tt);
       same = λ key. refl;
     })

@@ -16,10 +16,11 @@ use Rattle.hm_model.specs.Lists.{Line}
 use Rattle.hm_model.specs.Locks.{covers, guards, reads}
 use Rattle.hm_model.specs.Phase.{cause, root_ended}
 use Rattle.hm_model.specs.Serial.{serial}
-use Rattle.hm_model.specs.Steps.{undo_edits}
+use Rattle.hm_model.specs.Undoing.{undo_edits}
 use Rattle.hm_model.specs.Tree.{Node, node_of}
 use Rattle.hm_model.specs.Undo.{Undoable, stack, pushed}
-use Rattle.hm_serial.proofs.Local.{Within, Tells, undo_leads_back, within_undo}
+use Rattle.hm_serial.proofs.Local.{Within, undo_leads_back, within_undo}
+use Rattle.hm_serial.specs.Theorem.{Tells}
 use Rattle.hm_model.proofs.ValidSheets.{Leads}
 use Rattle.hm_serial.proofs.Roots.{Stage, is_after}
 use Rattle.hm_serial.proofs.Trees.{IsTop, RootHolds, rows_for, Same, same_ended}

@@ -1,6 +1,7 @@
 -- Each entry keeps what a legal journal keeps.
 use Rattle.std.proofs.Common.{◌≡◌, ◌≢◌, ℕ, ◌+◌, List, [], ◌∷◌, true, false, Option, Some, None, refl, ap, sym, ◌∙◌}
 use Rattle.std.proofs.lemmas.Option.{none-some}
+use Rattle.std.proofs.lemmas.Bool.{false≢true}
 use Rattle.hm_names.specs.Server.{Server}
 use Rattle.hm_names.specs.declared.nonce.Nonce.{Nonce}
 use Rattle.hm_names.specs.declared.pid.Pid.{Pid}
@@ -86,8 +87,8 @@ kept_all [] legal = kept_nothing
 kept_all (entry_is.Start sheets ∷ before) legal = kept_start sheets before legal.1.0.0
 kept_all (entry_is.Submit nonce request ∷ before) legal = kept_submit nonce request before legal (kept_all before legal.0)
 kept_all (entry_is.Step pid pick out ∷ before) legal = kept_step pid pick out before legal (kept_all before legal.0)
-kept_all (entry_is.Undo pid row out ∷ before) legal = absurd legal.1.1.0
-kept_all (entry_is.Report call told ∷ before) legal = absurd legal.1.1.0
-kept_all (entry_is.Up server ∷ before) legal = absurd legal.1.1.0
-kept_all (entry_is.Down server ∷ before) legal = absurd legal.1.1.0
-kept_all (entry_is.Abort pid ∷ before) legal = absurd legal.1.1.0
+kept_all (entry_is.Undo pid row out ∷ before) legal = absurd (false≢true legal.1.1.0.0)
+kept_all (entry_is.Report call told ∷ before) legal = absurd (false≢true legal.1.1.0.0)
+kept_all (entry_is.Up server ∷ before) legal = absurd (false≢true legal.1.1.0.0)
+kept_all (entry_is.Down server ∷ before) legal = absurd (false≢true legal.1.1.0.0)
+kept_all (entry_is.Abort pid ∷ before) legal = absurd (false≢true legal.1.1.0.0)

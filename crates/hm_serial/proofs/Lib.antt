@@ -9,3 +9,14 @@ pub mod Moves
 pub mod Keeps
 pub mod Serial
 pub mod Paid
+pub mod Editing
+pub mod Kids
+pub mod Standing
+pub mod Falling
+pub mod Kinship
+pub mod Fallen
+pub mod Backs
+pub mod FallStep
+pub mod FallAll
+pub mod Failing
+pub mod Telling

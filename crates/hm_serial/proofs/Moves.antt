@@ -23,7 +23,8 @@ use Rattle.hm_model.specs.Lists.{Line, lines_of}
 use Rattle.hm_model.specs.Locks.{covers, guards}
 use Rattle.hm_model.specs.Phase.{cause, or_else, all_stopped, rolled_back, root_over, root_ended}
 use Rattle.hm_model.specs.Rules.{IsLegal}
-use Rattle.hm_model.specs.Serial.{serial, deed_of, edits_in, at_end, if_root, ended_deed}
+use Rattle.hm_model.specs.Deeds.{deed_of}
+use Rattle.hm_model.specs.Serial.{serial, edits_in, at_end, if_root, ended_deed}
 use Rattle.hm_model.specs.Sheets.{undo_by, undo_of_next}
 use Rattle.hm_model.specs.Tree.{Node, root_of}
 use Rattle.hm_model.specs.Undo.{Undoable, stack, pushed, row_if_there, is_empty}

@@ -27,10 +27,13 @@ use Rattle.hm_model.specs.Catalog.{Catalog, edited}
 use Rattle.hm_model.specs.Kinds.{kind_of, is_running_kind, request_kind}
 use Rattle.hm_model.specs.Lists.{Line, plain, lines_of}
 use Rattle.hm_model.specs.Locks.{guards, covers}
-use Rattle.hm_model.specs.Serial.{deed_of}
+use Rattle.hm_model.specs.Deeds.{deed_of}
 use Rattle.hm_model.specs.Sheets.{undo_by}
-use Rattle.hm_model.specs.Steps.{gives, fails, on_to, act_out, step_out, out_of, eval, eval_row}
-use Rattle.hm_serial.proofs.Local.{Within, Tells}
+use Rattle.hm_model.specs.Acts.{act_answer}
+use Rattle.hm_model.specs.Evaluation.{answer_at, row_answer, turn_answer}
+use Rattle.hm_model.specs.Outs.{gives, fails, on_to}
+use Rattle.hm_serial.proofs.Local.{Within}
+use Rattle.hm_serial.specs.Theorem.{Tells}
 use Rattle.hm_model.proofs.ValidSheets.{Leads, Fits}
 
 -- the lines that are left of a root, from the catalog before its first step, and what its steps did so far, at once
@@ -126,11 +129,11 @@ module _ (args : Args) (rows : List Row) (base there others : Catalog) (keys : L
 
 -- the row at a place is the one that is listed there
 module _ (args : Args) (rows : List Row) (base there others : Catalog) (keys : List CatKey) (sofar : List Edit) (place : ℕ) (line : Line) (row : Row) (is_row : slice_get rows place ≡ Some row) (fits : Fits line row) where
-  pub at_row : (at : StepIn) (out : StepOut) → at.turn ≡ turn_is.Step → eval_row (slice_get rows place) at ≡ Some out → RootOut args rows base there others keys sofar line.after row.undo (act_out line.act row.next at.args at.rows) → RootOut args rows base there others keys sofar (is_after (slice_get rows place)) (undo_by (slice_get rows place)) out
+  pub at_row : (at : StepIn) (out : StepOut) → at.turn ≡ turn_is.Step → answer_at (slice_get rows place) at ≡ Some out → RootOut args rows base there others keys sofar line.after row.undo (act_answer line.act row.next at) → RootOut args rows base there others keys sofar (is_after (slice_get rows place)) (undo_by (slice_get rows place)) out
   at_row at out turn is h =
-      let evals : step_out row at.aborted at.args at.rows ≡ out = sym (ap (out_of row at) turn) ∙ same_Some (eval row at) out (ap (λ o. eval_row o at) (sym is_row) ∙ is) in
+      let evals : row_answer row at ≡ out = sym (ap (turn_answer row at) turn) ∙ same_Some (turn_answer row at at.turn) out (ap (λ o. answer_at o at) (sym is_row) ∙ is) in
       rw (is_row, ← evals, fits.0, fits.1) (by_abort (at.aborted && not line.after) refl)
     where
-      by_abort : (b : Bool) → (at.aborted && not line.after) ≡ b → RootOut args rows base there others keys sofar line.after row.undo (cond b (fails cause_is.Aborted) (act_out line.act row.next at.args at.rows))
+      by_abort : (b : Bool) → (at.aborted && not line.after) ≡ b → RootOut args rows base there others keys sofar line.after row.undo (cond b (fails cause_is.Aborted) (act_answer line.act row.next at))
       by_abort false e = h
       by_abort true e = subst (λ m. RootOut args rows base there others keys sofar m row.undo (fails cause_is.Aborted)) (sym (not-true line.after (and_parts at.aborted (not line.after) e).1)) (fails_out args rows base there others keys sofar row.undo cause_is.Aborted)

@@ -19,7 +19,7 @@ use Rattle.hm_data.specs.declared.sheet.Row.{Row}
 use Rattle.hm_data.specs.declared.sheet.Sheet.{Sheet}
 use Rattle.hm_data.specs.declared.step.StepOut.{StepOut}
 use Rattle.hm_model.specs.Journal.{Past}
-use Rattle.hm_model.specs.Answers.{no_row, last_answer, row_of, report_of, is_stopped}
+use Rattle.hm_model.specs.Answers.{no_row, last_answer, row_of, is_stopped}
 use Rattle.hm_model.specs.Catalog.{was}
 use Rattle.hm_model.specs.Inputs.{step_input, input, turn_input, undoes}
 use Rattle.hm_model.specs.Kinds.{kind_of, first_row_of, running_kinds}
@@ -27,12 +27,11 @@ use Rattle.hm_model.specs.Lists.{lines_of}
 use Rattle.hm_model.specs.Phase.{cause, all_stopped, rolled_back, root_ended, own_phase, phase_table, phase, children_ended}
 use Rattle.hm_model.specs.Rules.{IsLegal}
 use Rattle.hm_model.specs.Sheets.{sheets_of, sheet_for, row_in, next_row}
-use Rattle.hm_model.specs.Steps.{answer_of, eval_row}
+use Rattle.hm_model.specs.Evaluation.{answer_at, answer_of}
 use Rattle.hm_model.specs.Tree.{Node, made, node_of, root_of, root_in, is_top}
 use Rattle.hm_model.specs.Undo.{stack}
-use Rattle.hm_model.proofs.Grown.{grown_all, simple_all, step_plain, step_node, not_stepped, submit_old, sheets_are}
-use Rattle.hm_model.proofs.Sheets.{said_by_row}
-use Rattle.hm_model.proofs.Stages.{flat_all}
+use Rattle.hm_model.proofs.Grown.{grown_all, not_stepped, sheets_are, step_node, submit_old}
+use Rattle.hm_model.proofs.Stages.{flat_all, simple_all, step_plain}
 use Rattle.hm_model.proofs.ValidSheets.{Leads, valid_end, sheet_found}
 use Rattle.hm_serial.proofs.Roots.{IsRootKind}
 use Rattle.hm_serial.proofs.Steps.{root_leads, runs_kind}
@@ -116,9 +115,8 @@ table_runs (Some c) true own h = elim h [ inl e ↦ cc | inr e ↦ cc ]
 table_runs (Some c) false own h = elim h [ inl e ↦ cc | inr e ↦ cc ]
 
 -- a root that may step hasn't stopped, and nothing in its tree failed
-pub may_run : (J : Past) (p : ℕ) (node : Node) → node.above ≡ [] → node.root ≡ p → (phase J p node ≡ phase_is.Runnable) ⊎ ((phase J p node ≡ phase_is.Awaiting) × (report_of J p ≢ None)) → (is_stopped (last_answer J p) ≡ false) × (cause J p ≡ None)
-may_run J p node top root may =
-    let runs : Runs (phase J p node) = elim may [ inl e ↦ inl e | inr e ↦ inr e.0 ] in
+pub may_run : (J : Past) (p : ℕ) (node : Node) → node.above ≡ [] → node.root ≡ p → Runs (phase J p node) → (is_stopped (last_answer J p) ≡ false) × (cause J p ≡ None)
+may_run J p node top root runs =
     let at_top : is_top node.above ≡ true = ap is_top top in
     let told = table_runs (cause J node.root) (rolled_back J node.root) (own_phase (last_answer J p) (children_ended J p)) (subst (λ b. Runs (phase_table (cause J node.root) (rolled_back J node.root) b (own_phase (last_answer J p) (children_ended J p)))) at_top runs) in
     (own_runs (last_answer J p) (children_ended J p) told.0, ap (cause J) (sym root) ∙ told.1)
@@ -140,7 +138,7 @@ pub record Stepping (pid : Pid) (pick : Option Server) (out : StepOut) (before :
   pub sound : cause before pid.0 ≡ None
   pub childless : out.children ≡ []
   pub rows : AreFor me.args (rows_for before me.args)
-  pub is_out : eval_row (slice_get (rows_for before me.args) (row_of before pid.0 me)) (step_input before pid.0 me pick) ≡ Some out
+  pub is_out : answer_at (slice_get (rows_for before me.args) (row_of before pid.0 me)) (step_input before pid.0 me pick) ≡ Some out
 
 pub stepping : (pid : Pid) (pick : Option Server) (out : StepOut) (before : Past) → IsLegal (entry_is.Step pid pick out ∷ before) → Stepping pid pick out before
 stepping pid pick out before legal =
@@ -149,7 +147,8 @@ stepping pid pick out before legal =
     let forest = forest_all before legal.0 in
     let top = forest.tops pid.0 may.0 may.1 in
     let kind = forest.kinds pid.0 may.0 may.1 in
-    let can = may_run before pid.0 may.0 top.0 top.1 may.2 in
+    let runs : Runs (phase before pid.0 may.0) = elim may.2.1 [ inl e ↦ inl e | inr e ↦ inr e.0 ] in
+    let can = may_run before pid.0 may.0 top.0 top.1 runs in
     let evaluated : answer_of (sheets_of before) (input before pid.0 may.0 pick) ≡ Some out = subst (λ n. answer_of (sheets_of before) (input before pid.0 n pick) ≡ Some out) (same_Some ev.0 may.0 (sym ev.1 ∙ may.1)) ev.2 in
     let at = step_input before pid.0 may.0 pick in
     record {
@@ -160,11 +159,10 @@ stepping pid pick out before legal =
       kind = kind;
       running = can.0;
       sound = can.1;
-      childless = (step_plain before pid pick out legal.1).0;
+      childless = (step_plain pid pick out before legal).0;
       rows = rows_are before legal.0 legal.1.0 may.0.args kind;
       is_out =
-          ap (λ o. eval_row o at) (sym (next_row-is before pid.0 may.0))
-          ∙ sym (said_by_row (sheets_of before) at)
+          ap (λ o. answer_at o at) (sym (next_row-is before pid.0 may.0))
           ∙ ap (answer_of (sheets_of before)) (sym (steps_input before pid.0 may.0 pick can.1))
           ∙ evaluated;
     }

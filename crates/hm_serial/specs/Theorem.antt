@@ -1,5 +1,5 @@
 -- What holds of the catalog of every legal journal, and of the entries of a tree.
-use Rattle.std.specs.Prelude.{◌≡◌, ◌≢◌, ℕ, ◌≤◌, List, [], ◌∷◌, Option, Some, None, true, false, ◌⊎◌, Ok}
+use Rattle.std.specs.Prelude.{◌≡◌, ◌≢◌, ℕ, ◌≤◌, List, [], ◌∷◌, Option, Some, None, true, false, if◌then◌else◌, ◌⊎◌, Ok}
 use Rattle.hm_names.specs.Server.{Server}
 use Rattle.hm_names.specs.declared.pid.Pid.{Pid}
 use Rattle.hm_data.specs.declared.answer.Answer.TheVariants as answer_is
@@ -12,12 +12,15 @@ use Rattle.hm_data.specs.declared.step.StepOut.{StepOut}
 use Rattle.hm_model.specs.Journal.{Past}
 use Rattle.hm_model.specs.Tree.{Node, node_of, root_of}
 use Rattle.hm_model.specs.Phase.{cause, root_ended}
-use Rattle.hm_model.specs.Catalog.{cat, was, keys_of}
+use Rattle.hm_model.specs.Catalog.{Catalog, cat, was, keys_of}
+use Rattle.hm_model.specs.Keys.{same_key}
 use Rattle.hm_model.specs.Locks.{covers, IsBusy}
 use Rattle.hm_model.specs.Records.{unfinished}
 use Rattle.hm_model.specs.Rules.{IsLegal}
-use Rattle.hm_model.specs.Serial.{serial, deed_of}
-use Rattle.hm_serial.specs.Costs.{entries_of, cost, IsQuiet}
+use Rattle.hm_model.specs.Costs.{cost}
+use Rattle.hm_model.specs.Deeds.{deed_of}
+use Rattle.hm_model.specs.Entries.{entries_of, IsQuiet}
+use Rattle.hm_model.specs.Serial.{serial}
 
 -- a key that isn't busy has the row that the deeds of the finished roots give it, one after another
 abbrev pub CatalogIsSerial : Type 0
@@ -54,6 +57,12 @@ TreeEdits (entry_is.Up server ∷ before) r key = TreeEdits before r key
 TreeEdits (entry_is.Down server ∷ before) r key = TreeEdits before r key
 TreeEdits (entry_is.Abort pid ∷ before) r key = TreeEdits before r key
 
+-- what the steps and undos of a tree edit, its root covers
+abbrev pub EditsAreCovered : Type 0
+EditsAreCovered =
+    (J : Past) → IsLegal J → (r : ℕ) (key : CatKey) → TreeEdits J r key
+    → (node : Node) × (node_of J r ≡ Some node) × (covers node.args key ≡ true)
+
 -- at the entry that ends a failed root, each key that its tree edited, and each that the root covers, has the row that
 -- it had just before the root's first step
 abbrev pub FailureLeavesAll : Type 0
@@ -64,8 +73,20 @@ FailureLeavesAll =
     → (key : CatKey) → TreeEdits (entry ∷ before) r key ⊎ (covers node.args key ≡ true)
     → cat (entry ∷ before) key ≡ was (entry ∷ before) r key
 
+-- each edit tells what its key had
+abbrev pub Tells : List Edit → Catalog → Type 0
+Tells [] now = Unit {0}
+Tells (edit ∷ edits) now =
+    (edit.before ≡ now edit.key) × Tells edits (λ key. if same_key key edit.key then edit.after else now key)
+
+-- the edits of an undo tell the rows that they find
+abbrev pub UndosTell : Type 0
+UndosTell =
+    (pid : Pid) (row : ℕ) (out : StepOut) (before : Past) → IsLegal (entry_is.Undo pid row out ∷ before)
+    → Tells out.edits (cat before)
+
 -- the entries of a root's tree that nothing disturbed, with the one that makes the root, are at most what it costs
 abbrev pub CostBound : Type 0
 CostBound =
     (J : Past) → IsLegal J → (r : ℕ) (node : Node) → node_of J r ≡ Some node → node.above ≡ []
-    → IsQuiet J r → entries_of J r ≤ cost node.args
+    → IsQuiet J r → entries_of J r ≤ cost J r node.args

@@ -1,5 +1,5 @@
 //! The laws.
-ghost use Rattle.hm_serial.specs.Theorem.{CatalogIsSerial, SettledCatalogIsSerial, DeedsApply, FailureLeavesAll, CostBound};
+ghost use Rattle.hm_serial.specs.Theorem.{CatalogIsSerial, SettledCatalogIsSerial, DeedsApply, EditsAreCovered, FailureLeavesAll, UndosTell, CostBound};
 
 /// On every key that no unfinished procedure with a step covers, the catalog is that of the deeds.
 pub fn catalog_is_serial()
@@ -16,9 +16,19 @@ pub fn deeds_apply()
     ensures { DeedsApply }
 {}
 
+/// A tree edits no key but those that its root covers.
+pub fn edits_are_covered()
+    ensures { EditsAreCovered }
+{}
+
 /// A failed root leaves each key that it covers, and so each that its tree edited, as it was before its first step.
 pub fn failure_leaves_all()
     ensures { FailureLeavesAll }
+{}
+
+/// The edits of an undo tell the rows that they find.
+pub fn undos_tell()
+    ensures { UndosTell }
 {}
 
 /// A tree that nothing disturbs has at most the entries that its root costs.

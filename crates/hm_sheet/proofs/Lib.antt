@@ -1,5 +1,8 @@
 pub mod Broken
 pub mod Copies
+pub mod Ordered
+pub mod InPieces
+pub mod OwnValid
 pub mod Places
 pub mod Sheets
 pub mod Turns

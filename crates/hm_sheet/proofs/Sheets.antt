@@ -1,12 +1,12 @@
 -- Sheets by kind, among those of several handlers.
-use Rattle.std.proofs.Common.{◌≡◌, ℕ, zero, suc, ◌+◌, ◌<◌, List, [], ◌∷◌, ◌++◌, length, drop, get_or, slice_get, Option, Some, None, IsSome, IfSome, is_some, min, subst, ◌≤◌, Bool, true, false, refl, ap, ◌∙◌, sym, arith, if◌then◌else◌}
+use Rattle.std.proofs.Common.{◌≡◌, ℕ, zero, suc, ◌+◌, ◌<◌, List, [], ◌∷◌, ◌++◌, length, drop, map, get_or, slice_get, Option, Some, None, IsSome, IfSome, is_some, min, subst, ◌≤◌, Bool, true, false, refl, ap, ◌∙◌, sym, arith, if◌then◌else◌}
 use Rattle.std.specs.Bool.{◌==◌}
 use Rattle.std.proofs.lemmas.Option.{slice_get-get_or}
 use Rattle.std.proofs.lemmas.List.{at_drop_all}
 use Rattle.std.specs.List.{flat_map}
 use Rattle.hm_data.specs.declared.sheet.Sheet.{Sheet}
 use Rattle.hm_model.specs.Sheets.{sheet_for}
-use Rattle.hm_sheet.specs.Words.{count_of}
+use Rattle.hm_sheet.specs.Words.{count_of, place_for}
 
 pub count_append : (sheets more : List Sheet) (kind : ℕ) → count_of (sheets ++ more) kind ≡ count_of sheets kind + count_of more kind
 count_append [] more kind = omega arith
@@ -73,3 +73,22 @@ pub all_counted : {H : Type 0} (f : H → List Sheet) (hs : List H) (i kind coun
 all_counted f hs i kind count most all fits same =
     let none : count_of (flat_map f (drop i hs)) kind ≡ 0 = at_drop_all (λ xs. count_of (flat_map f xs) kind) hs i all in
     omega arith
+
+-- what some things have, from a place on
+from_map : {H Y : Type 0} (f : H → Y) (hs : List H) (i : ℕ) (h : H) → i < length hs → h ≡ get_or hs i h → map f (drop i hs) ≡ f h ∷ map f (drop (i + 1) hs)
+from_map f [] i h lt is = absurd (omega (arith, lt))
+from_map f (first ∷ hs) zero h lt is = ap (λ x. f x ∷ map f hs) (sym is)
+from_map f (first ∷ hs) (suc i) h lt is =
+    let same : suc i + 1 ≡ suc (i + 1) = omega arith in
+    rw same (from_map f hs i h (omega (arith, lt)) is)
+
+place_from : {H : Type 0} (f : H → List Sheet) (hs : List H) (i : ℕ) (h : H) (kind : ℕ) (own : Bool) → i < length hs → h ≡ get_or hs i h → is_some (sheet_for (f h) kind) ≡ own → place_for kind (map f (drop i hs)) ≡ (if own then 0 else place_for kind (map f (drop (i + 1) hs)) + 1)
+place_from f hs i h kind own lt is has =
+    ap (place_for kind) (from_map f hs i h lt is)
+    ∙ ap (λ b. if b then 0 else place_for kind (map f (drop (i + 1) hs)) + 1) has
+
+pub first_clause : {H : Type 0} (f : H → List Sheet) (hs : List H) (i : ℕ) (h : H) (kind : ℕ) → i < length hs → h ≡ get_or hs i h → is_some (sheet_for (f h) kind) ≡ true → place_for kind (map f hs) ≡ i + place_for kind (map f (drop i hs)) → i ≡ place_for kind (map f hs)
+first_clause f hs i h kind lt is has passed_so_far = let here = place_from f hs i h kind true lt is has in omega (arith, here, passed_so_far)
+
+pub behind_clause : {H : Type 0} (f : H → List Sheet) (hs : List H) (i : ℕ) (h : H) (kind : ℕ) → i < length hs → h ≡ get_or hs i h → is_some (sheet_for (f h) kind) ≡ false → place_for kind (map f hs) ≡ i + place_for kind (map f (drop i hs)) → place_for kind (map f hs) ≡ (i + 1) + place_for kind (map f (drop (i + 1) hs))
+behind_clause f hs i h kind lt is has passed_so_far = let here = place_from f hs i h kind false lt is has in omega (arith, here, passed_so_far)

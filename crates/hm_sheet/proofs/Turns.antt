@@ -2,7 +2,7 @@
 use Rattle.std.proofs.Common.{◌≡◌, List, [], ◌∷◌, ◌++◌, map, reverse, refl, ap, ◌∙◌}
 use Rattle.std.proofs.lemmas.List.{reverse-append}
 use Rattle.hm_data.specs.declared.catalog.Edit.{Edit}
-use Rattle.hm_model.specs.Steps.{turned, turned_round}
+use Rattle.hm_model.specs.Undoing.{turned, turned_round}
 
 pub reversed : (edits : List Edit) → reverse (map turned edits) ≡ turned_round edits
 reversed [] = refl

@@ -1,14 +1,39 @@
 -- Counts, and why sheets make no registry.
-use Rattle.std.specs.Prelude.{ℕ, ◌+◌, ◌-◌, ◌^◌, ◌≤◌, ◌<◌, min, List, [], ◌∷◌, None, sum, ◌⊎◌, Any, IsTrue, IsSome, ◌≡◌, ◌==◌, if◌then◌else◌}
+use Rattle.std.specs.Prelude.{ℕ, zero, suc, Bool, true, false, is_some, ◌+◌, ◌-◌, ◌^◌, ◌≤◌, ◌<◌, min, List, [], ◌∷◌, None, sum, ◌⊎◌, Any, IsTrue, IsSome, ◌≡◌, ◌==◌, if◌then◌else◌}
 use Rattle.hm_data.specs.declared.sheet.Sheet.{Sheet}
 use Rattle.hm_model.specs.Kinds.{is_running_kind}
 use Rattle.hm_model.specs.Sheets.{sheet_for}
 use Rattle.hm_sheet.specs.declared.fault.RegistryFault.{RegistryFault}
 use Rattle.hm_sheet.specs.declared.fault.RegistryFault.TheVariants as fault_is
 
+-- a count, risen by one, or at its end
+abbrev pub risen : ℕ → ℕ
+risen count = min (count + 1) (2 ^ 64 - 1)
+
+-- the same where it is to rise
+abbrev pub risen_if : Bool → ℕ → ℕ
+risen_if true count = risen count
+risen_if false count = count
+
+-- of some counts, the one at a place risen
+abbrev pub risen_at : ℕ → List ℕ → List ℕ
+risen_at place [] = []
+risen_at zero (count ∷ counts) = risen count ∷ counts
+risen_at (suc place) (count ∷ counts) = count ∷ risen_at place counts
+
+-- the same where it is to rise
+abbrev pub risen_at_if : Bool → ℕ → List ℕ → List ℕ
+risen_at_if true place counts = risen_at place counts
+risen_at_if false place counts = counts
+
+-- the place of the first of several lists of sheets that has a kind
+abbrev pub place_for : ℕ → List (List Sheet) → ℕ
+place_for kind [] = 0
+place_for kind (sheets ∷ more) = if is_some (sheet_for sheets kind) then 0 else place_for kind more + 1
+
 -- a count rose, or stands at its end
 abbrev pub CountRises : ℕ → ℕ → Type 0
-CountRises before now = min (before + 1) (2 ^ 64 - 1) ≤ now
+CountRises before now = risen before ≤ now
 
 -- the sum of counts rose, or one of them stood at its end
 abbrev pub CountsRise : List ℕ → List ℕ → Type 0

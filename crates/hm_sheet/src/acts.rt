@@ -1,168 +1,128 @@
-// What the acts answer.
-ghost use Rattle.std.specs.Prelude.{◌≡◌, IfOk, Some, [], ◌∷◌, option_copied};
-ghost use Rattle.hm_data.specs.declared.catalog.CatKey.TheVariants as key_is;
-ghost use Rattle.hm_data.specs.declared.catalog.CatRow.TheVariants as row_is;
-ghost use Rattle.hm_model.specs.Catalog.{row_at as row_of};
-ghost use Rattle.hm_model.specs.Keys.{same_key as same, same_table as same_tables, same_region as same_regions};
-ghost use Rattle.hm_model.specs.Steps.{gives as given, fails as failing, on_to as leads_to, namespace_of as namespace, namespace_of_request as requested, check_namespace_free as checked, set_row as set, act_out as answer_of};
+// What each act answers.
+ghost use Rattle.std.specs.Prelude.{◌≡◌, ◌≤◌, ◌<◌, ◌^◌, false, IsTrue, IfOk};
+ghost use Rattle.std.specs.List.{AllByRecursion};
+ghost use Rattle.hm_model.specs.ActSorts.{is_check as checks, is_edit as edits};
+ghost use Rattle.hm_model.specs.Acts.{act_answer};
+ghost use Rattle.hm_model.specs.Evaluation.{named_ids};
+ghost use Rattle.hm_model.specs.Views.{first_id_of as first_id};
 
-use crate::rules::NO_ROW;
-use hm_data::{
-    Act, Answer, Args, CatKey, CatRow, Cause, Edit, Request, Row, StepIn, StepOut, Told,
+use crate::calls::{
+    call_assign, call_close, call_fence, call_layout, call_sweep, settle, settle_layout,
 };
-use hm_names::{Copied, List, Ns, RegionName, TableName};
+use crate::crashes::{fence, reassign};
+use crate::merges::{check_merge, update_merge_meta};
+use crate::regions::{
+    add_region_rows, add_regions, close_regions, drop_region_rows, drop_regions, open_new,
+    open_regions,
+};
+use crate::rules::{is_check, is_edit};
+use crate::splits::{check_split, close_parents, finish, update_split_meta};
+use crate::tables::{
+    add_namespace, add_table, check_free_namespace, check_namespace_empty, check_table_disabled,
+    check_table_enabled, check_table_free, drop_namespace, drop_table, lay_out, set_state,
+    set_version,
+};
+use crate::transits::{
+    check_move, close_there, confirm_closed, confirm_opened, get_assign_candidate, open_there,
+};
+use hm_data::{Act, Row, StepIn, StepOut, TableState};
 use std::alloc::{AllocError, Global};
 
-/// An answer with edits, and nothing else.
-pub(crate) fn gives(alloc: Global, answer: Answer, edits: Vec<Edit>) -> StepOut
-    ensures { result ≡ given answer edits.items }
+// What an act answers that only tests.
+fn check(alloc: Global, act: Act, next: u8, at: &StepIn) -> Result<StepOut, AllocError>
+    requires { IsTrue (checks act) }
+    ensures { IfOk result (λ out. out ≡ act_answer act next at.now) }
 {
-    StepOut {
-        answer,
-        edits: List::of(edits),
-        children: List::of(Vec::new(alloc)),
-        call: None,
-        place: None,
-        followers: List::of(Vec::new(alloc)),
-    }
-}
-
-/// A failure.
-pub(crate) fn fails(alloc: Global, cause: Cause) -> StepOut
-    ensures { result ≡ failing cause }
-{
-    gives(alloc, Answer::Fail(cause), Vec::new(alloc))
-}
-
-// The end, where no row follows, and else that row.
-fn on_to(next: u8) -> Answer
-    ensures { result ≡ leads_to next }
-{
-    if next == NO_ROW {
-        Answer::Done(Told::Nothing)
-    } else {
-        Answer::More(next)
-    }
-}
-
-fn same_table(a: &TableName, b: &TableName) -> bool
-    ensures { result ≡ same_tables a.now b.now }
-{
-    a.ns.as_bytes() == b.ns.as_bytes() && a.qualifier.as_bytes() == b.qualifier.as_bytes()
-}
-
-fn same_region(a: &RegionName, b: &RegionName) -> bool
-    ensures { result ≡ same_regions a.now b.now }
-{
-    same_table(&a.table, &b.table) && a.id == b.id
-}
-
-fn same_key(a: &CatKey, b: &CatKey) -> bool
-    ensures { result ≡ same a.now b.now }
-{
-    match (a, b) {
-        (CatKey::Ns(ns), CatKey::Ns(other)) => ns.as_bytes() == other.as_bytes(),
-        (CatKey::Table(table), CatKey::Table(other)) => same_table(table, other),
-        (CatKey::Region(region), CatKey::Region(other)) => same_region(region, other),
-        _ => false,
-    }
-}
-
-// The row of a key among rows.
-fn row_at<'a>(rows: &'a [(CatKey, CatRow)], key: &CatKey) -> Option<&'a CatRow>
-    ensures { option_copied result ≡ row_of rows.now key.now }
-{
-    for (first, row) in rows {
-        if same_key(key, first) {
-            return Some(row);
-        }
-    }
-    None
-}
-
-fn namespace_of_request(request: &Request) -> Option<&Ns>
-    ensures { option_copied result ≡ requested request.now }
-{
-    match request {
-        Request::CreateNamespace { ns } => Some(ns),
-        Request::DropNamespace { ns } => Some(ns),
-        Request::CreateTable { table, keys: _ } => Some(&table.ns),
-        _ => None,
-    }
-}
-
-// The namespace that a procedure is about, where it reads that namespace's row.
-fn namespace_of(args: &Args) -> Option<&Ns>
-    ensures { option_copied result ≡ namespace args.now }
-{
-    match args {
-        Args::Root { request, first: _ } => namespace_of_request(request),
-        _ => None,
-    }
-}
-
-// The row of the key set, as a step tells it: with the row that was there.
-fn set_row(
-    alloc: Global,
-    rows: &[(CatKey, CatRow)],
-    key: CatKey,
-    after: Option<CatRow>,
-) -> Result<Edit, AllocError>
-    ensures { IfOk result (λ edit. edit ≡ set rows.now key after) }
-{
-    let before = match row_at(rows, &key) {
-        None => None,
-        Some(row) => Some(row.copy(alloc)?),
-    };
-    Ok(Edit { key, before, after })
-}
-
-fn namespace_key(alloc: Global, ns: &Ns) -> Result<CatKey, AllocError>
-    ensures { IfOk result (λ key. key ≡ key_is.Ns ns.now) }
-{
-    Ok(CatKey::Ns(ns.copy(alloc)?))
-}
-
-// The namespace isn't there.
-fn check_namespace_free(
-    alloc: Global,
-    next: u8,
-    ns: &Ns,
-    rows: &[(CatKey, CatRow)],
-) -> Result<StepOut, AllocError>
-    ensures { IfOk result (λ out. out ≡ checked next (row_of rows.now (key_is.Ns ns.now))) }
-{
-    let key = namespace_key(alloc, ns)?;
-    match row_at(rows, &key) {
-        None => Ok(gives(alloc, Answer::More(next), Vec::new(alloc))),
-        Some(_) => Ok(fails(alloc, Cause::NsExists)),
-    }
-}
-
-// Adds the row of the namespace.
-fn add_namespace(
-    alloc: Global,
-    next: u8,
-    ns: &Ns,
-    rows: &[(CatKey, CatRow)],
-) -> Result<StepOut, AllocError>
-    ensures { IfOk result (λ out. out ≡ given (leads_to next) (set rows.now (key_is.Ns ns.now) (Some row_is.Ns) ∷ [])) }
-{
-    let key = namespace_key(alloc, ns)?;
-    let edit = set_row(alloc, rows, key, Some(CatRow::Ns))?;
-    let mut edits = Vec::new(alloc);
-    edits.push(edit)?;
-    Ok(gives(alloc, on_to(next), edits))
-}
-
-/// What the act of a row answers. The acts of kinds that the master doesn't run yet go on; no row leads to one.
-pub(crate) fn act_out(alloc: Global, row: Row, at: &StepIn) -> Result<StepOut, AllocError>
-    ensures { IfOk result (λ out. out ≡ answer_of row.act row.next at.now.args at.now.rows) }
-{
+    let args = &at.args;
     let rows = at.rows.as_slice();
-    match (row.act, namespace_of(&at.args)) {
-        (Act::CheckNamespaceFree, Some(ns)) => check_namespace_free(alloc, row.next, ns, rows),
-        (Act::AddNamespace, Some(ns)) => add_namespace(alloc, row.next, ns, rows),
-        _ => Ok(gives(alloc, on_to(row.next), Vec::new(alloc))),
+    match act {
+        Act::CheckNamespaceFree => Ok(check_free_namespace(alloc, next, args, rows)),
+        Act::CheckNamespaceEmpty => Ok(check_namespace_empty(alloc, next, args, rows)),
+        Act::CheckTableFree => Ok(check_table_free(alloc, next, args, rows)),
+        Act::CheckTableDisabled => Ok(check_table_disabled(alloc, next, args, rows)),
+        Act::CheckTableEnabled => Ok(check_table_enabled(alloc, next, args, rows)),
+        Act::CheckSplit => Ok(check_split(alloc, next, args, rows)),
+        Act::CheckMerge => check_merge(alloc, next, args, rows),
+        Act::CheckMove => Ok(check_move(alloc, next, args, rows)),
+        _ => unreachable!(),
+    }
+}
+
+// What an act answers that edits the catalog.
+fn edit(alloc: Global, act: Act, next: u8, at: &StepIn) -> Result<StepOut, AllocError>
+    requires edits { IsTrue (edits act) }
+    requires ids { AllByRecursion (λ id. 1 ≤ id) (named_ids at.now.args) }
+    requires first { first_id at.now.args < 2 ^ 32 }
+    ensures { IfOk result (λ out. out ≡ act_answer act next at.now) }
+{
+    let args = &at.args;
+    let rows = at.rows.as_slice();
+    match act {
+        Act::AddNamespace => add_namespace(alloc, next, args, rows),
+        Act::DropNamespace => drop_namespace(alloc, next, args, rows),
+        Act::AddTable => add_table(alloc, next, args, rows),
+        Act::SetEnabling => set_state(alloc, TableState::Enabling, next, args, rows),
+        Act::SetEnabled => set_state(alloc, TableState::Enabled, next, args, rows),
+        Act::DropTable => drop_table(alloc, next, args, rows),
+        Act::SetDisabling => set_state(alloc, TableState::Disabling, next, args, rows),
+        Act::SetDisabled => set_state(alloc, TableState::Disabled, next, args, rows),
+        Act::SetVersion => set_version(alloc, next, args, rows),
+        Act::UpdateSplitMeta => update_split_meta(alloc, next, args, rows),
+        Act::UpdateMergeMeta => update_merge_meta(alloc, next, args, rows),
+        Act::AddRegionRows => add_region_rows(alloc, next, args, rows),
+        Act::DropRegionRows => drop_region_rows(alloc, next, args, rows),
+        _ => unreachable!(),
+    }
+}
+
+// What an act answers that neither tests nor edits: it asks for other procedures or calls, or takes in what they told.
+fn ask(alloc: Global, act: Act, next: u8, at: &StepIn) -> Result<StepOut, AllocError>
+    requires checks { checks act ≡ false }
+    requires edits { edits act ≡ false }
+    requires first { first_id at.now.args < 2 ^ 32 }
+    ensures { IfOk result (λ out. out ≡ act_answer act next at.now) }
+{
+    let args = &at.args;
+    let rows = at.rows.as_slice();
+    match act {
+        Act::Layout => lay_out(alloc, next, at.root),
+        Act::AddRegions => add_regions(alloc, next, args),
+        Act::OpenRegions => open_regions(alloc, next, args, rows),
+        Act::DropRegions => drop_regions(alloc, next, args, rows),
+        Act::CloseRegions => close_regions(alloc, next, args, rows),
+        Act::CloseParent | Act::CloseParents => close_parents(alloc, next, args),
+        Act::OpenDaughters => open_new(alloc, 2, next, args),
+        Act::OpenMerged => open_new(alloc, 1, next, args),
+        Act::Finish => Ok(finish(alloc)),
+        Act::GetAssignCandidate => get_assign_candidate(alloc, next, at),
+        Act::Open => open_there(alloc, next, args, &at.place),
+        Act::ConfirmOpened => confirm_opened(alloc, next, at.ends.as_slice(), &at.place),
+        Act::Close => close_there(alloc, next, args, &at.place, at.fenced),
+        Act::ConfirmClosed => Ok(confirm_closed(alloc, args, at.ends.as_slice())),
+        Act::Fence => fence(alloc, next, args),
+        Act::Reassign => reassign(alloc, next, at.on_server.as_slice()),
+        Act::CallAssign => call_assign(alloc, next, args, at.fenced),
+        Act::CallClose => call_close(alloc, next, args, at.fenced),
+        Act::CallFence => call_fence(alloc, next, args),
+        Act::CallLayout => Ok(call_layout(alloc, next, args)),
+        Act::CallSweep => Ok(call_sweep(alloc, next, args)),
+        Act::Settle => Ok(settle(alloc, at.fenced, at.report)),
+        Act::SettleLayout => Ok(settle_layout(alloc, at.report)),
+        _ => unreachable!(),
+    }
+}
+
+/// What an act answers that leads to a row.
+pub(crate) fn act_out(alloc: Global, row: Row, at: &StepIn) -> Result<StepOut, AllocError>
+    requires ids { AllByRecursion (λ id. 1 ≤ id) (named_ids at.now.args) }
+    requires first { first_id at.now.args < 2 ^ 32 }
+    ensures { IfOk result (λ out. out ≡ act_answer row.act row.next at.now) }
+{
+    if is_check(row.act) {
+        check(alloc, row.act, row.next, at)
+    } else if is_edit(row.act) {
+        edit(alloc, row.act, row.next, at)
+    } else {
+        ask(alloc, row.act, row.next, at)
     }
 }

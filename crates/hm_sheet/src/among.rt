@@ -1,9 +1,9 @@
 // Sheets by kind: among checked ones, and among those of boxed handlers.
-ghost use Rattle.std.specs.Prelude.{◌≡◌, ◌<◌, ◌-◌, ◌^◌, min, length, slice_get, option_copied, IsSome, IfSome, IfNone, IfOk, None, Some, is_some};
+ghost use Rattle.std.specs.Prelude.{◌≡◌, ◌<◌, ◌-◌, ◌^◌, min, map, length, slice_get, option_copied, IsSome, IfSome, IfNone, IfOk, None, Some, is_some};
 ghost use Rattle.std.specs.List.{flat_map};
 ghost use Rattle.hm_model.specs.Sheets.{sheet_for as first_of};
-ghost use Rattle.hm_model.specs.Steps.{CanRun, answer_of};
-ghost use Rattle.hm_sheet.specs.Words.{count_of as counted};
+ghost use Rattle.hm_model.specs.Evaluation.{CanRun, answer_of};
+ghost use Rattle.hm_sheet.specs.Words.{count_of as counted, place_for};
 
 use crate::handler::Handler;
 use crate::plain::plain_step;
@@ -65,6 +65,7 @@ pub(crate) fn place_of(handlers: &[Box<dyn Handler>], kind: u8) -> Option<usize>
     ensures within { IfSome result (λ place. place < length handlers.now) }
     ensures served { IfSome result (λ place. IfSome (slice_get handlers.now place)
         (λ h. first_of (sheets_are h) kind ≡ first_of (flat_map (λ h. sheets_are h) handlers.now) kind)) }
+    ensures first { IfSome result (λ place. place ≡ place_for kind (map (λ h. sheets_are h) handlers.now)) }
     ensures there { IfSome result (λ place. IsSome (first_of (flat_map (λ h. sheets_are h) handlers.now) kind)) }
 {
     for (place, handler) in handlers.iter().enumerate() {

@@ -3,16 +3,30 @@
 
 mod acts;
 mod among;
+mod calls;
 mod check;
+mod checks;
+mod crashes;
 mod fault;
 mod handler;
 mod kinds;
 mod lines;
+mod lookup;
+mod merges;
+mod order;
+mod outs;
+mod own;
+mod pieces;
 mod plain;
+mod regions;
 mod registry;
 mod rules;
+mod splits;
+mod tables;
+mod transits;
 mod undo;
 mod valid;
+mod views;
 mod walk;
 
 pub use among::{answer, sheet_for};
@@ -20,9 +34,7 @@ pub use check::check_sheet;
 pub use fault::{RegistryFault, SheetFault};
 pub use handler::Handler;
 pub use kinds::{is_running_kind, running_kinds};
+pub use own::{PlainHands, own_sheet};
 pub use plain::{needs_pick, plain_step};
 pub use registry::Registry;
 pub use valid::Valid;
-
-#[cfg(test)]
-mod tests;

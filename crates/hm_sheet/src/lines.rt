@@ -1,5 +1,5 @@
 // The rows that the kinds of procedures list.
-ghost use Rattle.std.specs.Prelude.{◌≡◌, map};
+ghost use Rattle.std.specs.Prelude.{◌≡◌, ◌≤◌, length, map};
 ghost use Rattle.hm_model.specs.Lists.{lines_of as listed, exact_rows as exact};
 ghost use Rattle.hm_sheet.specs.Lines.{line_of};
 
@@ -98,7 +98,8 @@ static DROP_REGIONS: [Line; 1] = [line!(DropRegionRows after)];
 
 /// The lines of the kinds whose handlers may number their rows as they like, in the order in which they are led through.
 pub(crate) fn lines_of(kind: u8) -> &'static [Line]
-    ensures { map line_of result.now ≡ listed kind }
+    ensures lines { map line_of result.now ≡ listed kind }
+    ensures few { length result.now ≤ 200 }
 {
     match kind {
         1 => &CREATE_NAMESPACE,

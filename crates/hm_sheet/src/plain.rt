@@ -1,27 +1,30 @@
-ghost use Rattle.std.specs.Prelude.{◌≡◌, ◌<◌, IfOk, Some, length, slice_get};
-ghost use Rattle.hm_model.specs.Steps.{CanStep, evaluation, eval, step_out as stepped, needs_pick as needs};
+ghost use Rattle.std.specs.Prelude.{◌≡◌, ◌≤◌, ◌<◌, ◌^◌, IfOk, Some, length, slice_get};
+ghost use Rattle.std.specs.List.{AllByRecursion};
+ghost use Rattle.hm_model.specs.Evaluation.{CanStep, is_cut_off as cut_off, named_ids, row_answer, turn_answer, sheet_answer, picks, picks_at};
+ghost use Rattle.hm_model.specs.Views.{first_id_of};
 
-use crate::acts::{act_out, fails};
+use crate::acts::act_out;
+use crate::outs::fails;
+use crate::transits::wants_server;
 use crate::undo::undo_out;
 use crate::valid::Valid;
-use hm_data::{Cause, Row, StepIn, StepOut, Turn};
+use hm_data::{Act, Cause, Row, StepIn, StepOut, Turn};
 use std::alloc::{AllocError, Global};
 
-/// Whether a step of the sheet needs a server to be picked. No kind that the master runs has an
-/// act that does.
-pub fn needs_pick(sheet: &Valid, at: &StepIn) -> bool
-    ensures { result ≡ needs sheet.now at.now }
+// A step of an aborted procedure fails at a row that isn't after the point.
+fn is_cut_off(row: Row, at: &StepIn) -> bool
+    ensures { result ≡ cut_off row at.now }
 {
-    let _ = sheet;
-    let _ = at;
-    false
+    at.aborted && !row.after
 }
 
-// A step of an aborted procedure fails at a row that isn't after the point; else it answers by its act.
+// A step: it fails where the procedure is cut off, else it answers by its act.
 fn step_out(alloc: Global, row: Row, at: &StepIn) -> Result<StepOut, AllocError>
-    ensures { IfOk result (λ out. out ≡ stepped row at.now.aborted at.now.args at.now.rows) }
+    requires ids { AllByRecursion (λ id. 1 ≤ id) (named_ids at.now.args) }
+    requires first { first_id_of at.now.args < 2 ^ 32 }
+    ensures { IfOk result (λ out. out ≡ row_answer row at.now) }
 {
-    if at.aborted && !row.after {
+    if is_cut_off(row, at) {
         Ok(fails(alloc, Cause::Aborted))
     } else {
         act_out(alloc, row, at)
@@ -29,11 +32,33 @@ fn step_out(alloc: Global, row: Row, at: &StepIn) -> Result<StepOut, AllocError>
 }
 
 fn row_out(alloc: Global, row: Row, at: &StepIn) -> Result<StepOut, AllocError>
-    ensures { IfOk result (λ out. out ≡ eval row at.now) }
+    requires ids { AllByRecursion (λ id. 1 ≤ id) (named_ids at.now.args) }
+    requires first { first_id_of at.now.args < 2 ^ 32 }
+    ensures { IfOk result (λ out. out ≡ turn_answer row at.now at.now.turn) }
 {
     match &at.turn {
         Turn::Step => step_out(alloc, row, at),
         Turn::Undo { edits } => undo_out(alloc, row.undo, at, edits.as_slice()),
+    }
+}
+
+// A step of the row places a region, so that a server has to be picked.
+fn picks_at_row(row: Row, at: &StepIn) -> bool
+    ensures { result ≡ picks_at (Some row) at.now }
+{
+    row.act == Act::GetAssignCandidate
+        && matches!(&at.turn, Turn::Step)
+        && !is_cut_off(row, at)
+        && wants_server(at)
+}
+
+/// Whether a step of the sheet at the input places a region, so that a server has to be picked.
+pub fn needs_pick(sheet: &Valid, at: &StepIn) -> bool
+    ensures { result ≡ picks sheet.now at.now }
+{
+    match sheet.sheet().rows.as_slice().get(usize::from(at.row)) {
+        None => false,
+        Some(row) => picks_at_row(*row, at),
     }
 }
 
@@ -48,7 +73,7 @@ fn nth_row(rows: &[Row], place: u8) -> Row
 /// of the sheet and the input alone. A step of an aborted procedure fails at a row that isn't after the point.
 pub fn plain_step(alloc: Global, sheet: &Valid, at: &StepIn) -> Result<StepOut, AllocError>
     requires { CanStep sheet.now at.now }
-    ensures { IfOk result (λ out. evaluation sheet.now at.now ≡ Some out) }
+    ensures { IfOk result (λ out. sheet_answer sheet.now at.now ≡ Some out) }
 {
     let row = nth_row(sheet.sheet().rows.as_slice(), at.row);
     row_out(alloc, row, at)

@@ -1,12 +1,12 @@
-ghost use Rattle.std.specs.Prelude.{◌≡◌, ◌+◌, ◌-◌, ◌^◌, ◌≤◌, ◌&&◌, min, map, sum, is_none, IsSome, IfOk, IfErr, OnOk, OnErr, MatchOption, Some, option_copied};
+ghost use Rattle.std.specs.Prelude.{◌≡◌, ◌+◌, ◌-◌, ◌^◌, ◌&&◌, not, min, map, is_none, IsSome, IfOk, IfErr, OnOk, OnErr, MatchOption, Some, option_copied};
 ghost use Rattle.std.specs.List.{flat_map};
 ghost use Rattle.hm_model.specs.Kinds.{running_kinds as running, is_running_kind as runs};
 ghost use Rattle.hm_model.specs.Rules.{AreSheets};
 ghost use Rattle.hm_model.specs.Sheets.{sheet_for as first_of};
 ghost use Rattle.hm_model.specs.Validity.{IsValid};
-ghost use Rattle.hm_model.specs.Steps.{CanRun, answer_of};
-ghost use Rattle.hm_sheet.specs.Registry.{calls_of, runs_of, sheets_of};
-ghost use Rattle.hm_sheet.specs.Words.{CountRises, CountsRise, IsLowestTwice, NoneTwice, IsLowestMissing, HasAll, IsNoRegistry};
+ghost use Rattle.hm_model.specs.Evaluation.{CanRun, answer_of, is_step};
+ghost use Rattle.hm_sheet.specs.Registry.{calls_of, runs_of, sheets_each, sheets_of, steps_of, undos_of};
+ghost use Rattle.hm_sheet.specs.Words.{CountRises, CountsRise, place_for, risen_if, risen_at_if, IsLowestTwice, NoneTwice, IsLowestMissing, HasAll, IsNoRegistry};
 
 use crate::among::{count_of, place_of, sheet_for};
 use crate::fault::RegistryFault;
@@ -69,8 +69,11 @@ fn run_one(
     requires { CanRun (sheets_are handler.old) at.now }
     ensures out { OnOk result (answer_of (sheets_are handler.old) at.now ≡ Some out.new) }
     ensures sheets { sheets_are handler.new ≡ sheets_are handler.old }
-    ensures calls { OnOk result (CountRises (calls_are handler.old) (calls_are handler.new)) }
-    ensures kept { calls_are handler.old ≤ calls_are handler.new }
+    ensures steps { OnOk result (steps_are handler.new ≡ risen_if (is_step at.now.turn) (steps_are handler.old)) }
+    ensures undos { OnOk result (undos_are handler.new ≡ risen_if (not (is_step at.now.turn)) (undos_are handler.old)) }
+    ensures idle { OnErr result
+        ((steps_are handler.new ≡ steps_are handler.old) × (undos_are handler.new ≡ undos_are handler.old)) }
+    ensures calls { OnOk result (CountRises (min (steps_are handler.old + undos_are handler.old) (2 ^ 64 - 1)) (min (steps_are handler.new + undos_are handler.new) (2 ^ 64 - 1))) }
 {
     match &at.turn {
         Turn::Step => handler.step(alloc, at, out),
@@ -94,7 +97,8 @@ impl Registry {
     /// one. Making a registry takes no memory, so `Memory` isn't answered.
     pub fn new(alloc: Global, handlers: Vec<Box<dyn Handler>>) -> Result<Registry, RegistryFault>
         ensures sheets { IfOk result (λ registry. sheets_of ⟦<dyn Handler as Handler>⟧ registry ≡ flat_map (λ h. sheets_are h) handlers.items) }
-        ensures calls { IfOk result (λ registry. calls_of ⟦<dyn Handler as Handler>⟧ registry ≡ map (λ h. calls_are h) handlers.items) }
+        ensures steps { IfOk result (λ registry. steps_of ⟦<dyn Handler as Handler>⟧ registry ≡ map (λ h. steps_are h) handlers.items) }
+        ensures undos { IfOk result (λ registry. undos_of ⟦<dyn Handler as Handler>⟧ registry ≡ map (λ h. undos_are h) handlers.items) }
         ensures runs { IfOk result (λ registry. runs_of registry ≡ 0) }
         ensures once { IfOk result (λ registry. NoneTwice (sheets_of ⟦<dyn Handler as Handler>⟧ registry)) }
         ensures all { IfOk result (λ registry. HasAll (sheets_of ⟦<dyn Handler as Handler>⟧ registry)) }
@@ -110,16 +114,21 @@ impl Registry {
         Ok(Registry { handlers, runs: 0 })
     }
 
-    /// Calls the handler that has the input's kind, and leaves in `out` what its sheet says, whatever was called before.
-    /// Where memory runs out `out` is any value, and isn't to be used.
+    /// Calls the first handler that has the input's kind, once, by its turn, and leaves in `out` what its sheet says,
+    /// whatever was called before. Where memory runs out `out` is any value, and isn't to be used.
     pub fn run(&mut self, alloc: Global, at: &StepIn, out: &mut StepOut) -> Result<(), AllocError>
         requires { CanRun (sheets_of ⟦<dyn Handler as Handler>⟧ self.old) at.now }
         ensures out { OnOk result (answer_of (sheets_of ⟦<dyn Handler as Handler>⟧ self.old) at.now ≡ Some out.new) }
         ensures sheets { sheets_of ⟦<dyn Handler as Handler>⟧ self.new ≡ sheets_of ⟦<dyn Handler as Handler>⟧ self.old }
         ensures runs { OnOk result (runs_of self.new ≡ min (runs_of self.old + 1) (2 ^ 64 - 1)) }
-        ensures idle { OnErr result (runs_of self.new ≡ runs_of self.old) }
+        ensures steps { OnOk result (steps_of ⟦<dyn Handler as Handler>⟧ self.new ≡ risen_at_if (is_step at.now.turn)
+            (place_for at.now.kind (sheets_each ⟦<dyn Handler as Handler>⟧ self.old)) (steps_of ⟦<dyn Handler as Handler>⟧ self.old)) }
+        ensures undos { OnOk result (undos_of ⟦<dyn Handler as Handler>⟧ self.new ≡ risen_at_if (not (is_step at.now.turn))
+            (place_for at.now.kind (sheets_each ⟦<dyn Handler as Handler>⟧ self.old)) (undos_of ⟦<dyn Handler as Handler>⟧ self.old)) }
         ensures calls { OnOk result (CountsRise (calls_of ⟦<dyn Handler as Handler>⟧ self.old) (calls_of ⟦<dyn Handler as Handler>⟧ self.new)) }
-        ensures kept { sum (calls_of ⟦<dyn Handler as Handler>⟧ self.old) ≤ sum (calls_of ⟦<dyn Handler as Handler>⟧ self.new) }
+        ensures idle { OnErr result (runs_of self.new ≡ runs_of self.old) }
+        ensures idle_steps { OnErr result (steps_of ⟦<dyn Handler as Handler>⟧ self.new ≡ steps_of ⟦<dyn Handler as Handler>⟧ self.old) }
+        ensures idle_undos { OnErr result (undos_of ⟦<dyn Handler as Handler>⟧ self.new ≡ undos_of ⟦<dyn Handler as Handler>⟧ self.old) }
     {
         let Some(place) = place_of(&self.handlers, at.kind) else {
             unreachable!()
@@ -182,6 +191,3 @@ impl Registry {
         Ok(List::of(sheets))
     }
 }
-
-#[cfg(test)]
-mod tests;

@@ -1,8 +1,9 @@
 // The rules of one row.
 ghost use Rattle.std.specs.Prelude.{◌≡◌, ◌==◌, ◌&&◌, ◌||◌, not, true, false, nat_lt, length};
-ghost use Rattle.hm_data.specs.Numbers.{act_number, back_number};
+ghost use Rattle.hm_data.specs.Numbers.{back_number};
+ghost use Rattle.hm_model.specs.ActSorts.{is_check as checks, is_layout as layouts, is_edit as edits, editing_kinds as kinds};
 ghost use Rattle.hm_model.specs.Answers.{no_row};
-ghost use Rattle.hm_model.specs.Validity.{is_among as among, is_check as checks, is_layout as layouts, is_edit as edits, is_none_or_marked as marked, follower as follows, editing_kinds as kinds, ends_root as ends, row_rules, first_broken};
+ghost use Rattle.hm_model.specs.Validity.{is_among as among, is_none_or_marked as marked, follower as follows, ends_root as ends, row_rules, first_broken};
 
 use hm_data::{Act, Row};
 
@@ -12,7 +13,8 @@ pub(crate) const NO_ROW: u8 = 255;
 // The most rows that a sheet may have.
 const MOST_ROWS: usize = 32;
 
-fn is_check(act: Act) -> bool
+/// Acts that only test.
+pub(crate) fn is_check(act: Act) -> bool
     ensures { result ≡ checks act }
 {
     matches!(
@@ -31,7 +33,7 @@ fn is_check(act: Act) -> bool
 fn is_layout(act: Act) -> bool
     ensures { result ≡ layouts act }
 {
-    act.number() == 7
+    act == Act::Layout
 }
 
 static NAMESPACE_KINDS: [u8; 2] = [1, 2];
@@ -48,7 +50,7 @@ static DROP_KINDS: [u8; 1] = [21];
 
 // The kinds whose root asks exclusively for all that the act edits; none for an act that edits nothing.
 fn editing_kinds(act: Act) -> &'static [u8]
-    ensures { result.now ≡ kinds (act_number act) }
+    ensures { result.now ≡ kinds act }
 {
     match act {
         Act::AddNamespace | Act::DropNamespace => &NAMESPACE_KINDS,
@@ -67,7 +69,8 @@ fn editing_kinds(act: Act) -> &'static [u8]
     }
 }
 
-fn is_edit(act: Act) -> bool
+/// Acts that edit the catalog.
+pub(crate) fn is_edit(act: Act) -> bool
     ensures { result ≡ edits act }
 {
     !editing_kinds(act).is_empty()
@@ -144,7 +147,7 @@ fn can_be_undone(kind: u8, row: Row) -> bool
 
 // Rule 7: what the row edits is asked for exclusively by the root of the kind.
 fn is_covered(kind: u8, row: Row) -> bool
-    ensures { result ≡ (not (edits row.act) || among (kinds (act_number row.act)) kind) }
+    ensures { result ≡ (not (edits row.act) || among (kinds row.act) kind) }
 {
     !is_edit(row.act) || is_among(editing_kinds(row.act), kind)
 }

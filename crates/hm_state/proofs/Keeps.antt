@@ -22,13 +22,13 @@ use Rattle.hm_model.specs.Counts.{one_if}
 use Rattle.hm_model.specs.Locks.{Holds}
 use Rattle.hm_model.specs.Nonces.{by_nonce, is_same}
 use Rattle.hm_model.specs.Phase.{ended}
-use Rattle.hm_model.specs.Records.{pid_of, record_of, unfinished}
+use Rattle.hm_model.specs.Records.{record_of, unfinished}
 use Rattle.hm_model.specs.Rules.{Allowed, IsLegal}
-use Rattle.hm_model.specs.Tree.{Node, made, node_of, submitted}
+use Rattle.hm_model.specs.Tree.{Node, made, node_of, submitted, pid_of}
 use Rattle.hm_model.proofs.Counting.{begins_alone, steps_unstopped, unfinished_on}
-use Rattle.hm_model.proofs.Grown.{grown_all, step_made, step_node, step_plain, stepped as stepped_to, not_stepped, submit_old, submit_new, submits_one}
+use Rattle.hm_model.proofs.Grown.{grown_all, not_stepped, step_made, step_node, stepped as stepped_to, submit_new, submit_old, submits_one}
 use Rattle.hm_model.proofs.Holders.{one_holds}
-use Rattle.hm_model.proofs.Stages.{flat_all, step_all, shaped}
+use Rattle.hm_model.proofs.Stages.{flat_all, shaped, step_all, step_plain}
 use Rattle.hm_state.specs.Nonces.{AreWith}
 use Rattle.hm_state.specs.Records.{has_ended, new_record, stepped}
 use Rattle.hm_state.specs.Rows.{row_under}
@@ -97,7 +97,7 @@ module _ (before : Past) (beside : Beside) (was : IsIndexed before beside) where
     legal = (was.legal, allowed)
 
     childless : out.children ≡ []
-    childless = (step_plain before pid pick out allowed).0
+    childless = (step_plain pid pick out before legal).0
 
     pub edits_few : length out.edits ≤ 1
     edits_few =

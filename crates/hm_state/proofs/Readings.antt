@@ -15,15 +15,16 @@ use Rattle.hm_model.specs.Journal.{Past}
 use Rattle.hm_model.specs.Kinds.{kind_of, first_row_of}
 use Rattle.hm_model.specs.Counts.{count_below}
 use Rattle.hm_model.specs.Locks.{Holds}
-use Rattle.hm_model.specs.Phase.{ended, phase}
-use Rattle.hm_model.specs.Records.{pid_of, record_at, record_of, unfinished}
-use Rattle.hm_model.specs.Rest.{IsAvailable, IsAtRest}
-use Rattle.hm_model.specs.Rules.{IsLegal, MayStep, MayBegin}
+use Rattle.hm_model.specs.Phase.{ended}
+use Rattle.hm_model.specs.Records.{record_at, record_of, unfinished}
+use Rattle.hm_model.specs.Rest.{IsAvailable, IsAtRest, MayStep}
+use Rattle.hm_model.specs.Holding.{MayBegin}
+use Rattle.hm_model.specs.Rules.{IsLegal}
 use Rattle.hm_model.specs.Stages.{simple_phase}
-use Rattle.hm_model.specs.Tree.{Node, made, node_of, parent_in, is_root}
-use Rattle.hm_model.proofs.Counting.{is_open, unfinished_is, may_step, steps_unstopped, may_begin, begins_alone, begun_goes_on, available_unstopped}
-use Rattle.hm_model.proofs.Grown.{grown_all, made_up_to, simple_all}
-use Rattle.hm_model.proofs.Stages.{flat_all}
+use Rattle.hm_model.specs.Tree.{Node, made, node_of, parent_in, is_root, pid_of}
+use Rattle.hm_model.proofs.Counting.{is_open, unfinished_is, may_step, may_step_picked, steps_unstopped, may_begin, begins_alone, begun_goes_on, available_unstopped}
+use Rattle.hm_model.proofs.Grown.{grown_all, made_up_to}
+use Rattle.hm_model.proofs.Stages.{flat_all, runs_there, simple_all}
 use Rattle.hm_state.specs.Records.{is_end, has_ended}
 use Rattle.hm_state.specs.State.{Beside, IsIndexed, IsFirst, goes_on, is_this}
 
@@ -46,7 +47,7 @@ record_by J legal p = by (node_of J p) refl
   where
     by : (o : Option Node) → node_of J p ≡ o → option_map (record_at J p) o ≡ option_map (simple_record p (last_answer J p)) o
     by None e = refl
-    by (Some node) e = ap Some (rw ((flat_all J legal).phase_is_simple p node e, (simple_all J legal).unaborted p) refl)
+    by (Some node) e = ap Some (rw ((flat_all J legal).phase_is_simple p node e, (simple_all J legal).unaborted p, (simple_all J legal).untried p) refl)
 
 end_is_stop : (last : Option Answer) → is_end (simple_phase last) ≡ is_stopped last
 end_is_stop None = refl
@@ -114,11 +115,7 @@ may_by J legal p found is runs =
 pub may_phase : (J : Past) → IsLegal J → (p : ℕ) (found : Record) → record_of J p ≡ Some found → MayStep J p → found.phase ≡ phase_is.Runnable
 may_phase J legal p found is may =
     let there = there_by J legal p found is in
-    let same = (flat_all J legal).phase_is_simple p there.0 there.1 in
-    ap (λ (r : Record). r.phase) there.2 ∙ sym same ∙ elim may.2 [
-      | inl runs ↦ ap (phase J p) (same_Some there.0 may.0 (sym there.1 ∙ may.1)) ∙ runs
-      | inr waits ↦ absurd (waits.1 ((simple_all J legal).unreported p))
-    ]
+    ap (λ (r : Record). r.phase) there.2 ∙ runs_there J (simple_all J legal) (flat_all J legal) p may
 
 pub may_not : (J : Past) (p : ℕ) → record_of J p ≡ None → MayStep J p → ⊥
 may_not J p is may = none-some may.0 (sym (not_there_by J p is) ∙ may.1)
@@ -193,10 +190,10 @@ module _ (before : Past) (beside : Beside) (was : IsIndexed before beside) where
   open_there : beside.ended_below < made before → (node : Node) × (node_of before (beside.ended_below + 1) ≡ Some node)
   open_there lt = (grown_all before was.legal).there (beside.ended_below + 1) (omega arith) (omega (arith, lt))
 
-  pub available_running : (pid : Pid) → beside.running ≡ Some pid → IsAvailable before pid.0
+  pub available_running : (pid : Pid) → beside.running ≡ Some pid → IsAvailable before [] [] pid.0
   available_running pid is =
       let holds = running_holds pid is in
-      (begun_goes_on before pid.0 holds.0, inl (may_step before was.legal pid.0 (node is).0 (node is).1 (sym ((flat_all before was.legal).ended_is_stopped pid.0) ∙ holds.1)))
+      (λ none. none, begun_goes_on before pid.0 holds.0, inl (may_step_picked before was.legal pid.0 (node is).0 (node is).1 (sym ((flat_all before was.legal).ended_is_stopped pid.0) ∙ holds.1)))
     where
       node : beside.running ≡ Some pid → (node : Node) × (node_of before pid.0 ≡ Some node)
       node is = by (node_of before pid.0) refl
@@ -205,10 +202,10 @@ module _ (before : Past) (beside : Beside) (was : IsIndexed before beside) where
           by None e = absurd ((running_holds pid is).0 ((grown_all before was.legal).unmade pid.0 e))
           by (Some n) e = (n, e)
 
-  pub available_open : beside.running ≡ None → beside.ended_below < made before → IsAvailable before (beside.ended_below + 1)
+  pub available_open : beside.running ≡ None → beside.ended_below < made before → IsAvailable before [] [] (beside.ended_below + 1)
   available_open is lt =
       let there = open_there lt in
-      (begin_free is (beside.ended_below + 1), inl (may_step before was.legal (beside.ended_below + 1) there.0 there.1 (sym ((flat_all before was.legal).ended_is_stopped (beside.ended_below + 1)) ∙ was.next_open)))
+      (λ none. none, begin_free is (beside.ended_below + 1), inl (may_step_picked before was.legal (beside.ended_below + 1) there.0 there.1 (sym ((flat_all before was.legal).ended_is_stopped (beside.ended_below + 1)) ∙ was.next_open)))
 
   pub first_running : (pid : Pid) → beside.running ≡ Some pid → IsFirst before pid.0
   first_running pid is =

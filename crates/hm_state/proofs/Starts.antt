@@ -22,17 +22,17 @@ use Rattle.hm_model.specs.Inputs.{input, rows_read}
 use Rattle.hm_model.specs.Journal.{Past}
 use Rattle.hm_model.specs.Kinds.{kind_of}
 use Rattle.hm_model.specs.Records.{record_of}
-use Rattle.hm_model.specs.Rules.{AreSheets, IsLegal, MayStep}
+use Rattle.hm_model.specs.Rest.{MayStep}
+use Rattle.hm_model.specs.Rules.{AreSheets, IsLegal}
 use Rattle.hm_model.specs.Sheets.{sheets_of, sheet_for}
 use Rattle.hm_model.specs.Stages.{creating}
-use Rattle.hm_model.specs.Steps.{CanBeAsked, CanRun}
+use Rattle.hm_model.specs.Evaluation.{CanBeAsked, CanRun}
 use Rattle.hm_model.specs.Tree.{Node, node_of}
 use Rattle.hm_model.specs.Validity.{IsValid, AllValid}
 use Rattle.hm_model.proofs.Counting.{steps_unstopped}
-use Rattle.hm_model.proofs.Grown.{simple_all}
 use Rattle.hm_model.proofs.Ranges.{placed}
 use Rattle.hm_model.proofs.Rows.{read_none, read_one}
-use Rattle.hm_model.proofs.Stages.{flat_all}
+use Rattle.hm_model.proofs.Stages.{flat_all, simple_all}
 use Rattle.hm_state.specs.Rows.{row_under}
 use Rattle.hm_state.specs.State.{IsIndexed, IsInput, IsSimpleArgs}
 use Rattle.hm_state.proofs.Readings.{simple_record, there_by}

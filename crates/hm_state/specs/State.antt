@@ -23,10 +23,10 @@ use Rattle.hm_model.specs.Journal.{Past}
 use Rattle.hm_model.specs.Locks.{Holds}
 use Rattle.hm_model.specs.Nonces.{by_nonce}
 use Rattle.hm_model.specs.Phase.{ended}
-use Rattle.hm_model.specs.Records.{pid_of, record_of, unfinished}
+use Rattle.hm_model.specs.Records.{record_of, unfinished}
 use Rattle.hm_model.specs.Rules.{IsLegal, Breaks}
 use Rattle.hm_model.specs.Sheets.{sheets_of}
-use Rattle.hm_model.specs.Tree.{Node, made, node_of, is_root}
+use Rattle.hm_model.specs.Tree.{Node, made, node_of, is_root, pid_of}
 use Rattle.hm_index.specs.Index.{find}
 use Rattle.hm_state.specs.Rows.{row_under}
 use Rattle.hm_state.specs.declared.state.NotAllowed.{NotAllowed}

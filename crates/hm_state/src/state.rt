@@ -7,13 +7,14 @@ ghost use Rattle.hm_model.specs.Catalog.{cat, keep};
 ghost use Rattle.hm_model.specs.Inputs.{IsEvaluated, rows_read};
 ghost use Rattle.hm_model.specs.Journal.{back};
 ghost use Rattle.hm_model.specs.Nonces.{by_nonce};
-ghost use Rattle.hm_model.specs.Records.{pid_of, record_of, unfinished};
-ghost use Rattle.hm_model.specs.Rest.{IsAvailable, IsAtRest};
-ghost use Rattle.hm_model.specs.Rules.{Allowed, AreSheets, IsLegal, IsFresh, MayBegin, MayStep};
+ghost use Rattle.hm_model.specs.Records.{record_of, unfinished};
+ghost use Rattle.hm_model.specs.Rest.{IsAvailable, IsAtRest, MayStep};
+ghost use Rattle.hm_model.specs.Holding.{MayBegin};
+ghost use Rattle.hm_model.specs.Rules.{Allowed, AreSheets, IsLegal, IsFresh};
 ghost use Rattle.hm_model.specs.Sheets.{sheets_of};
-ghost use Rattle.hm_model.specs.Tree.{made, node_of};
+ghost use Rattle.hm_model.specs.Tree.{made, node_of, pid_of};
 ghost use Rattle.hm_model.specs.Validity.{IsValid, AllValid};
-ghost use Rattle.hm_model.specs.Steps.{CanRun, answer_of};
+ghost use Rattle.hm_model.specs.Evaluation.{CanRun, answer_of};
 
 use crate::nonces::add_nonce;
 use crate::ready::Ready;
@@ -208,7 +209,7 @@ impl State {
 
     /// The procedure that goes on next: the root that has a step and hasn't ended, else the lowest that hasn't ended.
     pub fn next(&self) -> Option<Pid>
-        ensures available { IfSome result (λ pid. IsAvailable (back self.now.entries) pid.0) }
+        ensures available { IfSome result (λ pid. IsAvailable (back self.now.entries) [] [] pid.0) }
         ensures first { IfSome result (λ pid. IsFirst (back self.now.entries) pid.0) }
         ensures rest { IfNone result (IsAtRest (back self.now.entries)) }
     {

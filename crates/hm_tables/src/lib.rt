@@ -1,4 +1,4 @@
-//! The handler of requests for namespaces.
+//! The handler of requests for namespaces and tables.
 #![tactic(auto)]
 
 mod hands;

@@ -1,5 +1,5 @@
 -- What answers add to a journal, and what ran for it.
-use Rattle.std.proofs.Common.{◌≡◌, ◌+◌, ℕ, List, [], ◌∷◌, ◌++◌, Option, Some, None, refl, sym, ap, ◌∙◌, inl, inr, append-nil, append_assoc, arith}
+use Rattle.std.proofs.Common.{◌≡◌, ◌+◌, List, [], ◌∷◌, ◌++◌, Option, Some, None, refl, sym, ap, ◌∙◌, inl, inr, append-nil, arith}
 use Rattle.std.specs.Prelude.{MatchOption}
 use Rattle.hm_data.specs.declared.entry.Entry.{Entry}
 use Rattle.hm_data.specs.declared.entry.Entry.TheVariants as entry_is
@@ -10,9 +10,9 @@ use Rattle.hm_hall.specs.declared.fault.Halt.TheVariants as halt_is
 use Rattle.hm_journal.specs.Stored.{opened}
 use Rattle.hm_top.specs.declared.answer.Answer.{Answer}
 use Rattle.hm_top.specs.declared.answer.Answer.TheVariants as answer_is
-use Rattle.hm_top.specs.declared.command.Command.{Command}
-use Rattle.hm_top.specs.declared.command.Command.TheVariants as command_is
-use Rattle.hm_top.specs.Answer.{Answers, AnswersAt, MayAdd, MayAddAt, MayLeave, AreUnsaid, submission}
+use Rattle.hm_script.specs.declared.command.Command.{Command}
+use Rattle.hm_script.specs.declared.command.Command.TheVariants as command_is
+use Rattle.hm_top.specs.Answer.{Answers, AnswersAt, MayAdd, MayAddAt, AreUnsaid, submission}
 use Rattle.hm_top.specs.Hands.{steps_in}
 use Rattle.hm_top.specs.Standing.{Comes, Standing}
 
@@ -63,27 +63,10 @@ answer_adds command old answer new a = by_halted old.halted a
     by_halted None at = at_adds command old answer new at
     by_halted (Some why) same = ([], refl, none_at old new (ap (λ (s : Standing). s.journal) same.1))
 
-abbrev IsNothing : List Entry → Type 0
-IsNothing entries = entries ≡ []
-
--- a command may leave nothing
-pub leaves_none : (command : Command) (old : Standing) → MayLeave command old []
-leaves_none (command_is.Namespace nonce ns) old = refl
-leaves_none command_is.Settle old = by_halted old.halted
-  where
-    by_halted : (halted : Option Halt) → MatchOption halted (MayAddAt command_is.Settle old []) (λ why. IsNothing [])
-    by_halted None = tt
-    by_halted (Some why) = refl
-leaves_none command_is.Procs old = by_halted old.halted
-  where
-    by_halted : (halted : Option Halt) → MatchOption halted (MayAddAt command_is.Procs old []) (λ why. IsNothing [])
-    by_halted None = refl
-    by_halted (Some why) = refl
-
--- so nothing was recorded for the next command
+-- nothing was recorded for the next command
 pub none_unsaid : (rest : List Command) (old : Standing) → AreUnsaid rest old []
 none_unsaid [] old = refl
-none_unsaid (command ∷ rest) old = leaves_none command old
+none_unsaid (command ∷ rest) old = inl refl
 
 -- what the opening adds, which is no step
 pub opened_grows : (sheets : List Sheet) (old : List Entry) → (first : List Entry) × (opened sheets old ≡ old ++ first) × (steps_in first ≡ 0)

@@ -1,13 +1,11 @@
 -- How a run ends.
-use Rattle.std.proofs.Common.{◌≡◌, ◌+◌, ◌-◌, ◌*◌, ℕ, List, [], ◌++◌, length, take, drop, Option, Some, None, Result, Ok, Err, refl, sym, ap, ◌∙◌, subst, inl, inr, ⊎_elim, append-nil, append_assoc, arith, ◌∷◌}
-use Rattle.std.specs.Prelude.{OnOk}
-use Rattle.std.proofs.lemmas.List.{take-append-drop, take_all}
+use Rattle.std.proofs.Common.{◌≡◌, ◌≢◌, ◌+◌, ◌-◌, ◌*◌, ℕ, List, [], ◌++◌, length, take, Option, Some, None, Result, Ok, Err, refl, sym, ap, ◌∙◌, subst, inl, inr, ⊎_elim, append-nil, append_assoc, arith, ◌∷◌}
+use Rattle.std.proofs.lemmas.List.{take_all}
 use Rattle.hm_data.specs.declared.entry.Entry.{Entry}
 use Rattle.hm_data.specs.declared.entry.Entry.TheVariants as entry_is
 use Rattle.hm_hall.specs.declared.fault.Halt.{Halt}
 use Rattle.hm_hall.specs.declared.fault.Halt.TheVariants as halt_is
 use Rattle.hm_journal.specs.Stored.{AllStored, IsOnDisk, opened}
-use Rattle.hm_journal.specs.Verdict.{IsUnjudged}
 use Rattle.hm_journal.specs.declared.limits.Limits.{Limits}
 use Rattle.hm_journal.specs.declared.why.JournalWhy.{JournalWhy}
 use Rattle.hm_journal.specs.declared.why.JournalWhy.TheVariants as why_is
@@ -15,16 +13,16 @@ use Rattle.hm_model.specs.Journal.{Past, back}
 use Rattle.hm_model.specs.Rules.{IsLegal}
 use Rattle.hm_model.proofs.Holders.{none_conflict, nonces_once}
 use Rattle.hm_model.proofs.Prefixes.{legal_before, legal_cut}
-use Rattle.hm_serial.proofs.Serial.{catalog_is, deeds_apply_is, failure_leaves}
+use Rattle.hm_serial.proofs.Failing.{failure_leaves_all}
+use Rattle.hm_serial.proofs.Serial.{catalog_is, deeds_apply_is}
 use Rattle.hm_top.specs.declared.answer.Answer.{Answer}
 use Rattle.hm_top.specs.declared.answer.Answer.TheVariants.{Opened}
-use Rattle.hm_top.specs.declared.command.Command.{Command}
+use Rattle.hm_script.specs.declared.command.Command.{Command}
 use Rattle.hm_top.specs.declared.status.EarlyEnd.{EarlyEnd}
 use Rattle.hm_top.specs.declared.status.EarlyEnd.TheVariants as early_is
 use Rattle.hm_top.specs.declared.status.LogWhy.{LogWhy}
 use Rattle.hm_top.specs.declared.status.RunStatus.{RunStatus}
 use Rattle.hm_top.specs.declared.status.RunStatus.TheVariants.{Done, Usage, BadScript, LogFault, LogRefused, ReadFault, WriteFault, JournalFull, Memory}
-use Rattle.hm_top.specs.Answer.{AreUnsaid}
 use Rattle.hm_top.specs.Ending.{log_why_of, talked_status, unopened_status}
 use Rattle.hm_top.specs.Faith.{KeepsFaith}
 use Rattle.hm_top.specs.Got.{Got, IsFrontOf, IsLast, IsNearly, IsShort, Talked}
@@ -33,8 +31,9 @@ use Rattle.hm_top.specs.Ports.{DiskUse, HandsUse, SinkUse}
 use Rattle.hm_top.specs.Run.{EndsBy, WordsFit, IsLeft, IsSaid, IsSpared, IsTold, IsToldWhole, IsUnopened, Outcome, Refused, Run, StopsLeave, Talk, before_line, talk_of}
 use Rattle.hm_top.specs.Standing.{Standing, begun, recording, whole}
 use Rattle.hm_top.specs.Status.{last_line}
-use Rattle.hm_top.specs.Transcript.{Conversation, IsBrokenOffIn, text_of}
-use Rattle.hm_top.proofs.Growth.{none_unsaid, opened_grows, steps_more}
+use Rattle.hm_top.specs.Talking.{IsTalk}
+use Rattle.hm_top.specs.Transcript.{text_of}
+use Rattle.hm_top.proofs.Growth.{opened_grows, steps_more}
 
 -- a front of nothing
 front_none : (old new : List ℕ) → IsFrontOf old new [] → new ≡ old
@@ -58,7 +57,7 @@ faith_of J legal = record {
   legal = legal;
   serial_is = catalog_is J legal;
   deeds = λ newer older pid pick out is. deeds_apply_is pid pick out older (legal_before newer (entry_is.Step pid pick out ∷ older) (subst IsLegal is legal));
-  failures = λ newer older entry is. failure_leaves entry older (legal_before newer (entry ∷ older) (subst IsLegal is legal));
+  failures = λ newer older entry is. failure_leaves_all entry older (legal_before newer (entry ∷ older) (subst IsLegal is legal));
   nonces = nonces_once J legal;
   locks = none_conflict J legal;
 }
@@ -110,7 +109,7 @@ outcome_map talk given said out f (JournalFull bytes) g later o = whole_map talk
 outcome_map talk given said out f (LogRefused why) g later o = (unopened_map talk given said out (LogRefused why) f g o.0, o.1)
 outcome_map talk given said out f WriteFault g later o = (later o.0, (told_map talk given said out WriteFault f g o.1.0, o.1.1))
 outcome_map talk given said out f Memory g later o =
-    ⊎_elim (λ idle. inl (idle.0, g [] idle.1, idle.2)) (λ o. inr (⊎_elim (λ u. inl (unopened_map talk given said out Memory f g u.0, u.1)) (λ t. inr (told_map talk given said out Memory f g t)) o)) o
+    ⊎_elim (λ idle. inl (idle.0, g [] idle.1, idle.2)) (λ o. inr (⊎_elim (λ u. inl (unopened_map talk given said out Memory f g u.0, u.1, u.2)) (λ t. inr (told_map talk given said out Memory f g t)) o)) o
 outcome_map talk given said out f status g later o = absurd o
 
 module _ (run : Run) (said : SinkUse → RunStatus → List Answer → Type 0) where
@@ -128,12 +127,6 @@ module _ (run : Run) (said : SinkUse → RunStatus → List Answer → Type 0) w
   ends_map said' out (BadScript bad) g f e = (e.0, e.1, (e.2.0, e.2.1, g [] e.2.2))
   ends_map said' out ReadFault g f e = (e.0, e.1, (e.2.0, e.2.1, g [] e.2.2))
   ends_map said' out status g f e = (e.0, f e.1)
-
--- What a conversation from `was` on says and leaves, by how it ended: all, or a part, or less than all.
-pub record IsTalk (tells : Type 0) (got0 got1 : List ℕ) (commands : List Command) (marks : List ℕ) (talked : Result (Unit {0}) EarlyEnd) (was new : Standing) : Type 0 where
-  pub done : OnOk talked (Conversation (λ answers. tells → got1 ≡ got0 ++ text_of (Opened (length was.journal) ∷ answers)) commands was marks new)
-  pub part : IsBrokenOffIn (λ answers. tells → IsNearly got0 got1 (Opened (length was.journal) ∷ answers)) commands was marks new
-  pub short : talked ≡ Err early_is.WriteFault → Conversation (λ answers. tells → IsShort got0 got1 (Opened (length was.journal) ∷ answers)) (take (length marks) commands) was marks new
 
 module _ (commands : List Command) (limits : Limits) (out : SinkUse) (disk : DiskUse) (hands : HandsUse) (marks : List ℕ) where
   -- these commands, answered before the last line
@@ -160,64 +153,45 @@ module _ (commands : List Command) (limits : Limits) (out : SinkUse) (disk : Dis
 
   -- the outcome of a conversation
   module _ (old : List Entry) (new : Standing) (left : IsLeft disk hands old new) where
-    abbrev told_of : (P : List Answer → Type 0) (status : RunStatus) (answered rest : List Command) (mid : Standing) (unsaid : List Entry) → commands ≡ answered ++ rest → new ≡ record mid { journal = mid.journal ++ unsaid }
-        → AreUnsaid rest mid unsaid → ((answers : List Answer) → P answers → before_line out status (Opened (length (opened (sheets_used hands) old)) ∷ answers))
-        → Conversation P answered (begun limits (sheets_used hands) old) marks mid → IsTold spoken status
-    told_of P status answered rest mid unsaid parts grown unsaid_are f c = record {
+    abbrev line : Answer
+    line = Opened (length (opened (sheets_used hands) old))
+
+    abbrev told_of : (status : RunStatus) (ended : Result (Unit {0}) EarlyEnd) → ((answers : List Answer) → (out.tells → Talked out.before out.after (talked_status ended None) answers) → before_line out status answers)
+        → IsTalk out.tells out.before out.after (line ∷ []) ended commands (begun limits (sheets_used hands) old) marks new → IsTold spoken status
+    told_of status ended f t = record {
       commands = commands;
       given_are = refl;
       old = old;
-      new = mid;
-      unsaid = unsaid;
+      new = t.mid;
+      unsaid = t.unsaid;
       told = record {
-        lines = Opened (length (opened (sheets_used hands) old)) ∷ [];
+        lines = line ∷ [];
         start = begun limits (sheets_used hands) old;
         opens = (refl, refl);
-        answered = answered;
-        rest = rest;
-        parts = parts;
-        answers = c.answers;
-        transcript = c.transcript;
-        unsaid_are = unsaid_are;
-        said_are = f c.answers c.said;
+        answered = t.answered;
+        rest = t.rest;
+        parts = t.parts;
+        answers = t.answers;
+        transcript = t.transcript;
+        unsaid_are = t.unsaid_are;
+        said_are = f (line ∷ t.answers) t.said;
       };
-      left = subst (IsLeft disk hands old) grown left;
+      left = subst (IsLeft disk hands old) t.grown left;
     }
-
-    -- nothing is unsaid
-    same_end : new ≡ record new { journal = new.journal ++ [] }
-    same_end = ap (λ (j : List Entry). record new { journal = j }) (sym (append-nil new.journal))
 
     -- all commands were answered
     told_whole : (status : RunStatus) (halted : Option Halt) → new.halted ≡ halted → ((answers : List Answer) → (out.tells → out.after ≡ out.before ++ text_of answers) → before_line out status answers)
-        → Conversation (λ answers. out.tells → out.after ≡ out.before ++ text_of (Opened (length (opened (sheets_used hands) old)) ∷ answers)) commands (begun limits (sheets_used hands) old) marks new
-        → IsToldWhole spoken status halted
-    told_whole status halted is f c = (
-      told_of (λ answers. out.tells → out.after ≡ out.before ++ text_of (Opened (length (opened (sheets_used hands) old)) ∷ answers)) status commands [] new [] (sym (append-nil commands)) same_end refl
-          (λ answers. f (Opened (length (opened (sheets_used hands) old)) ∷ answers)) c,
-      refl,
-      is,
-    )
+        → IsTalk out.tells out.before out.after (line ∷ []) (Ok tt) commands (begun limits (sheets_used hands) old) marks new → IsToldWhole spoken status halted
+    told_whole status halted is f t = (told_of status (Ok tt) f t, t.remains.0, sym (ap (λ (s : Standing). s.halted) t.grown) ∙ is)
 
     -- the outcome of a conversation
-    pub outcome_talked : (talked : Result (Unit {0}) EarlyEnd) (halted : Option Halt) → new.halted ≡ halted → (talked ≡ Err early_is.WriteFault → out.failed)
-        → IsTalk out.tells out.before out.after commands marks talked (begun limits (sheets_used hands) old) new → Outcome spoken (talked_status talked halted)
-    outcome_talked (Ok done) None is fails talk = told_whole Done None is (λ answers t. t) talk.done
-    outcome_talked (Ok done) (Some halt_is.LogFault) is fails talk = (left.cause is, inr (told_whole LogFault (Some halt_is.LogFault) is (λ answers t. t) talk.done))
-    outcome_talked (Ok done) (Some (halt_is.JournalFull bytes)) is fails talk = told_whole (JournalFull bytes) (Some (halt_is.JournalFull bytes)) is (λ answers t. t) talk.done
-    outcome_talked (Err early_is.WriteFault) halted is fails talk =
-        let rest = drop (length marks) commands in (
-          fails refl,
-          (
-            told_of (λ answers. out.tells → IsShort out.before out.after (Opened (length (opened (sheets_used hands) old)) ∷ answers)) WriteFault (take (length marks) commands) rest new []
-                (sym (take-append-drop (length marks) commands)) same_end (none_unsaid rest new) (λ answers t. t) (talk.short refl),
-            refl,
-          ),
-        )
-    outcome_talked (Err early_is.Memory) halted is fails talk =
-        let b = talk.part in
-        inr (inr (told_of (λ answers. out.tells → IsNearly out.before out.after (Opened (length (opened (sheets_used hands) old)) ∷ answers)) Memory (take (length marks) commands) (drop (length marks) commands) b.mid b.unsaid
-        (sym (take-append-drop (length marks) commands)) b.grown b.unsaid_are (λ answers t. t) b.said))
+    pub outcome_talked : (ended : Result (Unit {0}) EarlyEnd) (halted : Option Halt) → new.halted ≡ halted → (ended ≡ Err early_is.WriteFault → out.failed)
+        → IsTalk out.tells out.before out.after (line ∷ []) ended commands (begun limits (sheets_used hands) old) marks new → Outcome spoken (talked_status ended halted)
+    outcome_talked (Ok done) None is fails talk = told_whole Done None is (λ answers t. t) talk
+    outcome_talked (Ok done) (Some halt_is.LogFault) is fails talk = (left.cause is, inr (told_whole LogFault (Some halt_is.LogFault) is (λ answers t. t) talk))
+    outcome_talked (Ok done) (Some (halt_is.JournalFull bytes)) is fails talk = told_whole (JournalFull bytes) (Some (halt_is.JournalFull bytes)) is (λ answers t. t) talk
+    outcome_talked (Err early_is.WriteFault) halted is fails talk = (fails refl, (told_of WriteFault (Err early_is.WriteFault) (λ answers t. t) talk, talk.remains))
+    outcome_talked (Err early_is.Memory) halted is fails talk = inr (inr (told_of Memory (Err early_is.Memory) (λ answers t. t) talk))
 
   module _ (none : marks ≡ []) (quiet : out.tells → out.after ≡ out.before) where
     -- nothing was said yet
@@ -228,7 +202,7 @@ module _ (commands : List Command) (limits : Limits) (out : SinkUse) (disk : Dis
     refusal cause why is holds = (unopened (LogRefused why) (λ t. t), (cause, is, holds))
 
     -- the outcome of an opening that failed
-    pub outcome_unopened : (why : JournalWhy) → (why ≡ why_is.Fault → disk.failed) → IsSpared disk hands → ((IsUnjudged why → ⊥) → Refused disk hands why) → Outcome spoken (unopened_status why)
+    pub outcome_unopened : (why : JournalWhy) → (why ≡ why_is.Fault → disk.failed) → IsSpared disk hands → (why ≢ why_is.Fault → Refused disk hands why) → Outcome spoken (unopened_status why)
     outcome_unopened why_is.Fault fault spares holds = (fault refl, inl (unopened LogFault (λ t. t), spares))
-    outcome_unopened why_is.Memory fault spares holds = inr (inl (unopened Memory (λ t told. inl (t told)), spares))
-    outcome_unopened why fault spares holds = refusal why _ refl (holds (⊎_elim (λ e. absurd (cc)) (λ e. absurd (cc))))
+    outcome_unopened why_is.Memory fault spares holds = inr (inl (unopened Memory (λ t told. inl (t told)), spares, holds (λ e. absurd (cc))))
+    outcome_unopened why fault spares holds = refusal why _ refl (holds (λ e. absurd (cc)))

@@ -1,5 +1,5 @@
 -- What registries ran for a journal.
-use Rattle.std.proofs.Common.{◌≡◌, ◌≢◌, ◌<◌, ◌≤◌, ◌+◌, ◌-◌, ◌^◌, ◌⊎◌, ℕ, zero, suc, min, List, [], ◌∷◌, ◌++◌, length, map, sum, get_or, set, slice_index_or, Any, Option, Some, None, Result, Ok, Err, refl, sym, ap, ◌∙◌, subst, inl, inr, append-nil, append_assoc, arith}
+use Rattle.std.proofs.Common.{◌≡◌, ◌<◌, ◌≤◌, ◌+◌, ◌-◌, ◌^◌, ◌⊎◌, ℕ, zero, suc, min, List, [], ◌∷◌, ◌++◌, length, map, sum, get_or, set, slice_index_or, Any, Option, Some, None, Result, Ok, Err, refl, sym, ap, ◌∙◌, subst, inl, inr, append-nil, append_assoc, arith}
 use Rattle.std.specs.Prelude.{IfOk, OnErr}
 use Rattle.std.proofs.lemmas.List.Sums.{sum_by-cons}
 use Rattle.hm_data.specs.declared.entry.Entry.{Entry}
@@ -9,9 +9,9 @@ use Rattle.hm_model.specs.Journal.{back}
 use Rattle.hm_names.specs.declared.nonce.Nonce.{Nonce}
 use Rattle.hm_top.specs.declared.answer.Answer.{Answer}
 use Rattle.hm_top.specs.declared.answer.Answer.TheVariants as answer_is
-use Rattle.hm_top.specs.declared.command.Command.TheVariants as command_is
+use Rattle.hm_script.specs.declared.command.Command.TheVariants as command_is
 use Rattle.hm_top.specs.Answer.{AnswersAt, submission}
-use Rattle.hm_top.specs.Hands.{NoneFell, Ran, RunBy, SumRisesBy, one_step, steps_in}
+use Rattle.hm_top.specs.Hands.{NoneFell, Ran, RunBy, SumRisesBy, steps_in}
 use Rattle.hm_top.specs.Ports.{HandsUse}
 use Rattle.hm_top.specs.Settling.{IsNextStep}
 use Rattle.hm_top.specs.Standing.{Comes, Standing}
@@ -107,15 +107,12 @@ ran_step hands old new entry (Err e) next run comes err = ran_idle hands old.jou
 -- a submission runs nothing
 pub submit_ran : {E : Type 0} (nonce : Nonce) (ns : List ℕ) (old new : Standing) (r : Result Answer E) (hands : HandsUse) → RunBy hands 0 → IfOk r (λ answer. AnswersAt (command_is.Namespace nonce ns) old answer new) → OnErr r (new ≡ old)
     → Ran hands old.journal new.journal
-submit_ran nonce ns old new (Ok (answer_is.Opened at)) hands run answers err = absurd answers
 submit_ran nonce ns old new (Ok (answer_is.Pid pid)) hands run answers err = (submission nonce ns ∷ [], entry_added old new (submission nonce ns) answers.2, run)
 submit_ran nonce ns old new (Ok (answer_is.Repeated pid)) hands run answers err = ran_idle hands old.journal new.journal (ap (λ (s : Standing). s.journal) answers.2) run
 submit_ran nonce ns old new (Ok (answer_is.NonceClash pid)) hands run answers err = ran_idle hands old.journal new.journal (ap (λ (s : Standing). s.journal) answers.2) run
 submit_ran nonce ns old new (Ok (answer_is.JournalFull bytes)) hands run answers err = ran_idle hands old.journal new.journal (ap (λ (s : Standing). s.journal) answers.2) run
-submit_ran nonce ns old new (Ok (answer_is.Settled at)) hands run answers err = absurd answers
-submit_ran nonce ns old new (Ok (answer_is.Waiting at roots)) hands run answers err = absurd answers
-submit_ran nonce ns old new (Ok (answer_is.Table text)) hands run answers err = absurd answers
 submit_ran nonce ns old new (Ok (answer_is.Halted why)) hands run answers err = ran_idle hands old.journal new.journal (halt_leaves old new (submission nonce ns) why answers.1) run
+submit_ran nonce ns old new (Ok answer) hands run answers err = absurd answers
 submit_ran nonce ns old new (Err fault) hands run answers err = ran_idle hands old.journal new.journal (ap (λ (s : Standing). s.journal) err) run
 
 -- a count that was raised rose by one, or stands at its end

@@ -1,5 +1,5 @@
 -- The first of some registries, and its sheets.
-use Rattle.std.proofs.Common.{◌≡◌, ◌<◌, ◌||◌, ◌==◌, ℕ, List, [], ◌∷◌, ◌++◌, if◌then◌else◌, length, map, get_or, set, Option, Some, Bool, true, false, All, refl, sym, ap, ◌∙◌, subst, inl, inr, arith}
+use Rattle.std.proofs.Common.{◌≡◌, ◌<◌, ◌||◌, ◌==◌, ℕ, List, [], ◌∷◌, ◌++◌, if◌then◌else◌, length, map, get_or, Option, Some, Bool, true, false, All, refl, sym, ap, ◌∙◌, subst, arith}
 use Rattle.std.specs.Prelude.{IsTrue}
 use Rattle.std.specs.List.{flat_map, list_any}
 use Rattle.std.proofs.lemmas.Bool.Decides.{nat_tests}
@@ -64,6 +64,11 @@ found_same f (first ∷ kinds) (sheet ∷ sheets) found same kind runs =
 -- the sheets that are found under the kinds are the own sheets
 pub own_is : (first sheets : List Sheet) → map Some sheets ≡ map (λ kind. sheet_for first kind) running_kinds → own_sheets first ≡ sheets
 own_is first sheets found = listed_are (sheet_for first) running_kinds sheets found
+
+-- so a run uses the sheets that were found of the first registry
+pub used_are : {R : Type 0} (f : R → List Sheet) (hands : List R) → HandsAgree (map f hands) → (x : R) → x ≡ get_or hands 0 x → (sheets slice : List Sheet)
+    → map Some sheets ≡ map (λ kind. sheet_for (f x) kind) running_kinds → slice ≡ sheets → own_sheets (first_sheets (map f hands)) ≡ slice
+used_are f hands agree x is sheets slice found same = ap own_sheets (first_is f hands agree x is) ∙ own_is (f x) sheets found ∙ sym same
 
 -- the handlers agree with their own sheets
 pub agree_own : (first sheets : List Sheet) → map Some sheets ≡ map (λ kind. sheet_for first kind) running_kinds → AreSheets sheets → AgreeOn first sheets

@@ -1,4 +1,5 @@
 -- Each procedure is a root yet, so the table has a line for each.
+use Rattle.hm_model.proofs.Grown.{grown_all}
 use Rattle.std.proofs.Common.{◌≡◌, ℕ, zero, suc, ◌+◌, ◌≤◌, List, ◌++◌, length, codes, true, refl, sym, ap, ◌∙◌, arith, append_assoc}
 use Rattle.std.proofs.lemmas.List.{length-reverse}
 use Rattle.std.specs.Fmt.{decimal}
@@ -9,7 +10,7 @@ use Rattle.hm_model.specs.Laws.{IsGrown}
 use Rattle.hm_model.specs.Rules.{IsLegal}
 use Rattle.hm_model.specs.Stages.{IsSimple}
 use Rattle.hm_model.specs.Tree.{is_root, is_root_in, is_top, made}
-use Rattle.hm_model.proofs.Grown.{grown_all, simple_all}
+use Rattle.hm_model.proofs.Stages.{simple_all}
 use Rattle.hm_top.specs.Table.{lines_to, procs_table}
 
 -- a procedure that was made is a root

@@ -1,5 +1,5 @@
 -- How a run ends, from the ends of its commands.
-use Rattle.std.proofs.Common.{◌≡◌, ◌≢◌, ◌⊎◌, ◌≤◌, ◌+◌, ◌-◌, ◌*◌, ℕ, List, [], ◌++◌, ◌∷◌, length, append-nil, append_assoc, Option, Some, None, Result, Err, refl, sym, ap, ◌∙◌, subst, inl, inr, arith}
+use Rattle.std.proofs.Common.{◌≡◌, ◌≢◌, ◌⊎◌, ◌≤◌, ◌+◌, ◌-◌, ◌*◌, ℕ, List, [], ◌++◌, ◌∷◌, length, append-nil, append_assoc, Option, Some, None, Result, Err, refl, sym, ap, ◌∙◌, subst, arith}
 use Rattle.hm_ports.specs.Faults.{Rose}
 use Rattle.hm_ports.specs.declared.sink.Sink as Sink
 use Rattle.hm_disk.specs.Called.{IsCalled}
@@ -10,19 +10,16 @@ use Rattle.hm_log.specs.Format.{Reads}
 use Rattle.hm_log.specs.Opening.{IsMaking}
 use Rattle.hm_data.specs.declared.entry.Entry.{Entry}
 use Rattle.hm_data.specs.declared.sheet.Sheet.{Sheet}
-use Rattle.hm_hall.specs.declared.fault.Halt.{Halt}
 use Rattle.hm_hall.specs.declared.fault.Halt.TheVariants as halt_is
-use Rattle.hm_journal.specs.Opened.{Opened}
 use Rattle.hm_journal.specs.Since.{IsFront, with_tail}
-use Rattle.hm_journal.specs.Stored.{AllStored, frames_of, IsJournal, IsOnDisk, IsOpening, SameFrames, Spares}
+use Rattle.hm_journal.specs.Stored.{frames_of, IsJournal, IsOnDisk, IsOpening, SameFrames, Spares}
 use Rattle.hm_journal.specs.Verdict.{Refuses}
 use Rattle.hm_journal.specs.declared.limits.Limits.{Limits}
 use Rattle.hm_journal.specs.declared.why.JournalWhy.{JournalWhy}
 use Rattle.hm_journal.specs.declared.why.JournalWhy.TheVariants as why_is
-use Rattle.hm_model.specs.Journal.{back}
-use Rattle.hm_model.specs.Rules.{IsLegal}
 use Rattle.hm_top.specs.declared.answer.Answer.{Answer}
-use Rattle.hm_top.specs.declared.command.Command.{Command}
+use Rattle.hm_top.specs.declared.answer.Answer.TheVariants.{Opened}
+use Rattle.hm_script.specs.declared.command.Command.{Command}
 use Rattle.hm_top.specs.declared.status.EarlyEnd.{EarlyEnd}
 use Rattle.hm_top.specs.declared.status.EarlyEnd.TheVariants as early_is
 use Rattle.hm_top.specs.declared.status.RunStatus.{RunStatus}
@@ -31,13 +28,14 @@ use Rattle.hm_top.specs.Got.{IsLast}
 use Rattle.hm_top.specs.Hands.{Ran, sheets_used}
 use Rattle.hm_top.specs.Ports.{HandsUse, SinkUse, disk_use, sink_use}
 use Rattle.hm_top.specs.Run.{AcceptsJournal, Ends, EndsUnfinished, WordsFit, IsRead, KeepsTo, Outcome, Run, before_line, behind_line, talk_of}
-use Rattle.hm_top.specs.Script.{lines_of, IsScript}
-use Rattle.hm_top.specs.Standing.{Standing, begun, recording, whole}
+use Rattle.hm_top.specs.Script.{IsScript}
+use Rattle.hm_top.specs.Standing.{Standing, begun, whole}
 use Rattle.hm_top.specs.Status.{last_line}
-use Rattle.hm_top.specs.View.{WorldView, standing_of}
+use Rattle.hm_top.specs.Talking.{IsTalk}
+use Rattle.hm_top.specs.View.{IsLeftBy, WorldView, standing_of}
 use Rattle.hm_top.proofs.Complete.{complete}
 use Rattle.hm_top.proofs.Growth.{opened_grows}
-use Rattle.hm_top.proofs.Outcomes.{IsTalk, ends_fit, ends_map, got_finished, left_of, outcome_map, outcome_talked, outcome_unopened, spoken}
+use Rattle.hm_top.proofs.Outcomes.{ends_fit, ends_map, got_finished, left_of, outcome_map, outcome_talked, outcome_unopened, spoken}
 
 rose_late : (old mid new : ℕ) → old ≤ mid → Rose mid new → Rose old new
 rose_late old mid new later rose = omega arith
@@ -72,14 +70,14 @@ module _ {D Setting : Type 0} (d : Disk.Ghosts D Setting) (sheets : List Sheet) 
       (old : List Entry) × IsJournal sheets old × (standing_of was ≡ begun limits sheets old) × (was.opened.count ≡ length old)
       × (d.tells → IsOnDisk sheets (d.seen disk) old × Settles d.moment d.left_since disk was.opened.disk early (λ c. Reads c (frames_of old)))
 
-  -- what each stop left since, from what the world's type keeps
-  pub stops_leave : (after : WorldView D) (new : D) (opens : IsOpened) → ((more : List Entry) × (after.kept.entries ≡ opens.0 ++ more)) → after.opened ≡ was.opened
-      → (d.tells → LeavesOnly d.moment d.left_since after.opened.disk new (IsFront after.opened.count (whole (standing_of after))))
-      → d.tells → Settles d.moment d.left_since disk new early (IsFront (length opens.0) (whole (standing_of after)))
-  stops_leave after new opens grown kept leaves told =
+  -- what each stop left since
+  pub stops_leave : (at : Standing) (new : D) (opens : IsOpened) → ((more : List Entry) × (at.journal ≡ opens.0 ++ more))
+      → (d.tells → LeavesOnly d.moment d.left_since was.opened.disk new (IsFront was.opened.count (whole at)))
+      → d.tells → Settles d.moment d.left_since disk new early (IsFront (length opens.0) (whole at))
+  stops_leave at new opens grown leaves told =
       let old = opens.0 in
-      let all = whole (standing_of after) in
-      let tail = tail_of after.kept.entries after.kept.tail in
+      let all = whole at in
+      let tail = tail_of at.journal at.tail in
       stays_settled d.moment d.left_since disk was.opened.disk new early (IsFront (length old) all)
       (settles_weaker d.moment d.left_since disk was.opened.disk early (λ c. Reads c (frames_of old)) (IsFront (length old) all)
       (λ c reads. record {
@@ -88,9 +86,7 @@ module _ {D Setting : Type 0} (d : Disk.Ghosts D Setting) (sheets : List Sheet) 
         parts = tail.1 ∙ ap (λ l. l ++ tail.0) grown.1 ∙ append_assoc old grown.0 tail.0;
         enough = omega arith;
         reads = reads;
-      }) (opens.4 told).1)
-      (subst (λ n. LeavesOnly d.moment d.left_since was.opened.disk new (IsFront n all)) opens.3
-      (subst (λ (o : Opened D). LeavesOnly d.moment d.left_since o.disk new (IsFront o.count all)) kept (leaves told)))
+      }) (opens.4 told).1) (subst (λ n. LeavesOnly d.moment d.left_since was.opened.disk new (IsFront n all)) opens.3 (leaves told))
 
 module _ {D Setting : Type 0} (d : Disk.Ghosts D Setting) (commands : List Command) (limits : Limits) (out : SinkUse) (disk new : D) (hands : HandsUse) (marks : List ℕ)
     (sheets : List Sheet) (listed : sheets_used hands ≡ sheets) (status : RunStatus) where
@@ -98,31 +94,25 @@ module _ {D Setting : Type 0} (d : Disk.Ghosts D Setting) (commands : List Comma
   its = Outcome (spoken commands limits out (disk_use d disk new) hands marks)
 
   -- the outcome of a conversation with a world that was opened
-  pub converse_talked : (was after : WorldView D) (talked : Result (Unit {0}) EarlyEnd) (halted : Option Halt) → status ≡ talked_status talked halted → IsOpened d sheets limits disk was
-      → IsCalled d 1 disk was.opened.disk → IsTalk out.tells out.before out.after commands marks talked (standing_of was) (standing_of after) → after.opened ≡ was.opened
-      → (d.tells → LeavesOnly d.moment d.left_since after.opened.disk new (IsFront after.opened.count (whole (standing_of after))))
-      → (after.kept.halted ≡ Some halt_is.LogFault → Rose (d.faults after.opened.disk) (d.faults new)) → IsLegal (back (whole (standing_of after)))
-      → IsCalled d (2 * (length (whole (standing_of after)) - after.opened.count)) after.opened.disk new → Ran hands was.kept.entries after.kept.entries → (talked ≡ Err early_is.WriteFault → out.failed)
-      → halted ≡ after.kept.halted → (d.tells → AllStored (d.image new) (recording (standing_of after))) → its status
-  converse_talked was after talked halted ends opening first_called talk kept leaves failed legal called ran fails is holds =
+  pub converse_talked : (was : WorldView D) (at : Standing) (ended : Result (Unit {0}) EarlyEnd) → status ≡ talked_status ended at.halted → IsOpened d sheets limits disk was → IsCalled d 1 disk was.opened.disk
+      → IsTalk out.tells out.before out.after (Opened (length was.kept.entries) ∷ []) ended commands (standing_of was) marks at → IsLeftBy d was.opened at new → Ran hands was.kept.entries at.journal
+      → (ended ≡ Err early_is.WriteFault → out.failed) → its status
+  converse_talked was at ended ends opening first_called talk leaves ran fails =
       let own = sheets_used hands in
       let opens : IsOpened d own limits disk was = subst (λ (l : List Sheet). IsOpened d l limits disk was) (sym listed) opening in
       let old = opens.0 in
       let stands : standing_of was ≡ begun limits own old = opens.2 in
       let begins : was.kept.entries ≡ (begun limits own old).journal = ap (λ (s : Standing). s.journal) stands in
-      let grown : (more : List Entry) × (after.kept.entries ≡ old ++ more) =
       let first = opened_grows own old in
-      (first.0 ++ ran.0, ran.1 ∙ ap (λ l. l ++ ran.0) (begins ∙ first.1) ∙ append_assoc old first.0 ran.0) in
-      let rose : after.kept.halted ≡ Some halt_is.LogFault → Rose (d.faults disk) (d.faults new) = λ halted_is.
-      rose_late (d.faults disk) (d.faults was.opened.disk) (d.faults new) first_called.fault (subst (λ (o : Opened D). Rose (d.faults o.disk) (d.faults new)) kept (failed halted_is)) in
-      let left = left_of commands limits out (disk_use d disk new) hands marks old (standing_of after) (λ told. (opens.4 told).0) legal holds
-      (stops_leave d own limits disk was after new opens grown kept leaves)
-      (called_on d 1 (2 * (length (whole (standing_of after)) - length old)) disk was.opened.disk new first_called
-      (subst (λ n. IsCalled d (2 * (length (whole (standing_of after)) - n)) was.opened.disk new) opens.3
-      (subst (λ (o : Opened D). IsCalled d (2 * (length (whole (standing_of after)) - o.count)) o.disk new) kept called))) rose (subst (λ journal. Ran hands journal after.kept.entries) begins ran) in
+      let grown : (more : List Entry) × (at.journal ≡ old ++ more) = (first.0 ++ ran.0, ran.1 ∙ ap (λ l. l ++ ran.0) (begins ∙ first.1) ∙ append_assoc old first.0 ran.0) in
+      let rose : at.halted ≡ Some halt_is.LogFault → Rose (d.faults disk) (d.faults new) = λ halted_is.
+      rose_late (d.faults disk) (d.faults was.opened.disk) (d.faults new) first_called.fault (leaves.since.failed halted_is) in
+      let left = left_of commands limits out (disk_use d disk new) hands marks old at (λ told. (opens.4 told).0) leaves.legal leaves.stored (stops_leave d own limits disk was at new opens grown leaves.since.leaves)
+      (called_on d 1 (2 * (length (whole at) - length old)) disk was.opened.disk new first_called
+      (subst (λ n. IsCalled d (2 * (length (whole at) - n)) was.opened.disk new) opens.3 leaves.since.called)) rose (subst (λ journal. Ran hands journal at.journal) begins ran) in
       subst its (sym ends)
-      (outcome_talked commands limits out (disk_use d disk new) hands marks old (standing_of after) left talked halted (sym is) fails
-      (subst (λ (s : Standing). IsTalk out.tells out.before out.after commands marks talked s (standing_of after)) stands talk))
+      (outcome_talked commands limits out (disk_use d disk new) hands marks old at left ended at.halted refl fails
+      (subst (λ (s : Standing). IsTalk out.tells out.before out.after (Opened (length s.journal) ∷ []) ended commands s marks at) stands talk))
 
   -- the outcome of an opening that failed
   pub converse_unopened : (why : JournalWhy) → status ≡ unopened_status why → marks ≡ [] → (d.tells → Refuses sheets (d.seen disk) why) → (why ≡ why_is.Fault → Rose (d.faults disk) (d.faults new))
@@ -133,13 +123,13 @@ module _ {D Setting : Type 0} (d : Disk.Ghosts D Setting) (commands : List Comma
       subst its (sym ends)
       (outcome_unopened commands limits out (disk_use d disk new) hands marks none quiet why fault
       (called, λ told. (subst (λ l. Spares l (d.seen disk) (d.image disk) (d.seen new) (d.image new)) (sym listed) (spares told), opened told))
-      (λ judged. (called, λ told. (subst (λ l. Refuses l (d.seen disk) why) (sym listed) (refuses told), frames told (λ failed. judged (inl failed)), opened told))))
+      (λ judged. (called, λ told. (subst (λ l. Refuses l (d.seen disk) why) (sym listed) (refuses told), frames told judged, opened told))))
 
 -- the end of a run whose script was read
-pub script_read : (run : Run) (commands items : List Command) (status : RunStatus) → WordsFit run → (run.script.tells → length run.script.before ≤ 1048576) → (run.script.tells → IsScript (lines_of run.script.before) items)
+pub script_read : (run : Run) (commands items : List Command) (status : RunStatus) → WordsFit run → (run.script.tells → IsScript run.script.before items)
     → commands ≡ items → (run.script.tells → run.script.after ≡ []) → Outcome (spoken commands run.limits run.out run.disk run.hands run.marks) status → EndsUnfinished run status
-script_read run commands items status fit short right same read o =
-    let given : (cs : List Command) → cs ≡ commands → IsRead run cs = λ cs is. (fit, λ t. (short t, subst (IsScript (lines_of run.script.before)) (sym (is ∙ same)) (right t), read t)) in
+script_read run commands items status fit right same read o =
+    let given : (cs : List Command) → cs ≡ commands → IsRead run cs = λ cs is. (fit, λ t. (subst (IsScript run.script.before) (sym (is ∙ same)) (right t), read t)) in
     ends_fit run before_line fit status
     (outcome_map (spoken commands run.limits run.out run.disk run.hands run.marks) (IsRead run) (before_line run.out) run.out given status (λ answers t. t) (λ r. r) o)
 

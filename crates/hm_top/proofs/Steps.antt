@@ -1,8 +1,7 @@
 -- The steps that settling makes, and what they leave.
-use Rattle.std.proofs.Common.{◌≡◌, ◌≢◌, ℕ, List, [], ◌∷◌, ◌++◌, IsTrue, Option, Some, None, Result, Ok, Err, refl, sym, ap, ◌∙◌, subst, inl, inr, ⊎_elim, append-nil, append_assoc, arith}
-use Rattle.std.specs.Prelude.{IfOk, OnErr, MatchOption}
+use Rattle.std.proofs.Common.{◌≡◌, ◌≢◌, ℕ, List, [], ◌∷◌, ◌++◌, IsTrue, Option, Some, None, Result, Ok, Err, refl, sym, ap, ◌∙◌, subst, append-nil, append_assoc}
+use Rattle.std.specs.Prelude.{IfOk, OnErr}
 use Rattle.hm_names.specs.Server.{Server}
-use Rattle.hm_names.specs.declared.nonce.Nonce.{Nonce}
 use Rattle.hm_names.specs.declared.pid.Pid.{Pid}
 use Rattle.hm_data.specs.declared.entry.Entry.{Entry}
 use Rattle.hm_data.specs.declared.entry.Entry.TheVariants as entry_is
@@ -10,33 +9,30 @@ use Rattle.hm_data.specs.declared.sheet.Sheet.{Sheet}
 use Rattle.hm_data.specs.declared.step.StepIn.{StepIn}
 use Rattle.hm_data.specs.declared.step.StepOut.{StepOut}
 use Rattle.hm_hall.specs.Recording.{Passes}
-use Rattle.hm_hall.specs.declared.fault.Halt.{Halt}
 use Rattle.hm_model.specs.Inputs.{IsEvaluated, input}
 use Rattle.hm_model.specs.Journal.{Past, back}
 use Rattle.hm_model.specs.Kinds.{is_running_kind}
-use Rattle.hm_model.specs.Rest.{IsAvailable}
-use Rattle.hm_model.specs.Rules.{Allowed, IsLegal, MayStep}
+use Rattle.hm_model.specs.Rest.{IsAvailable, MayStep}
+use Rattle.hm_model.specs.Rules.{Allowed, IsLegal}
 use Rattle.hm_model.specs.Sheets.{sheet_for, sheets_of}
-use Rattle.hm_model.specs.Steps.{CanBeAsked, CanRun, answer_of}
+use Rattle.hm_model.specs.Evaluation.{CanBeAsked, CanRun, answer_of}
 use Rattle.hm_model.specs.Tree.{Node}
-use Rattle.hm_model.proofs.Counting.{available_unstopped, may_step}
-use Rattle.hm_model.proofs.Grown.{simple_all}
+use Rattle.hm_model.proofs.Counting.{available_unstopped, may_step, picks_iff}
 use Rattle.hm_model.proofs.Prefixes.{back-push}
 use Rattle.hm_model.proofs.Sheets.{said_alike}
-use Rattle.hm_model.proofs.Stages.{flat_all}
+use Rattle.hm_model.proofs.Stages.{flat_all, simple_all}
 use Rattle.hm_state.specs.State.{IsFirst, IsInput}
-use Rattle.hm_top.specs.Answer.{AnswersAt, IsUnanswered, submission}
+use Rattle.hm_top.specs.Answer.{AnswersAt}
 use Rattle.hm_top.specs.declared.answer.Answer.{Answer}
 use Rattle.hm_top.specs.declared.answer.Answer.TheVariants as answer_is
-use Rattle.hm_top.specs.declared.command.Command.TheVariants as command_is
-use Rattle.hm_top.specs.declared.command.Command.{Command}
+use Rattle.hm_script.specs.declared.command.Command.TheVariants as command_is
 use Rattle.hm_top.specs.Hands.{AgreeOn, Serve, first_sheets, one_step}
 use Rattle.hm_top.specs.Settling.{AreSteps, IsNextStep, IsWorked}
 use Rattle.hm_top.specs.Standing.{Comes, Standing}
-use Rattle.hm_top.proofs.Growth.{entry_added, halt_leaves, leaves_none, standing_added}
+use Rattle.hm_top.proofs.Growth.{halt_leaves, standing_added}
 
 -- what may go on makes a step: nothing is undone yet
-pub may_on : (J : Past) → IsLegal J → (p : ℕ) → IsAvailable J p → MayStep J p
+pub may_on : (J : Past) → IsLegal J → (p : ℕ) → IsAvailable J [] [] p → MayStep J p
 may_on J legal p available =
     let on = available_unstopped J legal p available in
     may_step J legal p on.0 on.1 on.2
@@ -54,7 +50,7 @@ same_sheet : (J : Past) → IsLegal J → (p : ℕ) (pick : Option Server) (at :
 same_sheet J legal p pick at sheets agree may is = agree at.kind (kind_runs J legal p pick at may is)
 
 -- the registry can be run there
-pub runs_there : (J : Past) → IsLegal J → (p : ℕ) (pick : Option Server) (at : StepIn) (sheets : List Sheet) → AgreeOn sheets (sheets_of J) → IsAvailable J p → IsInput J p pick at
+pub runs_there : (J : Past) → IsLegal J → (p : ℕ) (pick : Option Server) (at : StepIn) (sheets : List Sheet) → AgreeOn sheets (sheets_of J) → IsAvailable J [] [] p → IsInput J p pick at
     → (MayStep J p → CanRun (sheets_of J) at) → CanRun sheets at
 runs_there J legal p pick at sheets agree available is runs =
     let may = may_on J legal p available in
@@ -72,33 +68,21 @@ evaluated J legal p pick at sheets out agree may is answered = (
 )
 
 -- what the registry answers is the next step
-pub next_step : (J : Past) → IsLegal J → J ≢ [] → (pid : Pid) (at : StepIn) (sheets : List Sheet) (out : StepOut) → AgreeOn sheets (sheets_of J) → IsAvailable J pid.0 → IsFirst J pid.0
+pub next_step : (J : Past) → IsLegal J → J ≢ [] → (pid : Pid) (at : StepIn) (sheets : List Sheet) (out : StepOut) → AgreeOn sheets (sheets_of J) → IsAvailable J [] [] pid.0 → IsFirst J pid.0
     → IsInput J pid.0 None at → answer_of sheets at ≡ Some out → IsNextStep J (entry_is.Step pid None out)
 next_step J legal begun pid at sheets out agree available first is answered =
     let may = may_on J legal pid.0 available in
-    (first, (begun, (may, (available.0, (refl, (evaluated J legal pid.0 None at sheets out agree may is answered, tt))))))
+    (first, (begun, (may, (available.1, ((picks_iff J legal pid.0 None may).1 refl, (evaluated J legal pid.0 None at sheets out agree may is answered, tt))))))
 
 -- the next step is a step
 pub one_next : (J : Past) (entry : Entry) → IsNextStep J entry → one_step entry ≡ 1
-one_next J (entry_is.Start sheets) next = absurd next
-one_next J (entry_is.Submit nonce request) next = absurd next
 one_next J (entry_is.Step pid pick out) next = refl
-one_next J (entry_is.Undo pid row out) next = absurd next
-one_next J (entry_is.Report call told) next = absurd next
-one_next J (entry_is.Up server) next = absurd next
-one_next J (entry_is.Down server) next = absurd next
-one_next J (entry_is.Abort pid) next = absurd next
+one_next J entry next = absurd next
 
 -- and it may stand there
 pub next_allowed : (J : Past) (entry : Entry) → IsNextStep J entry → Allowed J entry
-next_allowed J (entry_is.Start sheets) next = absurd next
-next_allowed J (entry_is.Submit nonce request) next = absurd next
 next_allowed J (entry_is.Step pid pick out) next = next.1
-next_allowed J (entry_is.Undo pid row out) next = absurd next
-next_allowed J (entry_is.Report call told) next = absurd next
-next_allowed J (entry_is.Up server) next = absurd next
-next_allowed J (entry_is.Down server) next = absurd next
-next_allowed J (entry_is.Abort pid) next = absurd next
+next_allowed J entry next = absurd next
 
 -- one step more
 steps_more : (at : Standing) (steps : List Entry) (entry : Entry) → AreSteps at steps → IsNextStep (back (at.journal ++ steps)) entry
@@ -136,14 +120,8 @@ worked_on old mid new was adds =
 
 -- a step leaves the sheets
 sheets_step : (J : Past) (entry : Entry) → IsNextStep J entry → sheets_of (entry ∷ J) ≡ sheets_of J
-sheets_step J (entry_is.Start sheets) next = absurd next
-sheets_step J (entry_is.Submit nonce request) next = absurd next
 sheets_step J (entry_is.Step pid pick out) next = refl
-sheets_step J (entry_is.Undo pid row out) next = absurd next
-sheets_step J (entry_is.Report call told) next = absurd next
-sheets_step J (entry_is.Up server) next = absurd next
-sheets_step J (entry_is.Down server) next = absurd next
-sheets_step J (entry_is.Abort pid) next = absurd next
+sheets_step J entry next = absurd next
 
 sheets_more : (journal new : List Entry) (entry : Entry) → IsNextStep (back journal) entry → new ≡ journal ++ entry ∷ [] → sheets_of (back new) ≡ sheets_of (back journal)
 sheets_more journal new entry next is =
@@ -169,41 +147,9 @@ serve_on one other old new serve same sheets =
 -- whatever a settling answers, the journal begins with the same sheets
 pub settle_begun : {E : Type 0} (old new : Standing) (r : Result Answer E) → IfOk r (λ answer. AnswersAt command_is.Settle old answer new) → OnErr r (IsWorked old new)
     → sheets_of (back new.journal) ≡ sheets_of (back old.journal)
-settle_begun old new (Ok (answer_is.Opened at)) answers err = absurd answers
-settle_begun old new (Ok (answer_is.Pid pid)) answers err = absurd answers
-settle_begun old new (Ok (answer_is.Repeated pid)) answers err = absurd answers
-settle_begun old new (Ok (answer_is.NonceClash pid)) answers err = absurd answers
-settle_begun old new (Ok (answer_is.JournalFull bytes)) answers err = absurd answers
 settle_begun old new (Ok (answer_is.Settled at)) answers err = sheets_worked old new answers.0.worked
 settle_begun old new (Ok (answer_is.Waiting at roots)) answers err = sheets_worked old new answers.0.worked
-settle_begun old new (Ok (answer_is.Table text)) answers err = absurd answers
 settle_begun old new (Ok (answer_is.Halted why)) answers err =
     ap (λ (j : List Entry). sheets_of (back j)) (halt_leaves answers.mid new answers.next why answers.halts) ∙ sheets_worked old answers.mid answers.worked
+settle_begun old new (Ok answer) answers err = absurd answers
 settle_begun old new (Err fault) answers err = sheets_worked old new err
-
--- a submission leaves the sheets
-submission_begun : (journal : List Entry) (nonce : Nonce) (ns : List ℕ) → sheets_of (back (journal ++ submission nonce ns ∷ [])) ≡ sheets_of (back journal)
-submission_begun journal nonce ns = ap sheets_of (back-push journal (submission nonce ns))
-
--- so does its answer
-pub submit_begun : {E : Type 0} (nonce : Nonce) (ns : List ℕ) (old new : Standing) (r : Result Answer E) → IfOk r (λ answer. AnswersAt (command_is.Namespace nonce ns) old answer new) → OnErr r (new ≡ old)
-    → sheets_of (back new.journal) ≡ sheets_of (back old.journal)
-submit_begun nonce ns old new (Ok (answer_is.Opened at)) answers err = absurd answers
-submit_begun nonce ns old new (Ok (answer_is.Pid pid)) answers err =
-    ap (λ (j : List Entry). sheets_of (back j)) (entry_added old new (submission nonce ns) answers.2) ∙ submission_begun old.journal nonce ns
-submit_begun nonce ns old new (Ok (answer_is.Repeated pid)) answers err = ap (λ (s : Standing). sheets_of (back s.journal)) answers.2
-submit_begun nonce ns old new (Ok (answer_is.NonceClash pid)) answers err = ap (λ (s : Standing). sheets_of (back s.journal)) answers.2
-submit_begun nonce ns old new (Ok (answer_is.JournalFull bytes)) answers err = ap (λ (s : Standing). sheets_of (back s.journal)) answers.2
-submit_begun nonce ns old new (Ok (answer_is.Settled at)) answers err = absurd answers
-submit_begun nonce ns old new (Ok (answer_is.Waiting at roots)) answers err = absurd answers
-submit_begun nonce ns old new (Ok (answer_is.Table text)) answers err = absurd answers
-submit_begun nonce ns old new (Ok (answer_is.Halted why)) answers err = ap (λ (j : List Entry). sheets_of (back j)) (halt_leaves old new (submission nonce ns) why answers.1)
-submit_begun nonce ns old new (Err fault) answers err = ap (λ (s : Standing). sheets_of (back s.journal)) err
-
--- the steps of a settling that wasn't answered may be left
-pub worked_left : (old new : Standing) → old.halted ≡ None → IsWorked old new → IsUnanswered command_is.Settle old new
-worked_left old new going worked = (worked.steps, subst (λ (h : Option Halt). MatchOption h (AreSteps old worked.steps) (λ why. worked.steps ≡ [])) (sym going) worked.are_steps, worked.grown)
-
--- a command that did nothing left nothing
-pub left_none : (command : Command) (old new : Standing) → new ≡ old → IsUnanswered command old new
-left_none command old new same = ([], leaves_none command old, same ∙ ap (λ (j : List Entry). record old { journal = j }) (sym (append-nil old.journal)))

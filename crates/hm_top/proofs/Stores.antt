@@ -1,17 +1,14 @@
 -- What a recorder keeps, as a run stands.
-use Rattle.std.proofs.Common.{◌≡◌, ◌≢◌, ℕ, List, [], ◌∷◌, ◌++◌, Option, Some, None, Result, Ok, All, refl, sym, ap, ◌∙◌, subst, inl, inr, append-nil, length, ◌≤◌, arith}
+use Rattle.std.proofs.Common.{◌≡◌, ◌≢◌, ℕ, List, [], ◌∷◌, ◌++◌, Option, Some, None, Result, Ok, All, refl, sym, ap, ◌∙◌, subst}
 use Rattle.std.specs.Prelude.{IfSome}
-use Rattle.std.proofs.lemmas.List.{map-append, reverse-append}
+use Rattle.std.proofs.lemmas.List.{reverse-append}
 use Rattle.std.proofs.lemmas.List.Elements.{All-append, All-cons, All-nil}
-use Rattle.std.proofs.lemmas.Option.{none-some}
-use Rattle.hm_log.specs.Format.{Reads}
 use Rattle.hm_names.specs.Names.{IsNs}
 use Rattle.hm_names.specs.declared.nonce.Nonce.{Nonce}
 use Rattle.hm_data.specs.declared.entry.Entry.{Entry}
 use Rattle.hm_data.specs.declared.request.Request.TheVariants as request_is
 use Rattle.hm_data.specs.declared.sheet.Sheet.{Sheet}
 use Rattle.hm_entry.specs.Fits.{EntryFits}
-use Rattle.hm_entry.specs.Spelling.{entry as spelling}
 use Rattle.hm_model.specs.Journal.{back}
 use Rattle.hm_model.specs.Rules.{Allowed, IsLegal}
 use Rattle.hm_hall.specs.Recording.{CanBeRecorded, Recording, Records, next_of, with_next}
@@ -24,11 +21,30 @@ use Rattle.hm_journal.specs.Stored.{opened}
 use Rattle.hm_journal.specs.declared.limits.Limits.{Limits}
 use Rattle.hm_top.specs.Answer.{submission}
 use Rattle.hm_top.specs.Standing.{Comes, Standing, begun, told_of}
-use Rattle.hm_top.specs.View.{standing_in}
+use Rattle.hm_top.specs.View.{IsWorld, standing_in}
 
 -- a legal journal and an entry that may stand behind it
 pub legal_next : (journal : List Entry) (entry : Entry) → IsLegal (back journal) → Allowed (back journal) entry → IsLegal (back (journal ++ entry ∷ []))
 legal_next journal entry legal allowed = subst IsLegal (sym (reverse-append journal (entry ∷ []))) (legal, allowed)
+
+-- a journal with an entry has begun
+some_next : (journal : List Entry) (entry : Entry) → back (journal ++ entry ∷ []) ≢ []
+some_next journal entry is = let none : entry ∷ back journal ≡ [] = sym (reverse-append journal (entry ∷ [])) ∙ is in cc
+
+-- a world behind an entry that was recorded
+pub world_more : (entries now : List Entry) (was new : Recording) (entry : Entry) → IsWorld entries was → was.halted ≡ None → Allowed (back was.entries) entry → EntryFits entry
+    → Comes (standing_in was) entry None (standing_in new) → now ≡ entries ++ entry ∷ [] → IsWorld now new
+world_more entries now was new entry world going allowed fits comes now_is =
+    let grown : new.entries ≡ was.entries ++ entry ∷ [] = ap (λ (r : Recording). r.entries) comes.0.3 in
+    let tailless : new.tail ≡ None = ap (λ (r : Recording). r.tail) comes.0.3 ∙ world.tailless going in
+    record {
+      same = now_is ∙ ap (λ (es : List Entry). es ++ entry ∷ []) world.same ∙ sym grown;
+      legal = subst (λ (es : List Entry). IsLegal (back es)) (sym grown) (legal_next was.entries entry world.legal allowed);
+      begun = subst (λ (es : List Entry). back es ≢ []) (sym grown) (some_next was.entries entry);
+      fits = subst (All EntryFits) (sym grown) (All-append EntryFits was.entries (entry ∷ []) world.fits (All-cons EntryFits entry [] fits (All-nil EntryFits)));
+      tailless = λ still. tailless;
+      tail_allowed = subst (λ (t : Option Entry). IfSome t (Allowed (back new.entries))) (sym tailless) tt;
+    }
 
 -- the same with no entry ready
 abbrev unready : Recording → Recording

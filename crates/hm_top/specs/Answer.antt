@@ -12,13 +12,13 @@ use Rattle.hm_model.specs.Nonces.{by_nonce}
 use Rattle.hm_model.specs.Records.{unfinished}
 use Rattle.hm_model.specs.Rest.{IsAtRest}
 use Rattle.hm_model.specs.Tree.{Node, made, node_of}
-use Rattle.hm_hall.specs.Recording.{Passes, full_at}
+use Rattle.hm_hall.specs.Recording.{Accepts, Passes, full_at}
 use Rattle.hm_hall.specs.declared.fault.Halt.{Halt}
 use Rattle.hm_hall.specs.declared.fault.Halt.TheVariants as halt_is
 use Rattle.hm_top.specs.declared.answer.Answer.{Answer}
 use Rattle.hm_top.specs.declared.answer.Answer.TheVariants as answer_is
-use Rattle.hm_top.specs.declared.command.Command.{Command}
-use Rattle.hm_top.specs.declared.command.Command.TheVariants as command_is
+use Rattle.hm_script.specs.declared.command.Command.{Command}
+use Rattle.hm_script.specs.declared.command.Command.TheVariants as command_is
 use Rattle.hm_top.specs.Settling.{AreSteps, IsNextStep, IsWorked}
 use Rattle.hm_top.specs.Standing.{Comes, Standing, recording}
 use Rattle.hm_top.specs.Table.{procs_table}
@@ -97,22 +97,28 @@ abbrev pub MayAddAt : Command → Standing → List Entry → Type 0
 MayAddAt (command_is.Namespace nonce ns) old entries =
     (entries ≡ []) ⊎ (IsFree old nonce × (Passes old.limits.hard old.journal (submission nonce ns) → ⊥) × (entries ≡ submission nonce ns ∷ []))
 MayAddAt command_is.Settle old entries = AreSteps old entries
-MayAddAt command_is.Procs old entries = entries ≡ []
+MayAddAt command old entries = entries ≡ []
 
 -- what a command may have recorded, answered or not: nothing where the run is halted
 abbrev pub MayAdd : Command → Standing → List Entry → Type 0
 MayAdd command old entries = MatchOption old.halted (MayAddAt command old entries) (λ why. entries ≡ [])
 
--- the same of a command that wasn't answered: a submission recorded nothing
+-- Memory may run out for a command: nothing that is judged without any has its answer. So a submission isn't known, and
+-- passes neither mark; what settling evaluates takes memory itself.
+abbrev pub MayRunOut : Command → Standing → Type 0
+MayRunOut (command_is.Namespace nonce ns) old = IsFree old nonce × Accepts (recording old) (submission nonce ns)
+MayRunOut command old = old.halted ≡ None
+
+-- what a command may have recorded that wasn't answered: a submission nothing
 abbrev pub MayLeave : Command → Standing → List Entry → Type 0
 MayLeave (command_is.Namespace nonce ns) old entries = entries ≡ []
-MayLeave command old entries = MayAdd command old entries
+MayLeave command old entries = MayAddAt command old entries
 
 -- what a command leaves that wasn't answered for want of memory
 abbrev pub IsUnanswered : Command → Standing → Standing → Type 0
-IsUnanswered command old new = (entries : List Entry) × MayLeave command old entries × (new ≡ record old { journal = old.journal ++ entries })
+IsUnanswered command old new = MayRunOut command old × (entries : List Entry) × MayLeave command old entries × (new ≡ record old { journal = old.journal ++ entries })
 
 -- what was recorded for the next of these commands, which isn't answered any more
 abbrev pub AreUnsaid : List Command → Standing → List Entry → Type 0
 AreUnsaid [] old entries = entries ≡ []
-AreUnsaid (command ∷ more) old entries = MayLeave command old entries
+AreUnsaid (command ∷ more) old entries = (entries ≡ []) ⊎ (MayRunOut command old × MayLeave command old entries)

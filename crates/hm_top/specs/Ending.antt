@@ -37,8 +37,12 @@ halted_status None = Done
 halted_status (Some halt_is.LogFault) = LogFault
 halted_status (Some (halt_is.JournalFull bytes)) = JournalFull bytes
 
--- the status of a conversation that ended
+-- the status of a run that ended early
+abbrev pub early_status : EarlyEnd → RunStatus
+early_status early_is.WriteFault = WriteFault
+early_status early_is.Memory = Memory
+
+-- the status of a run that ended so, halted by this or by nothing
 abbrev pub talked_status : Result (Unit {0}) EarlyEnd → Option Halt → RunStatus
 talked_status (Ok done) halted = halted_status halted
-talked_status (Err early_is.WriteFault) halted = WriteFault
-talked_status (Err early_is.Memory) halted = Memory
+talked_status (Err end) halted = early_status end

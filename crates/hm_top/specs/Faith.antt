@@ -15,7 +15,8 @@ use Rattle.hm_model.specs.Locks.{IsBusy, NoneConflict, covers}
 use Rattle.hm_model.specs.Nonces.{NoncesActOnce}
 use Rattle.hm_model.specs.Phase.{cause, root_ended}
 use Rattle.hm_model.specs.Rules.{IsLegal}
-use Rattle.hm_model.specs.Serial.{deed_of, serial}
+use Rattle.hm_model.specs.Deeds.{deed_of}
+use Rattle.hm_model.specs.Serial.{serial}
 use Rattle.hm_model.specs.Tree.{Node, node_of}
 use Rattle.hm_serial.specs.Theorem.{TreeEdits}
 

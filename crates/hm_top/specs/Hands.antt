@@ -64,14 +64,9 @@ pub record RunBy (hands : HandsUse) (count : ℕ) : Type 0 where
 
 -- 1 for a step
 abbrev pub one_step : Entry → ℕ
-one_step (entry_is.Start sheets) = 0
-one_step (entry_is.Submit nonce request) = 0
 one_step (entry_is.Step pid pick out) = 1
 one_step (entry_is.Undo pid row out) = 1
-one_step (entry_is.Report call told) = 0
-one_step (entry_is.Up server) = 0
-one_step (entry_is.Down server) = 0
-one_step (entry_is.Abort pid) = 0
+one_step entry = 0
 
 -- how many of these entries are steps, or undo one
 abbrev pub steps_in : List Entry → ℕ

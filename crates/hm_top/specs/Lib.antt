@@ -9,6 +9,7 @@ pub mod Status
 pub mod Pieces
 pub mod Ending
 pub mod Got
+pub mod Talking
 pub mod Faith
 pub mod Ports
 pub mod Hands

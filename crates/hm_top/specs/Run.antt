@@ -1,5 +1,5 @@
 -- What a run says where the outside tells its content, and how each status comes.
-use Rattle.std.specs.Prelude.{◌≡◌, ◌⊎◌, ◌+◌, ◌-◌, ◌*◌, ◌<◌, ◌≤◌, ℕ, List, [], ◌∷◌, ◌++◌, length, take, Option, Some, None}
+use Rattle.std.specs.Prelude.{◌≡◌, ◌⊎◌, ◌+◌, ◌-◌, ◌*◌, ℕ, List, [], ◌++◌, length, take, Option, Some, None}
 use Rattle.hm_ports.specs.declared.source.Source as Source
 use Rattle.hm_ports.specs.declared.sink.Sink as Sink
 use Rattle.hm_disk.specs.declared.disk.Disk as Disk
@@ -9,42 +9,28 @@ use Rattle.hm_hall.specs.declared.fault.Halt.{Halt}
 use Rattle.hm_hall.specs.declared.fault.Halt.TheVariants as halt_is
 use Rattle.hm_journal.specs.declared.limits.Limits.{Limits}
 use Rattle.hm_journal.specs.declared.why.JournalWhy.{JournalWhy}
+use Rattle.hm_journal.specs.declared.why.JournalWhy.TheVariants as journal_why_is
 use Rattle.hm_journal.specs.Since.{IsFront}
 use Rattle.hm_journal.specs.Stored.{AllStored, IsOnDisk, IsOpening, SameFrames, Spares}
 use Rattle.hm_journal.specs.Verdict.{Refuses}
 use Rattle.hm_log.specs.Opening.{IsMaking}
-use Rattle.hm_top.specs.declared.command.Command.{Command}
+use Rattle.hm_script.specs.declared.command.Command.{Command}
 use Rattle.hm_top.specs.declared.answer.Answer.{Answer}
-use Rattle.hm_top.specs.declared.status.Bad.{Bad}
+use Rattle.hm_script.specs.declared.bad.Bad.{Bad}
 use Rattle.hm_top.specs.declared.status.LogWhy.{LogWhy}
 use Rattle.hm_top.specs.declared.status.RunStatus.{RunStatus}
 use Rattle.hm_top.specs.declared.status.RunStatus.TheVariants.{Done, Usage, BadScript, LogFault, LogRefused, ReadFault, WriteFault, JournalFull, Memory}
-use Rattle.hm_top.specs.declared.status.Why.{Why}
-use Rattle.hm_top.specs.declared.status.Why.TheVariants as why_is
+use Rattle.hm_script.specs.declared.bad.Why.TheVariants as why_is
 use Rattle.hm_top.specs.Answer.{AreUnsaid}
 use Rattle.hm_top.specs.Ending.{log_why_of}
 use Rattle.hm_top.specs.Faith.{KeepsFaith}
 use Rattle.hm_top.specs.Got.{Got, Talked}
 use Rattle.hm_top.specs.Hands.{SumRisesBy, sheets_used, steps_in}
 use Rattle.hm_top.specs.Ports.{DiskUse, HandsUse, SinkUse, SourceUse, disk_use, sink_use, source_use}
-use Rattle.hm_top.specs.Script.{lines_of, IsScript, IsFirstWrong}
+use Rattle.hm_top.specs.Script.{IsBad, IsScript}
 use Rattle.hm_top.specs.Standing.{Standing, recording, whole}
 use Rattle.hm_top.specs.Transcript.{Opens, Transcript}
 use Rattle.hm_top.specs.Words.{misfit_of}
-
--- why bytes are no script: there are too many, or a line says nothing
-abbrev pub IsBadAt : List ℕ → ℕ → Why → Type 0
-IsBadAt input line why_is.TooLong = (line ≡ 0) × (1048576 < length input)
-IsBadAt input line (why_is.Word at) = (at ≡ 0) × (0 < line) × (length input ≤ 1048576) × IsFirstWrong (lines_of input) line
-IsBadAt input line _ = ⊥
-
--- the same, of a fault
-abbrev pub IsBad : List ℕ → Bad → Type 0
-IsBad input bad = IsBadAt input bad.line bad.why
-
--- a refusal of a script: it is too long, or a line of it says nothing
-abbrev pub IsRefusal : Bad → Type 0
-IsRefusal bad = ((bad.line ≡ 0) × (bad.why ≡ why_is.TooLong)) ⊎ ((0 < bad.line) × (bad.why ≡ why_is.Word 0))
 
 module _ (disk : DiskUse) (hands : HandsUse) where
   -- each stop left a front of the journal with its tail, no shorter than the old one; first also what it could before
@@ -71,7 +57,7 @@ module _ (disk : DiskUse) (hands : HandsUse) where
   abbrev pub IsSpared : Type 0
   IsSpared = disk.called 3 × (disk.tells → Spares (sheets_used hands) disk.before disk.image_before disk.after disk.image_after × OnlyOpened)
 
-  -- the disk holds no journal, for this reason, and its frames are as they were
+  -- the disk wasn't opened, for this reason, and its frames are as they were
   abbrev pub Refused : JournalWhy → Type 0
   Refused why = disk.called 3 × (disk.tells → Refuses (sheets_used hands) disk.before why × SameFrames disk.before disk.after disk.image_after × OnlyOpened)
 
@@ -130,7 +116,8 @@ module _ (talk : Talk) where
   Outcome (JournalFull bytes) = IsToldWhole (JournalFull bytes) (Some (halt_is.JournalFull bytes))
   Outcome (LogRefused why) = IsUnopened (LogRefused why) × ((cause : JournalWhy) × (log_why_of cause ≡ Some why) × Refused disk hands cause)
   Outcome WriteFault = out.failed × ((talked : IsTold WriteFault) × (talked.unsaid ≡ []))
-  Outcome Memory = ((marks ≡ []) × said Memory [] × disk.untouched) ⊎ ((IsUnopened Memory × IsSpared disk hands) ⊎ IsTold Memory)
+  Outcome Memory =
+      ((marks ≡ []) × said Memory [] × disk.untouched) ⊎ ((IsUnopened Memory × IsSpared disk hands × Refused disk hands journal_why_is.Memory) ⊎ IsTold Memory)
   Outcome _ = ⊥
 
 -- what the sink has of the answers under a status, before the last line
@@ -158,13 +145,13 @@ module _ (run : Run) where
   abbrev pub WordsFit : Type 0
   WordsFit = misfit_of words ≡ None
 
-  -- the script's bytes, within the limit, are these commands, and all of them were read
+  -- the script's bytes are these commands, and all of them were read
   abbrev pub IsRead : List Command → Type 0
-  IsRead commands = WordsFit × (script.tells → (length script.before ≤ 1048576) × IsScript (lines_of script.before) commands × (script.after ≡ []))
+  IsRead commands = WordsFit × (script.tells → IsScript script.before commands × (script.after ≡ []))
 
-  -- the script was refused for this, and all of it was read where it isn't too long
+  -- bytes were refused for this; they are the script's, and all of them were read where it isn't too long
   abbrev pub IsRefused : Bad → Type 0
-  IsRefused bad = IsRefusal bad × (script.tells → IsBad script.before bad × (bad.why ≡ why_is.Word 0 → script.after ≡ []))
+  IsRefused bad = ((bytes : List ℕ) × IsBad bytes bad) × (script.tells → IsBad script.before bad × ((bad.why ≡ why_is.TooLong) ⊎ (script.after ≡ [])))
 
   module _ (said : SinkUse → RunStatus → List Answer → Type 0) where
     -- the commands of the script, answered
@@ -193,7 +180,7 @@ module _ (run : Run) where
   -- where nothing is wrong and nothing failed it is done, unless the journal is full or memory ran out
   abbrev pub IsComplete : RunStatus → Type 0
   IsComplete status =
-      script.tells → disk.tells → (commands : List Command) (journal : List Entry) → WordsFit → length script.before ≤ 1048576 → IsScript (lines_of script.before) commands
+      script.tells → disk.tells → (commands : List Command) (journal : List Entry) → WordsFit → IsScript script.before commands
       → IsOnDisk (sheets_used hands) disk.before journal → ¬ script.failed → ¬ out.failed → ¬ disk.failed
       → (status ≡ Done) ⊎ (((bytes : ℕ) × (status ≡ JournalFull bytes)) ⊎ (status ≡ Memory))
 

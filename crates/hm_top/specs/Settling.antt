@@ -10,14 +10,8 @@ use Rattle.hm_top.specs.Standing.{Standing}
 
 -- a step that may stand behind these entries, of the procedure that goes on first
 abbrev pub IsNextStep : Past → Entry → Type 0
-IsNextStep before (entry_is.Start sheets) = ⊥
-IsNextStep before (entry_is.Submit nonce request) = ⊥
 IsNextStep before (entry_is.Step pid pick out) = IsFirst before pid.0 × Allowed before (entry_is.Step pid pick out)
-IsNextStep before (entry_is.Undo pid row out) = ⊥
-IsNextStep before (entry_is.Report call told) = ⊥
-IsNextStep before (entry_is.Up server) = ⊥
-IsNextStep before (entry_is.Down server) = ⊥
-IsNextStep before (entry_is.Abort pid) = ⊥
+IsNextStep before entry = ⊥
 
 -- each of these entries, one after another, is such a step, and none passes the hard mark
 abbrev pub AreSteps : Standing → List Entry → Type 0

@@ -1,33 +1,11 @@
 -- The last line that each status writes.
 use Rattle.std.specs.Prelude.{ℕ, List, [], ◌++◌, codes}
 use Rattle.std.specs.Fmt.{decimal}
-use Rattle.hm_names.specs.declared.fault.NameFault.{NameFault}
-use Rattle.hm_names.specs.declared.fault.NameFault.TheVariants as N
+use Rattle.hm_script.specs.Faults.{why_text}
 use Rattle.hm_top.specs.declared.status.LogWhy.{LogWhy}
 use Rattle.hm_top.specs.declared.status.LogWhy.TheVariants.{NotALog, BadFrame, BadEntry, Illegal, SheetsDiffer, NotEmpty}
 use Rattle.hm_top.specs.declared.status.RunStatus.{RunStatus}
 use Rattle.hm_top.specs.declared.status.RunStatus.TheVariants.{Done, Usage, BadScript, LogFault, LogRefused, ReadFault, WriteFault, JournalFull, Memory}
-use Rattle.hm_top.specs.declared.status.Why.{Why}
-use Rattle.hm_top.specs.declared.status.Why.TheVariants as W
-
--- what is wrong with a name
-abbrev pub name_text : NameFault → List ℕ
-name_text N.Empty = codes "Empty"
-name_text (N.TooLong n) = codes "TooLong " ++ decimal n
-name_text (N.BadByte at) = codes "BadByte " ++ decimal at
-name_text (N.BadNumber at) = codes "BadNumber " ++ decimal at
-name_text N.Memory = codes "Memory"
-
--- what is wrong with a line of a script
-abbrev pub why_text : Why → List ℕ
-why_text (W.Word at) = codes "Word " ++ decimal at
-why_text W.Missing = codes "Missing"
-why_text W.Extra = codes "Extra"
-why_text (W.Name fault) = codes "Name " ++ name_text fault
-why_text W.Number = codes "Number"
-why_text W.Order = codes "Order"
-why_text W.TooLong = codes "TooLong"
-why_text W.Memory = codes "Memory"
 
 -- what is wrong with a log
 abbrev pub log_text : LogWhy → List ℕ

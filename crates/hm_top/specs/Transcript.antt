@@ -1,5 +1,5 @@
 -- What is said to a list of commands.
-use Rattle.std.specs.Prelude.{◌≡◌, ℕ, List, [], ◌∷◌, ◌++◌, length, take, drop}
+use Rattle.std.specs.Prelude.{◌≡◌, ℕ, List, [], ◌∷◌, ◌++◌, length}
 use Rattle.std.specs.List.{flat_map}
 use Rattle.hm_data.specs.declared.entry.Entry.{Entry}
 use Rattle.hm_data.specs.declared.sheet.Sheet.{Sheet}
@@ -7,8 +7,8 @@ use Rattle.hm_journal.specs.Stored.{opened}
 use Rattle.hm_journal.specs.declared.limits.Limits.{Limits}
 use Rattle.hm_top.specs.declared.answer.Answer.{Answer}
 use Rattle.hm_top.specs.declared.answer.Answer.TheVariants.{Opened}
-use Rattle.hm_top.specs.declared.command.Command.{Command}
-use Rattle.hm_top.specs.Answer.{answer_text, Answers, AreUnsaid, MayAdd}
+use Rattle.hm_script.specs.declared.command.Command.{Command}
+use Rattle.hm_top.specs.Answer.{answer_text, Answers, MayAdd}
 use Rattle.hm_top.specs.Standing.{Standing, begun}
 
 -- the text of answers, one after another
@@ -34,18 +34,3 @@ abbrev pub Transcript : List Command → Standing → List ℕ → List Answer �
 Transcript [] old marks answers new = (marks ≡ []) × (answers ≡ []) × (new ≡ old)
 Transcript (command ∷ commands) old marks answers new =
     (mid : Standing) × (later : List ℕ) × (rest : List Answer) × Exchange command old mid marks later answers rest × Transcript commands mid later rest new
-
--- these commands were answered, and the sink has of their answers what `sink` says
-pub record Conversation (sink : List Answer → Type 0) (commands : List Command) (old : Standing) (marks : List ℕ) (new : Standing) : Type 0 where
-  pub answers : List Answer
-  pub transcript : Transcript commands old marks answers new
-  pub said : sink answers
-
--- The first of these commands were answered, one for each mark; the one behind them, if it was begun, left what it may
--- leave unanswered.
-pub record IsBrokenOffIn (sink : List Answer → Type 0) (commands : List Command) (old : Standing) (marks : List ℕ) (new : Standing) : Type 0 where
-  pub mid : Standing
-  pub said : Conversation sink (take (length marks) commands) old marks mid
-  pub unsaid : List Entry
-  pub unsaid_are : AreUnsaid (drop (length marks) commands) mid unsaid
-  pub grown : new ≡ record mid { journal = mid.journal ++ unsaid }

@@ -1,11 +1,15 @@
 -- What callers see of a world.
-use Rattle.std.specs.Prelude.{◌≡◌, List, IfSome}
+use Rattle.std.specs.Prelude.{◌≡◌, ◌≢◌, List, [], None, IfSome, All}
 use Rattle.hm_data.specs.declared.entry.Entry.{Entry}
 use Rattle.hm_model.specs.Journal.{back}
-use Rattle.hm_model.specs.Rules.{Allowed}
+use Rattle.hm_model.specs.Rules.{Allowed, IsLegal}
+use Rattle.hm_entry.specs.Fits.{EntryFits}
 use Rattle.hm_hall.specs.Recording.{Recording}
+use Rattle.hm_disk.specs.declared.disk.Disk as Disk
 use Rattle.hm_journal.specs.Opened.{Opened}
-use Rattle.hm_top.specs.Standing.{Standing}
+use Rattle.hm_journal.specs.Since.{Since}
+use Rattle.hm_journal.specs.Stored.{AllStored}
+use Rattle.hm_top.specs.Standing.{Standing, recording, whole}
 
 -- the disk, how its journal was opened, and what is recorded
 pub record WorldView (D : Type 0) : Type 0 where
@@ -26,7 +30,19 @@ standing_of world = standing_in world.kept
 abbrev pub Fits : {D : Type 0} → WorldView D → Standing → Type 0
 Fits world at = standing_of world ≡ at
 
--- the state is that of the recorded entries, and the entry whose recording failed may stand behind them
+-- The state is that of the recorded entries, which are a legal journal that has begun and have spellings. The entry whose
+-- recording failed may stand behind them, and there is none while nothing halts the run.
 pub record IsWorld (entries : List Entry) (kept : Recording) : Type 0 where
   pub same : entries ≡ kept.entries
+  pub legal : IsLegal (back kept.entries)
+  pub begun : back kept.entries ≢ []
+  pub fits : All EntryFits kept.entries
+  pub tailless : kept.halted ≡ None → kept.tail ≡ None
   pub tail_allowed : IfSome kept.tail (Allowed (back kept.entries))
+
+-- The disk that a run left which stood so: what it holds, what was done to it since its journal was opened, and that the
+-- journal with its tail is legal.
+pub record IsLeftBy {D Setting : Type 0} (disk : Disk.Ghosts D Setting) (opened : Opened D) (at : Standing) (new : D) : Type 0 where
+  pub stored : disk.tells → AllStored (disk.image new) (recording at)
+  pub since : Since disk opened new at.journal at.tail at.halted
+  pub legal : IsLegal (back (whole at))

@@ -2,18 +2,17 @@
 ghost use Rattle.std.specs.Prelude.{◌≡◌, ◌⊎◌, ◌≤◌, List, ℕ, [], length, map, string_bytes, IfOk, IfErr, OnOk, All};
 ghost use Rattle.hm_ports.specs.Faults.{Rose};
 ghost use Rattle.hm_sheet.specs.Words.{HasAll};
-ghost use Rattle.hm_top.specs.declared.status.Bad.{Bad as BadValue};
+ghost use Rattle.hm_script.specs.declared.bad.Bad.{Bad as BadValue};
 ghost use Rattle.hm_top.specs.Hands.{HandsAgree};
-ghost use Rattle.hm_top.specs.Ending.{talked_status, unopened_status};
+ghost use Rattle.hm_top.specs.Ending.{early_status, halted_status, unopened_status};
 ghost use Rattle.hm_top.specs.Ports.{disk_use, hands_use, sink_use, source_use};
 ghost use Rattle.hm_sheet.specs.Registry.{sheets_of};
-ghost use Rattle.hm_top.specs.Run.{AcceptsJournal, EndsUnfinished, IsBad, IsRefusal, KeepsTo, Outcome, before_line};
-ghost use Rattle.hm_top.specs.Script.{lines_of, IsScript};
+ghost use Rattle.hm_top.specs.Run.{AcceptsJournal, EndsUnfinished, KeepsTo, Outcome, before_line};
+ghost use Rattle.hm_top.specs.Script.{IsAnswered, IsBad, IsScript, told_as};
 
-use crate::command::Command;
+use crate::commands::Answered;
 use crate::last_line::finish;
-use crate::script::{ScriptWhy, parse};
-use crate::status::{Bad, EarlyEnd, LogWhy, RunStatus, Why};
+use crate::status::{EarlyEnd, LogWhy, RunStatus};
 use crate::talking::talk;
 use crate::words::misfit;
 use crate::world::World;
@@ -21,6 +20,7 @@ use hm_disk::Disk;
 use hm_hall::Halt;
 use hm_journal::{JournalWhy, Limits};
 use hm_ports::{ReadWhy, Sink, Source, read_all};
+use hm_script::{Bad, Command, Why, parse_for};
 use hm_sheet::{Handler, Registry};
 use std::alloc::Global;
 
@@ -49,15 +49,29 @@ enum ScriptEnd {
     Memory,
 }
 
+// How the fault of a script is told.
+fn told(bad: Bad) -> Bad
+    ensures { result ≡ told_as bad.line bad.why }
+{
+    let why = match bad.why {
+        Why::TooLong => Why::TooLong,
+        _ => Why::Word(0),
+    };
+    Bad {
+        line: bad.line,
+        why,
+    }
+}
+
 // The commands of the script.
 fn read_script<S: Source>(alloc: Global, script: &mut S) -> Result<Vec<Command>, ScriptEnd>
-    ensures ok { S.tells → IfOk result (λ commands. IsScript (lines_of (S.left script.old)) commands.items) }
+    ensures ok { S.tells → IfOk result (λ commands. IsScript (S.left script.old) commands.items) }
     ensures end { S.tells → OnOk result (S.left script.new ≡ []) }
-    ensures within { S.tells → OnOk result (length (S.left script.old) ≤ 1048576) }
     ensures few { IfOk result (λ commands. length commands.items ≤ 1048576) }
-    ensures refusal { IfErr result (λ why. (bad : BadValue) → why ≡ ScriptEnd.Bad bad → IsRefusal bad) }
+    ensures answered { IfOk result (λ commands. All IsAnswered commands.items) }
+    ensures refusal { IfErr result (λ why. (bad : BadValue) → why ≡ ScriptEnd.Bad bad → (bytes : List ℕ) × IsBad bytes bad) }
     ensures bad { S.tells → IfErr result (λ why. (bad : BadValue) → why ≡ ScriptEnd.Bad bad → IsBad (S.left script.old) bad) }
-    ensures whole { S.tells → IfErr result (λ why. (bad : BadValue) → why ≡ ScriptEnd.Bad bad → bad.why ≡ Why.Word 0 → S.left script.new ≡ []) }
+    ensures whole { S.tells → IfErr result (λ why. (bad : BadValue) → why ≡ ScriptEnd.Bad bad → (bad.why ≡ Why.TooLong) ⊎ (S.left script.new ≡ [])) }
     ensures fault { IfErr result (λ why. why ≡ ScriptEnd.ReadFault → Rose (S.faults script.old) (S.faults script.new)) }
 {
     let bytes = match read_all(alloc, script, MAX_SCRIPT) {
@@ -71,13 +85,12 @@ fn read_script<S: Source>(alloc: Global, script: &mut S) -> Result<Vec<Command>,
         }
         Err(ReadWhy::Memory) => return Err(ScriptEnd::Memory),
     };
-    match parse(alloc, &bytes) {
+    match parse_for::<Answered>(alloc, &bytes) {
         Ok(commands) => Ok(commands),
-        Err(ScriptWhy::Wrong(line)) => Err(ScriptEnd::Bad(Bad {
-            line,
-            why: Why::Word(0),
-        })),
-        Err(ScriptWhy::Memory) => Err(ScriptEnd::Memory),
+        Err(bad) => match bad.why {
+            Why::Memory => Err(ScriptEnd::Memory),
+            _ => Err(ScriptEnd::Bad(told(bad))),
+        },
     }
 }
 
@@ -99,24 +112,29 @@ fn status_of(why: JournalWhy) -> RunStatus
     }
 }
 
-fn status_of_talk(talked: Result<(), EarlyEnd>, halted: Option<Halt>) -> RunStatus
-    ensures { result ≡ talked_status talked halted }
+fn status_of_halt(halted: Option<Halt>) -> RunStatus
+    ensures { result ≡ halted_status halted }
 {
-    match talked {
-        Ok(()) => match halted {
-            None => RunStatus::Done,
-            Some(Halt::LogFault) => RunStatus::LogFault,
-            Some(Halt::JournalFull(bytes)) => RunStatus::JournalFull(bytes),
-        },
-        Err(EarlyEnd::WriteFault) => RunStatus::WriteFault,
-        Err(EarlyEnd::Memory) => RunStatus::Memory,
+    match halted {
+        None => RunStatus::Done,
+        Some(Halt::LogFault) => RunStatus::LogFault,
+        Some(Halt::JournalFull(bytes)) => RunStatus::JournalFull(bytes),
+    }
+}
+
+fn status_of_end(end: EarlyEnd) -> RunStatus
+    ensures { result ≡ early_status end }
+{
+    match end {
+        EarlyEnd::WriteFault => RunStatus::WriteFault,
+        EarlyEnd::Memory => RunStatus::Memory,
     }
 }
 
 // Opens the log and answers the commands.
 fn converse<D: Disk, K: Sink>(
     alloc: Global,
-    commands: &[Command],
+    commands: Vec<Command>,
     out: &mut K,
     disk: D,
     hands: &mut Vec<Registry>,
@@ -126,9 +144,10 @@ fn converse<D: Disk, K: Sink>(
     requires fresh { marks.old.items ≡ [] }
     requires agree { HandsAgree (map (sheets_of ⟦<dyn Handler as Handler>⟧) hands.old.items) }
     requires all { All HasAll (map (sheets_of ⟦<dyn Handler as Handler>⟧) hands.old.items) }
+    requires answered { All IsAnswered commands.items }
     requires hard { 65551 ≤ limits.hard }
     ensures outcome { Outcome (record {
-      given = λ read. read ≡ commands.now;
+      given = λ read. read ≡ commands.items;
       said = before_line (sink_use K.Sink out.old out.new);
       limits = limits;
       out = sink_use K.Sink out.old out.new;
@@ -143,13 +162,17 @@ fn converse<D: Disk, K: Sink>(
     let Ok(sheets) = hands[0].sheets(alloc) else {
         return (RunStatus::Memory, disk);
     };
-    let mut world = match World::open(alloc, disk, sheets.as_slice(), limits) {
+    let world = match World::open(alloc, disk, sheets.as_slice(), limits) {
         Ok(world) => world,
         Err((disk, why)) => return (status_of(why), disk),
     };
-    let talked = talk(alloc, &mut world, hands, commands, out, marks);
-    let halted = world.halted();
-    (status_of_talk(talked, halted), world.into_disk())
+    match talk(alloc, world, hands, commands, out, marks) {
+        Ok(world) => {
+            let halted = world.halted();
+            (status_of_halt(halted), world.into_disk())
+        }
+        Err((disk, end)) => (status_of_end(end), disk),
+    }
 }
 
 // All of a run but its last line.
@@ -184,7 +207,7 @@ fn answer_script<S: Source, K: Sink, D: Disk>(
         return (RunStatus::Usage(word), disk);
     }
     match read_script(alloc, script) {
-        Ok(commands) => converse(alloc, &commands, out, disk, hands, limits, marks),
+        Ok(commands) => converse(alloc, commands, out, disk, hands, limits, marks),
         Err(ScriptEnd::Bad(bad)) => (RunStatus::BadScript(bad), disk),
         Err(ScriptEnd::ReadFault) => (RunStatus::ReadFault, disk),
         Err(ScriptEnd::Memory) => (RunStatus::Memory, disk),

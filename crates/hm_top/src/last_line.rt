@@ -3,12 +3,14 @@ ghost use Rattle.std.specs.Prelude.{◌≡◌, ◌++◌, ◌≤◌, List, ℕ, O
 ghost use Rattle.std.specs.List.{flat_map};
 ghost use Rattle.hm_ports.specs.Faults.{HasCause, Rose};
 ghost use Rattle.hm_top.specs.Got.{IsFrontOf, IsLast};
-ghost use Rattle.hm_top.specs.Status.{last_line, log_text, why_text};
+ghost use Rattle.hm_script.specs.Faults.{why_text};
+ghost use Rattle.hm_top.specs.Status.{last_line, log_text};
 ghost use Rattle.hm_top.specs.Pieces.{piece_text};
 
-use crate::status::{LogWhy, RunStatus, Why};
+use crate::status::{LogWhy, RunStatus};
 use hm_names::NameFault;
 use hm_ports::{Failed, Sink, write_all};
+use hm_script::Why;
 use itoa::Buffer;
 
 // A part of a line.

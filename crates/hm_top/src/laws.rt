@@ -1,22 +1,23 @@
 //! Laws of the definitions that the contracts cite.
-ghost use Rattle.std.specs.Prelude.{◌≡◌, ℕ, List, Some};
+ghost use Rattle.std.specs.Prelude.{◌≡◌, ℕ, List, Some, None};
 ghost use Rattle.hm_data.specs.declared.entry.Entry.{Entry};
+ghost use Rattle.hm_hall.specs.Recording.{Passes, bytes_of};
 ghost use Rattle.hm_journal.specs.Stored.{IsOnDisk};
-ghost use Rattle.hm_top.specs.declared.command.Command.{Command};
-ghost use Rattle.hm_top.specs.declared.status.Bad.{Bad};
+ghost use Rattle.hm_script.specs.declared.command.Command.{Command};
+ghost use Rattle.hm_script.specs.declared.bad.Bad.{Bad};
 ghost use Rattle.hm_top.specs.declared.status.LogWhy.{LogWhy};
 ghost use Rattle.hm_top.specs.declared.status.RunStatus.TheVariants as status_is;
 ghost use Rattle.hm_top.specs.Hands.{sheets_used};
-ghost use Rattle.hm_top.specs.Run.{EachRun, IsBad, KeepsTo};
-ghost use Rattle.hm_top.specs.Script.{IsScript, IsFirstWrong};
+ghost use Rattle.hm_top.specs.Run.{EachRun, KeepsTo};
+ghost use Rattle.hm_top.specs.Script.{IsBad, IsScript};
 ghost use Rattle.hm_top.specs.Words.{misfit_of};
 
 use hm_disk::Disk;
 use hm_ports::{Sink, Source};
 
-/// A script has no wrong line.
+/// A script isn't refused.
 pub fn right_or_wrong()
-    ensures { (lines : List (List ℕ)) (commands : List Command) (number : ℕ) → IsScript lines commands → IsFirstWrong lines number → ⊥ }
+    ensures { (bytes : List ℕ) (commands : List Command) (bad : Bad) → IsScript bytes commands → IsBad bytes bad → ⊥ }
 {}
 
 /// What is so at each status of a run that keeps to its contract. So a body that always answered one of them would not.
@@ -28,4 +29,7 @@ pub fn each_status_has_a_cause<S: Source, K: Sink, D: Disk>()
         run.disk.tells → IsOnDisk (sheets_used run.hands) run.disk.before journal → ⊥) }
     ensures read_fault { EachRun S.Source K.Sink D.Disk (λ run. KeepsTo run status_is.ReadFault → run.script.failed) }
     ensures write_fault { EachRun S.Source K.Sink D.Disk (λ run. KeepsTo run status_is.WriteFault → run.out.failed) }
+    ensures journal_full { (bytes : ℕ) → EachRun S.Source K.Sink D.Disk (λ run. KeepsTo run (status_is.JournalFull bytes) →
+        (journal : List Entry) × (entry : Entry) × (bytes ≡ bytes_of journal) × Passes run.limits.hard journal entry) }
+    ensures memory { EachRun S.Source K.Sink D.Disk (λ run. KeepsTo run status_is.Memory → misfit_of run.words ≡ None) }
 {}

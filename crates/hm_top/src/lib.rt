@@ -2,12 +2,11 @@
 #![tactic(auto)]
 
 mod answer;
-mod command;
+mod commands;
 mod ending;
 mod hands;
 mod last_line;
 mod laws;
-mod script;
 mod status;
 mod table;
 mod talking;
@@ -16,6 +15,7 @@ mod world;
 
 pub use ending::{Ended, run, run_within};
 pub use hands::hands_agree;
+pub use hm_script::{Bad, Why};
 pub use laws::{each_status_has_a_cause, right_or_wrong};
-pub use status::{Bad, LogWhy, RunStatus, Why};
+pub use status::{LogWhy, RunStatus};
 pub use words::log_path;

@@ -1,64 +1,12 @@
 //! How a run ends, and the last line that says so.
 ghost use Rattle.std.specs.Prelude.{◌≡◌, Some};
 
-use hm_names::NameFault;
-use std::alloc::AllocError;
+use hm_script::Bad;
 use std::fmt;
-
-/// What is wrong with a line of a script.
-#[derive(Clone, Copy, Debug, PartialEq, Eq)]
-pub enum Why {
-    /// A word at this place of the line isn't one that may stand there.
-    Word(u64),
-    /// A word is missing.
-    Missing,
-    /// There is a word too many.
-    Extra,
-    /// A word is no name of its kind.
-    Name(NameFault),
-    /// A word is no number in its range.
-    Number,
-    /// Words stand in a wrong order.
-    Order,
-    /// The script is longer than 1,048,576 bytes.
-    TooLong,
-    /// Memory ran out.
-    Memory,
-}
-
-impl fmt::Display for Why {
-    ghost use Rattle.hm_top.specs.Status.{why_text};
-
-    ghost output = { λ w. Some (why_text w) };
-
-    fn fmt<W: fmt::Write>(&self, f: &mut fmt::Formatter<W>) -> fmt::Result {
-        match self {
-            Why::Word(at) => write!(f, "Word {at}"),
-            Why::Missing => f.write_str("Missing"),
-            Why::Extra => f.write_str("Extra"),
-            Why::Name(NameFault::Empty) => f.write_str("Name Empty"),
-            Why::Name(NameFault::TooLong(length)) => write!(f, "Name TooLong {length}"),
-            Why::Name(NameFault::BadByte(at)) => write!(f, "Name BadByte {at}"),
-            Why::Name(NameFault::BadNumber(at)) => write!(f, "Name BadNumber {at}"),
-            Why::Name(NameFault::Memory) => f.write_str("Name Memory"),
-            Why::Number => f.write_str("Number"),
-            Why::Order => f.write_str("Order"),
-            Why::TooLong => f.write_str("TooLong"),
-            Why::Memory => f.write_str("Memory"),
-        }
-    }
-}
-
-/// The first line of a script that can't be read. Lines are numbered from 1; line 0 stands for the
-/// script as a whole.
-#[derive(Clone, Copy, Debug, PartialEq, Eq)]
-pub struct Bad {
-    pub line: u64,
-    pub why: Why,
-}
+use thiserror::Error;
 
 /// Why a log is refused.
-#[derive(Clone, Copy, Debug, PartialEq, Eq)]
+#[derive(Clone, Copy, Debug, PartialEq, Eq, Error)]
 pub enum LogWhy {
     /// The bytes are no log, which this place of them shows.
     NotALog(u64),
@@ -98,16 +46,6 @@ pub enum EarlyEnd {
     WriteFault,
     /// Memory ran out.
     Memory,
-}
-
-impl From<AllocError> for EarlyEnd {
-    ghost use Rattle.hm_top.specs.declared.status.EarlyEnd.TheVariants.{Memory};
-
-    ghost from_gives = { λ _ end. end ≡ Memory };
-
-    fn from(_: AllocError) -> Self {
-        EarlyEnd::Memory
-    }
 }
 
 /// How a run ends. Done, WriteFault and Memory write no last line.

@@ -9,33 +9,34 @@ ghost use Rattle.hm_data.specs.declared.entry.Entry.{Entry as EntryValue};
 ghost use Rattle.hm_model.specs.Journal.{back};
 ghost use Rattle.hm_model.specs.Nonces.{by_nonce};
 ghost use Rattle.hm_model.specs.Rest.{IsAtRest, IsAvailable};
-ghost use Rattle.hm_model.specs.Rules.{Allowed, AreSheets, IsLegal};
+ghost use Rattle.hm_model.specs.Rules.{Allowed, AreSheets};
 ghost use Rattle.hm_model.specs.Sheets.{sheets_of as begun_with};
-ghost use Rattle.hm_model.specs.Steps.{CanRun, answer_of};
+ghost use Rattle.hm_model.specs.Evaluation.{CanRun, answer_of};
 ghost use Rattle.hm_state.specs.State.{IsFirst};
 ghost use Rattle.hm_hall.specs.declared.fault.Halt.TheVariants as halt_is;
-ghost use Rattle.hm_hall.specs.Recording.{CanBeRecorded};
+ghost use Rattle.hm_hall.specs.Recording.{Accepts, CanBeRecorded};
 ghost use Rattle.hm_entry.specs.Fits.{EntryFits};
-ghost use Rattle.hm_journal.specs.Since.{Since};
-ghost use Rattle.hm_journal.specs.Stored.{AllStored, IsJournal, frames_of, IsOnDisk, Spares, SameFrames, IsOpening};
+ghost use Rattle.hm_journal.specs.Stored.{IsJournal, frames_of, IsOnDisk, Spares, SameFrames, IsOpening};
 ghost use Rattle.hm_journal.specs.Verdict.{Refuses, IsUnjudged};
-ghost use Rattle.hm_top.specs.declared.command.Command.{Command as CommandValue};
-ghost use Rattle.hm_top.specs.Answer.{Answers, AnswersAt, IsAsked, IsFree, IsUnanswered, submission as submitted};
+ghost use Rattle.hm_script.specs.declared.command.Command.{Command as CommandValue};
+ghost use Rattle.hm_top.specs.Answer.{Answers, AnswersAt, IsAsked, IsFree, IsUnanswered, MayRunOut, submission as submitted};
 ghost use Rattle.hm_top.specs.Hands.{HandsAgree, Ran, RunBy, Serve, first_sheets};
 ghost use Rattle.hm_top.specs.Ports.{hands_use};
 ghost use Rattle.hm_sheet.specs.Registry.{sheets_of};
+ghost use Rattle.hm_top.specs.Script.{IsAnswered};
 ghost use Rattle.hm_top.specs.Settling.{IsNextStep, IsWorked};
-ghost use Rattle.hm_top.specs.Standing.{Comes, Standing as StandingValue, begun, recording, whole};
-ghost use Rattle.hm_top.specs.View.{Fits, standing_in, standing_of};
+ghost use Rattle.hm_top.specs.Standing.{Comes, Standing as StandingValue, begun, recording};
+ghost use Rattle.hm_top.specs.View.{Fits, IsLeftBy, standing_in, standing_of};
 
 use crate::answer::Answer;
-use crate::command::Command;
+use crate::status::EarlyEnd;
 use crate::table::procs;
 use hm_data::{Answer as StepAnswer, Args, Entry, Request, Sheet, StepIn, StepOut};
 use hm_disk::Disk;
 use hm_hall::{Halt, RecordFault};
 use hm_journal::{Journal, JournalWhy, Limits};
-use hm_names::{Copied, List, Nonce, Ns, Pid, Same};
+use hm_names::{List, Nonce, Ns, Pid, Same};
+use hm_script::Command;
 use hm_sheet::{Handler, Registry};
 use hm_state::State;
 use std::alloc::{AllocError, Global};
@@ -59,17 +60,15 @@ impl<D: Disk> Model for World<D> {
 }
 
 // The entry that asks for a namespace.
-fn submission(alloc: Global, nonce: &Nonce, ns: &Ns) -> Result<Entry, AllocError>
-    ensures entry { IfOk result (λ entry. entry ≡ submitted nonce.now ns.now) }
-    ensures fits { IfOk result CanBeRecorded }
+fn submission(nonce: Nonce, ns: Ns) -> Entry
+    ensures entry { result ≡ submitted nonce ns }
+    ensures fits { CanBeRecorded result }
 {
     let _named = ns.as_bytes();
-    Ok(Entry::Submit {
-        nonce: *nonce,
-        request: Request::CreateNamespace {
-            ns: ns.copy(alloc)?,
-        },
-    })
+    Entry::Submit {
+        nonce,
+        request: Request::CreateNamespace { ns },
+    }
 }
 
 // Whether this is a request to create this namespace.
@@ -135,8 +134,10 @@ impl<D: Disk> World<D> {
         ensures called { MatchResult result (λ world. IsCalled D.Disk 1 disk world.opened.disk) (λ e. IsCalled D.Disk 3 disk e.0) }
     {
         let (journal, state) = Journal::open(alloc, disk, sheets, limits)?;
+        // What both keep holds of a world from here on.
         let _legal = state.entries();
-        let _durable = journal.durable();
+        let _fits = journal.durable();
+        let _whole = journal.halted();
         Ok(World { journal, state })
     }
 
@@ -144,29 +145,21 @@ impl<D: Disk> World<D> {
     pub fn entries(&self) -> u64
         ensures length { result ≡ length self.now.kept.entries }
     {
-        let _legal = self.state.entries();
-        let _halted = self.journal.halted();
         self.journal.durable()
     }
 
     /// What halted it.
     pub fn halted(&self) -> Option<Halt>
         ensures halted { result ≡ self.now.kept.halted }
-        ensures legal { IsLegal (back self.now.kept.entries) }
     {
-        let _legal = self.state.entries();
         self.journal.halted()
     }
 
     /// Gives the disk back.
     pub fn into_disk(self) -> D
         ensures disk { result ≡ self.disk }
-        ensures stored { D.tells → AllStored (D.image result) (recording (standing_of self)) }
-        ensures since { Since D.Disk self.opened result self.kept.entries self.kept.tail self.kept.halted }
-        ensures legal { IsLegal (back (whole (standing_of self))) }
+        ensures left { IsLeftBy D.Disk self.opened (standing_of self) result }
     {
-        let _length = self.entries();
-        self.is_sound();
         let World { journal, state } = self;
         drop(state);
         journal.into_disk()
@@ -181,12 +174,11 @@ impl<D: Disk> World<D> {
         requires going { journal.old.kept.halted ≡ None }
         requires fits { CanBeRecorded entry.now }
         ensures comes { IfOk result (λ halt. Comes (standing_in journal.old.kept) entry.now halt (standing_in journal.new.kept)) }
+        ensures fits { IfOk result (λ halt. halt ≡ None → EntryFits entry.now) }
+        ensures last { OnErr result (Accepts (recording (standing_in journal.old.kept)) entry.now) }
         ensures err { OnErr result (journal.new.kept ≡ journal.old.kept) }
-        ensures whole { journal.old.kept.tail ≡ None }
         ensures opened { journal.new.opened ≡ journal.old.opened }
     {
-        let _halted = journal.halted();
-        let _durable = journal.durable();
         journal.ready(alloc, entry)?;
         match journal.record_entry() {
             Ok(_) => Ok(None),
@@ -196,17 +188,20 @@ impl<D: Disk> World<D> {
         }
     }
 
-    // Adds an entry that may stand behind the journal, and tells what halts it there.
+    // Adds an entry that may stand behind the journal, and tells what halts it there. Memory runs out only for an entry
+    // that would be recorded.
     fn add(&mut self, alloc: Global, entry: &Entry) -> Result<Option<Halt>, AllocError>
         requires going { self.old.kept.halted ≡ None }
         requires allowed { Allowed (back self.old.kept.entries) entry.now }
         requires fits { CanBeRecorded entry.now }
         ensures comes { IfOk result (λ halt. Comes (standing_of self.old) entry.now halt (standing_of self.new)) }
         ensures err { OnErr result (standing_of self.new ≡ standing_of self.old) }
+        ensures last { OnErr result (Accepts (recording (standing_of self.old)) entry.now) }
         ensures opened { self.new.opened ≡ self.old.opened }
     {
-        self.is_sound();
-        let _legal = self.state.entries();
+        if self.journal.will_refuse(entry) {
+            return World::record(&mut self.journal, alloc, entry);
+        }
         let ready = self.state.prepare(alloc, entry)?;
         match World::record(&mut self.journal, alloc, entry) {
             Ok(None) => {
@@ -228,7 +223,6 @@ impl<D: Disk> World<D> {
     fn is_asked(&self, pid: Pid, ns: &Ns) -> bool
         ensures { IsTrue result ↔ IsAsked (back self.now.kept.entries) pid.0 ns.now }
     {
-        let _legal = self.state.entries();
         match self.state.find(pid) {
             Some(found) => creates(&found.args, ns),
             None => false,
@@ -253,17 +247,16 @@ impl<D: Disk> World<D> {
     }
 
     // Records a submission under a new nonce.
-    fn ask(&mut self, alloc: Global, nonce: &Nonce, ns: &Ns) -> Result<Answer, AllocError>
+    fn ask(&mut self, alloc: Global, nonce: Nonce, ns: Ns) -> Result<Answer, AllocError>
         requires going { self.old.kept.halted ≡ None }
-        requires free { IsFree (standing_of self.old) nonce.now }
-        ensures answers { IfOk result (λ answer. AnswersAt (CommandValue.Namespace nonce.now ns.now) (standing_of self.old) answer (standing_of self.new)) }
+        requires free { IsFree (standing_of self.old) nonce }
+        ensures answers { IfOk result (λ answer. AnswersAt (CommandValue.Namespace nonce ns) (standing_of self.old) answer (standing_of self.new)) }
         ensures err { OnErr result (standing_of self.new ≡ standing_of self.old) }
+        ensures last { OnErr result (Accepts (recording (standing_of self.old)) (submitted nonce ns)) }
         ensures opened { self.new.opened ≡ self.old.opened }
     {
-        self.is_sound();
-        let _begun = self.state.entries();
         let pid = self.state.last_pid() + 1;
-        let entry = submission(alloc, nonce, ns)?;
+        let entry = submission(nonce, ns);
         let added = self.add(alloc, &entry);
         drop(entry);
         match added? {
@@ -273,28 +266,17 @@ impl<D: Disk> World<D> {
     }
 
     // Answers a submission.
-    fn submit(&mut self, alloc: Global, nonce: &Nonce, ns: &Ns) -> Result<Answer, AllocError>
+    fn submit(&mut self, alloc: Global, nonce: Nonce, ns: Ns) -> Result<Answer, AllocError>
         requires going { self.old.kept.halted ≡ None }
-        ensures answers { IfOk result (λ answer. AnswersAt (CommandValue.Namespace nonce.now ns.now) (standing_of self.old) answer (standing_of self.new)) }
+        ensures answers { IfOk result (λ answer. AnswersAt (CommandValue.Namespace nonce ns) (standing_of self.old) answer (standing_of self.new)) }
         ensures err { OnErr result (standing_of self.new ≡ standing_of self.old) }
+        ensures last { OnErr result (MayRunOut (CommandValue.Namespace nonce ns) (standing_of self.old)) }
         ensures opened { self.new.opened ≡ self.old.opened }
     {
-        self.is_sound();
-        match self.known(nonce, ns) {
+        match self.known(&nonce, &ns) {
             Some(answer) => Ok(answer),
             None => self.ask(alloc, nonce, ns),
         }
-    }
-
-    // The entries are a legal journal that has begun, and have spellings. A disk that isn't called holds them.
-    fn is_sound(&self)
-        ensures legal { IsLegal (back self.now.kept.entries) }
-        ensures begun { back self.now.kept.entries ≢ [] }
-        ensures fits { All EntryFits self.now.kept.entries }
-    {
-        let _ = self.state.entries();
-        let _ = self.journal.durable();
-        let _ = self.entries();
     }
 
     // The step that a procedure makes next, by its handler.
@@ -305,14 +287,13 @@ impl<D: Disk> World<D> {
         pid: Pid,
     ) -> Result<Entry, AllocError>
         requires hands { Serve (map (sheets_of ⟦<dyn Handler as Handler>⟧) hands.old.items) self.now.kept.entries }
-        requires available { IsAvailable (back self.now.kept.entries) pid.0 }
+        requires available { IsAvailable (back self.now.kept.entries) [] [] pid.0 }
         requires first { IsFirst (back self.now.kept.entries) pid.0 }
         ensures step { IfOk result (IsNextStep (back self.now.kept.entries)) }
         ensures fits { IfOk result CanBeRecorded }
         ensures runs { OnOk result (RunBy (hands_use ⟦<dyn Handler as Handler>⟧ hands.old.items hands.new.items) 1) }
         ensures later { RunBy (hands_use ⟦<dyn Handler as Handler>⟧ hands.old.items hands.new.items) 0 }
     {
-        self.is_sound();
         let at = self.state.step_in(alloc, pid, None)?;
         let out = run_once(alloc, hands, &at);
         drop(at);
@@ -332,14 +313,13 @@ impl<D: Disk> World<D> {
     ) -> Result<Option<Halt>, AllocError>
         requires going { self.old.kept.halted ≡ None }
         requires hands { Serve (map (sheets_of ⟦<dyn Handler as Handler>⟧) hands.old.items) self.old.kept.entries }
-        requires available { IsAvailable (back self.old.kept.entries) pid.0 }
+        requires available { IsAvailable (back self.old.kept.entries) [] [] pid.0 }
         requires first { IsFirst (back self.old.kept.entries) pid.0 }
         ensures comes { IfOk result (λ halt. (entry : EntryValue) × IsNextStep (back self.old.kept.entries) entry × Comes (standing_of self.old) entry halt (standing_of self.new)) }
         ensures err { OnErr result (standing_of self.new ≡ standing_of self.old) }
         ensures opened { self.new.opened ≡ self.old.opened }
         ensures ran { Ran (hands_use ⟦<dyn Handler as Handler>⟧ hands.old.items hands.new.items) self.old.kept.entries self.new.kept.entries }
     {
-        self.is_sound();
         let entry = self.evaluate(alloc, hands, pid)?;
         let added = self.add(alloc, &entry);
         drop(entry);
@@ -348,7 +328,7 @@ impl<D: Disk> World<D> {
 
     // The procedure that goes on next.
     fn next(&self) -> Option<Pid>
-        ensures available { IfSome result (λ pid. IsAvailable (back self.now.kept.entries) pid.0) }
+        ensures available { IfSome result (λ pid. IsAvailable (back self.now.kept.entries) [] [] pid.0) }
         ensures first { IfSome result (λ pid. IsFirst (back self.now.kept.entries) pid.0) }
         ensures rest { IfNone result (IsAtRest (back self.now.kept.entries)) }
     {
@@ -378,7 +358,6 @@ impl<D: Disk> World<D> {
         ensures opened { self.new.opened ≡ self.old.opened }
         ensures ran { Ran (hands_use ⟦<dyn Handler as Handler>⟧ hands.old.items hands.new.items) self.old.kept.entries self.new.kept.entries }
     {
-        self.is_sound();
         while let Some(pid) = self.next() {
             if let Some(why) = self.step(alloc, hands, pid)? {
                 return Ok(Answer::Halted(why));
@@ -392,16 +371,16 @@ impl<D: Disk> World<D> {
         &mut self,
         alloc: Global,
         hands: &mut Vec<Registry>,
-        command: &Command,
+        command: Command,
     ) -> Result<Answer, AllocError>
         requires hands { Serve (map (sheets_of ⟦<dyn Handler as Handler>⟧) hands.old.items) self.old.kept.entries }
-        ensures answers { IfOk result (λ answer. Answers command.now (standing_of self.old) answer (standing_of self.new)) }
+        requires answered { IsAnswered command }
+        ensures answers { IfOk result (λ answer. Answers command (standing_of self.old) answer (standing_of self.new)) }
         ensures begun { begun_with (back self.new.kept.entries) ≡ begun_with (back self.old.kept.entries) }
-        ensures err { OnErr result (IsUnanswered command.now (standing_of self.old) (standing_of self.new)) }
+        ensures err { OnErr result (IsUnanswered command (standing_of self.old) (standing_of self.new)) }
         ensures opened { self.new.opened ≡ self.old.opened }
         ensures ran { Ran (hands_use ⟦<dyn Handler as Handler>⟧ hands.old.items hands.new.items) self.old.kept.entries self.new.kept.entries }
     {
-        self.is_sound();
         if let Some(why) = self.halted() {
             return Ok(Answer::Halted(why));
         }
@@ -409,24 +388,32 @@ impl<D: Disk> World<D> {
             Command::Namespace { nonce, ns } => self.submit(alloc, nonce, ns),
             Command::Settle => self.settle(alloc, hands),
             Command::Procs => Ok(Answer::Table(procs(alloc, &self.state)?)),
+            _ => unreachable!(),
         }
     }
 
-    /// Answers a command, whatever the lines before it know beside the world. Where memory runs out all is as before, but
-    /// for the steps of a settling that were recorded.
+    /// Answers a command, whatever the lines before it know beside the world, and gives the world that is left. An early
+    /// end gives the disk back: where memory runs out the journal is as before, but for the steps of a settling that were
+    /// recorded.
     pub fn answer(
-        &mut self,
+        self,
         alloc: Global,
         hands: &mut Vec<Registry>,
-        command: &Command,
-    ) -> Result<Answer, AllocError>
-        requires hands { Serve (map (sheets_of ⟦<dyn Handler as Handler>⟧) hands.old.items) self.old.kept.entries }
-        ensures answers { (old : StandingValue) → Fits self.old old → IfOk result (λ answer. (new : StandingValue) × Fits self.new new × Answers command.now old answer new) }
-        ensures begun { begun_with (back self.new.kept.entries) ≡ begun_with (back self.old.kept.entries) }
-        ensures err { (old : StandingValue) → Fits self.old old → OnErr result ((new : StandingValue) × Fits self.new new × IsUnanswered command.now old new) }
-        ensures opened { self.new.opened ≡ self.old.opened }
-        ensures ran { Ran (hands_use ⟦<dyn Handler as Handler>⟧ hands.old.items hands.new.items) self.old.kept.entries self.new.kept.entries }
+        command: Command,
+    ) -> Result<(World<D>, Answer), (D, EarlyEnd)>
+        requires hands { Serve (map (sheets_of ⟦<dyn Handler as Handler>⟧) hands.old.items) self.kept.entries }
+        requires answered { IsAnswered command }
+        ensures answers { (old : StandingValue) → Fits self old → IfOk result (λ r. (new : StandingValue) × Fits r.0 new × Answers command old r.1 new) }
+        ensures begun { IfOk result (λ r. begun_with (back r.0.kept.entries) ≡ begun_with (back self.kept.entries)) }
+        ensures opened { IfOk result (λ r. r.0.opened ≡ self.opened) }
+        ensures ran { IfOk result (λ r. Ran (hands_use ⟦<dyn Handler as Handler>⟧ hands.old.items hands.new.items) self.kept.entries r.0.kept.entries) }
+        ensures early { (old : StandingValue) → Fits self old → IfErr result (λ e. (e.1 ≡ EarlyEnd.Memory) × (new : StandingValue) × IsUnanswered command old new
+            × IsLeftBy D.Disk self.opened new e.0 × Ran (hands_use ⟦<dyn Handler as Handler>⟧ hands.old.items hands.new.items) self.kept.entries new.journal) }
     {
-        self.answer_here(alloc, hands, command)
+        let mut world = self;
+        match world.answer_here(alloc, hands, command) {
+            Ok(answer) => Ok((world, answer)),
+            Err(_) => Err((world.into_disk(), EarlyEnd::Memory)),
+        }
     }
 }

@@ -14,7 +14,7 @@ use Rattle.hm_log.proofs.open.prepare.Goals as goal
 pub returns-then-size-eq0-clause-whole : goal.returns-then-size-eq0-clause-whole
 returns-then-size-eq0-clause-whole g c tells =
     let none = blank _ _ _ _ (c.in_ok-frames.ensures.found tells) c.if-size-eq0.true in
-    let file : g.D.Disk.seen c.settle.new.disk ≡ new_log = c.in_ok-settle.ensures.written tells ∙ ap (λ (f : List ℕ). written 0 new_log f) (c.load.ensures.only_reads.untouched.reads ∙ empty _ none.0) in
+    let file : g.D.Disk.seen c.write_through.new.disk ≡ new_log = c.in_ok-write_through.ensures.written tells ∙ ap (λ (f : List ℕ). written 0 new_log f) (c.load.ensures.only_reads.untouched.reads ∙ empty _ none.0) in
     whole_new _ _ _ file none.1 none.2
 
 pub returns-then-size-eq0-clause-settled : goal.returns-then-size-eq0-clause-settled
@@ -22,13 +22,13 @@ returns-then-size-eq0-clause-settled g c tells =
     let d = g.D.Disk in
     let laws = g.met.D.Disk in
     let old = c.args.disk.now in
-    let new = c.settle.new.disk in
+    let new = c.write_through.new.disk in
     let frames = c.in_ok-frames.field-0.frames in
     let none = blank _ _ _ _ (c.in_ok-frames.ensures.found tells) c.if-size-eq0.true in
     let whole = returns-then-size-eq0-clause-whole g c tells in
     settles_made d.moment d.left_since old c.load.new.disk new (d.image old) (d.seen old) (λ f. Reads f frames) (λ f. Torn 0 10 (d.seen c.load.new.disk) f)
-    (making (d.seen old) (d.seen c.load.new.disk) none.0 c.load.ensures.only_reads.untouched.reads) c.load.ensures.only_reads.leaves c.settle.ensures.any_moment
-    (λ f left. subst (λ (l : List ℕ). Reads l frames) (sym (c.in_ok-settle.ensures.durable f (laws.only_now new f left))) (whole_reads c.in_ok-frames.field-0.gate frames (d.seen new) whole))
+    (making (d.seen old) (d.seen c.load.new.disk) none.0 c.load.ensures.only_reads.untouched.reads) c.load.ensures.only_reads.leaves c.write_through.ensures.any_moment
+    (λ f left. subst (λ (l : List ℕ). Reads l frames) (sym (c.in_ok-write_through.ensures.durable f (laws.only_now new f left))) (whole_reads c.in_ok-frames.field-0.gate frames (d.seen new) whole))
 
 pub returns-in_err-trim-clause-any_moment : goal.returns-in_err-trim-clause-any_moment
 returns-in_err-trim-clause-any_moment g c tells =
@@ -66,11 +66,11 @@ returns-in_err-frames-clause-memory g c tells place err =
     let fails : IsErrOf c.load.result Memory = grind (arith, common_steps) in
     c.load.ensures.memory tells place fails
 
-pub returns-in_err-settle-clause-any_moment : goal.returns-in_err-settle-clause-any_moment
-returns-in_err-settle-clause-any_moment g c tells =
+pub returns-in_err-write_through-clause-any_moment : goal.returns-in_err-write_through-clause-any_moment
+returns-in_err-write_through-clause-any_moment g c tells =
     let d = g.D.Disk in
     let file = d.seen c.args.disk.now in
     let seen = d.seen c.load.new.disk in
     let none = blank _ _ _ _ (c.in_ok-frames.ensures.found tells) c.if-size-eq0.true in
-    on_err _ (then d.moment d.left_since c.args.disk.now c.load.new.disk c.settle.new.disk (d.image c.args.disk.now) file (λ f. Torn 0 10 seen f)
-    (λ f torn. inr (making file seen none.0 c.load.ensures.only_reads.untouched.reads f torn)) c.load.ensures.only_reads.leaves c.settle.ensures.any_moment)
+    on_err _ (then d.moment d.left_since c.args.disk.now c.load.new.disk c.write_through.new.disk (d.image c.args.disk.now) file (λ f. Torn 0 10 seen f)
+    (λ f torn. inr (making file seen none.0 c.load.ensures.only_reads.untouched.reads f torn)) c.load.ensures.only_reads.leaves c.write_through.ensures.any_moment)

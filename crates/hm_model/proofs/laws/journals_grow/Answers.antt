@@ -1,4 +1,4 @@
-use Rattle.hm_model.proofs.Grown.{grown_all, stepper_made, start_oldest, sheets_are, by_nonce_under, by_nonce_made}
+use Rattle.hm_model.proofs.Grown.{by_nonce_made, by_nonce_under, grown_all, sheets_are, start_oldest, stepper_made, ids_within}
 use Rattle.hm_model.proofs.laws.journals_grow.Goals as goal
 
 pub returns-clause-grown : goal.returns-clause-grown
@@ -14,3 +14,6 @@ returns-clause-nonces c = λ J legal nonce p is.
 
 pub returns-clause-steppers : goal.returns-clause-steppers
 returns-clause-steppers c = stepper_made
+
+pub returns-clause-ids : goal.returns-clause-ids
+returns-clause-ids c = ids_within

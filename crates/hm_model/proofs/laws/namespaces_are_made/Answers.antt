@@ -1,5 +1,5 @@
-use Rattle.hm_model.proofs.Grown.{simple_all}
-use Rattle.hm_model.proofs.Stages.{staged_all, flat_all, step_all, shaped}
+use Rattle.hm_model.proofs.Ranges.{placed}
+use Rattle.hm_model.proofs.Stages.{flat_all, shaped, simple_all, staged_all, step_all}
 use Rattle.hm_model.proofs.laws.namespaces_are_made.Goals as goal
 
 pub returns-clause-simple : goal.returns-clause-simple
@@ -15,3 +15,6 @@ pub returns-clause-steps : goal.returns-clause-steps
 returns-clause-steps c = λ pid pick out before legal.
     let step = step_all pid pick out before legal in
     (step, shaped pid pick out before step)
+
+pub returns-clause-placed : goal.returns-clause-placed
+returns-clause-placed c = placed

@@ -1,4 +1,5 @@
-use Rattle.hm_model.proofs.Rows.{keys_in_order, has_key, row_read, read_none, read_one, row_of_ns}
+use Rattle.hm_model.proofs.Ranges.{row_fits}
+use Rattle.hm_model.proofs.Rows.{keys_in_order, has_key, read_alike, row_read, read_none, read_one, row_of_ns}
 use Rattle.hm_model.proofs.laws.rows_are_read.Goals as goal
 
 pub returns-clause-listed : goal.returns-clause-listed
@@ -9,3 +10,9 @@ returns-clause-read c = row_read
 
 pub returns-clause-namespace : goal.returns-clause-namespace
 returns-clause-namespace c = λ J ns first. (read_none J ns first, read_one J ns first, row_of_ns J ns first)
+
+pub returns-clause-alike : goal.returns-clause-alike
+returns-clause-alike c = read_alike
+
+pub returns-clause-bytes : goal.returns-clause-bytes
+returns-clause-bytes c = row_fits

@@ -4,7 +4,7 @@ use Rattle.std.proofs.lemmas.List.{take_all}
 use Rattle.std.proofs.lemmas.List.Elements.{All-more}
 use Rattle.hm_script.specs.declared.command.Command.{Command}
 use Rattle.hm_script.specs.Printing.{IsFitting}
-use Rattle.hm_script.specs.Script.{IsSpelled, read_script, script_text}
+use Rattle.hm_script.specs.Script.{IsSpelled, every, read_script, script_text}
 use Rattle.hm_script.specs.Spellings.{spelling}
 use Rattle.hm_script.proofs.PrintLemmas.{script_more, script_read}
 use Rattle.hm_script.proofs.printing.print.Goals as goal
@@ -29,4 +29,4 @@ returns-clause-reads_back c printable short =
     let all : take c.loop-command.command-index commands ≡ commands = take_all c.loop-command.command-index commands (omega arith) in
     let whole : c.loop-command.out.items ≡ script_text commands = c.loop-command.invariant.written ∙ ap script_text all in
     let P : List ℕ → Type 0 = λ text. length text ≤ 1048576 in
-    ap read_script whole ∙ script_read commands (subst (All Fits) all c.loop-command.invariant.fit) printable (subst P whole short)
+    ap (read_script every) whole ∙ script_read commands (subst (All Fits) all c.loop-command.invariant.fit) printable (subst P whole short)

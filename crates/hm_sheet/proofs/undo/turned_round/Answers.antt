@@ -1,6 +1,6 @@
 use Rattle.std.proofs.Common.{◌≡◌, map, reverse, ap, ◌∙◌, arith}
 use Rattle.std.proofs.lemmas.Grind.{common_steps}
-use Rattle.hm_model.specs.Steps.{turned}
+use Rattle.hm_model.specs.Undoing.{turned}
 use Rattle.hm_sheet.proofs.Turns.{reversed}
 use Rattle.hm_sheet.proofs.undo.turned_round.Goals as goal
 

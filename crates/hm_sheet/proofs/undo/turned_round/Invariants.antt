@@ -1,5 +1,5 @@
 use Rattle.std.proofs.Common.{◌≡◌, map, take}
-use Rattle.hm_model.specs.Steps.{turned}
+use Rattle.hm_model.specs.Undoing.{turned}
 use Rattle.hm_sheet.proofs.undo.turned_round.Given as goal
 
 abbrev pub invariant-loop-edit : goal.invariant-loop-edit

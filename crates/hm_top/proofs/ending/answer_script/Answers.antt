@@ -1,4 +1,4 @@
-use Rattle.std.proofs.Common.{map, string_bytes, sym, ◌∙◌}
+use Rattle.std.proofs.Common.{map, string_bytes, refl, sym, ◌∙◌}
 use Rattle.hm_top.specs.Ports.{source_use}
 use Rattle.hm_top.proofs.Runs.{script_read}
 use Rattle.hm_top.proofs.ending.answer_script.Goals as goal
@@ -16,4 +16,4 @@ returns-in-Ok-clause-ends g c =
       hands = _;
       marks = _;
     })
-    c.deref.result.now c.in-Ok.commands.items _ (sym c.misfit.ensures ∙ c.in_default.is) read.within read.ok c.deref.ensures.value read.end c.converse.ensures.outcome
+    c.in-Ok.commands.items c.in-Ok.commands.items _ (sym c.misfit.ensures ∙ c.in_default.is) read.ok refl read.end c.converse.ensures.outcome

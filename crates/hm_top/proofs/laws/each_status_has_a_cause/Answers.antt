@@ -1,4 +1,5 @@
 use Rattle.std.proofs.Common.{refl}
+use Rattle.hm_top.proofs.Full.{begun_full, talked_full}
 use Rattle.hm_top.proofs.laws.each_status_has_a_cause.Goals as goal
 
 pub returns-clause-usage : goal.returns-clause-usage
@@ -18,3 +19,12 @@ returns-clause-read_fault g c words limits s0 s1 k0 k1 d0 d1 hands marks keeps =
 
 pub returns-clause-write_fault : goal.returns-clause-write_fault
 returns-clause-write_fault g c words limits s0 s1 k0 k1 d0 d1 hands marks keeps = keeps.ends.1.0
+
+pub returns-clause-journal_full : goal.returns-clause-journal_full
+returns-clause-journal_full g c bytes words limits s0 s1 k0 k1 d0 d1 hands marks keeps =
+    let talked = keeps.ends.1.0 in
+    let told = talked.told in
+    (talked_full limits told.answered told.start marks told.answers talked.new (begun_full limits told.start _ told.opens.1 refl refl) told.transcript).1 bytes keeps.ends.1.2
+
+pub returns-clause-memory : goal.returns-clause-memory
+returns-clause-memory g c words limits s0 s1 k0 k1 d0 d1 hands marks keeps = keeps.ends.0

@@ -1,5 +1,5 @@
-use Rattle.hm_top.proofs.Lines.{no_wrong_line}
+use Rattle.hm_top.proofs.Complete.{not_bad}
 use Rattle.hm_top.proofs.laws.right_or_wrong.Goals as goal
 
 pub returns : goal.returns
-returns c = no_wrong_line
+returns c = not_bad

@@ -1,17 +1,18 @@
-use Rattle.std.proofs.Common.{◌≡◌, ◌≤◌, ◌∷◌, ◌++◌, length, map, take, Some, None}
+use Rattle.std.proofs.Common.{◌≡◌, ◌≤◌, ◌∷◌, ◌++◌, [], length, map}
 use Rattle.std.specs.List.{flat_map}
+use Rattle.std.specs.Vec.Iter.{into_iter_items}
 use Rattle.hm_model.specs.Journal.{back}
 use Rattle.hm_model.specs.Sheets.{sheets_of}
 use Rattle.hm_top.specs.declared.answer.Answer.TheVariants.{Opened}
 use Rattle.hm_top.specs.Hands.{Ran}
-use Rattle.hm_top.specs.Transcript.{Conversation, text_of}
 use Rattle.hm_top.specs.View.{standing_of}
+use Rattle.hm_top.proofs.Conversations.{SoFar}
 use Rattle.hm_top.proofs.talking.talk.Given as goal
 
 abbrev pub invariant-loop-command : goal.invariant-loop-command
 invariant-loop-command g l = record {
-  answered : Conversation (λ answers. g.K.Sink.tells → g.K.Sink.got l.out ≡ g.K.Sink.got l.fn.out ++ text_of (Opened (length l.fn.world.kept.entries) ∷ answers))
-      (take l.command-index l.commands) (standing_of l.fn.world) l.marks.items (standing_of l.world);
+  answered : SoFar g.K.Sink.tells (g.K.Sink.got l.fn.out) (g.K.Sink.got l.out) (Opened (length l.fn.world.kept.entries) ∷ []) l.yielded (standing_of l.fn.world) l.marks.items (standing_of l.world);
+  parts : l.fn.commands.items ≡ l.yielded ++ into_iter_items l.command-iterator;
   begun : sheets_of (back l.world.kept.entries) ≡ sheets_of (back l.fn.world.kept.entries);
   opened : l.world.opened ≡ l.fn.world.opened;
   ran : Ran (record {
@@ -20,6 +21,5 @@ invariant-loop-command g l = record {
     runs_before = map (λ r. r.runs) l.fn.hands.items;
     runs_after = map (λ r. r.runs) l.hands.items;
   }) l.fn.world.kept.entries l.world.kept.entries;
-  count : length l.marks.items ≡ l.command-index;
   sink_later : g.K.Sink.faults l.fn.out ≤ g.K.Sink.faults l.out;
 }

@@ -6,4 +6,4 @@ use Rattle.hm_index.proofs.block.Block.search.Goals as goal
 pub returns-clause-position : goal.returns-clause-position
 returns-clause-position g c =
     let facts = rw c.deref.ensures.value at c.binary_search_by.ensures in
-    rw (← c.self.view_is) (facts.position (rank_at g.K.Ord.cmp c.args.pairs.now c.args.key.now) (always_returns_same _ _ _ (λ a r h called. search rules)))
+    rw (← c.self.view_is) (facts.position (rank_at g.K.Ord.cmp c.args.pairs.now (g.S.Sought.stands_for c.args.key.now)) (always_returns_same _ _ _ (λ a r h called. search rules)))

@@ -10,7 +10,7 @@ returns-in-Ok-clause-found g c =
     let block = taken c.self.inside.blocks.items c.args.self.now.blocks c.block_for-block.result c.index.result.now same lt c.index.ensures in
     let within = rw block at c.in-Ok.ensures.range in
     let inner = rw block at c.in-Ok.ensures.position in
-    record { block = lt; within = within; limit = c.in-Ok.ensures.limit; result = found_in (rank_at g.K.Ord.cmp c.args.pairs.now c.args.key.now) c.args.self.now.blocks c.block_for-block.result lt c.in-Ok.at within inner }
+    record { block = lt; within = within; limit = c.in-Ok.ensures.limit; result = found_in (rank_at g.K.Ord.cmp c.args.pairs.now (g.S.Sought.stands_for c.args.key.now)) c.args.self.now.blocks c.block_for-block.result lt c.in-Ok.at within inner }
 
 pub returns-in-Err-clause-absent : goal.returns-in-Err-clause-absent
 returns-in-Err-clause-absent g c =
@@ -22,5 +22,5 @@ returns-in-Err-clause-absent g c =
     let packed = rw same at c.self.invariant.0 in
     record {
       spot = record { block = lt; within = within };
-      result = absent_in (rank_at g.K.Ord.cmp c.args.pairs.now c.args.key.now) c.args.self.now.blocks c.block_for-block.result lt packed c.block_for-block.ensures.block c.in-Err.at within inner;
+      result = absent_in (rank_at g.K.Ord.cmp c.args.pairs.now (g.S.Sought.stands_for c.args.key.now)) c.args.self.now.blocks c.block_for-block.result lt packed c.block_for-block.ensures.block c.in-Err.at within inner;
     }

@@ -1,5 +1,4 @@
-use Rattle.std.proofs.Common.{None, Option, ◌∙◌, ap, sym}
-use Rattle.std.specs.Option.{option_copied}
+use Rattle.std.proofs.Common.{◌∙◌, sym}
 use Rattle.hm_index.specs.Blocks.{laid}
 use Rattle.hm_index.proofs.Picked.{at_none, there, stands}
 use Rattle.hm_index.proofs.view.View.get.Goals as goal

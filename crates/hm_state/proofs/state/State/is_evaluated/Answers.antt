@@ -3,7 +3,7 @@ use Rattle.hm_names.specs.Server.{Server}
 use Rattle.hm_data.specs.declared.sheet.Sheet.{Sheet}
 use Rattle.hm_model.specs.Journal.{back}
 use Rattle.std.specs.Prelude.{◌≡◌, ◌↔◌, IfOk, IsTrue, Some}
-use Rattle.hm_model.specs.Steps.{CanRun, answer_of}
+use Rattle.hm_model.specs.Evaluation.{CanRun, answer_of}
 use Rattle.hm_state.specs.State.{IsInput}
 use Rattle.hm_state.proofs.JudgedMore.{evaluated_if}
 use Rattle.hm_state.proofs.state.State.is_evaluated.Goals as goal

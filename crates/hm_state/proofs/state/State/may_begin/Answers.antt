@@ -2,7 +2,8 @@ use Rattle.std.proofs.Common.{List, ap, sym, ◌∙◌, subst, refl}
 use Rattle.std.proofs.lemmas.Bool.{eq-eqb, eqb-true}
 use Rattle.hm_data.specs.declared.entry.Entry.{Entry}
 use Rattle.hm_model.specs.Journal.{back}
-use Rattle.hm_model.specs.Rules.{MayBegin, MayStep}
+use Rattle.hm_model.specs.Holding.{MayBegin}
+use Rattle.hm_model.specs.Rest.{MayStep}
 use Rattle.hm_state.specs.State.{StateView, Beside}
 use Rattle.hm_state.proofs.Readings.{begin_from, begin_free}
 use Rattle.hm_state.proofs.state.State.may_begin.Goals as goal

@@ -1,4 +1,4 @@
-use Rattle.std.proofs.Common.{◌+◌, ◌<◌, ◌≤◌, List, ap, arith, subst}
+use Rattle.std.proofs.Common.{◌+◌, ◌<◌, ◌≤◌, List, [], ap, arith, subst}
 use Rattle.hm_data.specs.declared.entry.Entry.{Entry}
 use Rattle.hm_model.specs.Journal.{back}
 use Rattle.hm_model.specs.Rest.{IsAvailable, IsAtRest}
@@ -12,7 +12,7 @@ returns-in-Some-clause-available c =
     let f = c.self.inside in
     let same = ap (λ (k : StateView). k.entries) c.self.view_is in
     let beside : Beside = record { records = f.records.items; nonces = f.nonces.pairs; rows = f.rows.pairs; sheets = f.sheets.items; running = f.running; ended_below = f.ended_below; unfinished = f.unfinished } in
-    subst (λ (es : List Entry). IsAvailable (back es) c.in-Some.pid.0) same (available_running (back f.entries.items) beside c.self.invariant c.in-Some.pid c.in-Some.is)
+    subst (λ (es : List Entry). IsAvailable (back es) [] [] c.in-Some.pid.0) same (available_running (back f.entries.items) beside c.self.invariant c.in-Some.pid c.in-Some.is)
 
 pub returns-in-Some-clause-first : goal.returns-in-Some-clause-first
 returns-in-Some-clause-first c =
@@ -27,7 +27,7 @@ returns-in-None-clause-available c =
     let same = ap (λ (k : StateView). k.entries) c.self.view_is in
     let beside : Beside = record { records = f.records.items; nonces = f.nonces.pairs; rows = f.rows.pairs; sheets = f.sheets.items; running = f.running; ended_below = f.ended_below; unfinished = f.unfinished } in
     let below : f.ended_below < made (back f.entries.items) = omega (arith, c.if-self-len.true, c.len.ensures, f.records.ok.0, c.self.invariant.count_is) in
-    subst (λ (es : List Entry). IsAvailable (back es) (f.ended_below + 1)) same (available_open (back f.entries.items) beside c.self.invariant c.in-None.is below)
+    subst (λ (es : List Entry). IsAvailable (back es) [] [] (f.ended_below + 1)) same (available_open (back f.entries.items) beside c.self.invariant c.in-None.is below)
 
 pub returns-in-None-clause-first : goal.returns-in-None-clause-first
 returns-in-None-clause-first c =

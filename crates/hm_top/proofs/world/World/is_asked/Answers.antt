@@ -8,7 +8,7 @@ use Rattle.hm_model.specs.Journal.{Past, back}
 use Rattle.hm_model.specs.Records.{record_at, record_of}
 use Rattle.hm_model.specs.Rules.{IsLegal}
 use Rattle.hm_model.specs.Tree.{Node, node_of}
-use Rattle.hm_model.proofs.Grown.{simple_all}
+use Rattle.hm_model.proofs.Stages.{simple_all}
 use Rattle.hm_top.specs.Answer.{IsAsked, args_of}
 use Rattle.hm_top.specs.View.{WorldView}
 use Rattle.hm_top.proofs.world.World.is_asked.Goals as goal
@@ -41,5 +41,5 @@ pub returns-in-Some : goal.returns-in-Some
 returns-in-Some g c =
     let past = back c.self.inside.state.entries in
     let same : past ≡ back c.args.self.now.kept.entries = ap (λ j. back j) c.self.invariant.same ∙ ap (λ (w : WorldView _). back w.kept.entries) c.self.view_is in
-    let asked = asked_in past (back c.args.self.now.kept.entries) same c.entries-legal.ensures.legal c.args.pid.0 c.args.ns.now c.in-Some.found.now c.in-Some.ensures in
+    let asked = asked_in past (back c.args.self.now.kept.entries) same (subst (λ j. IsLegal (back j)) (sym c.self.invariant.same) c.self.invariant.legal) c.args.pid.0 c.args.ns.now c.in-Some.found.now c.in-Some.ensures in
     (λ yes. asked.0 (c.creates.ensures.0 yes), λ is. c.creates.ensures.1 (asked.1 is))

@@ -1,4 +1,4 @@
-use Rattle.std.proofs.Common.{◌∙◌, Err, Ok, Some, None, ap, sym}
+use Rattle.std.proofs.Common.{◌∙◌, Err, Ok, ap, sym}
 use Rattle.std.proofs.lemmas.Option.{none-some}
 use Rattle.hm_hall.specs.declared.fault.Halt.TheVariants as halt_is
 use Rattle.hm_hall.specs.declared.fault.RecordFault.TheVariants as fault_is

@@ -1,4 +1,4 @@
-use Rattle.std.proofs.Common.{None, Some, Option, refl, ap, subst, ◌∙◌}
+use Rattle.std.proofs.Common.{Option, refl, ap, subst, ◌∙◌}
 use Rattle.hm_data.specs.declared.entry.Entry.{Entry}
 use Rattle.hm_hall.specs.declared.fault.Halt.{Halt}
 use Rattle.hm_model.specs.Journal.{back}

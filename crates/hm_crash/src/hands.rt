@@ -1,0 +1,50 @@
+ghost use Rattle.std.specs.Prelude.{◌≡◌, [], ◌∷◌, map, IfOk};
+ghost use Rattle.hm_sheet.specs.Own.{own_sheet};
+
+use hm_data::{StepIn, StepOut};
+use hm_sheet::{Handler, PlainHands, Valid};
+use std::alloc::{AllocError, Global};
+
+static KINDS: [u8; 2] = [11, 25];
+
+/// Runs the sheets of crashes and of their calls. Each answer is computed from the sheet and the input alone.
+#[derive(Drop)]
+pub struct CrashHands {
+    hands: PlainHands,
+}
+
+impl CrashHands {
+    /// A handler that was not called yet.
+    pub fn new(alloc: Global) -> Result<CrashHands, AllocError>
+        ensures sheets { IfOk result (λ hands. ⟦<CrashHands as Handler>⟧.sheets_are hands ≡ map own_sheet (11 ∷ 25 ∷ [])) }
+        ensures steps { IfOk result (λ hands. ⟦<CrashHands as Handler>⟧.steps_are hands ≡ 0) }
+        ensures undos { IfOk result (λ hands. ⟦<CrashHands as Handler>⟧.undos_are hands ≡ 0) }
+    {
+        let hands = PlainHands::new(alloc, &KINDS)?;
+        Ok(CrashHands { hands })
+    }
+}
+
+impl Handler for CrashHands {
+    ghost sheets_are = { λ hands. ⟦<PlainHands as Handler>⟧.sheets_are hands.hands };
+
+    ghost steps_are = { λ hands. ⟦<PlainHands as Handler>⟧.steps_are hands.hands };
+
+    ghost undos_are = { λ hands. ⟦<PlainHands as Handler>⟧.undos_are hands.hands };
+
+    fn sheets(&self) -> &[Valid] {
+        self.hands.sheets()
+    }
+
+    fn calls(&self) -> u64 {
+        self.hands.calls()
+    }
+
+    fn step(&mut self, alloc: Global, at: &StepIn, out: &mut StepOut) -> Result<(), AllocError> {
+        self.hands.step(alloc, at, out)
+    }
+
+    fn undo(&mut self, alloc: Global, at: &StepIn, out: &mut StepOut) -> Result<(), AllocError> {
+        self.hands.undo(alloc, at, out)
+    }
+}

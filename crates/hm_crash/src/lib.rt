@@ -1,0 +1,6 @@
+//! The handler of crashes.
+#![tactic(auto)]
+
+mod hands;
+
+pub use hands::CrashHands;

@@ -1,0 +1,218 @@
+-- The rows of valid sheets: the exact ones, and those that are led through.
+use Rattle.std.proofs.Common.{◌≡◌, ℕ, zero, suc, ◌+◌, List, [], ◌∷◌, Bool, true, false, ◌&&◌, ◌==◌, Option, Some, None, cond, refl, ap, sym, ◌∙◌, subst, inl, inr, slice_get, not, ◌||◌}
+use Rattle.std.specs.List.{list_any}
+use Rattle.std.proofs.lemmas.Bool.{and_parts, cases_Bool, cond-false, cond-true, eqb-true, false≢true}
+use Rattle.std.proofs.lemmas.Option.{none-some, same_Some}
+use Rattle.hm_data.proofs.ActNumbers.{act_of-act_number}
+use Rattle.hm_data.specs.Numbers.{act_number, act_of, back_number, back_of}
+use Rattle.hm_data.specs.declared.act.Act.{Act}
+use Rattle.hm_data.specs.declared.act.Back.{Back}
+use Rattle.hm_data.specs.declared.act.Back.TheVariants as back_is
+use Rattle.hm_data.specs.declared.args.Args.{Args}
+use Rattle.hm_data.specs.declared.args.Args.TheVariants as args_are
+use Rattle.hm_data.specs.declared.entry.Entry.TheVariants as entry_is
+use Rattle.hm_data.specs.declared.request.Request.TheVariants as request_is
+use Rattle.hm_data.specs.declared.sheet.Row.{Row}
+use Rattle.hm_data.specs.declared.sheet.Sheet.{Sheet}
+use Rattle.hm_model.specs.Answers.{no_row}
+use Rattle.hm_model.specs.Journal.{Past}
+use Rattle.hm_model.specs.Kinds.{kind_of, first_row_of}
+use Rattle.hm_model.specs.Rules.{IsLegal}
+use Rattle.hm_model.specs.Lists.{Line, exact_rows, lines_of}
+use Rattle.hm_model.specs.Sheets.{sheet_for, sheets_of}
+use Rattle.hm_model.specs.ActSorts.{is_check}
+use Rattle.hm_model.specs.Validity.{AllValid, IsValid, difference, is_among, misfit_in, same_flag, same_row}
+use Rattle.hm_model.proofs.ValidSheets.{Leads, is_last, valid_end, valid_fits, valid_leads}
+use Rattle.hm_model.proofs.PlainActs.{is_plain}
+
+pub cons_nil : {A : Type 0} (x : A) (xs : List A) → x ∷ xs ≡ [] → ⊥
+cons_nil x xs e = cc
+
+-- the sheets of a journal are valid
+pub all_valid : (J : Past) → IsLegal J → AllValid (sheets_of J)
+all_valid [] legal = tt
+all_valid (entry_is.Start sheets ∷ before) legal = legal.1.0.1.1
+all_valid (entry_is.Submit nonce request ∷ before) legal = all_valid before legal.0
+all_valid (entry_is.Step pid pick out ∷ before) legal = all_valid before legal.0
+all_valid (entry_is.Undo pid row out ∷ before) legal = all_valid before legal.0
+all_valid (entry_is.Report call told ∷ before) legal = all_valid before legal.0
+all_valid (entry_is.Up server ∷ before) legal = all_valid before legal.0
+all_valid (entry_is.Down server ∷ before) legal = all_valid before legal.0
+all_valid (entry_is.Abort pid ∷ before) legal = all_valid before legal.0
+
+-- a sheet that is found is valid, and of the kind
+pub sheet_is : (sheets : List Sheet) → AllValid sheets → (kind : ℕ) (sheet : Sheet) → sheet_for sheets kind ≡ Some sheet → IsValid sheet × (sheet.kind ≡ kind)
+sheet_is [] valid kind sheet is = absurd (none-some sheet is)
+sheet_is (first ∷ more) valid kind sheet is = elim (cases_Bool (first.kind == kind)) [
+  | inl on ↦
+      let same : first ≡ sheet = same_Some first sheet (sym (cond-true (first.kind == kind) (Some first) (sheet_for more kind) on) ∙ is) in
+      (subst IsValid same valid.0, ap (λ s. s.kind) (sym same) ∙ eqb-true first.kind kind on)
+  | inr off ↦ sheet_is more valid.1 kind sheet (sym (cond-false (first.kind == kind) (Some first) (sheet_for more kind) off) ∙ is)
+]
+
+abbrev row_with : Act → ℕ → Bool → Back → Row
+row_with act next after undo = record { act = act; next = next; after = after; undo = undo }
+
+flag_is : (a b : Bool) → same_flag a b ≡ true → a ≡ b
+flag_is true true h = refl
+flag_is true false h = absurd (false≢true h)
+flag_is false true h = absurd (false≢true h)
+flag_is false false h = refl
+
+act_same : (a b : Act) → act_number a ≡ act_number b → a ≡ b
+act_same a b e = same_Some a b (sym (act_of-act_number a) ∙ ap act_of e ∙ act_of-act_number b)
+
+back_back : (undo : Back) → back_of (back_number undo) ≡ Some undo
+back_back back_is.Nothing = refl
+back_back back_is.Edits = refl
+back_back back_is.Sweep = refl
+back_back back_is.Reopen = refl
+
+back_same : (a b : Back) → back_number a ≡ back_number b → a ≡ b
+back_same a b e = same_Some a b (sym (back_back a) ∙ ap back_of e ∙ back_back b)
+
+row_same : (a b : Row) → same_row a b ≡ true → a ≡ b
+row_same a b h =
+    let p = and_parts (act_number a.act == act_number b.act) ((a.next == b.next) && (same_flag a.after b.after && (back_number a.undo == back_number b.undo))) h in
+    let q = and_parts (a.next == b.next) (same_flag a.after b.after && (back_number a.undo == back_number b.undo)) p.1 in
+    let r = and_parts (same_flag a.after b.after) (back_number a.undo == back_number b.undo) q.1 in
+    ap (λ x. row_with x a.next a.after a.undo) (act_same a.act b.act (eqb-true (act_number a.act) (act_number b.act) p.0))
+    ∙ ap (λ x. row_with b.act x a.after a.undo) (eqb-true a.next b.next q.0)
+    ∙ ap (λ x. row_with b.act b.next x a.undo) (flag_is a.after b.after r.0)
+    ∙ ap (λ x. row_with b.act b.next b.after x) (back_same a.undo b.undo (eqb-true (back_number a.undo) (back_number b.undo) r.1))
+
+if_none : (b : Bool) (o : Option ℕ) (place : ℕ) → cond b o (Some place) ≡ None → (b ≡ true) × (o ≡ None)
+if_none true o place h = (refl, h)
+if_none false o place h = absurd (none-some place (sym h))
+
+no_difference : (exact rows : List Row) (place : ℕ) → difference exact rows place ≡ None → rows ≡ exact
+no_difference [] [] place h = refl
+no_difference [] (row ∷ rows) place h = absurd (none-some place (sym h))
+no_difference (row ∷ exact) [] place h = absurd (none-some place (sym h))
+no_difference (row ∷ exact) (other ∷ rows) place h =
+    let p = if_none (same_row row other) (difference exact rows (place + 1)) place h in
+    ap (λ x. x ∷ rows) (sym (row_same row other p.0)) ∙ ap (λ l. row ∷ l) (no_difference exact rows (place + 1) p.1)
+
+misfit_none : (first : Row) (more : List Row) (lines : List Line) (rows : List Row) → misfit_in (first ∷ more) lines rows ≡ None → rows ≡ first ∷ more
+misfit_none first more lines [] h = absurd (none-some 0 (sym h))
+misfit_none first more lines (row ∷ rows) h = no_difference (first ∷ more) (row ∷ rows) 0 h
+
+-- a valid sheet of a kind of exact rows has these
+pub exact_is : (sheet : Sheet) → IsValid sheet → (kind : ℕ) → sheet.kind ≡ kind → (first : Row) (more : List Row) → exact_rows kind ≡ first ∷ more → sheet.rows ≡ first ∷ more
+exact_is sheet valid kind e first more is =
+    misfit_none first more (lines_of sheet.kind) sheet.rows (ap (λ l. misfit_in l (lines_of sheet.kind) sheet.rows) (sym (ap exact_rows e ∙ is)) ∙ valid_fits sheet valid)
+
+abbrev pub all_plain : List Line → Bool
+all_plain [] = true
+all_plain (line ∷ lines) = is_plain line.act && all_plain lines
+
+-- the act is listed for the kind
+abbrev pub is_listed : ℕ → Act → Bool
+is_listed kind act = list_any (λ line. act_number line.act == act_number act) (lines_of kind)
+
+abbrev pub all_listed : ℕ → List Line → Bool
+all_listed kind [] = true
+all_listed kind (line ∷ lines) = is_listed kind line.act && all_listed kind lines
+
+-- the lines end, or go on after the point
+abbrev pub is_late_next : List Line → Bool
+is_late_next [] = true
+is_late_next (line ∷ lines) = line.after
+
+-- a line stands before others in an order that can be undone: what edits without an undo ends, or is followed by what is
+-- after the point; so is what is after the point, and it is no check; what makes procedures that may fail goes on before
+-- the point, and what is undone by its edits stands there
+abbrev pub is_in_place : Line → List Line → Bool
+is_in_place line lines =
+    let act = act_number line.act in
+    (not (is_among (2 ∷ 4 ∷ 11 ∷ 14 ∷ 18 ∷ 19 ∷ 22 ∷ 27 ∷ 30 ∷ []) act) || is_late_next lines)
+    && ((not line.after || (is_late_next lines && not (is_check line.act)))
+    && ((not (is_among (7 ∷ 8 ∷ []) act) || not (is_late_next lines))
+    && ((not (act == 13) || (is_late_next lines && not (is_last lines)))
+    && ((not (is_among (6 ∷ 9 ∷ 16 ∷ []) act) || (not line.after && not (is_last lines)))
+    && ((not (act == 29) || not line.after) && (not (act == 30) || line.after))))))
+
+abbrev pub all_in_place : List Line → Bool
+all_in_place [] = true
+all_in_place (line ∷ lines) = is_in_place line lines && all_in_place lines
+
+-- rows from a place on lead through plain acts of a kind
+pub record IsLed (kind : ℕ) (rows : List Row) (place : ℕ) : Type 0 where
+  pub lines : List Line
+  pub plain : all_plain lines ≡ true
+  pub listed : all_listed kind lines ≡ true
+  pub order : all_in_place lines ≡ true
+  pub leads : Leads rows place lines
+
+led_for : (sheet : Sheet) → IsValid sheet → (kind : ℕ) → sheet.kind ≡ kind → (line : Line) (lines : List Line) → exact_rows kind ≡ [] → lines_of kind ≡ line ∷ lines → all_plain (line ∷ lines) ≡ true → all_listed kind (line ∷ lines) ≡ true → all_in_place (line ∷ lines) ≡ true → IsLed kind sheet.rows 0
+led_for sheet valid kind e line lines exact lined plain listed order = record { lines = line ∷ lines; plain = plain; listed = listed; order = order; leads = valid_leads sheet line lines valid (ap exact_rows e ∙ exact) (ap lines_of e ∙ lined) }
+
+-- so do those of a kind that lists lines, from the first on
+pub start_led : (args : Args) → exact_rows (kind_of args) ≡ [] → (sheet : Sheet) → IsValid sheet → sheet.kind ≡ kind_of args → IsLed (kind_of args) sheet.rows (first_row_of args)
+start_led (args_are.Root (request_is.CreateNamespace ns) first) none sheet valid e = led_for sheet valid 1 e _ _ refl refl refl refl refl
+start_led (args_are.Root (request_is.DropNamespace ns) first) none sheet valid e = led_for sheet valid 2 e _ _ refl refl refl refl refl
+start_led (args_are.Root (request_is.CreateTable table keys) first) none sheet valid e = led_for sheet valid 3 e _ _ refl refl refl refl refl
+start_led (args_are.Root (request_is.DeleteTable table) first) none sheet valid e = led_for sheet valid 4 e _ _ refl refl refl refl refl
+start_led (args_are.Root (request_is.EnableTable table) first) none sheet valid e = led_for sheet valid 5 e _ _ refl refl refl refl refl
+start_led (args_are.Root (request_is.DisableTable table) first) none sheet valid e = led_for sheet valid 6 e _ _ refl refl refl refl refl
+start_led (args_are.Root (request_is.ModifyTable table version) first) none sheet valid e = led_for sheet valid 7 e _ _ refl refl refl refl refl
+start_led (args_are.Root (request_is.SplitRegion region key) first) none sheet valid e = led_for sheet valid 8 e _ _ refl refl refl refl refl
+start_led (args_are.Root (request_is.MergeRegions regions) first) none sheet valid e = led_for sheet valid 9 e _ _ refl refl refl refl refl
+start_led (args_are.Root (request_is.Move region to) first) none sheet valid e = absurd (cons_nil _ _ none)
+start_led (args_are.Transit region goal to) none sheet valid e = absurd (cons_nil _ _ none)
+start_led (args_are.Crash server) none sheet valid e = absurd (cons_nil _ _ none)
+start_led (args_are.AddRegions table first bounds) none sheet valid e = led_for sheet valid 20 e _ _ refl refl refl refl refl
+start_led (args_are.DropRegions table ids) none sheet valid e = led_for sheet valid 21 e _ _ refl refl refl refl refl
+start_led (args_are.AssignCall region server) none sheet valid e = absurd (cons_nil _ _ none)
+start_led (args_are.CloseCall region server) none sheet valid e = absurd (cons_nil _ _ none)
+start_led (args_are.FenceCall server) none sheet valid e = absurd (cons_nil _ _ none)
+start_led (args_are.LayoutCall root) none sheet valid e = absurd (cons_nil _ _ none)
+start_led (args_are.SweepLayout root) none sheet valid e = absurd (cons_nil _ _ none)
+
+-- what is known of a row that is led to: its line, and the lines behind it
+pub record IsLedRow (kind : ℕ) (rows : List Row) (row : Row) : Type 0 where
+  pub line : Line
+  pub behind : List Line
+  pub act_is : row.act ≡ line.act
+  pub after_is : row.after ≡ line.after
+  pub ends : (row.next == no_row) ≡ is_last behind
+  pub in_place : is_in_place line behind ≡ true
+  pub plain : is_plain row.act ≡ true
+  pub listed : is_listed kind row.act ≡ true
+  pub leads : Leads rows row.next behind
+  pub on : IsLed kind rows row.next
+
+-- the row at the place is such a row
+pub led_row : (kind : ℕ) (sheet : Sheet) → IsValid sheet → (place : ℕ) → IsLed kind sheet.rows place → (row : Row) → slice_get sheet.rows place ≡ Some row → IsLedRow kind sheet.rows row
+led_row kind sheet valid place led row is = by led.lines led.plain led.listed led.order led.leads
+  where
+    by : (lines : List Line) → all_plain lines ≡ true → all_listed kind lines ≡ true → all_in_place lines ≡ true → Leads sheet.rows place lines → IsLedRow kind sheet.rows row
+    by [] plain listed order leads = absurd (valid_end sheet valid row (ap (slice_get sheet.rows) (sym leads) ∙ is))
+    by (line ∷ lines) plain listed order leads =
+        let same : leads.0 ≡ row = same_Some leads.0 row (sym leads.1 ∙ is) in
+        let p = and_parts (is_plain line.act) (all_plain lines) plain in
+        let q = and_parts (is_listed kind line.act) (all_listed kind lines) listed in
+        let o = and_parts (is_in_place line lines) (all_in_place lines) order in
+        let on = subst (λ (r : Row). Leads sheet.rows r.next lines) same leads.4 in
+        record {
+          line = line;
+          behind = lines;
+          act_is = ap (λ (r : Row). r.act) (sym same) ∙ leads.2.0;
+          after_is = ap (λ (r : Row). r.after) (sym same) ∙ leads.2.1;
+          ends = ap (λ (r : Row). r.next == no_row) (sym same) ∙ leads.3;
+          in_place = o.0;
+          plain = ap (λ (r : Row). is_plain r.act) (sym same) ∙ ap is_plain leads.2.0 ∙ p.0;
+          listed = ap (λ (r : Row). is_listed kind r.act) (sym same) ∙ ap (is_listed kind) leads.2.0 ∙ q.0;
+          leads = on;
+          on = record { lines = lines; plain = p.1; listed = q.1; order = o.1; leads = on };
+        }
+
+-- each of the rows passes a test
+abbrev pub all_rows : (Row → Bool) → List Row → Bool
+all_rows test [] = true
+all_rows test (row ∷ rows) = test row && all_rows test rows
+
+pub row_passes : (test : Row → Bool) (rows : List Row) → all_rows test rows ≡ true → (place : ℕ) (row : Row) → slice_get rows place ≡ Some row → test row ≡ true
+row_passes test [] all place row is = absurd (none-some row is)
+row_passes test (first ∷ more) all zero row is = ap test (sym (same_Some first row is)) ∙ (and_parts (test first) (all_rows test more) all).0
+row_passes test (first ∷ more) all (suc place) row is = row_passes test more (and_parts (test first) (all_rows test more) all).1 place row is

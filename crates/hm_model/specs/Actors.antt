@@ -1,0 +1,149 @@
+-- Region servers and the storage: what they keep, and how they serve calls.
+use Rattle.std.specs.Prelude.{ℕ, ◌-◌, Option, Some, None, Bool, true, false, ◌==◌, ◌||◌, if◌then◌else◌, nat_lt}
+use Rattle.std.specs.Ordering.{nat_cmp}
+use Rattle.std.specs.declared.cmp.Ordering.{Ordering}
+use Rattle.std.specs.declared.cmp.Ordering.TheVariants.{Less, Equal, Greater}
+use Rattle.hm_names.specs.Region.{Region}
+use Rattle.hm_names.specs.Server.{Server}
+use Rattle.hm_names.specs.declared.pid.Pid.{Pid}
+use Rattle.hm_data.specs.declared.call.Call.{Call}
+use Rattle.hm_data.specs.declared.call.Peer.TheVariants as peer_is
+use Rattle.hm_data.specs.declared.call.ReportMsg.{ReportMsg}
+use Rattle.hm_data.specs.declared.call.Told.{Told}
+use Rattle.hm_data.specs.declared.call.Told.TheVariants as told_is
+use Rattle.hm_data.specs.declared.call.Verb.{Verb}
+use Rattle.hm_data.specs.declared.call.Verb.TheVariants as verb_is
+use Rattle.hm_model.specs.Fleet.{same_server}
+use Rattle.hm_model.specs.Keys.{same_region}
+
+-- the last call about a region that a server served: its id, the answer, and whether the region is held since
+pub record Served : Type 0 where
+  pub id : Pid
+  pub told : Told
+  pub holds : Bool
+
+-- a region server: what it served last about each region, and how many opens it is to refuse
+pub record Actor : Type 0 where
+  pub name : Server
+  pub last : Region → Option Served
+  pub refusals : ℕ
+
+-- one that just began
+abbrev pub begun : Server → Actor
+begun name = record { name = name; last = λ region. None; refusals = 0 }
+
+-- a region is held
+abbrev pub holds_if : Option Served → Bool
+holds_if None = false
+holds_if (Some served) = served.holds
+
+abbrev pub holds : Actor → Region → Bool
+holds actor region = holds_if (actor.last region)
+
+-- how a call's id stands to the last that was served: Less is older, Equal the same, Greater new
+abbrev pub age : Option Served → Pid → Ordering
+age None id = Greater
+age (Some last) id = nat_cmp id.0 last.id.0
+
+-- what a call that is new does
+pub record Service : Type 0 where
+  pub told : Told
+  pub holds : Bool
+  pub refusals : ℕ
+
+-- an open is refused while some are to be refused, which leaves what is held; a close gives the region up
+abbrev pub opening : Actor → Region → Service
+opening actor region =
+    if nat_lt 0 actor.refusals
+    then (record { told = told_is.FailedOpen; holds = holds actor region; refusals = actor.refusals - 1 })
+    else (record { told = told_is.Opened; holds = true; refusals = actor.refusals })
+
+abbrev pub closing : Actor → Service
+closing actor = record { told = told_is.Closed; holds = false; refusals = actor.refusals }
+
+-- a report of a server
+abbrev pub reported : Actor → Pid → Told → ReportMsg
+reported actor id told = record { call = id; from = peer_is.Server actor.name; told = told }
+
+-- the answer that was given last, once more
+abbrev pub once_more : Actor → Pid → Option Served → Option ReportMsg
+once_more actor id None = None
+once_more actor id (Some last) = Some (reported actor id last.told)
+
+-- a server behind a new call about a region
+abbrev pub behind : Actor → Pid → Region → Service → Actor
+behind actor id region service = record {
+  name = actor.name;
+  last = λ other. if same_region region other then Some (record { id = id; told = service.told; holds = service.holds }) else actor.last other;
+  refusals = service.refusals;
+}
+
+-- an older call does nothing, the same is answered as it was, and a new one is served
+abbrev pub serve_by : Ordering → Actor → Pid → Region → Service → Actor × Option ReportMsg
+serve_by Less actor id region service = (actor, None)
+serve_by Equal actor id region service = (actor, once_more actor id (actor.last region))
+serve_by Greater actor id region service = (behind actor id region service, Some (reported actor id service.told))
+
+abbrev pub serve_verb : Actor → Pid → Verb → Actor × Option ReportMsg
+serve_verb actor id (verb_is.AssignRegion region) = serve_by (age (actor.last region) id) actor id region (opening actor region)
+serve_verb actor id (verb_is.CloseRegion region) = serve_by (age (actor.last region) id) actor id region (closing actor)
+serve_verb actor id (verb_is.Fence server) = (actor, None)
+serve_verb actor id (verb_is.Layout root) = (actor, None)
+serve_verb actor id (verb_is.Sweep root) = (actor, None)
+
+-- how a server serves a call, whoever it is for
+abbrev pub serve : Actor → Call → Actor × Option ReportMsg
+serve actor call = serve_verb actor call.id call.verb
+
+-- the storage: the answer of each call that it served, which servers it fenced, which layouts are there, and how many it is
+-- to refuse
+pub record Storage : Type 0 where
+  pub answer : Pid → Option Told
+  pub fenced : Server → Bool
+  pub laid : Pid → Bool
+  pub refusals : ℕ
+
+-- one that served nothing
+abbrev pub empty_storage : Storage
+empty_storage = record { answer = λ id. None; fenced = λ server. false; laid = λ root. false; refusals = 0 }
+
+-- the storage behind a new call with its answer
+abbrev pub answered : Pid → Told → Storage → Storage
+answered id told storage = record {
+  answer = λ other. if id.0 == other.0 then Some told else storage.answer other;
+  fenced = storage.fenced;
+  laid = storage.laid;
+  refusals = storage.refusals;
+}
+
+-- a server is fenced
+abbrev pub fence_in : Server → Storage → Storage
+fence_in server storage = record { answer = storage.answer; fenced = λ other. same_server server other || storage.fenced other; laid = storage.laid; refusals = storage.refusals }
+
+-- a layout is there, or is gone
+abbrev pub lay_in : Pid → Bool → Storage → Storage
+lay_in root there storage = record { answer = storage.answer; fenced = storage.fenced; laid = λ other. if root.0 == other.0 then there else storage.laid other; refusals = storage.refusals }
+
+-- one refusal less
+abbrev pub refuse_in : Storage → Storage
+refuse_in storage = record { answer = storage.answer; fenced = storage.fenced; laid = storage.laid; refusals = storage.refusals - 1 }
+
+abbrev pub stored : Pid → Told → ReportMsg
+stored id told = record { call = id; from = peer_is.Storage; told = told }
+
+-- a call that was served is answered as it was, and a new one is served
+abbrev pub store_by : Option Told → Storage → Pid → Told → Storage → Storage × Option ReportMsg
+store_by (Some before) storage id told after = (storage, Some (stored id before))
+store_by None storage id told after = (answered id told after, Some (stored id told))
+
+abbrev pub store_verb : Storage → Pid → Verb → Storage × Option ReportMsg
+store_verb storage id (verb_is.AssignRegion region) = (storage, None)
+store_verb storage id (verb_is.CloseRegion region) = (storage, None)
+store_verb storage id (verb_is.Fence server) = store_by (storage.answer id) storage id told_is.Fenced (fence_in server storage)
+store_verb storage id (verb_is.Layout root) =
+    if nat_lt 0 storage.refusals then store_by (storage.answer id) storage id told_is.Refused (refuse_in storage) else store_by (storage.answer id) storage id told_is.LaidOut (lay_in root true storage)
+store_verb storage id (verb_is.Sweep root) = store_by (storage.answer id) storage id told_is.Swept (lay_in root false storage)
+
+-- how the storage serves a call, whoever it is for
+abbrev pub store : Storage → Call → Storage × Option ReportMsg
+store storage call = store_verb storage call.id call.verb

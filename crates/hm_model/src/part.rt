@@ -1,0 +1,9 @@
+//! The regions of a merge.
+use hm_names::KeyRange;
+
+/// A region that is merged, by its id, and its range.
+#[derive(Debug, Drop)]
+pub struct Part {
+    pub id: u64,
+    pub range: KeyRange,
+}

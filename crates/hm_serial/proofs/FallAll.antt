@@ -1,0 +1,313 @@
+-- At every legal journal, what may still be undone leads back, and one root at most holds.
+use Rattle.std.proofs.Common.{◌≡◌, ◌≢◌, ℕ, ◌+◌, ◌-◌, ◌<◌, List, [], ◌∷◌, true, false, not, ◌&&◌, ◌==◌, map, nat_lt, Option, Some, None, is_some, option_map, refl, ap, sym, ◌∙◌, subst, inl, inr, slice_get}
+use Rattle.std.proofs.lemmas.Bool.{and_parts, and_right, cases_eq, cond-false, cond-true, eq-eqb, false≢true, lt-ltb, ne_eqb, true≢false}
+use Rattle.std.proofs.lemmas.Option.{none-some, same_Some}
+use Rattle.hm_names.specs.Region.{Region}
+use Rattle.hm_names.specs.Server.{Server}
+use Rattle.hm_names.specs.declared.nonce.Nonce.{Nonce}
+use Rattle.hm_names.specs.declared.pid.Pid.{Pid}
+use Rattle.hm_data.specs.declared.act.Back.{Back}
+use Rattle.hm_data.specs.declared.act.Back.TheVariants as back_is
+use Rattle.hm_data.specs.declared.answer.Answer.{Answer}
+use Rattle.hm_data.specs.declared.answer.Cause.{Cause}
+use Rattle.hm_data.specs.declared.args.Args.{Args}
+use Rattle.hm_data.specs.declared.args.Args.TheVariants as args_are
+use Rattle.hm_data.specs.declared.args.Child.TheVariants as child_is
+use Rattle.hm_data.specs.declared.place.Goal.{Goal}
+use Rattle.hm_data.specs.declared.place.Goal.TheVariants as goal_is
+use Rattle.hm_data.specs.declared.catalog.CatKey.{CatKey}
+use Rattle.hm_data.specs.declared.entry.Entry.TheVariants as entry_is
+use Rattle.hm_data.specs.declared.request.Request.{Request}
+use Rattle.hm_data.specs.declared.step.StepOut.{StepOut}
+use Rattle.hm_model.specs.Answers.{done_with, is_stopped, last_answer}
+use Rattle.hm_model.specs.Catalog.{cat, edited, was}
+use Rattle.hm_model.specs.Journal.{Past}
+use Rattle.hm_model.specs.Locks.{covers}
+use Rattle.hm_model.specs.Phase.{all_stopped, cause, ended, ended_node, root_ended, root_over, rolled_back}
+use Rattle.hm_model.specs.Rules.{IsLegal}
+use Rattle.hm_model.specs.Locks.{in_name_order}
+use Rattle.hm_model.specs.Pieces.{Batch, batches}
+use Rattle.hm_model.specs.Undoing.{closed_by, undo_edits, undo_followers}
+use Rattle.hm_model.specs.Tree.{Node, args_in, is_root, is_root_in, is_top, made, node_of, root_node, root_of, submitted}
+use Rattle.hm_model.specs.Undo.{Undoable, is_empty, rest_of, stack}
+use Rattle.hm_model.proofs.LegalSteps.{StepFacts, ready_stops}
+use Rattle.hm_model.proofs.StepDoes.{Does}
+use Rattle.hm_model.proofs.Trees.{Grown, IsRooted, IsWaiting, does_of, down_rooted, grown_all, le_or_lt, new_child, node_same, old_or_new, step_of, still, submit_rooted, undo_rooted}
+use Rattle.hm_model.proofs.UndoMakes.{IsUndoOf, undo_of}
+use Rattle.hm_serial.proofs.Editing.{rows_table}
+use Rattle.hm_serial.proofs.Fallen.{Falls, MayFall, Unwinds, falls_calm, falls_nothing, root_of_node, some_cons}
+use Rattle.hm_serial.proofs.FallStep.{falls_step}
+use Rattle.hm_serial.proofs.Frame.{AllWithin, unwound}
+use Rattle.hm_serial.proofs.Kids.{AllMade, made_at}
+use Rattle.hm_serial.proofs.Local.{Within}
+use Rattle.hm_serial.proofs.Standing.{TopHolds, TopIs, holds_left, live_child, rooted_left, step_left, step_open}
+
+abbrev pub One : Past → Type 0
+One J = (s t : ℕ) (x y : Node) → TopHolds J s x → TopHolds J t y → s ≡ t
+
+-- an entry that makes roots
+rooted_falls : (J J' : Past) (rooted : IsRooted J J') (grown : Grown J) → Falls J → ((p : ℕ) → cause J' p ≡ cause J p) → ((p : ℕ) → stack J p ≡ [] → stack J' p ≡ [])
+    → ((p : ℕ) (x : Node) → made J < p → node_of J' p ≡ Some x → rows_table x.args ≡ None)
+    → ((r : ℕ) (node : Node) → TopHolds J' r node → Unwinds J' r node × AllWithin node.args (stack J' r)) → Falls J'
+rooted_falls J J' rooted grown falls causes stacks rows tree = falls_calm J J' grown falls
+    (λ p x is. elim (old_or_new J J' rooted grown p x is) [ inl old ↦ inl old | inr new ↦ inr (grown.numbered p new.4, ap (λ (n : Node). n.above) new.2, rows p x new.4 is, new.3) ])
+    (λ p x is. still J J' rooted grown p x is)
+    (λ p none. elim (le_or_lt p (made J)) [ inl le ↦ sym (rooted.old p le) ∙ none | inr lt ↦ grown.numbered p lt ])
+    rooted.last causes rooted.sheets stacks tree
+
+old_holder : (J J' : Past) (rooted : IsRooted J J') (grown : Grown J) (r : ℕ) (node : Node) → TopHolds J' r node → TopIs J r node
+old_holder J J' rooted grown r node h = elim (old_or_new J J' rooted grown r node h.0.0) [
+  | inl old ↦ (old, h.0.1)
+  | inr new ↦ absurd (h.1 new.3)
+]
+
+pub back : (J J' : Past) (rooted : IsRooted J J') (grown : Grown J) (r : ℕ) (node : Node) → cause J' r ≡ cause J r → stack J' r ≡ stack J r → was J' r ≡ was J r → TopHolds J' r node → TopHolds J r node
+back J J' rooted grown r node causes stacks base h = holds_left J J' r node (rooted_left J J' rooted grown r node (old_holder J J' rooted grown r node h) causes stacks base) h
+
+one_back : (J J' : Past) → ((r : ℕ) (node : Node) → TopHolds J' r node → TopHolds J r node) → One J → One J'
+one_back J J' holds one s t x y h k = one s t x y (holds s x h) (holds t y k)
+
+-- a step
+module _ (pid : Pid) (pick : Option Server) (out : StepOut) (J : Past) (grown : Grown J) (one : One J) (step : StepFacts J pid.0 pick out) (d : Does J pid.0 step.node.args (last_answer J pid.0) step.sheet.rows out) (clear : is_root J pid.0 ≡ true → last_answer J pid.0 ≡ None → (q : ℕ) → q ≢ pid.0 → is_root J q ≡ true → last_answer J q ≢ None → ended J q ≡ true) where
+  begun : (s : ℕ) (node : Node) → TopHolds J s node → last_answer J step.node.root ≢ None → s ≡ step.node.root
+  begun s node h some =
+      let root = root_of_node J grown pid.0 step.node step.node_is in
+      one s step.node.root node root.0 h (root.1, some, step_open pid pick out J grown step d)
+
+  holder_ends : (s : ℕ) (node : Node) → TopHolds J s node → ended J s ≡ true → ⊥
+  holder_ends s node h over = true≢false (sym over ∙ ap (ended_node J s) h.0.0 ∙ cond-true (is_top node.above) (root_ended J s) (is_stopped (last_answer J s)) (ap is_top h.0.1) ∙ h.2)
+
+  by_above : (above : List ℕ) → step.node.above ≡ above → (s : ℕ) (node : Node) → TopHolds J s node → (o : Option Answer) → last_answer J step.node.root ≡ o → s ≡ step.node.root
+  by_above above e s node h (Some answer) last = begun s node h (λ none. none-some answer (sym none ∙ last))
+  by_above [] e s node h None last =
+      let root : step.node.root ≡ pid.0 = grown.tops pid.0 step.node step.node_is e in
+      elim (cases_eq s pid.0) [
+        | inl same ↦ same ∙ sym root
+        | inr differs ↦ absurd (holder_ends s node h (clear (ap is_root_in step.node_is ∙ ap is_top e) (ap (last_answer J) (sym root) ∙ last) s differs (ap is_root_in h.0.0 ∙ ap is_top h.0.1) h.1))
+      ]
+  by_above (u ∷ rest) e s node h None last =
+      let l = live_child J grown step.node.above pid.0 step.node step.node_is refl (λ n. some_cons u rest (sym e ∙ n)) (ready_stops J pid.0 step.node (last_answer J pid.0) step.ready) in
+      absurd (subst IsWaiting last l.5)
+
+  pub alone_at : (s : ℕ) (node : Node) → TopHolds J s node → s ≡ step.node.root
+  alone_at s node h = by_above step.node.above refl s node h (last_answer J step.node.root) refl
+
+  pub old_top : (s : ℕ) (x : Node) → TopIs (entry_is.Step pid pick out ∷ J) s x → TopIs J s x
+  old_top s x is = elim (le_or_lt s (made J)) [
+    | inl le ↦ (sym (node_same pid pick out J s le) ∙ is.0, is.1)
+    | inr lt ↦ let c = new_child pid pick out J step.node step.node_is s lt x is.0 in absurd (some_cons pid.0 step.node.above (ap (λ (n : Node). n.above) (sym c.2) ∙ is.1))
+  ]
+
+  pub to_root : (s : ℕ) (x : Node) → TopHolds (entry_is.Step pid pick out ∷ J) s x → s ≡ step.node.root
+  to_root s x h = elim (cases_eq s step.node.root) [
+    | inl same ↦ same
+    | inr differs ↦ alone_at s x (holds_left J (entry_is.Step pid pick out ∷ J) s x (step_left pid pick out J grown step d s x (old_top s x h.0) differs) h)
+  ]
+
+  pub one_step : One (entry_is.Step pid pick out ∷ J)
+  one_step s t x y h k = to_root s x h ∙ sym (to_root t y k)
+
+-- an undo's followers list no regions
+transits_rows : (goal : Goal) (list : List Batch) → AllMade (λ args. rows_table args ≡ None) (map (λ batch. child_is.Transits batch.table batch.ids goal) list)
+transits_rows goal [] = tt
+transits_rows goal (batch ∷ more) = ((λ id. refl), transits_rows goal more)
+
+followers_rows : (undo : Back) (args : Args) (root : Pid) → AllMade (λ own. rows_table own ≡ None) (undo_followers undo args root)
+followers_rows back_is.Nothing args root = tt
+followers_rows back_is.Edits args root = tt
+followers_rows back_is.Sweep args root = (refl, tt)
+followers_rows back_is.Reopen args root = transits_rows goal_is.Assign (batches (in_name_order (closed_by args)))
+
+module _ (pid : Pid) (row : ℕ) (out : StepOut) (J : Past) (legal : IsLegal (entry_is.Undo pid row out ∷ J)) (grown : Grown J) (falls : Falls J) (one : One J) where
+  abbrev J' : Past
+  J' = entry_is.Undo pid row out ∷ J
+
+  abbrev R : ℕ
+  R = root_of J pid.0
+
+  pub u : IsUndoOf J (root_of J pid.0) out
+  u = undo_of pid row out J legal
+
+  pub top : Node
+  top = legal.1.1.0.1.0
+
+  pub top_is : TopIs J (root_of J pid.0) top
+  unfolding top
+  top_is =
+      let latest = legal.1.1.0.1 in
+      let parts = and_parts (is_top latest.0.above) (is_some (cause J R) && (all_stopped J R && not (is_empty (stack J R)))) latest.2 in
+      (latest.1, top_nil latest.0.above parts.0)
+    where
+      top_nil : (above : List ℕ) → is_top above ≡ true → above ≡ []
+      top_nil [] h = refl
+      top_nil (a ∷ rest) h = absurd (false≢true h)
+
+  is_sick : is_some (cause J (root_of J pid.0)) ≡ true
+  is_sick =
+      let latest = legal.1.1.0.1 in
+      let parts = and_parts (is_top latest.0.above) (is_some (cause J R) && (all_stopped J R && not (is_empty (stack J R)))) latest.2 in
+      (and_parts (is_some (cause J R)) (all_stopped J R && not (is_empty (stack J R))) parts.1).0
+
+  pub sick : cause J (root_of J pid.0) ≢ None
+  sick none = false≢true (sym (ap is_some none) ∙ is_sick)
+
+  open_at : root_ended J (root_of J pid.0) ≡ false
+  open_at = by (cause J R) refl
+    where
+      by : (c : Option Cause) → cause J R ≡ c → root_ended J R ≡ false
+      by None e = absurd (false≢true (ap is_some (sym e) ∙ is_sick))
+      by (Some c) e = ap (λ k. root_over k (rolled_back J R) (done_with (last_answer J R))) e ∙ and_right (all_stopped J R) (is_empty (stack J R)) (ap is_empty u.stack_is)
+
+  has_begun : last_answer J (root_of J pid.0) ≢ None
+  has_begun none = let f = falls.fresh R top top_is none in false≢true (sym (ap is_some f.1) ∙ is_sick)
+
+  pub undo_holds : TopHolds J (root_of J pid.0) top
+  undo_holds = (top_is, has_begun, open_at)
+
+  rooted : IsRooted J (entry_is.Undo pid row out ∷ J)
+  rooted = undo_rooted pid row out J grown
+
+  pub stack_now : stack (entry_is.Undo pid row out ∷ J) (root_of J pid.0) ≡ u.below
+  stack_now = cond-true (R == R) (rest_of (stack J R)) (stack J R) (eq-eqb R R refl) ∙ ap rest_of u.stack_is
+
+  stack_off : (r : ℕ) → r ≢ R → stack J' r ≡ stack J r
+  stack_off r differs = cond-false (R == r) (rest_of (stack J r)) (stack J r) (ne_eqb R r (λ e. differs (sym e)))
+
+  pub undo_back : (r : ℕ) (node : Node) → TopHolds (entry_is.Undo pid row out ∷ J) r node → TopHolds J r node
+  undo_back r node h = elim (cases_eq r R) [
+    | inl same ↦ (old_holder J J' rooted grown r node h, h.1, ap (root_ended J) same ∙ open_at)
+    | inr differs ↦ back J J' rooted grown r node refl (stack_off r differs) refl h
+  ]
+
+  pub edits_are : out.edits ≡ undo_edits u.latest.undo u.latest.edits
+  edits_are = ap (λ (o : StepOut). o.edits) u.out_is ∙ ap (λ k. undo_edits k u.latest.edits) u.undo_is
+
+  within_all : AllWithin top.args (u.latest ∷ u.below)
+  within_all = subst (AllWithin top.args) u.stack_is (falls.tree R top undo_holds).1
+
+  pub undo_within : Within top.args out.edits
+  undo_within = subst (Within top.args) (sym edits_are) within_all.0
+
+  pub undo_unwinds : MayFall J (root_of J pid.0) top → (key : CatKey) → covers top.args key ≡ true → unwound (stack (entry_is.Undo pid row out ∷ J) (root_of J pid.0)) key (cat (entry_is.Undo pid row out ∷ J) key) ≡ was (entry_is.Undo pid row out ∷ J) (root_of J pid.0) key
+  undo_unwinds may key c =
+      ap (λ l. unwound l key (edited out.edits key (cat J key))) stack_now
+      ∙ ap (λ e. unwound u.below key (edited e key (cat J key))) edits_are
+      ∙ ap (λ l. unwound l key (cat J key)) (sym u.stack_is)
+      ∙ (falls.tree R top undo_holds).0 may key c
+
+  tree_now : (r : ℕ) (node : Node) → TopHolds J' r node → Unwinds J' r node × AllWithin node.args (stack J' r)
+  tree_now r node h =
+      let b = undo_back r node h in
+      let same : r ≡ R = one r R node top b undo_holds in
+      let y_is : node ≡ top = same_Some node top (sym b.0.0 ∙ ap (node_of J) same ∙ top_is.0) in
+      subst (λ k. Unwinds J' k node × AllWithin node.args (stack J' k)) (sym same) (subst (λ n. Unwinds J' R n × AllWithin n.args (stack J' R)) (sym y_is) (undo_unwinds, subst (AllWithin top.args) (sym stack_now) within_all.1))
+
+  rows_now : (p : ℕ) (x : Node) → made J < p → node_of J' p ≡ Some x → rows_table x.args ≡ None
+  rows_now p x lt is = by (slice_get (args_in out.followers) (p - made J - 1)) refl
+    where
+      get : node_of J' p ≡ option_map (λ args. root_node p args 1) (slice_get (args_in out.followers) (p - made J - 1))
+      get = cond-true (nat_lt (made J) p) (option_map (λ args. root_node p args 1) (slice_get (args_in out.followers) (p - made J - 1))) (node_of J p) (lt-ltb (made J) p lt)
+
+      by : (o : Option Args) → slice_get (args_in out.followers) (p - made J - 1) ≡ o → rows_table x.args ≡ None
+      by None e = absurd (none-some x (sym (get ∙ ap (option_map (λ args. root_node p args 1)) e) ∙ is))
+      by (Some args) e =
+          let own : x.args ≡ args = ap (λ (n : Node). n.args) (same_Some x (root_node p args 1) (sym is ∙ get ∙ ap (option_map (λ args. root_node p args 1)) e)) in
+          ap rows_table own ∙ made_at (λ a. rows_table a ≡ None) (undo_followers u.undo u.args u.root) (followers_rows u.undo u.args u.root) (p - made J - 1) args (ap (λ (o : StepOut). slice_get (args_in o.followers) (p - made J - 1)) (sym u.out_is) ∙ e)
+
+  empties : (p : ℕ) → stack J p ≡ [] → stack J' p ≡ []
+  empties p none = elim (cases_eq p R) [
+    | inl same ↦ absurd (some_nil u.latest u.below (sym u.stack_is ∙ ap (stack J) (sym same) ∙ none))
+    | inr differs ↦ stack_off p differs ∙ none
+  ]
+    where
+      some_nil : (x : Undoable) (more : List Undoable) → x ∷ more ≡ [] → ⊥
+      some_nil x more e = cc
+
+  pub falls_undo : Falls (entry_is.Undo pid row out ∷ J)
+  falls_undo = rooted_falls J (entry_is.Undo pid row out ∷ J) rooted grown falls (λ p. refl) empties rows_now tree_now
+
+pub record All (J : Past) : Type 0 where
+  pub falls : Falls J
+  pub one : One J
+
+submit_rows : (nonce : Nonce) (request : Request) (J : Past) → Grown J → (p : ℕ) (x : Node) → made J < p → node_of (entry_is.Submit nonce request ∷ J) p ≡ Some x → rows_table x.args ≡ None
+submit_rows nonce request J grown p x lt is = elim (cases_eq p (made J + 1)) [
+  | inl same ↦ ap (λ (n : Node). rows_table n.args) (same_Some x (submitted J request p) (sym is ∙ cond-true (p == made J + 1) (Some (submitted J request p)) (node_of J p) (eq-eqb p (made J + 1) same)))
+  | inr differs ↦ absurd (none-some x (sym (cond-false (p == made J + 1) (Some (submitted J request p)) (node_of J p) (ne_eqb p (made J + 1) differs) ∙ grown.numbered p lt) ∙ is))
+]
+
+down_rows : (server : Server) (J : Past) → Grown J → (p : ℕ) (x : Node) → made J < p → node_of (entry_is.Down server ∷ J) p ≡ Some x → rows_table x.args ≡ None
+down_rows server J grown p x lt is = elim (cases_eq p (made J + 1)) [
+  | inl same ↦ ap (λ (n : Node). rows_table n.args) (same_Some x (root_node p (args_are.Crash server) 1) (sym is ∙ cond-true (p == made J + 1) (Some (root_node p (args_are.Crash server) 1)) (node_of J p) (eq-eqb p (made J + 1) same)))
+  | inr differs ↦ absurd (none-some x (sym (cond-false (p == made J + 1) (Some (root_node p (args_are.Crash server) 1)) (node_of J p) (ne_eqb p (made J + 1) differs) ∙ grown.numbered p lt) ∙ is))
+]
+
+pub none_at : (J : Past) → J ≡ [] → (p : ℕ) → node_of J p ≡ None
+none_at J e p = ap (λ j. node_of j p) e
+
+pub falls_all : (J : Past) → IsLegal J → All J
+falls_all [] legal = record { falls = falls_nothing; one = λ s t x y h k. absurd (none-some x h.0.0) }
+falls_all (entry_is.Start sheets ∷ J) legal =
+    let a = falls_all J legal.0 in
+    let f = a.falls in
+    let none = none_at J legal.1.0.0 in
+    record {
+      falls = record {
+        fresh = f.fresh;
+        gone = f.gone;
+        tops = f.tops;
+        kids = f.kids;
+        belongs = f.belongs;
+        near = f.near;
+        safe = λ q x is. absurd (none-some x (sym (none q) ∙ is));
+        bare = λ q x is. absurd (none-some x (sym (none q) ∙ is));
+        tree = λ r node h. absurd (none-some node (sym (none r) ∙ h.0.0));
+      };
+      one = λ s t x y h k. absurd (none-some x (sym (none s) ∙ h.0.0));
+    }
+falls_all (entry_is.Submit nonce request ∷ J) legal =
+    let a = falls_all J legal.0 in
+    let grown = grown_all J legal.0 in
+    let rooted = submit_rooted nonce request J grown in
+    let holds : (r : ℕ) (node : Node) → TopHolds (entry_is.Submit nonce request ∷ J) r node → TopHolds J r node = (λ r node h. back J (entry_is.Submit nonce request ∷ J) rooted grown r node refl refl refl h) in
+    record {
+      falls = rooted_falls J (entry_is.Submit nonce request ∷ J) rooted grown a.falls (λ p. refl) (λ p e. e) (submit_rows nonce request J grown) (λ r node h. a.falls.tree r node (holds r node h));
+      one = one_back J (entry_is.Submit nonce request ∷ J) holds a.one;
+    }
+falls_all (entry_is.Step pid pick out ∷ J) legal =
+    let a = falls_all J legal.0 in
+    let grown = grown_all J legal.0 in
+    let step = step_of pid pick out J grown legal in
+    let d = does_of pid pick out J grown step in
+    record {
+      falls = falls_step pid pick out J grown a.falls step d (alone_at pid pick out J grown a.one step d legal.1.1.1.0);
+      one = one_step pid pick out J grown a.one step d legal.1.1.1.0;
+    }
+falls_all (entry_is.Undo pid row out ∷ J) legal =
+    let a = falls_all J legal.0 in
+    let grown = grown_all J legal.0 in
+    record {
+      falls = falls_undo pid row out J legal grown a.falls a.one;
+      one = one_back J (entry_is.Undo pid row out ∷ J) (undo_back pid row out J legal grown a.falls a.one) a.one;
+    }
+falls_all (entry_is.Report call told ∷ J) legal =
+    let a = falls_all J legal.0 in
+    let f = a.falls in
+    record { falls = record { fresh = f.fresh; gone = f.gone; tops = f.tops; kids = f.kids; belongs = f.belongs; near = f.near; safe = f.safe; bare = f.bare; tree = f.tree }; one = a.one }
+falls_all (entry_is.Up server ∷ J) legal =
+    let a = falls_all J legal.0 in
+    let f = a.falls in
+    record { falls = record { fresh = f.fresh; gone = f.gone; tops = f.tops; kids = f.kids; belongs = f.belongs; near = f.near; safe = f.safe; bare = f.bare; tree = f.tree }; one = a.one }
+falls_all (entry_is.Down server ∷ J) legal =
+    let a = falls_all J legal.0 in
+    let grown = grown_all J legal.0 in
+    let rooted = down_rooted server J grown in
+    let holds : (r : ℕ) (node : Node) → TopHolds (entry_is.Down server ∷ J) r node → TopHolds J r node = (λ r node h. back J (entry_is.Down server ∷ J) rooted grown r node refl refl refl h) in
+    record {
+      falls = rooted_falls J (entry_is.Down server ∷ J) rooted grown a.falls (λ p. refl) (λ p e. e) (down_rows server J grown) (λ r node h. a.falls.tree r node (holds r node h));
+      one = one_back J (entry_is.Down server ∷ J) holds a.one;
+    }
+falls_all (entry_is.Abort pid ∷ J) legal =
+    let a = falls_all J legal.0 in
+    let f = a.falls in
+    record { falls = record { fresh = f.fresh; gone = f.gone; tops = f.tops; kids = f.kids; belongs = f.belongs; near = f.near; safe = f.safe; bare = f.bare; tree = f.tree }; one = a.one }

@@ -1,0 +1,223 @@
+// The rows that a step reads, and the edits that it makes of them.
+ghost use Rattle.std.specs.Prelude.{◌≡◌, IfOk, option_copied};
+ghost use Rattle.hm_data.specs.declared.catalog.CatKey.TheVariants as key_is;
+ghost use Rattle.hm_model.specs.Catalog.{row_at as row_of, set_to};
+ghost use Rattle.hm_model.specs.Changes.{changed};
+ghost use Rattle.hm_model.specs.Keys.{same_key as same, same_table as same_tables, same_region as same_regions};
+ghost use Rattle.hm_model.specs.NamespaceActs.{has_table as tabled};
+ghost use Rattle.hm_model.specs.RowsSaid.{is_table_in as within, in_state as put_in, in_version as versioned};
+
+use hm_data::{CatKey, CatRow, Edit, TableState};
+use hm_names::{Copied, Ns, RegionName, TableName};
+use std::alloc::{AllocError, Global};
+
+/// Whether two names are of one table.
+pub(crate) fn same_table(a: &TableName, b: &TableName) -> bool
+    ensures { result ≡ same_tables a.now b.now }
+{
+    a.ns.as_bytes() == b.ns.as_bytes() && a.qualifier.as_bytes() == b.qualifier.as_bytes()
+}
+
+fn same_region(a: &RegionName, b: &RegionName) -> bool
+    ensures { result ≡ same_regions a.now b.now }
+{
+    same_table(&a.table, &b.table) && a.id == b.id
+}
+
+fn is_namespace(ns: &Ns, key: &CatKey) -> bool
+    ensures { result ≡ same (key_is.Ns ns.now) key.now }
+{
+    match key {
+        CatKey::Ns(other) => ns.as_bytes() == other.as_bytes(),
+        _ => false,
+    }
+}
+
+fn is_table(table: &TableName, key: &CatKey) -> bool
+    ensures { result ≡ same (key_is.Table table.now) key.now }
+{
+    match key {
+        CatKey::Table(other) => same_table(table, other),
+        _ => false,
+    }
+}
+
+fn is_region(region: &RegionName, key: &CatKey) -> bool
+    ensures { result ≡ same (key_is.Region region.now) key.now }
+{
+    match key {
+        CatKey::Region(other) => same_region(region, other),
+        _ => false,
+    }
+}
+
+/// The row of a namespace among rows.
+pub(crate) fn namespace_row<'a>(rows: &'a [(CatKey, CatRow)], ns: &Ns) -> Option<&'a CatRow>
+    ensures { option_copied result ≡ row_of rows.now (key_is.Ns ns.now) }
+{
+    for (key, row) in rows {
+        if is_namespace(ns, key) {
+            return Some(row);
+        }
+    }
+    None
+}
+
+/// The row of a table among rows.
+pub(crate) fn table_row<'a>(rows: &'a [(CatKey, CatRow)], table: &TableName) -> Option<&'a CatRow>
+    ensures { option_copied result ≡ row_of rows.now (key_is.Table table.now) }
+{
+    for (key, row) in rows {
+        if is_table(table, key) {
+            return Some(row);
+        }
+    }
+    None
+}
+
+/// The row of a region among rows.
+pub(crate) fn region_row<'a>(
+    rows: &'a [(CatKey, CatRow)],
+    region: &RegionName,
+) -> Option<&'a CatRow>
+    ensures { option_copied result ≡ row_of rows.now (key_is.Region region.now) }
+{
+    for (key, row) in rows {
+        if is_region(region, key) {
+            return Some(row);
+        }
+    }
+    None
+}
+
+// The row of a key among rows.
+fn row_at<'a>(rows: &'a [(CatKey, CatRow)], key: &CatKey) -> Option<&'a CatRow>
+    ensures { option_copied result ≡ row_of rows.now key.now }
+{
+    match key {
+        CatKey::Ns(ns) => namespace_row(rows, ns),
+        CatKey::Table(table) => table_row(rows, table),
+        CatKey::Region(region) => region_row(rows, region),
+    }
+}
+
+/// The key of a namespace.
+pub(crate) fn namespace_key(alloc: Global, ns: &Ns) -> Result<CatKey, AllocError>
+    ensures { IfOk result (λ key. key ≡ key_is.Ns ns.now) }
+{
+    Ok(CatKey::Ns(ns.copy(alloc)?))
+}
+
+/// The key of a table.
+pub(crate) fn table_key(alloc: Global, table: &TableName) -> Result<CatKey, AllocError>
+    ensures { IfOk result (λ key. key ≡ key_is.Table table.now) }
+{
+    Ok(CatKey::Table(table.copy(alloc)?))
+}
+
+/// The key of a region.
+pub(crate) fn region_key(alloc: Global, region: &RegionName) -> Result<CatKey, AllocError>
+    ensures { IfOk result (λ key. key ≡ key_is.Region region.now) }
+{
+    Ok(CatKey::Region(region.copy(alloc)?))
+}
+
+fn is_table_in(ns: &Ns, key: &CatKey) -> bool
+    ensures { result ≡ within ns.now key.now }
+{
+    match key {
+        CatKey::Table(table) => ns.as_bytes() == table.ns.as_bytes(),
+        _ => false,
+    }
+}
+
+/// Whether a namespace has a table among rows.
+pub(crate) fn has_table(ns: &Ns, rows: &[(CatKey, CatRow)]) -> bool
+    ensures { result ≡ tabled ns.now rows.now }
+{
+    for (key, _) in rows {
+        if is_table_in(ns, key) {
+            return true;
+        }
+    }
+    false
+}
+
+/// A copy of the row of a key among rows.
+pub(crate) fn row_copy(
+    alloc: Global,
+    rows: &[(CatKey, CatRow)],
+    key: &CatKey,
+) -> Result<Option<CatRow>, AllocError>
+    ensures { IfOk result (λ row. row ≡ row_of rows.now key.now) }
+{
+    match row_at(rows, key) {
+        None => Ok(None),
+        Some(row) => Ok(Some(row.copy(alloc)?)),
+    }
+}
+
+/// The row of the key set, as a step tells it: with the row that was there.
+pub(crate) fn set_row(
+    alloc: Global,
+    rows: &[(CatKey, CatRow)],
+    key: CatKey,
+    after: Option<CatRow>,
+) -> Result<Edit, AllocError>
+    ensures { IfOk result (λ edit. edit ≡ set_to (row_of rows.now) key after) }
+{
+    let before = row_copy(alloc, rows, &key)?;
+    Ok(Edit { key, before, after })
+}
+
+fn in_state(row: CatRow, state: TableState) -> CatRow
+    ensures { result ≡ put_in state row }
+{
+    match row {
+        CatRow::Table { state: _, version } => CatRow::Table { state, version },
+        other => other,
+    }
+}
+
+fn in_version(row: CatRow, version: u64) -> CatRow
+    ensures { result ≡ versioned version row }
+{
+    match row {
+        CatRow::Table { state, version: _ } => CatRow::Table { state, version },
+        other => other,
+    }
+}
+
+/// A table set to a state, with its version.
+pub(crate) fn set_state(
+    alloc: Global,
+    rows: &[(CatKey, CatRow)],
+    table: &TableName,
+    state: TableState,
+) -> Result<Edit, AllocError>
+    ensures { IfOk result (λ edit. edit ≡ changed (row_of rows.now) (key_is.Table table.now) (put_in state)) }
+{
+    let key = table_key(alloc, table)?;
+    let after = match row_copy(alloc, rows, &key)? {
+        None => None,
+        Some(row) => Some(in_state(row, state)),
+    };
+    set_row(alloc, rows, key, after)
+}
+
+/// A table given a version, in its state.
+pub(crate) fn set_version(
+    alloc: Global,
+    rows: &[(CatKey, CatRow)],
+    table: &TableName,
+    version: u64,
+) -> Result<Edit, AllocError>
+    ensures { IfOk result (λ edit. edit ≡ changed (row_of rows.now) (key_is.Table table.now) (versioned version)) }
+{
+    let key = table_key(alloc, table)?;
+    let after = match row_copy(alloc, rows, &key)? {
+        None => None,
+        Some(row) => Some(in_version(row, version)),
+    };
+    set_row(alloc, rows, key, after)
+}

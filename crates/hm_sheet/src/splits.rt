@@ -1,0 +1,256 @@
+// The acts of splits, and those that merges have too.
+ghost use Rattle.std.specs.Prelude.{◌≡◌, ◌≤◌, ◌<◌, ◌^◌, [], ◌∷◌, IfOk, Some, option_copied};
+ghost use Rattle.std.specs.List.{AllByRecursion};
+ghost use Rattle.hm_data.specs.declared.catalog.CatKey.TheVariants as key_is;
+ghost use Rattle.hm_model.specs.Catalog.{row_at as row_of, set_to};
+ghost use Rattle.hm_model.specs.Changes.{changed, region_key as key_with, live_row as live_of, split_range as splits, split_edits as splitting};
+ghost use Rattle.hm_model.specs.Checks.{can_split as may_split, key_inside as is_inside};
+ghost use Rattle.hm_model.specs.Evaluation.{named_ids};
+ghost use Rattle.hm_model.specs.RegionActs.{check_split as checks_split, close_parents as closes, update_split_meta as updates_split, finish as finishes};
+ghost use Rattle.hm_model.specs.RowsSaid.{in_status as put_in, range_in as range_of};
+ghost use Rattle.hm_model.specs.Views.{first_id_of as first_id};
+
+use crate::checks::region_ready;
+use crate::lookup::{region_key, region_row, row_copy, set_row, table_row};
+use crate::outs::{checked, edits_rows, ends_with, goes_on, spawns};
+use crate::pieces::transits;
+use crate::regions::{key_of_region, live_row};
+use crate::undo::closed_by;
+use crate::views::{cut_of, region_of};
+use hm_data::{Args, CatKey, CatRow, Cause, Edit, Goal, Request, Status, StepOut, Told};
+use hm_names::{Copied, KeyRange, RegionName, RowKey};
+use std::alloc::{AllocError, Global};
+
+/// The range of a region, by its row.
+pub(crate) fn range_in(row: Option<&CatRow>) -> Option<&KeyRange>
+    ensures { option_copied result ≡ range_of (option_copied row.entry) }
+{
+    match row {
+        Some(
+            CatRow::Region {
+                range,
+                status: _,
+                parents: _,
+            },
+        ) => Some(range),
+        _ => None,
+    }
+}
+
+// The key lies within the range and isn't its start.
+fn key_inside(range: Option<&KeyRange>, key: &RowKey) -> Option<Cause>
+    ensures { result ≡ is_inside (option_copied range.entry) key.now }
+{
+    match range {
+        None => None,
+        Some(range) if range.inner(key) => None,
+        Some(_) => Some(Cause::KeyOutside),
+    }
+}
+
+fn can_split(table: Option<&CatRow>, region: Option<&CatRow>, key: &RowKey) -> Option<Cause>
+    ensures { result ≡ may_split (option_copied table.entry) (option_copied region.entry) key.now }
+{
+    match region_ready(table, region) {
+        Some(cause) => Some(cause),
+        None => key_inside(range_in(region), key),
+    }
+}
+
+/// The region can be split at the key.
+pub(crate) fn check_split(
+    alloc: Global,
+    next: u8,
+    args: &Args,
+    rows: &[(CatKey, CatRow)],
+) -> StepOut
+    ensures { result ≡ checks_split next args.now rows.now }
+{
+    let Some(region) = region_of(args) else {
+        return goes_on(alloc, next);
+    };
+    let Some(cut) = cut_of(args) else {
+        return goes_on(alloc, next);
+    };
+    let cause = can_split(
+        table_row(rows, &region.table),
+        region_row(rows, region),
+        cut,
+    );
+    checked(alloc, next, cause)
+}
+
+/// Has the regions to split or to merge unassigned.
+pub(crate) fn close_parents(alloc: Global, next: u8, args: &Args) -> Result<StepOut, AllocError>
+    ensures { IfOk result (λ out. out ≡ closes next args.now) }
+{
+    let regions = closed_by(alloc, args)?;
+    let children = transits(alloc, Goal::Unassign, &regions)?;
+    Ok(spawns(alloc, next, children))
+}
+
+/// Ends a split or a merge.
+pub(crate) fn finish(alloc: Global) -> StepOut
+    ensures { result ≡ finishes }
+{
+    ends_with(alloc, Told::Nothing)
+}
+
+fn in_status(row: CatRow, status: Status) -> CatRow
+    ensures { result ≡ put_in status row }
+{
+    match row {
+        CatRow::Region {
+            range,
+            status: _,
+            parents,
+        } => CatRow::Region {
+            range,
+            status,
+            parents,
+        },
+        other => other,
+    }
+}
+
+/// A region marked as split or merged.
+pub(crate) fn mark(
+    alloc: Global,
+    rows: &[(CatKey, CatRow)],
+    region: &RegionName,
+    status: Status,
+) -> Result<Edit, AllocError>
+    ensures { IfOk result
+        (λ edit. edit ≡ changed (row_of rows.now) (key_is.Region region.now) (put_in status)) }
+{
+    let key = region_key(alloc, region)?;
+    let after = match row_copy(alloc, rows, &key)? {
+        None => None,
+        Some(row) => Some(in_status(row, status)),
+    };
+    set_row(alloc, rows, key, after)
+}
+
+/// A live region that came from others.
+pub(crate) fn add_region(
+    alloc: Global,
+    rows: &[(CatKey, CatRow)],
+    key: CatKey,
+    range: KeyRange,
+    parents: Vec<u64>,
+) -> Result<Edit, AllocError>
+    ensures { IfOk result (λ edit. edit ≡ set_to (row_of rows.now) key (Some (live_of range parents.items))) }
+{
+    set_row(alloc, rows, key, Some(live_row(range, parents)))
+}
+
+fn one_id(alloc: Global, id: u64) -> Result<Vec<u64>, AllocError>
+    ensures { IfOk result (λ v. v.items ≡ id ∷ []) }
+{
+    let mut ids = Vec::new(alloc);
+    ids.push(id)?;
+    Ok(ids)
+}
+
+// The range from a start to an end.
+fn range_of_keys(alloc: Global, start: &RowKey, end: &RowKey) -> Result<KeyRange, AllocError>
+    ensures { IfOk result (λ range. range ≡ record { start = start.now; end = end.now }) }
+{
+    Ok(KeyRange {
+        start: start.copy(alloc)?,
+        end: end.copy(alloc)?,
+    })
+}
+
+// A daughter of a region is added.
+fn add_daughter(
+    alloc: Global,
+    rows: &[(CatKey, CatRow)],
+    region: &RegionName,
+    id: u64,
+    range: KeyRange,
+) -> Result<Edit, AllocError>
+    requires { 1 ≤ id }
+    ensures { IfOk result (λ edit. edit ≡ set_to (row_of rows.now) (key_with region.now.table id) (Some (live_of range (region.now.id ∷ [])))) }
+{
+    let key = key_of_region(alloc, &region.table, id)?;
+    let parents = one_id(alloc, region.id)?;
+    add_region(alloc, rows, key, range, parents)
+}
+
+fn three_edits(
+    alloc: Global,
+    first: Edit,
+    second: Edit,
+    third: Edit,
+) -> Result<Vec<Edit>, AllocError>
+    ensures { IfOk result (λ v. v.items ≡ first ∷ second ∷ third ∷ []) }
+{
+    let mut edits = Vec::new(alloc);
+    edits.push(first)?;
+    edits.push(second)?;
+    edits.push(third)?;
+    Ok(edits)
+}
+
+// A region of this range is split at a key: it is marked, and two live ones are added.
+fn split_range(
+    alloc: Global,
+    rows: &[(CatKey, CatRow)],
+    region: &RegionName,
+    key: &RowKey,
+    first: u64,
+    range: &KeyRange,
+) -> Result<Vec<Edit>, AllocError>
+    requires drawn { 1 ≤ first }
+    requires low { first < 2 ^ 32 }
+    ensures { IfOk result (λ v. v.items ≡ splits (row_of rows.now) region.now key.now first (Some range.now)) }
+{
+    let below = range_of_keys(alloc, &range.start, key)?;
+    let from = range_of_keys(alloc, key, &range.end)?;
+    let marked = mark(alloc, rows, region, Status::Split)?;
+    let low = add_daughter(alloc, rows, region, first, below)?;
+    let high = add_daughter(alloc, rows, region, first + 1, from)?;
+    three_edits(alloc, marked, low, high)
+}
+
+// A region is split at a key, with the first id that was drawn.
+fn split_edits(
+    alloc: Global,
+    rows: &[(CatKey, CatRow)],
+    region: &RegionName,
+    key: &RowKey,
+    first: u64,
+) -> Result<Vec<Edit>, AllocError>
+    requires drawn { 1 ≤ first }
+    requires low { first < 2 ^ 32 }
+    ensures { IfOk result (λ v. v.items ≡ splitting (row_of rows.now) region.now key.now first) }
+{
+    match range_in(region_row(rows, region)) {
+        None => Ok(Vec::new(alloc)),
+        Some(range) => split_range(alloc, rows, region, key, first, range),
+    }
+}
+
+/// Marks the region as split, and adds its daughters.
+pub(crate) fn update_split_meta(
+    alloc: Global,
+    next: u8,
+    args: &Args,
+    rows: &[(CatKey, CatRow)],
+) -> Result<StepOut, AllocError>
+    requires ids { AllByRecursion (λ id. 1 ≤ id) (named_ids args.now) }
+    requires first { first_id args.now < 2 ^ 32 }
+    ensures { IfOk result (λ out. out ≡ updates_split next args.now rows.now) }
+{
+    match args {
+        Args::Root {
+            request: Request::SplitRegion { region, key },
+            first,
+        } => {
+            let edits = split_edits(alloc, rows, region, key, *first)?;
+            Ok(edits_rows(alloc, next, edits))
+        }
+        _ => Ok(goes_on(alloc, next)),
+    }
+}

@@ -1,0 +1,306 @@
+// The acts of transits.
+ghost use Rattle.std.specs.Prelude.{◌≡◌, IfOk, option_copied};
+ghost use Rattle.hm_model.specs.Evaluation.{wants_server as wanting};
+ghost use Rattle.hm_model.specs.TransitActs.{told_place as place_told, is_state as in_state, is_placed as placed, may_open as may, may_open_in as may_in, is_open as opened, lost_if as lost, nowhere as nowhere_in, candidate as candidate_is, get_assign_candidate as get_candidate, open_there as opens, is_told as told_by, opened_or_not as opened_if, confirm_opened as confirms, behind_close as behind, close_at as closes_at, close_or_go as closes_or_goes, close_there as closes, closed_or_lost as closed_if, confirm_closed as confirms_closed, check_move as checks};
+ghost use Rattle.hm_model.specs.Views.{region_of as region_in};
+
+use crate::checks::{is_in_state, is_live, region_ready, status_in, table_state_in};
+use crate::lookup::{region_row, table_row};
+use crate::outs::{checked, ends_with, goes_on, places, spawns_one};
+use crate::views::{goal_in, region_of};
+use hm_data::{
+    Answer, Args, CatKey, CatRow, Child, Goal, Place, RegionState, StepIn, StepOut, TableState,
+    Told,
+};
+use hm_names::{Copied, List, Pid, RegionName, ServerName};
+use std::alloc::{AllocError, Global};
+
+fn nowhere(state: RegionState) -> Place
+    ensures { result ≡ nowhere_in state }
+{
+    Place {
+        state,
+        server: None,
+    }
+}
+
+// A place that is told, and Offline where none is.
+fn told_place(alloc: Global, place: &Option<Place>) -> Result<Place, AllocError>
+    ensures { IfOk result (λ p. p ≡ place_told place.now) }
+{
+    match place {
+        None => Ok(nowhere(RegionState::Offline)),
+        Some(place) => place.copy(alloc),
+    }
+}
+
+fn is_state(state: RegionState, place: &Place) -> bool
+    ensures { result ≡ in_state state place.now }
+{
+    place.state.number() == state.number()
+}
+
+// The region counts as its server's.
+fn is_placed(place: &Place) -> bool
+    ensures { result ≡ placed place.now }
+{
+    is_state(RegionState::Opening, place)
+        || is_state(RegionState::Opened, place)
+        || is_state(RegionState::Closing, place)
+}
+
+fn may_open(table: Option<&CatRow>, region: Option<&CatRow>) -> bool
+    ensures { result ≡ may (option_copied table.entry) (option_copied region.entry) }
+{
+    let state = table_state_in(table);
+    is_live(status_in(region))
+        && (is_in_state(TableState::Enabled, state) || is_in_state(TableState::Enabling, state))
+}
+
+// The region may be opened, by the rows that a transit reads.
+fn may_open_in(rows: &[(CatKey, CatRow)], region: &RegionName) -> bool
+    ensures { result ≡ may_in rows.now region.now }
+{
+    may_open(table_row(rows, &region.table), region_row(rows, region))
+}
+
+fn is_open(place: &Place, fenced: bool) -> bool
+    ensures { result ≡ opened place.now fenced }
+{
+    is_state(RegionState::Opened, place) && !fenced
+}
+
+fn lost_if(is_lost: bool) -> Option<Place>
+    ensures { result ≡ lost is_lost }
+{
+    if is_lost {
+        Some(nowhere(RegionState::AbnormallyClosed))
+    } else {
+        None
+    }
+}
+
+// Where the region may be opened and isn't open, it is placed at the server that was picked.
+fn candidate(
+    alloc: Global,
+    next: u8,
+    may_open: bool,
+    place: &Place,
+    at: &StepIn,
+) -> Result<StepOut, AllocError>
+    ensures { IfOk result (λ out. out ≡ candidate_is next may_open place.now at.now.fenced at.now.pick) }
+{
+    if !may_open {
+        let lost = lost_if(is_placed(place) && at.fenced);
+        return Ok(places(alloc, Answer::Done(Told::Nothing), lost));
+    }
+    if is_open(place, at.fenced) {
+        return Ok(ends_with(alloc, Told::Nothing));
+    }
+    let place = Place {
+        state: RegionState::Opening,
+        server: at.pick.copy(alloc)?,
+    };
+    Ok(places(alloc, Answer::More(next), Some(place)))
+}
+
+/// Places the region at the server that was picked.
+pub(crate) fn get_assign_candidate(
+    alloc: Global,
+    next: u8,
+    at: &StepIn,
+) -> Result<StepOut, AllocError>
+    ensures { IfOk result
+        (λ out. out ≡ get_candidate next at.now.args at.now.rows at.now.place at.now.fenced at.now.pick) }
+{
+    let Some(region) = region_of(&at.args) else {
+        return Ok(goes_on(alloc, next));
+    };
+    let may_open = may_open_in(at.rows.as_slice(), region);
+    let place = told_place(alloc, &at.place)?;
+    candidate(alloc, next, may_open, &place, at)
+}
+
+/// Has the region opened at its place's server.
+pub(crate) fn open_there(
+    alloc: Global,
+    next: u8,
+    args: &Args,
+    place: &Option<Place>,
+) -> Result<StepOut, AllocError>
+    ensures { IfOk result (λ out. out ≡ opens next args.now place.now) }
+{
+    let Some(region) = region_of(args) else {
+        return Ok(goes_on(alloc, next));
+    };
+    let Some(server) = told_place(alloc, place)?.server else {
+        return Ok(goes_on(alloc, next));
+    };
+    let region = region.copy(alloc)?;
+    spawns_one(alloc, next, Args::AssignCall { region, server })
+}
+
+// One of those that ended told this.
+fn is_told(told: Told, ends: &[(Pid, Told)]) -> bool
+    ensures { result ≡ told_by told ends.now }
+{
+    for (_, end) in ends {
+        if end.number() == told.number() {
+            return true;
+        }
+    }
+    false
+}
+
+/// Takes in whether the region was opened.
+pub(crate) fn confirm_opened(
+    alloc: Global,
+    next: u8,
+    ends: &[(Pid, Told)],
+    place: &Option<Place>,
+) -> Result<StepOut, AllocError>
+    ensures { IfOk result (λ out. out ≡ confirms next ends.now place.now) }
+{
+    let server = told_place(alloc, place)?.server;
+    if is_told(Told::Opened, ends) {
+        let place = Place {
+            state: RegionState::Opened,
+            server,
+        };
+        Ok(places(alloc, Answer::Done(Told::Opened), Some(place)))
+    } else {
+        let place = Place {
+            state: RegionState::FailedOpen,
+            server,
+        };
+        Ok(places(alloc, Answer::More(next), Some(place)))
+    }
+}
+
+// Behind a close: the end for a region that is to be unassigned, and for others the way to another server.
+fn behind_close(goal: Goal, told: Told) -> Answer
+    ensures { result ≡ behind goal told }
+{
+    match goal {
+        Goal::Unassign => Answer::Done(told),
+        _ => Answer::More(0),
+    }
+}
+
+fn close_at(
+    alloc: Global,
+    next: u8,
+    region: &RegionName,
+    server: ServerName,
+) -> Result<StepOut, AllocError>
+    ensures { IfOk result (λ out. out ≡ closes_at next region.now server) }
+{
+    let call = Args::CloseCall {
+        region: region.copy(alloc)?,
+        server: server.copy(alloc)?,
+    };
+    let mut children = Vec::new(alloc);
+    children.push(Child::One(call))?;
+    Ok(StepOut {
+        answer: Answer::Wait(next),
+        edits: List::of(Vec::new(alloc)),
+        children: List::of(children),
+        call: None,
+        place: Some(Place {
+            state: RegionState::Closing,
+            server: Some(server),
+        }),
+        followers: List::of(Vec::new(alloc)),
+    })
+}
+
+// A region is closed where it is open; where its server is lost, so is it.
+fn close_or_go(
+    alloc: Global,
+    next: u8,
+    goal: Goal,
+    region: &RegionName,
+    place: Place,
+    fenced: bool,
+) -> Result<StepOut, AllocError>
+    ensures { IfOk result
+        (λ out. out ≡ closes_or_goes next goal region.now place (opened place fenced)) }
+{
+    if !is_open(&place, fenced) {
+        let lost = lost_if(is_state(RegionState::Opened, &place));
+        return Ok(places(alloc, behind_close(goal, Told::Nothing), lost));
+    }
+    let Some(server) = place.server else {
+        return Ok(goes_on(alloc, next));
+    };
+    close_at(alloc, next, region, server)
+}
+
+/// Has the region closed where it is open.
+pub(crate) fn close_there(
+    alloc: Global,
+    next: u8,
+    args: &Args,
+    place: &Option<Place>,
+    fenced: bool,
+) -> Result<StepOut, AllocError>
+    ensures { IfOk result (λ out. out ≡ closes next args.now place.now fenced) }
+{
+    let Some(region) = region_of(args) else {
+        return Ok(goes_on(alloc, next));
+    };
+    let place = told_place(alloc, place)?;
+    close_or_go(alloc, next, goal_in(args), region, place, fenced)
+}
+
+fn closed_or_lost(is_closed: bool) -> RegionState
+    ensures { result ≡ closed_if is_closed }
+{
+    if is_closed {
+        RegionState::Closed
+    } else {
+        RegionState::AbnormallyClosed
+    }
+}
+
+/// Takes in whether the region was closed.
+pub(crate) fn confirm_closed(alloc: Global, args: &Args, ends: &[(Pid, Told)]) -> StepOut
+    ensures { result ≡ confirms_closed args.now ends.now }
+{
+    let state = closed_or_lost(is_told(Told::Closed, ends));
+    let answer = behind_close(goal_in(args), Told::Closed);
+    places(alloc, answer, Some(nowhere(state)))
+}
+
+/// The region can be moved.
+pub(crate) fn check_move(alloc: Global, next: u8, args: &Args, rows: &[(CatKey, CatRow)]) -> StepOut
+    ensures { result ≡ checks next args.now rows.now }
+{
+    let Some(region) = region_of(args) else {
+        return goes_on(alloc, next);
+    };
+    let cause = region_ready(table_row(rows, &region.table), region_row(rows, region));
+    checked(alloc, next, cause)
+}
+
+// The place that is told is open, at a server that isn't fenced.
+fn is_open_at(place: &Option<Place>, fenced: bool) -> bool
+    ensures { result ≡ opened (place_told place.now) fenced }
+{
+    match place {
+        None => false,
+        Some(place) => is_open(place, fenced),
+    }
+}
+
+/// The region of a transit may be opened, and isn't open.
+pub(crate) fn wants_server(at: &StepIn) -> bool
+    ensures { result ≡ wanting (region_in at.now.args) at.now }
+{
+    match region_of(&at.args) {
+        None => false,
+        Some(region) => {
+            may_open_in(at.rows.as_slice(), region) && !is_open_at(&at.place, at.fenced)
+        }
+    }
+}

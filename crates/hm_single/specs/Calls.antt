@@ -1,0 +1,81 @@
+-- What the calls about a region find, and who moves it.
+use Rattle.std.specs.Prelude.{◌≡◌, ℕ, ◌<◌, [], ◌∷◌, Option, Some, None, ◌⊎◌}
+use Rattle.hm_names.specs.Region.{Region}
+use Rattle.hm_names.specs.Server.{Server}
+use Rattle.hm_data.specs.declared.args.Args.TheVariants as args_are
+use Rattle.hm_data.specs.declared.call.Peer.TheVariants as peer_is
+use Rattle.hm_data.specs.declared.call.Told.TheVariants as told_is
+use Rattle.hm_data.specs.declared.call.Verb.{Verb}
+use Rattle.hm_data.specs.declared.call.Verb.TheVariants as verb_is
+use Rattle.hm_data.specs.declared.entry.Entry.TheVariants as entry_is
+use Rattle.hm_model.specs.Answers.{report_of, row_of}
+use Rattle.hm_model.specs.Holding.{HoldsWith, IsFree}
+use Rattle.hm_model.specs.Journal.{Past}
+use Rattle.hm_model.specs.Reports.{verb_of, peer_of, last_call}
+use Rattle.hm_model.specs.Single.{IsOver, IsGone}
+use Rattle.hm_model.specs.Tree.{Node, node_of}
+use Rattle.hm_model.specs.Whereabouts.{moved_by}
+
+-- a procedure is a transit of the region
+abbrev pub Moves : Past → ℕ → Region → Type 0
+Moves J p region = (node : Node) × (node_of J p ≡ Some node) × (moved_by node.args ≡ Some region)
+
+-- a transit of the region has a step and hasn't ended, and this is the row that it runs next
+abbrev pub NextIs : Past → Region → ℕ → Type 0
+NextIs J region row =
+    (p : ℕ) × (node : Node) × (node_of J p ≡ Some node) × (moved_by node.args ≡ Some region)
+    × HoldsWith J [] p × (row_of J p node ≡ row)
+
+-- a call can't leave its region open at any server that isn't fenced: it failed to open, it closed, or its server is fenced
+abbrev pub IsVoidCall : Past → ℕ → Type 0
+IsVoidCall J p = (report_of J p ≡ Some told_is.FailedOpen) ⊎ ((report_of J p ≡ Some told_is.Closed) ⊎ IsGone J p)
+
+-- the last call of a region, if there is one, can't leave it open
+abbrev pub IsVoid : Past → Option ℕ → Type 0
+IsVoid J None = Unit {0}
+IsVoid J (Some p) = IsVoidCall J p
+
+-- the last call of a region opened it at the server
+abbrev pub IsOpenedBy : Past → Option ℕ → Server → Type 0
+IsOpenedBy J last server =
+    (p : ℕ) × (last ≡ Some p) × (peer_of J p ≡ Some (peer_is.Server server)) × (report_of J p ≡ Some told_is.Opened)
+
+-- a call's id is above that of the last one
+abbrev pub IsLater : ℕ → Option ℕ → Type 0
+IsLater id None = Unit {0}
+IsLater id (Some p) = p < id
+
+-- what a procedure finds when it makes a call: it made none before; of a region, all earlier ones have lower ids, and an
+-- opening finds the last one void, a close finds that the last one opened the region at its server
+abbrev pub Finds : Past → ℕ → Node → Option Verb → Type 0
+Finds J id node None = Unit {0}
+Finds J id node (Some (verb_is.AssignRegion region)) =
+    (verb_of J id ≡ None) × IsLater id (last_call J region) × IsVoid J (last_call J region)
+Finds J id node (Some (verb_is.CloseRegion region)) =
+    (verb_of J id ≡ None) × IsLater id (last_call J region)
+    × (server : Server) × (node.args ≡ args_are.CloseCall region server) × IsOpenedBy J (last_call J region) server
+Finds J id node (Some (verb_is.Fence server)) = verb_of J id ≡ None
+Finds J id node (Some (verb_is.Layout root)) = verb_of J id ≡ None
+Finds J id node (Some (verb_is.Sweep root)) = verb_of J id ≡ None
+
+-- before a region is opened each other opening of it is over
+abbrev pub MayOpen : Past → Option Verb → Type 0
+MayOpen before None = Unit {0}
+MayOpen before (Some (verb_is.AssignRegion region)) =
+    (p : ℕ) → verb_of before p ≡ Some (verb_is.AssignRegion region) → IsOver before p region
+MayOpen before (Some (verb_is.CloseRegion region)) = Unit {0}
+MayOpen before (Some (verb_is.Fence server)) = Unit {0}
+MayOpen before (Some (verb_is.Layout root)) = Unit {0}
+MayOpen before (Some (verb_is.Sweep root)) = Unit {0}
+
+-- each step was of a procedure that conflicted with none that held. Where locks are taken this is part of what may follow.
+abbrev pub AllFree : Past → Type 0
+AllFree [] = Unit {0}
+AllFree (entry_is.Start sheets ∷ before) = AllFree before
+AllFree (entry_is.Submit nonce request ∷ before) = AllFree before
+AllFree (entry_is.Step pid pick out ∷ before) = AllFree before × IsFree before [] pid.0
+AllFree (entry_is.Undo pid row out ∷ before) = AllFree before
+AllFree (entry_is.Report call told ∷ before) = AllFree before
+AllFree (entry_is.Up server ∷ before) = AllFree before
+AllFree (entry_is.Down server ∷ before) = AllFree before
+AllFree (entry_is.Abort pid ∷ before) = AllFree before

@@ -1,0 +1,6 @@
+//! The handler of transits.
+#![tactic(auto)]
+
+mod hands;
+
+pub use hands::TransitHands;
