@@ -1,0 +1,4 @@
+mod Order
+mod Ahead
+mod Asked
+mod Follows

@@ -1,0 +1,15 @@
+//! How the rows of a catalog follow those of a journal: laws, as functions that do nothing.
+ghost use Rattle.hm_catalog.specs.Laws.{DeedsTell, RowsAreAsked, RowsTell, StepsLead, UndosLead};
+
+/// Where the rows are those of a journal's catalog, the edits of an entry lead to those of the longer journal's.
+pub fn edits_lead()
+    ensures steps { StepsLead }
+    ensures undos { UndosLead }
+{}
+
+/// The rows of a journal's catalog tell it: each row, the rows that are asked for, and deeds.
+pub fn rows_tell()
+    ensures rows { RowsTell }
+    ensures asked { RowsAreAsked }
+    ensures deeds { DeedsTell }
+{}

@@ -1,0 +1,11 @@
+pub mod Blocking
+pub mod Clashes
+pub mod Found
+pub mod Keeping
+pub mod Keys
+pub mod Lowest
+pub mod Places
+pub mod Room
+pub mod Seating
+pub mod Ties
+pub mod Turns

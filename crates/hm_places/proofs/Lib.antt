@@ -1,0 +1,11 @@
+mod Sorted
+mod NameOrder
+mod Choice
+mod Live
+mod Kept
+mod Runs
+mod Addresses
+mod Lowest
+mod Fleets
+mod AtServers
+mod Told

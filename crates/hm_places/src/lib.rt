@@ -1,0 +1,17 @@
+//! Where regions are, and which servers there are.
+#![tactic(auto)]
+
+mod chosen;
+mod held;
+mod picking;
+mod places;
+mod refused;
+mod servers;
+mod standing;
+mod up;
+
+pub use held::OnServer;
+pub use places::Places;
+pub use refused::{DownRefused, UpRefused};
+pub use servers::Servers;
+pub use standing::Standing;

@@ -1,0 +1,9 @@
+//! Requests and what they do to a catalog, and stacks of steps, in tables. This library is empty but for its tests.
+#![tactic(auto)]
+
+#[cfg(test)]
+mod calls;
+#[cfg(test)]
+mod deeds;
+#[cfg(test)]
+mod stacks;

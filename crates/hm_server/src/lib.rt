@@ -1,0 +1,11 @@
+//! Region servers and the storage, as they serve the calls of a master.
+#![tactic(auto)]
+
+mod actor;
+mod duties;
+mod duty;
+mod storage;
+
+pub use actor::Actor;
+pub use duty::Duty;
+pub use storage::StorageActor;

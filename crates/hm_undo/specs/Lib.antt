@@ -1,0 +1,3 @@
+pub mod Stacks
+pub mod Kept
+pub mod Laws
