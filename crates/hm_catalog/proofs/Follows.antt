@@ -20,7 +20,7 @@ use Rattle.hm_model.specs.Deeds.{deed, unless}
 use Rattle.hm_model.specs.Journal.{Past}
 use Rattle.hm_model.specs.Keys.{same_key}
 use Rattle.hm_model.specs.RowLaws.{AllBehind, AreInOrder}
-use Rattle.hm_model.specs.Locks.{is_ns_or_table_in, is_region_in}
+use Rattle.hm_model.specs.Reads.{is_ns_or_table_in, is_region_in}
 use Rattle.hm_model.specs.NamespaceActs.{has_table}
 use Rattle.hm_model.specs.RowsSaid.{Rows, all_among}
 use Rattle.hm_model.proofs.KeyTests.{cases_key, key_cmp-is, key_cmp-same, same_key-refl}

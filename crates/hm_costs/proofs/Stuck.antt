@@ -78,7 +78,7 @@ module _ (pid : Pid) (pick : Option Server) (out : StepOut) (J : Past) (grown : 
     ];
   }
 
-sound_all : (J : Past) → IsLegal J → IsSoundJournal J
+pub sound_all : (J : Past) → IsLegal J → IsSoundJournal J
 sound_all [] legal = record { undone = λ p is. none-some answer_is.Undone is; caused = λ p node is. absurd (none-some node is) }
 sound_all (entry_is.Start sheets ∷ J) legal = let s = sound_all J legal.0 in record { undone = s.undone; caused = s.caused }
 sound_all (entry_is.Submit nonce request ∷ J) legal = let grown = grown_all J legal.0 in sound_rooted J (entry_is.Submit nonce request ∷ J) (submit_rooted nonce request J grown) grown (λ r. refl) (sound_all J legal.0)

@@ -1,6 +1,8 @@
--- That no tree is stuck by itself.
-use Rattle.std.specs.Prelude.{◌≡◌, ℕ, [], Some, false, ◌⊎◌}
+-- That no tree is stuck by itself, and how many entries it has at most.
+use Rattle.std.specs.Prelude.{◌≡◌, ℕ, ◌≤◌, [], Some, false, ◌⊎◌}
 use Rattle.hm_data.specs.declared.record.Phase.TheVariants as phase_is
+use Rattle.hm_model.specs.Costs.{cost}
+use Rattle.hm_model.specs.Entries.{entries_of, IsQuiet}
 use Rattle.hm_model.specs.Journal.{Past}
 use Rattle.hm_model.specs.Phase.{phase, root_ended}
 use Rattle.hm_model.specs.Rest.{MayUndo}
@@ -18,3 +20,9 @@ abbrev pub NoneStuck : Type 0
 NoneStuck =
     (J : Past) → IsLegal J → (r : ℕ) (node : Node) → node_of J r ≡ Some node → node.above ≡ [] → root_ended J r ≡ false
     → HasOneThatGoes J r ⊎ MayUndo J r
+
+-- the entries of a root's tree that nothing disturbed, with the one that makes the root, are at most what it costs
+abbrev pub CostBound : Type 0
+CostBound =
+    (J : Past) → IsLegal J → (r : ℕ) (node : Node) → node_of J r ≡ Some node → node.above ≡ []
+    → IsQuiet J r → entries_of J r ≤ cost J r node.args

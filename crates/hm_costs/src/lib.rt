@@ -1,7 +1,7 @@
-//! What every legal journal says of the work that is left: each function is a law. Its contract is proved, and its body
-//! has nothing to do.
+//! What every legal journal says of the work that is left, and of what a tree costs: each function is a law. Its contract is
+//! proved, and its body has nothing to do.
 #![tactic(auto)]
 
 mod laws;
 
-pub use laws::none_stuck;
+pub use laws::{cost_bound, none_stuck};

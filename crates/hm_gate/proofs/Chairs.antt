@@ -3,7 +3,7 @@ use Rattle.std.proofs.Common.{◌≡◌, ℕ, ◌+◌, ◌%◌, ◌^◌, ◌≤�
 use Rattle.std.specs.Prelude.{Option, Some}
 use mathlib.Core.Option.{none}
 use Rattle.atomic_table.specs.Table.{Allows, step, rest}
-use Rattle.hm_gate.specs.declared.view.Stage.TheVariants.{Out, Waits, Inside}
+use Rattle.hm_gate.specs.declared.view.Position.TheVariants.{Out, Waits, Inside}
 use Rattle.hm_gate.specs.Chair.{Chair}
 use Rattle.hm_gate.specs.Gate.{Ruled}
 use Rattle.hm_gate.specs.Hand.{hand}
@@ -13,14 +13,14 @@ use Rattle.hm_gate.specs.Whole.{Whole}
 use Rattle.hm_gate.proofs.Keeps.{raises-from, advances-after, put-in}
 
 module _ {I T : Type 0} where
-  pub out-in : (s t : Chair I T) → s ≡ t → t.view.stage ≡ Out → s.view.stage ≡ Out
-  out-in s t e out = ap (λ (z : Chair I T). z.view.stage) e ∙ out
+  pub out-in : (s t : Chair I T) → s ≡ t → t.view.position ≡ Out → s.view.position ≡ Out
+  out-in s t e out = ap (λ (z : Chair I T). z.view.position) e ∙ out
 
-  pub waits-in : (s t : Chair I T) (k : ℕ) → s ≡ t → t.view.stage ≡ Waits k → s.view.stage ≡ Waits k
-  waits-in s t k e waits = ap (λ (z : Chair I T). z.view.stage) e ∙ waits
+  pub waits-in : (s t : Chair I T) (k : ℕ) → s ≡ t → t.view.position ≡ Waits k → s.view.position ≡ Waits k
+  waits-in s t k e waits = ap (λ (z : Chair I T). z.view.position) e ∙ waits
 
-  pub inside-in : (s t : Chair I T) (k : ℕ) (o : List ℕ) → s ≡ t → t.view.stage ≡ Inside k o → s.view.stage ≡ Inside k o
-  inside-in s t k o e inside = ap (λ (z : Chair I T). z.view.stage) e ∙ inside
+  pub inside-in : (s t : Chair I T) (k : ℕ) (o : List ℕ) → s ≡ t → t.view.position ≡ Inside k o → s.view.position ≡ Inside k o
+  inside-in s t k o e inside = ap (λ (z : Chair I T). z.view.position) e ∙ inside
 
   pub parts-in : (s t : Chair I T) → s ≡ t → 2 ≤ t.view.parts → 2 ≤ s.view.parts
   parts-in s t e two = subst (λ (z : Chair I T). 2 ≤ z.view.parts) (sym e) two
@@ -35,7 +35,7 @@ module _ {I T : Type 0} where
   ends-out shown s t x e ends = subst (λ (z : Chair I T). Ends shown z.view x) e ends
 
 -- the steps of a seat that leaves: s is what lies in it, t what callers see, l what it had in hand, x the value that it put back
-module _ {I T S : Type 0} (shown : S → Whole I T) (start : S) (seats slots id : ℕ) (s t : Chair I T) (l : List (ℕ × Option S)) (k : ℕ) (x : S) (o : List ℕ) (seen : s ≡ t) (handed : l ≡ hand s.view) (inside : t.view.stage ≡ Inside k o) (may : May shown t.view x) where
+module _ {I T S : Type 0} (shown : S → Whole I T) (start : S) (seats slots id : ℕ) (s t : Chair I T) (l : List (ℕ × Option S)) (k : ℕ) (x : S) (o : List ℕ) (seen : s ≡ t) (handed : l ≡ hand s.view) (inside : t.view.position ≡ Inside k o) (may : May shown t.view x) where
   pub raises-in : (me : Token I T S) (count : ℕ) → me ≡ (s.view, (0, Some x) ∷ rest l) → count ≡ length ((shown x).items)
       → Allows (Ruled shown start seats) slots id me 0 (λ _. count) (λ _. raised shown (step slots 0 count 0 none) me count)
   raises-in me count put count_is =

@@ -7,11 +7,11 @@ use lib.ListN.{get_elem?}
 use Rattle.atomic_table.specs.Table.{State, Splits, Joins, Final, Seen, opening}
 use Rattle.atomic_table.proofs.Lists.{at_set, at_snoc}
 use Rattle.hm_gate.specs.declared.view.View.{View}
-use Rattle.hm_gate.specs.declared.view.Stage.{Stage}
-use Rattle.hm_gate.specs.declared.view.Stage.TheVariants.{Out, Waits, Inside}
+use Rattle.hm_gate.specs.declared.view.Position.{Position}
+use Rattle.hm_gate.specs.declared.view.Position.TheVariants.{Out, Waits, Inside}
 use Rattle.hm_gate.specs.Whole.{Whole}
 use Rattle.hm_gate.specs.Total.{total, same, under, times, entries, either}
-use Rattle.hm_gate.specs.Gate.{Begins, Stand, Stages, Fits, Ruled, Lies, opened, has, drew, turn, parts, wrote, owing}
+use Rattle.hm_gate.specs.Gate.{Begins, Stand, FitsAt, Fits, Ruled, Lies, opened, has, drew, turn, parts, wrote, owing}
 use Rattle.hm_gate.specs.Hand.{hand}
 use Rattle.hm_gate.specs.Seats.{longer, fewer, fresh, merged, spent, Ends}
 use Rattle.hm_gate.proofs.Prefixes.{begins-all, stand-append}
@@ -75,7 +75,7 @@ module _ {I T S : Type 0} (shown : S → Whole I T) (start : S) (seats : ℕ) wh
 
   only : (i : ℕ) (u : View I T) → get_elem? (opened shown start seats ∷ []) i ≡ some u → 1 ≤ seats → Fit 0 0 (shown start) u
   only zero u b some_seat = subst (Fit 0 0 (shown start)) (some-injective (opened shown start seats) u b)
-      (record { front = begins-all ((shown start).items) ((shown start).items) refl; mine = tt; stage = tt; stopped = λ h. h; spent = λ z. (refl, refl, refl); opening_is = λ _. refl; seats_is = λ _. refl; terms_is = λ _. refl })
+      (record { front = begins-all ((shown start).items) ((shown start).items) refl; mine = tt; position = tt; stopped = λ h. h; spent = λ z. (refl, refl, refl); opening_is = λ _. refl; seats_is = λ _. refl; terms_is = λ _. refl })
   only (suc i) u b some_seat = absurd (some-ne-none u (sym b))
 
   pub opens : (count : ℕ) → count ≡ length ((shown start).items) → (shown start).outs ≡ [] → seats < 2 ^ 32 → 1 ≤ seats → Holds (opening (count ∷ 0 ∷ 0 ∷ []) (Some start ∷ []) (opened shown start seats))
@@ -99,7 +99,7 @@ module _ {I T S : Type 0} (shown : S → Whole I T) (start : S) (seats : ℕ) wh
         distinct = λ n. let e : times n ((shown start).outs) ≡ 0 = ap (times n) none_out in omega arith;
       }
 
-  pub cuts : (id : ℕ) (v : View I T) → v.stage ≡ Out → 2 ≤ v.parts → Splits Holds id v (fewer v) (fresh v)
+  pub cuts : (id : ℕ) (v : View I T) → v.position ≡ Out → 2 ≤ v.parts → Splits Holds id v (fewer v) (fresh v)
   cuts id v out two s r at =
       let fit = r.each id v at in
       let cut : (f : View I T → ℕ) → f (fewer v) + f (fresh v) ≡ f v → total f (set s.views id (fewer v) ++ fresh v ∷ []) ≡ total f s.views = λ f e. total-cut f s.views id v (fewer v) (fresh v) at e in
@@ -114,10 +114,10 @@ module _ {I T S : Type 0} (shown : S → Whole I T) (start : S) (seats : ℕ) wh
         lies = subst (Lies shown r.whole s.homes) (sym (cut turn (omega arith))) r.lies;
         each = λ i u b. ⊎_elim
             (λ e. ⊎_elim
-            (λ p. subst (Fit r.served r.drawn r.whole) p.1 (record { front = fit.front; mine = fit.mine; stage = fit.stage; stopped = fit.stopped; spent = λ z. absurd (omega arith); opening_is = λ _. fit.opening_is (omega arith); seats_is = λ _. fit.seats_is (omega arith); terms_is = λ _. fit.terms_is (omega arith) }))
+            (λ p. subst (Fit r.served r.drawn r.whole) p.1 (record { front = fit.front; mine = fit.mine; position = fit.position; stopped = fit.stopped; spent = λ z. absurd (omega arith); opening_is = λ _. fit.opening_is (omega arith); seats_is = λ _. fit.seats_is (omega arith); terms_is = λ _. fit.terms_is (omega arith) }))
             (λ p. r.each i u p.1)
             (at_set s.views id i (fewer v) u e))
-            (λ e. subst (Fit r.served r.drawn r.whole) e (record { front = fit.front; mine = tt; stage = tt; stopped = fit.stopped; spent = λ z. absurd (omega arith); opening_is = λ _. fit.opening_is (omega arith); seats_is = λ _. fit.seats_is (omega arith); terms_is = λ _. fit.terms_is (omega arith) }))
+            (λ e. subst (Fit r.served r.drawn r.whole) e (record { front = fit.front; mine = tt; position = tt; stopped = fit.stopped; spent = λ z. absurd (omega arith); opening_is = λ _. fit.opening_is (omega arith); seats_is = λ _. fit.seats_is (omega arith); terms_is = λ _. fit.terms_is (omega arith) }))
             (at_snoc (set s.views id (fewer v)) (fresh v) u i b);
         begun = r.begun;
         shares = cut parts (omega arith) ∙ r.shares;
@@ -127,15 +127,15 @@ module _ {I T S : Type 0} (shown : S → Whole I T) (start : S) (seats : ℕ) wh
         distinct = r.distinct;
       }
 
-  pub glues : (id : ℕ) (v : View I T) (other : ℕ) (w : View I T) → v.stage ≡ Out → w.stage ≡ Out → 0 < v.parts → Joins Holds id v other w (merged v w) spent
+  pub glues : (id : ℕ) (v : View I T) (other : ℕ) (w : View I T) → v.position ≡ Out → w.position ≡ Out → 0 < v.parts → Joins Holds id v other w (merged v w) spent
   glues id v other w out out' some_part s r at ne at' =
       let a : View I T = merged v w in
       let fit = r.each id v at in
       let was : get_elem? s.views other ≡ some w = ⊎_elim (λ p. absurd (ne p.0)) (λ p. p.1) (at_set s.views id other a w at') in
       let fit' = r.each other w was in
       let joined : (f : View I T → ℕ) → f a + f spent ≡ f v + f w → total f (set (set s.views id a) other spent) ≡ total f s.views = λ f e. total-joined f s.views id other v w a spent at at' e in
-      let none_drew : drew w ≡ 0 = ap (λ (g : Stage). elim g as (λ _. ℕ) [ Out ↦ 0 | Waits k ↦ 1 | Inside k o ↦ 1 ]) out' in
-      let none_turn : turn w ≡ 0 = ap (λ (g : Stage). elim g as (λ _. ℕ) [ Out ↦ 0 | Waits k ↦ 0 | Inside k o ↦ 1 ]) out' in
+      let none_drew : drew w ≡ 0 = ap (λ (g : Position). elim g as (λ _. ℕ) [ Out ↦ 0 | Waits k ↦ 1 | Inside k o ↦ 1 ]) out' in
+      let none_turn : turn w ≡ 0 = ap (λ (g : Position). elim g as (λ _. ℕ) [ Out ↦ 0 | Waits k ↦ 0 | Inside k o ↦ 1 ]) out' in
       record {
         served = r.served;
         drawn = r.drawn;
@@ -143,15 +143,15 @@ module _ {I T S : Type 0} (shown : S → Whole I T) (start : S) (seats : ℕ) wh
         terms_are = r.terms_are;
         words = r.words;
         line = r.line ∙ ap (λ (k : ℕ). r.served + k) (sym (joined drew (omega arith)));
-        apart = λ t. let none_has : has t w ≡ 0 = ap (λ (g : Stage). elim g as (λ _. ℕ) [ Out ↦ 0 | Waits k ↦ same t k | Inside k o ↦ same t k ]) out' in subst (λ (k : ℕ). k ≤ 1) (sym (joined (has t) (omega arith))) (r.apart t);
+        apart = λ t. let none_has : has t w ≡ 0 = ap (λ (g : Position). elim g as (λ _. ℕ) [ Out ↦ 0 | Waits k ↦ same t k | Inside k o ↦ same t k ]) out' in subst (λ (k : ℕ). k ≤ 1) (sym (joined (has t) (omega arith))) (r.apart t);
         lies = subst (Lies shown r.whole s.homes) (sym (joined turn (omega arith))) r.lies;
         each = λ i u b. ⊎_elim
-            (λ e. subst (Fit r.served r.drawn r.whole) e.1 (record { front = (r.whole.items, refl); mine = tt; stage = tt; stopped = λ h. absurd (false≢true h); spent = λ _. (refl, refl, refl); opening_is = λ h. absurd (omega arith); seats_is = λ h. absurd (omega arith); terms_is = λ h. absurd (omega arith) }))
+            (λ e. subst (Fit r.served r.drawn r.whole) e.1 (record { front = (r.whole.items, refl); mine = tt; position = tt; stopped = λ h. absurd (false≢true h); spent = λ _. (refl, refl, refl); opening_is = λ h. absurd (omega arith); seats_is = λ h. absurd (omega arith); terms_is = λ h. absurd (omega arith) }))
             (λ e. ⊎_elim
             (λ p. subst (Fit r.served r.drawn r.whole) p.1 (record {
               front = begins-longer r.whole.items v.front w.front fit.front fit'.front;
               mine = stand-append r.whole.items v.mine w.mine fit.mine fit'.mine;
-              stage = subst (Stages r.served r.drawn r.whole a) (sym out) tt;
+              position = subst (FitsAt r.served r.drawn r.whole a) (sym out) tt;
               stopped = λ h. ⊎_elim fit.stopped fit'.stopped (or-true v.stopped w.stopped h);
               spent = λ z. absurd (omega arith);
               opening_is = λ _. fit.opening_is some_part;
@@ -169,13 +169,13 @@ module _ {I T S : Type 0} (shown : S → Whole I T) (start : S) (seats : ℕ) wh
         distinct = r.distinct;
       }
 
-  pub ends : (id : ℕ) (v : View I T) (ws : List ℕ) (xs : List (Option S)) → v.stage ≡ Out → v.parts ≡ v.seats → 0 < v.parts → Final (Seen Holds id v) ws xs → (x : S) × (get_elem? xs 0 ≡ some (Some x)) × Ends shown v x
+  pub ends : (id : ℕ) (v : View I T) (ws : List ℕ) (xs : List (Option S)) → v.position ≡ Out → v.parts ≡ v.seats → 0 < v.parts → Final (Seen Holds id v) ws xs → (x : S) × (get_elem? xs 0 ≡ some (Some x)) × Ends shown v x
   ends id v ws xs out all some_part f =
       let s = f.0 in let r = f.1.0 in let at = f.1.1 in
       let fit = r.each id v at in
       let sum : total parts s.views ≡ v.parts = r.shares ∙ sym (fit.seats_is some_part) ∙ sym all in
-      let none_turn : turn v ≡ 0 = ap (λ (g : Stage). elim g as (λ _. ℕ) [ Out ↦ 0 | Waits k ↦ 0 | Inside k o ↦ 1 ]) out in
-      let turns = total-alone turn parts s.views id v at sum (λ j u b z. ap (λ (g : Stage). elim g as (λ _. ℕ) [ Out ↦ 0 | Waits k ↦ 0 | Inside k o ↦ 1 ]) ((r.each j u b).spent z).2) in
+      let none_turn : turn v ≡ 0 = ap (λ (g : Position). elim g as (λ _. ℕ) [ Out ↦ 0 | Waits k ↦ 0 | Inside k o ↦ 1 ]) out in
+      let turns = total-alone turn parts s.views id v at sum (λ j u b z. ap (λ (g : Position). elim g as (λ _. ℕ) [ Out ↦ 0 | Waits k ↦ 0 | Inside k o ↦ 1 ]) ((r.each j u b).spent z).2) in
       let written : (n : ℕ) → total (wrote n) s.views ≡ entries n v.mine = λ n. total-alone (wrote n) parts s.views id v at sum (λ j u b z. ap (entries n) ((r.each j u b).spent z).0) in
       let owed : (n : ℕ) → total (owing n) s.views ≡ times n v.owes = λ n. total-alone (owing n) parts s.views id v at sum (λ j u b z. ap (times n) ((r.each j u b).spent z).1) in
       ⊎_elim
@@ -208,7 +208,7 @@ module _ {I T S : Type 0} (shown : S → Whole I T) (start : S) (seats : ℕ) wh
       subst (λ (z : S × List (Option S)). Ruled shown z.0 seats (opening (count ∷ 0 ∷ 0 ∷ []) z.1 (opened shown z.0 seats))) (λ i. (sym e i, sym f i)) (opens count is none_out few some_seat)
 
   -- what was taken out at the end is the value
-  pub ends-taken : (id : ℕ) (v : View I T) (ws : List ℕ) (xs : List (Option S)) (y : Option S) → v.stage ≡ Out → v.parts ≡ v.seats → 0 < v.parts → Final (Seen Holds id v) ws xs → get_elem? xs 0 ≡ some y → (x : S) × (y ≡ Some x) × Ends shown v x
+  pub ends-taken : (id : ℕ) (v : View I T) (ws : List ℕ) (xs : List (Option S)) (y : Option S) → v.position ≡ Out → v.parts ≡ v.seats → 0 < v.parts → Final (Seen Holds id v) ws xs → get_elem? xs 0 ≡ some y → (x : S) × (y ≡ Some x) × Ends shown v x
   ends-taken id v ws xs y out all some_part f got = let r = ends id v ws xs out all some_part f in (r.0, some-injective y (Some r.0) (sym got ∙ r.1), r.2)
 
 module _ {I T S : Type 0} where

@@ -4,8 +4,8 @@ use mathlib.Core.Option.{some, none}
 use lib.ListN.{get_elem?}
 use Rattle.atomic_table.specs.Table.{State}
 use Rattle.hm_gate.specs.declared.view.View.{View}
-use Rattle.hm_gate.specs.declared.view.Stage.{Stage}
-use Rattle.hm_gate.specs.declared.view.Stage.TheVariants.{Out, Waits, Inside}
+use Rattle.hm_gate.specs.declared.view.Position.{Position}
+use Rattle.hm_gate.specs.declared.view.Position.TheVariants.{Out, Waits, Inside}
 use Rattle.hm_gate.specs.Whole.{Whole}
 use Rattle.hm_gate.specs.Total.{total, same, under, times, entries}
 
@@ -21,19 +21,19 @@ Stand items (x ∷ xs) = (slice_get items x.0 ≡ Some x.1) × Stand items xs
 module _ {I T : Type 0} where
   -- it has no ticket
   abbrev pub IsOutside : View I T → Type 0
-  IsOutside v = v.stage ≡ Out
+  IsOutside v = v.position ≡ Out
 
   -- 1 where the view has the ticket t
   abbrev pub has : ℕ → View I T → ℕ
-  has t v = elim v.stage as (λ _. ℕ) [ Out ↦ 0 | Waits k ↦ same t k | Inside k o ↦ same t k ]
+  has t v = elim v.position as (λ _. ℕ) [ Out ↦ 0 | Waits k ↦ same t k | Inside k o ↦ same t k ]
 
   -- 1 where it has a ticket
   abbrev pub drew : View I T → ℕ
-  drew v = elim v.stage as (λ _. ℕ) [ Out ↦ 0 | Waits k ↦ 1 | Inside k o ↦ 1 ]
+  drew v = elim v.position as (λ _. ℕ) [ Out ↦ 0 | Waits k ↦ 1 | Inside k o ↦ 1 ]
 
   -- 1 where it has the turn
   abbrev pub turn : View I T → ℕ
-  turn v = elim v.stage as (λ _. ℕ) [ Out ↦ 0 | Waits k ↦ 0 | Inside k o ↦ 1 ]
+  turn v = elim v.position as (λ _. ℕ) [ Out ↦ 0 | Waits k ↦ 0 | Inside k o ↦ 1 ]
 
   -- its parts
   abbrev pub parts : View I T → ℕ
@@ -49,18 +49,18 @@ module _ {I T : Type 0} where
 
   module _ (served drawn : ℕ) (whole : Whole I T) where
     -- its ticket is drawn and not served yet; with the turn it is the one that is served, and the view knows the whole
-    abbrev pub Stages : View I T → Stage → Type 0
-    Stages v Out = Unit {0}
-    Stages v (Waits t) = (served ≤ t) × (t < drawn)
-    Stages v (Inside t o) = (t ≡ served) × (served < drawn) × (v.front ≡ whole.items) × (o ≡ whole.outs) × (v.stopped ≡ whole.stopped)
+    abbrev pub FitsAt : View I T → Position → Type 0
+    FitsAt v Out = Unit {0}
+    FitsAt v (Waits t) = (served ≤ t) × (t < drawn)
+    FitsAt v (Inside t o) = (t ≡ served) × (served < drawn) × (v.front ≡ whole.items) × (o ≡ whole.outs) × (v.stopped ≡ whole.stopped)
 
     -- a view is of this gate: its front and its items are the whole's, and a spent one has nothing
     pub record Fits (opening : List I) (seats : ℕ) (terms : T) (v : View I T) : Type 0 where
       pub front : Begins whole.items v.front
       pub mine : Stand whole.items v.mine
-      pub stage : Stages v v.stage
+      pub position : FitsAt v v.position
       pub stopped : v.stopped ≡ true → whole.stopped ≡ true
-      pub spent : v.parts ≡ 0 → (v.mine ≡ []) × (v.owes ≡ []) × (v.stage ≡ Out)
+      pub spent : v.parts ≡ 0 → (v.mine ≡ []) × (v.owes ≡ []) × (v.position ≡ Out)
       pub opening_is : 0 < v.parts → v.opening ≡ opening
       pub seats_is : 0 < v.parts → v.seats ≡ seats
       pub terms_is : 0 < v.parts → v.terms ≡ Some terms
@@ -94,4 +94,4 @@ module _ {I T S : Type 0} (shown : S → Whole I T) where
 
   -- the first seat's view
   abbrev pub opened : S → ℕ → View I T
-  opened x seats = record { front = (shown x).items; mine = []; owes = []; stage = Out; stopped = (shown x).stopped; parts = seats; seats = seats; opening = (shown x).items; terms = Some ((shown x).terms) }
+  opened x seats = record { front = (shown x).items; mine = []; owes = []; position = Out; stopped = (shown x).stopped; parts = seats; seats = seats; opening = (shown x).items; terms = Some ((shown x).terms) }

@@ -2,8 +2,8 @@
 use Rattle.std.specs.Prelude.{◌≡◌, ◌≢◌, ℕ, ◌%◌, ◌^◌, ◌≤◌, true, List, [], ◌∷◌, ◌++◌, length, drop, Option, Some}
 use Rattle.atomic_table.specs.Table.{Me, Step}
 use Rattle.hm_gate.specs.declared.view.View.{View}
-use Rattle.hm_gate.specs.declared.view.Stage.{Stage}
-use Rattle.hm_gate.specs.declared.view.Stage.TheVariants.{Out, Waits, Inside}
+use Rattle.hm_gate.specs.declared.view.Position.{Position}
+use Rattle.hm_gate.specs.declared.view.Position.TheVariants.{Out, Waits, Inside}
 use Rattle.hm_gate.specs.Whole.{Whole}
 use Rattle.hm_gate.specs.Total.{times, entries, numbered, among, beyond}
 use Rattle.hm_gate.specs.Gate.{Begins, Stand}
@@ -13,37 +13,37 @@ abbrev pub Token : Type 0 → Type 0 → Type 0 → Type 0
 Token I T S = Me (Option S) (View I T)
 
 -- inside, other outs are noted
-abbrev pub restaged : List ℕ → Stage → Stage
-restaged o Out = Out
-restaged o (Waits t) = Waits t
-restaged o (Inside t old) = Inside t o
+abbrev pub repositioned : List ℕ → Position → Position
+repositioned o Out = Out
+repositioned o (Waits t) = Waits t
+repositioned o (Inside t old) = Inside t o
 
 module _ {I T : Type 0} where
   -- the seat is inside, and has seen these items and noted these outs
   abbrev pub IsInside : List I → List ℕ → View I T → Type 0
-  IsInside items outs v = (v.front ≡ items) × ((t : ℕ) × (v.stage ≡ Inside t outs))
+  IsInside items outs v = (v.front ≡ items) × ((t : ℕ) × (v.position ≡ Inside t outs))
 
-  -- the view at another stage
-  abbrev pub staged : View I T → Stage → View I T
-  staged v stage = record v { stage = stage }
+  -- the view at another position
+  abbrev pub positioned : View I T → Position → View I T
+  positioned v position = record v { position = position }
 
   -- the outs that were noted
   abbrev pub noted : View I T → List ℕ
-  noted v = elim v.stage as (λ _. List ℕ) [ Out ↦ [] | Waits k ↦ [] | Inside k o ↦ o ]
+  noted v = elim v.position as (λ _. List ℕ) [ Out ↦ [] | Waits k ↦ [] | Inside k o ↦ o ]
 
 module _ {I T S : Type 0} where
   -- a ticket was drawn, the number found
   abbrev pub drew_one : Step (Option S) → Token I T S → ℕ → Token I T S → Type 0
-  drew_one st m found m' = (t : ℕ) × (found ≡ t % 2 ^ 64) × (m' ≡ (staged m.0 (Waits t), m.1))
+  drew_one st m found m' = (t : ℕ) × (found ≡ t % 2 ^ 64) × (m' ≡ (positioned m.0 (Waits t), m.1))
 
   -- the ticket, the turn and the note are given up
   abbrev pub went : Step (Option S) → Token I T S → ℕ → Token I T S → Type 0
-  went st m found m' = m' ≡ (staged m.0 Out, [])
+  went st m found m' = m' ≡ (positioned m.0 Out, [])
 
 module _ {I T S : Type 0} (shown : S → Whole I T) where
   -- the view of a seat that went in with the ticket t and found x
   abbrev pub entered : View I T → ℕ → S → View I T
-  entered v t x = record v { front = (shown x).items; stage = Inside t ((shown x).outs); stopped = (shown x).stopped }
+  entered v t x = record v { front = (shown x).items; position = Inside t ((shown x).outs); stopped = (shown x).stopped }
 
   -- what a seat owes that leaves x: what it owed and is out still, and what came to the outs
   abbrev pub owing_after : View I T → S → List ℕ
@@ -55,11 +55,11 @@ module _ {I T S : Type 0} (shown : S → Whole I T) where
 
   -- the view of a seat that is to leave x
   abbrev pub changed : View I T → S → View I T
-  changed v x = record v { front = (shown x).items; mine = v.mine ++ added v x; owes = owing_after v x; stage = restaged ((shown x).outs) v.stage; stopped = (shown x).stopped }
+  changed v x = record v { front = (shown x).items; mine = v.mine ++ added v x; owes = owing_after v x; position = repositioned ((shown x).outs) v.position; stopped = (shown x).stopped }
 
   -- the view of a seat that left x
   abbrev pub left : View I T → S → View I T
-  left v x = staged (changed v x) Out
+  left v x = positioned (changed v x) Out
 
   -- the items, the outs and whether it is stopped become those of the value in hand
   abbrev pub raised : Step (Option S) → Token I T S → ℕ → Token I T S → Type 0
@@ -85,5 +85,5 @@ module _ {I T S : Type 0} (shown : S → Whole I T) where
 
   -- where the number found is its ticket, it has its turn and the value
   abbrev pub looked : Step (Option S) → Token I T S → ℕ → Token I T S → Type 0
-  looked st m found m' = (t : ℕ) → m.0.stage ≡ Waits t
+  looked st m found m' = (t : ℕ) → m.0.position ≡ Waits t
       → (found ≡ t % 2 ^ 64 → (x : S) × Found m.0 x × (m' ≡ (entered m.0 t x, (0, Some x) ∷ []))) × (found ≢ t % 2 ^ 64 → m' ≡ m)

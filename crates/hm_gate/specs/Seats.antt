@@ -1,7 +1,7 @@
 -- What becomes of views when seats are cut and joined, and at the end.
 use Rattle.std.specs.Prelude.{◌≡◌, ◌⊎◌, ℕ, ◌+◌, ◌-◌, ◌<◌, ◌≤◌, true, ◌||◌, false, List, [], ◌++◌, length, None, Some}
 use Rattle.hm_gate.specs.declared.view.View.{View}
-use Rattle.hm_gate.specs.declared.view.Stage.TheVariants.{Out}
+use Rattle.hm_gate.specs.declared.view.Position.TheVariants.{Out}
 use Rattle.hm_gate.specs.Whole.{Whole}
 use Rattle.hm_gate.specs.Total.{under, times, entries, either}
 use Rattle.hm_gate.specs.Gate.{Begins, Stand}
@@ -17,7 +17,7 @@ module _ {I T : Type 0} where
 
   -- the part that was cut off: it has seen as much, and added and owes nothing
   abbrev pub fresh : View I T → View I T
-  fresh v = record v { mine = []; owes = []; stage = Out; parts = 1 }
+  fresh v = record v { mine = []; owes = []; position = Out; parts = 1 }
 
   -- two made one: what both added and owe, and the longer of what they had seen
   abbrev pub merged : View I T → View I T → View I T
@@ -25,7 +25,7 @@ module _ {I T : Type 0} where
 
   -- what is left of a seat that was made one with another
   abbrev pub spent : View I T
-  spent = record { front = []; mine = []; owes = []; stage = Out; stopped = false; parts = 0; seats = 0; opening = []; terms = None }
+  spent = record { front = []; mine = []; owes = []; position = Out; stopped = false; parts = 0; seats = 0; opening = []; terms = None }
 
 -- what the seat with all parts knows of the value at the end: its items are those that the gate was made of and, behind
 -- them, those that the seat added, each once at its number; its outs are what the seat owes

@@ -2,8 +2,8 @@
 ghost use Rattle.std.specs.Prelude.{◌≡◌, ℕ, ◌%◌, ◌^◌, ◌≤◌, [], IfOk, IfErr};
 ghost use Rattle.hm_gate.specs.Gate.{opened, IsOutside};
 ghost use Rattle.hm_gate.specs.Seats.{fewer, fresh, merged, Ends};
-ghost use Rattle.hm_gate.specs.Plays.{IsInside, staged, entered, left, Found, May};
-ghost use Rattle.hm_gate.specs.declared.view.Stage.TheVariants.{Waits};
+ghost use Rattle.hm_gate.specs.Plays.{IsInside, positioned, entered, left, Found, May};
+ghost use Rattle.hm_gate.specs.declared.view.Position.TheVariants.{Waits};
 
 use crate::kept::Kept;
 use crate::law::Turns;
@@ -137,7 +137,7 @@ impl<V: Kept> Gate<V> {
         requires gate { seat.old.gate ≡ self.now }
         requires out { IsOutside seat.old.view }
         ensures gate { seat.new.gate ≡ seat.old.gate }
-        ensures ticket { (t : ℕ) × (result ≡ t % 2 ^ 64) × (seat.new.view ≡ staged seat.old.view (Waits t)) }
+        ensures ticket { (t : ℕ) × (result ≡ t % 2 ^ 64) × (seat.new.view ≡ positioned seat.old.view (Waits t)) }
     {
         self.table.shared.fetch_add::<Draw>(&mut seat.place, 1, 1)
     }
@@ -145,7 +145,7 @@ impl<V: Kept> Gate<V> {
     // Takes the value, where it is the ticket's turn.
     fn look(&self, seat: &mut Seat<V>, ticket: u64) -> Result<V, u64>
         requires gate { seat.old.gate ≡ self.now }
-        requires waits { (t : ℕ) × (ticket ≡ t % 2 ^ 64) × (seat.old.view.stage ≡ Waits t) }
+        requires waits { (t : ℕ) × (ticket ≡ t % 2 ^ 64) × (seat.old.view.position ≡ Waits t) }
         ensures gate { seat.new.gate ≡ seat.old.gate }
         ensures none { IfErr result (λ _. seat.new.view ≡ seat.old.view) }
         ensures some { IfOk result (λ x. Found V.shown seat.old.view x × ((t : ℕ) × (seat.new.view ≡ entered V.shown seat.old.view t x))) }

@@ -13,4 +13,4 @@ mod view;
 pub use gate::Gate;
 pub use kept::Kept;
 pub use seat::{Held, Seat, SeatOf};
-pub use view::{Stage, View};
+pub use view::{Position, View};

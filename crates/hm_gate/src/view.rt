@@ -1,7 +1,7 @@
 use std::collections::LinkedList;
 
 /// Where a seat stands.
-pub enum Stage {
+pub enum Position {
     /// It has no ticket.
     Out,
     /// It drew this ticket.
@@ -18,7 +18,7 @@ pub struct View<I, T> {
     pub mine: LinkedList<(u64, I)>,
     /// What it has to bring back.
     pub owes: LinkedList<u64>,
-    pub stage: Stage,
+    pub position: Position,
     pub stopped: bool,
     pub parts: u64,
     /// The parts of all seats of the gate.

@@ -28,7 +28,8 @@ use Rattle.hm_model.specs.Journal.{Past}
 use Rattle.hm_model.specs.Keys.{same_key}
 use Rattle.hm_model.specs.Kinds.{is_running_kind, request_kind}
 use Rattle.hm_model.specs.Rules.{Allowed, AreSheets, IsLegal}
-use Rattle.hm_model.specs.Stages.{IsShaped, IsStep, adding, creating}
+use Rattle.hm_model.specs.Stages.{creating}
+use Rattle.hm_model.specs.StageSteps.{IsShaped, IsStep, adding}
 use Rattle.hm_model.specs.Tree.{Node, made, node_of, submitted}
 use Rattle.hm_model.proofs.Grown.{grown_all, step_node, submit_new, submit_old}
 use Rattle.hm_model.proofs.Stages.{shaped, step_all, step_plain}

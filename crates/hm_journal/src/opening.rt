@@ -152,7 +152,7 @@ fn open_log<D: Disk>(alloc: Global, disk: D) -> Result<(Log<D>, Frames), (D, Jou
     ensures durable { D.tells → IfOk result (λ r. (c : List ℕ) → D.image r.0.disk c → Reads c r.1) }
     ensures settles { D.tells → IfOk result (λ r. Settles D.moment D.left_since disk r.0.disk (λ c. D.image disk c ⊎ IsMaking (D.seen disk) c) (λ c. Reads c r.1)) }
     ensures why { D.tells → IfErr result (λ e. (sheets : List SheetValue) → Refuses sheets (D.seen disk) e.1) }
-    ensures exact { D.tells → (frames : List (List ℕ)) → HoldsFrames (D.seen disk) frames → MatchResult result (λ r. r.1 ≡ frames) (λ e. IsUnjudged e.1) }
+    ensures accepts { D.tells → (frames : List (List ℕ)) → HoldsFrames (D.seen disk) frames → MatchResult result (λ r. r.1 ≡ frames) (λ e. IsUnjudged e.1) }
     ensures fault { IfErr result (λ e. e.1 ≡ JournalWhy.Fault → Rose (D.faults disk) (D.faults e.0)) }
     ensures same { IfErr result (λ e. e.1 ≢ JournalWhy.Fault → D.seen e.0 ≡ D.seen disk) }
     ensures left { D.tells → IfErr result (λ e. (frames : List (List ℕ)) → 0 < length (D.seen disk) → HoldsFrames (D.seen disk) frames → Reads (D.seen e.0) frames) }
@@ -254,7 +254,7 @@ impl<D: Disk> Journal<D> {
 
         // When which error comes.
         ensures why { D.tells → IfErr result (λ e. Refuses sheets.now (D.seen disk) e.1) }
-        ensures exact { D.tells → (journal : List EntryValue) → IsOnDisk sheets.now (D.seen disk) journal →
+        ensures accepts { D.tells → (journal : List EntryValue) → IsOnDisk sheets.now (D.seen disk) journal →
             MatchResult result (λ r. r.0.kept.entries ≡ opened sheets.now journal) (λ e. IsUnjudged e.1) }
         ensures fault { IfErr result (λ e. e.1 ≡ JournalWhy.Fault → Rose (D.faults disk) (D.faults e.0)) }
 
@@ -277,7 +277,7 @@ impl<D: Disk> Journal<D> {
     pub fn check(alloc: Global, disk: &mut D, sheets: &[Sheet]) -> Result<u64, JournalWhy>
         ensures count { D.tells → IfOk result (λ n. (journal : List EntryValue) × IsOnDiskByKind sheets.now (D.seen disk.old) journal × (n ≡ length journal)) }
         ensures why { D.tells → IfErr result (Refuses sheets.now (D.seen disk.old)) }
-        ensures exact { D.tells → (journal : List EntryValue) → IsOnDiskByKind sheets.now (D.seen disk.old) journal →
+        ensures accepts { D.tells → (journal : List EntryValue) → IsOnDiskByKind sheets.now (D.seen disk.old) journal →
             MatchResult result (λ n. n ≡ length journal) IsUnjudged }
         ensures fault { IsErrOf result JournalWhy.Fault → Rose (D.faults disk.old) (D.faults disk.new) }
         ensures only_reads { OnlyReads D.Disk disk.old disk.new }

@@ -27,7 +27,8 @@ use Rattle.hm_model.specs.Rest.{IsAtRest, IsAvailable, IsReady, MayStep, MayStep
 use Rattle.hm_model.specs.Rules.{IsLegal}
 use Rattle.hm_model.specs.Sheets.{sheets_of}
 use Rattle.hm_model.specs.StageLaws.{is_ending, is_submission}
-use Rattle.hm_model.specs.Stages.{IsShaped, IsStep, Stage, creating, simple_phase}
+use Rattle.hm_model.specs.Stages.{Stage, creating}
+use Rattle.hm_model.specs.StageSteps.{IsShaped, IsStep, simple_phase}
 use Rattle.hm_model.specs.Tree.{Node, is_root, is_root_in, is_top, made, node_of, submitted}
 use Rattle.hm_data.specs.declared.entry.Entry.TheVariants as entry_is
 use Rattle.hm_data.specs.declared.answer.Answer.TheVariants as answer_is

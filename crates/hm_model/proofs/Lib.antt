@@ -25,6 +25,8 @@ pub mod StepDoes
 pub mod Trees
 pub mod UndoMakes
 mod Crashed
+mod Named
+pub mod CameUp
 mod Undone
 mod Beside
 pub mod NameTies

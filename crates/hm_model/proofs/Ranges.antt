@@ -26,7 +26,8 @@ use Rattle.hm_model.specs.Phase.{cause}
 use Rattle.hm_model.specs.Rules.{IsLegal}
 use Rattle.hm_model.specs.Sheets.{row_in, sheets_of}
 use Rattle.hm_model.specs.StageLaws.{IsPlaced}
-use Rattle.hm_model.specs.Stages.{LeadsToAdd, Stage, create_row, creating, creating_input}
+use Rattle.hm_model.specs.Stages.{LeadsToAdd, Stage, create_row, creating}
+use Rattle.hm_model.specs.StageSteps.{creating_input}
 use Rattle.hm_model.specs.Evaluation.{CanStep, is_cut_off, is_picking, is_step, picks_at, wants_server}
 use Rattle.hm_model.specs.Tree.{Node, node_of}
 use Rattle.hm_model.specs.Views.{region_of}

@@ -17,7 +17,8 @@ use Rattle.hm_model.specs.Inputs.{rows_read}
 use Rattle.hm_model.specs.Journal.{Past}
 use Rattle.hm_model.specs.Keys.{same_key}
 use Rattle.hm_model.specs.RowLaws.{AllBehind, AreInOrder}
-use Rattle.hm_model.specs.Locks.{IsIn, is_ns, reads}
+use Rattle.hm_model.specs.Locks.{IsIn}
+use Rattle.hm_model.specs.Reads.{is_ns, reads}
 use Rattle.hm_data.specs.declared.entry.Entry.TheVariants as entry_is
 use Rattle.hm_data.specs.declared.args.Args.TheVariants as args_are
 use Rattle.hm_data.specs.declared.request.Request.TheVariants as request_is

@@ -31,7 +31,8 @@ use Rattle.hm_model.specs.Procedures.{sheet_at}
 use Rattle.hm_model.specs.Rest.{MayStep}
 use Rattle.hm_model.specs.Rules.{Allowed, IsLegal}
 use Rattle.hm_model.specs.Sheets.{row_in, sheets_of, undo_by, undo_of_next}
-use Rattle.hm_model.specs.Stages.{AddsIt, FindsFree, FindsTaken, IsAddPlace, IsFlat, IsPlain, IsShaped, IsSimple, IsStaged, IsStep, LeadsToAdd, Stage, adding, create_row, creating, creating_input, failing_in, simple_phase}
+use Rattle.hm_model.specs.Stages.{IsAddPlace, IsPlain, IsSimple, IsStaged, LeadsToAdd, Stage, create_row, creating, failing_in}
+use Rattle.hm_model.specs.StageSteps.{AddsIt, FindsFree, FindsTaken, IsFlat, IsShaped, IsStep, adding, creating_input, simple_phase}
 use Rattle.hm_model.specs.Tree.{Node, is_top, made, node_of, root_in, root_of}
 use Rattle.hm_model.specs.Undo.{Undoable, is_empty, pushed, row_if_there, stack}
 use Rattle.hm_model.specs.Whereabouts.{called_by}

@@ -9,7 +9,7 @@ use Rattle.hm_data.specs.declared.request.Request.{Request}
 use Rattle.hm_data.specs.declared.request.Request.TheVariants as request_is
 use Rattle.hm_model.specs.Catalog.{Catalog, was, keys_of, rows_at}
 use Rattle.hm_model.specs.Journal.{Past}
-use Rattle.hm_model.specs.Locks.{is_region_in}
+use Rattle.hm_model.specs.Reads.{is_region_in}
 use Rattle.hm_model.specs.Places.{load}
 use Rattle.hm_model.specs.RowsSaid.{Rows, all_among, live_among}
 use Rattle.hm_model.specs.Tree.{made}

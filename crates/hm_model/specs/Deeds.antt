@@ -15,7 +15,7 @@ use Rattle.hm_model.specs.Catalog.{Catalog, set_to, rows_at}
 use Rattle.hm_model.specs.Changes.{changed, add_ranges, remove_regions, split_edits, merge_edits}
 use Rattle.hm_model.specs.Checks.{namespace_free, namespace_empty, table_free, table_disabled, table_enabled, region_ready, can_split, can_merge}
 use Rattle.hm_model.specs.Kinds.{table_of_first}
-use Rattle.hm_model.specs.Locks.{is_ns_or_table_in, is_region_in}
+use Rattle.hm_model.specs.Reads.{is_ns_or_table_in, is_region_in}
 use Rattle.hm_model.specs.NamespaceActs.{has_table}
 use Rattle.hm_model.specs.Pieces.{ranges_between}
 use Rattle.hm_model.specs.RowsSaid.{Rows, all_among, in_state, in_version}

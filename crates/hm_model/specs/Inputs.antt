@@ -17,7 +17,7 @@ use Rattle.hm_model.specs.Catalog.{cat, keys_of, rows_at}
 use Rattle.hm_model.specs.Fleet.{is_fenced}
 use Rattle.hm_model.specs.Journal.{Past}
 use Rattle.hm_model.specs.Kinds.{kind_of}
-use Rattle.hm_model.specs.Locks.{reads}
+use Rattle.hm_model.specs.Reads.{reads}
 use Rattle.hm_model.specs.Evaluation.{answer_of}
 use Rattle.hm_model.specs.Phase.{cause, all_stopped, child_in, end_of}
 use Rattle.hm_model.specs.Places.{place_of, on_server, tries_of}

@@ -8,6 +8,7 @@ pub mod Undo
 pub mod Phase
 pub mod Catalog
 pub mod Locks
+pub mod Reads
 pub mod Lists
 pub mod ActSorts
 pub mod Validity
@@ -48,6 +49,7 @@ pub mod Entries
 pub mod Ranges
 pub mod Single
 pub mod Stages
+pub mod StageSteps
 pub mod StageLaws
 pub mod Forms
 pub mod Forest
@@ -58,3 +60,4 @@ pub mod Calls
 pub mod RowLaws
 pub mod Laws
 pub mod Actors
+pub mod Layouts

@@ -8,7 +8,8 @@ use Rattle.hm_model.specs.Answers.{row_of}
 use Rattle.hm_model.specs.Catalog.{cat, keys_of, row_at}
 use Rattle.hm_model.specs.Inputs.{rows_read}
 use Rattle.hm_model.specs.Journal.{Past}
-use Rattle.hm_model.specs.Locks.{IsIn, reads}
+use Rattle.hm_model.specs.Locks.{IsIn}
+use Rattle.hm_model.specs.Reads.{reads}
 use Rattle.hm_model.specs.Rules.{IsLegal}
 use Rattle.hm_model.specs.Tree.{Node}
 

@@ -25,7 +25,8 @@ use Rattle.hm_data.specs.declared.entry.Entry.TheVariants as entry_is
 use Rattle.hm_data.specs.declared.args.Args.TheVariants as args_are
 use Rattle.hm_data.specs.declared.request.Request.TheVariants as request_is
 use Rattle.hm_data.specs.declared.catalog.CatKey.TheVariants as key_is
-use Rattle.hm_model.specs.Stages.{IsSimple, IsStaged, IsStep, IsFlat, IsShaped}
+use Rattle.hm_model.specs.Stages.{IsSimple, IsStaged}
+use Rattle.hm_model.specs.StageSteps.{IsStep, IsFlat, IsShaped}
 
 -- each procedure is a request for a namespace
 abbrev pub AllSimple : Type 0

@@ -1,5 +1,5 @@
 -- The order of servers by their addresses, and the start codes at an address.
-use Rattle.std.proofs.Common.{◌≡◌, ℕ, zero, suc, ◌<◌, ◌≤◌, List, [], ◌∷◌, max, slice_get, Some, true, false, ◌&&◌, ◌==◌, refl, inl, inr, arith, ap, sym, ◌∙◌}
+use Rattle.std.proofs.Common.{nat_lt, ◌≡◌, ℕ, zero, suc, ◌<◌, ◌≤◌, List, [], ◌∷◌, max, slice_get, Some, true, false, ◌&&◌, ◌==◌, refl, inl, inr, arith, ap, sym, ◌∙◌}
 use Rattle.std.specs.Cmp.{IsTotalOrder}
 use Rattle.std.specs.Cmp.Lexicographic.{texts_ties}
 use Rattle.std.specs.Ordering.{is_eq, is_lt, ordering_then, ordering_reverse, nat_cmp, on, then_cmp}
@@ -112,13 +112,29 @@ module _ (server : Server) where
       → greatest_start (row ∷ rows) server ≡ 0
   past row rows rising from off = rw off (none_there row.0 rows (above_address row.0 from off) (first_low row rows rising))
 
+  none_behind : (p : Server) (rows : List (Server × Standing)) → address_cmp server p ≡ Less → ((j : ℕ) (b : Server × Standing) → slice_get rows j ≡ Some b → server_cmp p b.0 ≡ Less) → (j : ℕ) (b : Server × Standing) → slice_get rows j ≡ Some b → same_address server b.0 ≡ false
+  none_behind p rows low each j b there = still_above p b.0 low (each j b there)
+
+  pub above_all : (row : Server × Standing) (rows : List (Server × Standing)) → IsRising server_cmp (row ∷ rows) → is_lt (server_cmp row.0 server) ≡ false → same_address server row.0 ≡ false
+      → (j : ℕ) (b : Server × Standing) → slice_get rows j ≡ Some b → same_address server b.0 ≡ false
+  above_all row rows rising from off = none_behind row.0 rows (above_address row.0 from off) (first_low row rows rising)
+
   -- what stands below a server at its address has a lesser start code
-  older : (p : Server) → server_cmp p server ≡ Less → same_address server p ≡ true → p.start < server.start
+  pub older : (p : Server) → server_cmp p server ≡ Less → same_address server p ≡ true → p.start < server.start
   older p less on =
       let tie : address_cmp server p ≡ Equal = is_equal (address_cmp server p) (sym (address_ties server p) ∙ on) in
       let back : address_cmp p server ≡ Equal = tied_back addresses_total server p tie in
       let low : nat_cmp p.start server.start ≡ Less = ap (λ o. ordering_then o (nat_cmp p.start server.start)) (sym back) ∙ sym (by_parts p server) ∙ less in
       ranked p.start server.start Less (sym low)
+
+  -- and what doesn't has none
+  pub not_older : (p : Server) → is_lt (server_cmp p server) ≡ false → same_address server p ≡ true → nat_lt p.start server.start ≡ false
+  not_older p from on =
+      let tie : address_cmp server p ≡ Equal = is_equal (address_cmp server p) (sym (address_ties server p) ∙ on) in
+      let back : address_cmp p server ≡ Equal = tied_back addresses_total server p tie in
+      let whole : server_cmp p server ≡ nat_cmp p.start server.start = by_parts p server ∙ ap (λ o. ordering_then o (nat_cmp p.start server.start)) back in
+      let not_less : is_lt (nat_cmp p.start server.start) ≡ false = ap is_lt (sym whole) ∙ from in
+      grind (arith, nat_tests, not_less)
 
   pub below_from : 1 ≤ server.start → (rows : List (Server × Standing))
       → record { most : ℕ; less : most < server.start; is : greatest_start rows server ≡ max most (greatest_start (pairs_from server_cmp rows server) server) }

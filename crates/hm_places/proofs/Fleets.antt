@@ -174,6 +174,21 @@ none_older came servers numbers are other none = not_true (has_older_in servers 
     let found = older_is servers are.rising other any in
     none_first (live_servers servers) other found.one none (live_there_is servers are.rising found.one ∙ found.live) found.there)
 
+-- an older one that is live is the first of its address
+pub older_one : (came servers : List (Server × Standing)) (numbers : List ℕ) → AreServers came servers numbers → (server first : Server) → first_there (live_servers servers) server ≡ Some first
+    → has_older_in servers server ≡ true → nat_lt first.start server.start ≡ true
+older_one came servers numbers are server first is any =
+    let found = some_one (λ other. same_address server other && nat_lt other.start server.start) (live_servers servers) any in
+    let one_live : is_live_in servers found.one ≡ true = sym (live_there_is servers are.rising found.one) ∙ found.there in
+    let there = first_is (live_servers servers) server first is in
+    let first_live_is : is_live_in servers first ≡ true = sym (live_there_is servers are.rising first) ∙ there.0 in
+    let same : found.one ≡ first = are.alone found.one first one_live first_live_is (address_same server found.one first (and_left (same_address server found.one) (nat_lt found.one.start server.start) found.passes) there.1) in
+    ap (λ s. nat_lt s.start server.start) (sym same) ∙ and_right_of (same_address server found.one) (nat_lt found.one.start server.start) found.passes
+  where
+    and_right_of : (a b : Bool) → (a && b) ≡ true → b ≡ true
+    and_right_of true b e = e
+    and_right_of false b e = cc
+
 module _ (came servers after : List (Server × Standing)) (numbers : List ℕ) (server : Server) (standing : Standing) (down : standing.live ≡ false)
     (finds : (other : Server) → find server_cmp after other ≡ (if is_eq (server_cmp server other) then Some standing else find server_cmp servers other)) (are : AreServers came servers numbers) where
   -- where the live one of an address went down, no older one is live

@@ -9,3 +9,7 @@ mod Lowest
 mod Fleets
 mod AtServers
 mod Told
+mod ByKey
+mod Follows
+mod Fleet
+mod Newer

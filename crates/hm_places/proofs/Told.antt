@@ -1,5 +1,5 @@
 -- The places that are told.
-use Rattle.std.proofs.Common.{◌≡◌, Some, Bool, true, false, if◌then◌else◌, List, refl, ap, sym, ◌∙◌}
+use Rattle.std.proofs.Common.{◌≡◌, Some, Bool, true, false, if◌then◌else◌, List, refl, ap, ◌∙◌}
 use Rattle.std.specs.Ordering.{is_eq}
 use Rattle.hm_names.specs.Order.{region_cmp}
 use Rattle.hm_names.specs.Region.{Region}

@@ -57,6 +57,15 @@ greatest_start (row ∷ more) server =
 abbrev pub has_older_in : List (Server × Standing) → Server → Bool
 has_older_in servers server = list_any (λ other. same_address server other && nat_lt other.start server.start) (live_servers servers)
 
+-- a server of the address came up with this start code or a greater one
+abbrev pub has_newer_in : List (Server × Standing) → Server → Bool
+has_newer_in servers server =
+    list_any (λ row. same_address server row.0 && not (nat_lt row.0.start server.start)) servers
+
+-- another server than this is live
+abbrev pub has_other_live_in : List (Server × Standing) → Server → Bool
+has_other_live_in servers server = list_any (λ other. not (same_server server other)) (live_servers servers)
+
 -- the first of some servers that has the address
 abbrev pub first_there : List Server → Server → Option Server
 first_there [] server = None

@@ -3,6 +3,7 @@
 
 mod chosen;
 mod held;
+mod laws;
 mod picking;
 mod places;
 mod refused;
@@ -11,6 +12,7 @@ mod standing;
 mod up;
 
 pub use held::OnServer;
+pub use laws::{places_follow, servers_follow};
 pub use places::Places;
 pub use refused::{DownRefused, UpRefused};
 pub use servers::Servers;

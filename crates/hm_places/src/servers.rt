@@ -5,13 +5,15 @@ ghost use Rattle.hm_names.specs.Order.{server_cmp};
 ghost use Rattle.hm_names.specs.Server.{Server};
 ghost use Rattle.hm_index.specs.Index.{placed};
 ghost use Rattle.hm_places.specs.Places.{load_in};
-ghost use Rattle.hm_places.specs.Servers.{fresh, is_live_in, is_fenced_in, came_up_in, live_servers, greatest_start, has_older_in, MayComeUp, CannotComeUp, CameUp, CannotGoDown, WentDown, put_down, first_there, fenced, without, or_else, lowest};
+ghost use Rattle.hm_places.specs.Servers.{fresh, is_live_in, is_fenced_in, came_up_in, live_servers, greatest_start, has_newer_in, has_older_in, has_other_live_in, MayComeUp, CannotComeUp, CameUp, CannotGoDown, WentDown, put_down, first_there, fenced, without, or_else, lowest};
 
 use crate::picking::lowest_of;
 use crate::places::Places;
 use crate::refused::{DownRefused, UpRefused};
 use crate::standing::Standing;
-use crate::up::{Rows, greatest_from, let_go, live_there, spot_for};
+use crate::up::{
+    Rows, greatest_from, let_go, live_there, newer_there, older_there, other_live, spot_for,
+};
 use hm_index::{Index, View, put_at};
 use hm_names::{Copied, ServerName};
 use std::alloc::{AllocError, Global};
@@ -204,6 +206,28 @@ impl Servers {
             Some(standing) => standing.fenced,
             None => false,
         }
+    }
+
+    /// Whether a server of its host and port came up with its start code or a greater one.
+    pub fn has_newer(&self, server: &ServerName) -> bool
+        ensures { result ≡ has_newer_in self.now.servers server.now }
+    {
+        let _in_order = &self.live;
+        newer_there(&self.rows, server)
+    }
+
+    /// Whether an older server of its host and port is live.
+    pub fn has_older_live(&self, server: &ServerName) -> bool
+        ensures { result ≡ has_older_in self.now.servers server.now }
+    {
+        older_there(&self.rows, &self.live, server)
+    }
+
+    /// Whether another server is live.
+    pub fn has_other_live(&self, server: &ServerName) -> bool
+        ensures { result ≡ has_other_live_in self.now.servers server.now }
+    {
+        other_live(&self.rows, &self.live, server)
     }
 
     /// All servers that ever came up, in name order, and how they stand.

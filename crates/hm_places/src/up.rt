@@ -4,9 +4,9 @@ ghost use Rattle.std.specs.List.Sorted.{IsSearchInRange, IsBinarySearchResult};
 ghost use Rattle.std.specs.Option.{option_copied};
 ghost use Rattle.hm_names.specs.Order.{server_cmp};
 ghost use Rattle.hm_index.specs.Index.{IsRising, key_if, pairs_from};
-ghost use Rattle.hm_model.specs.Fleet.{same_address};
+ghost use Rattle.hm_model.specs.Fleet.{same_address, same_server};
 ghost use Rattle.hm_places.specs.Chosen.{cmp_if, HasGap};
-ghost use Rattle.hm_places.specs.Servers.{name_of, is_live_in, live_servers, first_there, greatest_start, AreLive, AreLiveBut};
+ghost use Rattle.hm_places.specs.Servers.{name_of, is_live_in, live_servers, first_there, greatest_start, has_newer_in, has_older_in, has_other_live_in, AreLive, AreLiveBut, AreServers};
 
 use crate::standing::Standing;
 use hm_index::Index;
@@ -97,4 +97,48 @@ pub(crate) fn greatest_from(rows: &Rows, server: &ServerName) -> u64
         greatest = other.start.max(greatest);
     }
     greatest
+}
+
+// Whether a server of an address came up with this start code or a greater one: in name order it would come next.
+pub(crate) fn newer_there(rows: &Rows, server: &ServerName) -> bool
+    requires { IsRising server_cmp rows.now.pairs }
+    ensures { result ≡ has_newer_in rows.now.pairs server.now }
+{
+    match rows.iter_from(server).next() {
+        Some((other, _)) => at_address(server, other),
+        None => false,
+    }
+}
+
+// Whether an older server of an address is live.
+pub(crate) fn older_there(rows: &Rows, live: &[u32], server: &ServerName) -> bool
+    requires { AreServers rows.now.came rows.now.pairs live.now }
+    ensures { result ≡ has_older_in rows.now.pairs server.now }
+{
+    match live_there(rows, live, server) {
+        Some(other) => other.start < server.start,
+        None => false,
+    }
+}
+
+// Whether two servers are one.
+fn is_one(server: &ServerName, other: &ServerName) -> bool
+    ensures { result ≡ same_server server.now other.now }
+{
+    at_address(server, other) && server.start == other.start
+}
+
+// Whether another server than this is live.
+pub(crate) fn other_live(rows: &Rows, live: &[u32], server: &ServerName) -> bool
+    requires { AreServers rows.now.came rows.now.pairs live.now }
+    ensures { result ≡ has_other_live_in rows.now.pairs server.now }
+{
+    for number in live {
+        if let Some((other, _)) = rows.pair(*number)
+            && !is_one(server, other)
+        {
+            return true;
+        }
+    }
+    false
 }

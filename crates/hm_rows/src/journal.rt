@@ -10,7 +10,7 @@ use hm_data::{Entry, Request, Sheet};
 use hm_disk::MemDisk;
 use hm_hall::{Halt, RecordFault};
 use hm_journal::{Journal, JournalWhy, Limits, entries_fit_frames};
-use hm_names::{List, Nonce, Ns};
+use hm_names::{Copied, List, Nonce, Ns};
 use hm_sheet::{Handler, Registry};
 use hm_tables::TableHands;
 use std::alloc::{AllocError, Global};
@@ -29,7 +29,7 @@ pub fn sheets_of_tables(alloc: Global) -> Result<List<Sheet>, AllocError>
     let Ok(registry) = Registry::new(alloc, handlers) else {
         return Err(AllocError);
     };
-    registry.sheets(alloc)
+    registry.sheets().copy(alloc)
 }
 
 // Compares what checking this log answers, which leaves the disk's bytes.

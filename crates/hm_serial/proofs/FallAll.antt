@@ -1,14 +1,12 @@
--- At every legal journal, what may still be undone leads back, and one root at most holds.
+-- At every legal journal, what may still be undone leads back, and no two roots that hold clash.
 use Rattle.std.proofs.Common.{◌≡◌, ◌≢◌, ℕ, ◌+◌, ◌-◌, ◌<◌, List, [], ◌∷◌, true, false, not, ◌&&◌, ◌==◌, map, nat_lt, Option, Some, None, is_some, option_map, refl, ap, sym, ◌∙◌, subst, inl, inr, slice_get}
 use Rattle.std.proofs.lemmas.Bool.{and_parts, and_right, cases_eq, cond-false, cond-true, eq-eqb, false≢true, lt-ltb, ne_eqb, true≢false}
 use Rattle.std.proofs.lemmas.Option.{none-some, same_Some}
-use Rattle.hm_names.specs.Region.{Region}
 use Rattle.hm_names.specs.Server.{Server}
 use Rattle.hm_names.specs.declared.nonce.Nonce.{Nonce}
 use Rattle.hm_names.specs.declared.pid.Pid.{Pid}
 use Rattle.hm_data.specs.declared.act.Back.{Back}
 use Rattle.hm_data.specs.declared.act.Back.TheVariants as back_is
-use Rattle.hm_data.specs.declared.answer.Answer.{Answer}
 use Rattle.hm_data.specs.declared.answer.Cause.{Cause}
 use Rattle.hm_data.specs.declared.args.Args.{Args}
 use Rattle.hm_data.specs.declared.args.Args.TheVariants as args_are
@@ -19,29 +17,34 @@ use Rattle.hm_data.specs.declared.catalog.CatKey.{CatKey}
 use Rattle.hm_data.specs.declared.entry.Entry.TheVariants as entry_is
 use Rattle.hm_data.specs.declared.request.Request.{Request}
 use Rattle.hm_data.specs.declared.step.StepOut.{StepOut}
-use Rattle.hm_model.specs.Answers.{done_with, is_stopped, last_answer}
+use Rattle.hm_model.specs.Answers.{done_with, last_answer, is_stopped}
 use Rattle.hm_model.specs.Catalog.{cat, edited, was}
 use Rattle.hm_model.specs.Journal.{Past}
-use Rattle.hm_model.specs.Locks.{covers}
-use Rattle.hm_model.specs.Phase.{all_stopped, cause, ended, ended_node, root_ended, root_over, rolled_back}
+use Rattle.hm_model.specs.Reads.{covers}
+use Rattle.hm_model.specs.Phase.{all_stopped, cause, root_ended, root_over, rolled_back, ended, ended_node}
 use Rattle.hm_model.specs.Rules.{IsLegal}
 use Rattle.hm_model.specs.Locks.{in_name_order}
 use Rattle.hm_model.specs.Pieces.{Batch, batches}
 use Rattle.hm_model.specs.Undoing.{closed_by, undo_edits, undo_followers}
-use Rattle.hm_model.specs.Tree.{Node, args_in, is_root, is_root_in, is_top, made, node_of, root_node, root_of, submitted}
+use Rattle.hm_model.specs.Tree.{Node, args_in, is_top, made, node_of, root_node, root_of, submitted, is_root, is_root_in}
 use Rattle.hm_model.specs.Undo.{Undoable, is_empty, rest_of, stack}
+use Rattle.hm_model.proofs.Trees.{Grown, IsRooted, does_of, down_rooted, grown_all, le_or_lt, new_child, node_same, old_or_new, step_of, still, submit_rooted, undo_rooted, IsWaiting}
+use Rattle.hm_model.proofs.UndoMakes.{IsUndoOf, undo_of}
+use Rattle.hm_kinds.proofs.LockForms.{IsSound}
+use Rattle.hm_data.specs.declared.answer.Answer.{Answer}
 use Rattle.hm_model.proofs.LegalSteps.{StepFacts, ready_stops}
 use Rattle.hm_model.proofs.StepDoes.{Does}
-use Rattle.hm_model.proofs.Trees.{Grown, IsRooted, IsWaiting, does_of, down_rooted, grown_all, le_or_lt, new_child, node_same, old_or_new, step_of, still, submit_rooted, undo_rooted}
-use Rattle.hm_model.proofs.UndoMakes.{IsUndoOf, undo_of}
+use Rattle.hm_serial.proofs.Apart.{Apart, Aside, Asked, apart_back, apart_step, aside_from, begins_apart, step_apart}
 use Rattle.hm_serial.proofs.Editing.{rows_table}
-use Rattle.hm_serial.proofs.Fallen.{Falls, MayFall, Unwinds, falls_calm, falls_nothing, root_of_node, some_cons}
-use Rattle.hm_serial.proofs.FallStep.{falls_step}
-use Rattle.hm_serial.proofs.Frame.{AllWithin, unwound}
+use Rattle.hm_serial.proofs.Kinship.{is_kid}
+use Rattle.hm_serial.proofs.Fallen.{Falls, MayFall, Unwinds, may_on, falls_calm, falls_nothing, root_of_node, some_cons}
+use Rattle.hm_serial.proofs.FallStep.{falls_step, kid_of}
+use Rattle.hm_serial.proofs.Frame.{AllWithin, cover_guards, unwound}
 use Rattle.hm_serial.proofs.Kids.{AllMade, made_at}
-use Rattle.hm_serial.proofs.Local.{Within}
-use Rattle.hm_serial.proofs.Standing.{TopHolds, TopIs, holds_left, live_child, rooted_left, step_left, step_open}
+use Rattle.hm_serial.proofs.Local.{Within, within_others}
+use Rattle.hm_serial.proofs.Standing.{TopHolds, TopIs, holds_left, rooted_left, live_child, step_left, step_open}
 
+-- one root at most holds, while rule 6 lets one at a time begin
 abbrev pub One : Past → Type 0
 One J = (s t : ℕ) (x y : Node) → TopHolds J s x → TopHolds J t y → s ≡ t
 
@@ -67,7 +70,7 @@ back J J' rooted grown r node causes stacks base h = holds_left J J' r node (roo
 one_back : (J J' : Past) → ((r : ℕ) (node : Node) → TopHolds J' r node → TopHolds J r node) → One J → One J'
 one_back J J' holds one s t x y h k = one s t x y (holds s x h) (holds t y k)
 
--- a step
+-- a step, while rule 6 lets one root at a time begin: what hm_serial says rests on none of this
 module _ (pid : Pid) (pick : Option Server) (out : StepOut) (J : Past) (grown : Grown J) (one : One J) (step : StepFacts J pid.0 pick out) (d : Does J pid.0 step.node.args (last_answer J pid.0) step.sheet.rows out) (clear : is_root J pid.0 ≡ true → last_answer J pid.0 ≡ None → (q : ℕ) → q ≢ pid.0 → is_root J q ≡ true → last_answer J q ≢ None → ended J q ≡ true) where
   begun : (s : ℕ) (node : Node) → TopHolds J s node → last_answer J step.node.root ≢ None → s ≡ step.node.root
   begun s node h some =
@@ -118,7 +121,7 @@ followers_rows back_is.Edits args root = tt
 followers_rows back_is.Sweep args root = (refl, tt)
 followers_rows back_is.Reopen args root = transits_rows goal_is.Assign (batches (in_name_order (closed_by args)))
 
-module _ (pid : Pid) (row : ℕ) (out : StepOut) (J : Past) (legal : IsLegal (entry_is.Undo pid row out ∷ J)) (grown : Grown J) (falls : Falls J) (one : One J) where
+module _ (pid : Pid) (row : ℕ) (out : StepOut) (J : Past) (legal : IsLegal (entry_is.Undo pid row out ∷ J)) (grown : Grown J) (falls : Falls J) where
   abbrev J' : Past
   J' = entry_is.Undo pid row out ∷ J
 
@@ -170,7 +173,7 @@ module _ (pid : Pid) (row : ℕ) (out : StepOut) (J : Past) (legal : IsLegal (en
   pub stack_now : stack (entry_is.Undo pid row out ∷ J) (root_of J pid.0) ≡ u.below
   stack_now = cond-true (R == R) (rest_of (stack J R)) (stack J R) (eq-eqb R R refl) ∙ ap rest_of u.stack_is
 
-  stack_off : (r : ℕ) → r ≢ R → stack J' r ≡ stack J r
+  pub stack_off : (r : ℕ) → r ≢ R → stack J' r ≡ stack J r
   stack_off r differs = cond-false (R == r) (rest_of (stack J r)) (stack J r) (ne_eqb R r (λ e. differs (sym e)))
 
   pub undo_back : (r : ℕ) (node : Node) → TopHolds (entry_is.Undo pid row out ∷ J) r node → TopHolds J r node
@@ -195,13 +198,6 @@ module _ (pid : Pid) (row : ℕ) (out : StepOut) (J : Past) (legal : IsLegal (en
       ∙ ap (λ l. unwound l key (cat J key)) (sym u.stack_is)
       ∙ (falls.tree R top undo_holds).0 may key c
 
-  tree_now : (r : ℕ) (node : Node) → TopHolds J' r node → Unwinds J' r node × AllWithin node.args (stack J' r)
-  tree_now r node h =
-      let b = undo_back r node h in
-      let same : r ≡ R = one r R node top b undo_holds in
-      let y_is : node ≡ top = same_Some node top (sym b.0.0 ∙ ap (node_of J) same ∙ top_is.0) in
-      subst (λ k. Unwinds J' k node × AllWithin node.args (stack J' k)) (sym same) (subst (λ n. Unwinds J' R n × AllWithin n.args (stack J' R)) (sym y_is) (undo_unwinds, subst (AllWithin top.args) (sym stack_now) within_all.1))
-
   rows_now : (p : ℕ) (x : Node) → made J < p → node_of J' p ≡ Some x → rows_table x.args ≡ None
   rows_now p x lt is = by (slice_get (args_in out.followers) (p - made J - 1)) refl
     where
@@ -223,11 +219,35 @@ module _ (pid : Pid) (row : ℕ) (out : StepOut) (J : Past) (legal : IsLegal (en
       some_nil : (x : Undoable) (more : List Undoable) → x ∷ more ≡ [] → ⊥
       some_nil x more e = cc
 
-  pub falls_undo : Falls (entry_is.Undo pid row out ∷ J)
-  falls_undo = rooted_falls J (entry_is.Undo pid row out ∷ J) rooted grown falls (λ p. refl) empties rows_now tree_now
+  module _ (aside : Aside J (root_of J pid.0) top) where
+    other_now : (r : ℕ) (node : Node) → TopHolds J' r node → r ≢ R → Unwinds J' r node × AllWithin node.args (stack J' r)
+    other_now r node h differs =
+        let before = undo_back r node h in
+        let left = rooted_left J J' rooted grown r node before.0 refl (stack_off r differs) refl in
+        let t = falls.tree r node before in (
+          (λ may key c.
+              ap (λ l. unwound l key (cat J' key)) left.stack_is
+              ∙ ap (unwound (stack J r) key) (within_others top.args out.edits undo_within key ((aside r node before differs key).0 (cover_guards node.args key c)) (cat J key))
+              ∙ t.0 (may_on J' J r node refl refl refl may) key c),
+          subst (AllWithin node.args) (sym left.stack_is) t.1,
+        )
+
+    tree_now : (r : ℕ) (node : Node) → TopHolds J' r node → Unwinds J' r node × AllWithin node.args (stack J' r)
+    tree_now r node h = elim (cases_eq r R) [
+      | inr differs ↦ other_now r node h differs
+      | inl same ↦
+          let b = undo_back r node h in
+          let y_is : node ≡ top = same_Some node top (sym b.0.0 ∙ ap (node_of J) same ∙ top_is.0) in
+          subst (λ k. Unwinds J' k node × AllWithin node.args (stack J' k)) (sym same) (subst (λ n. Unwinds J' R n × AllWithin n.args (stack J' R)) (sym y_is) (undo_unwinds, subst (AllWithin top.args) (sym stack_now) within_all.1))
+    ]
+
+    pub falls_undo : Falls (entry_is.Undo pid row out ∷ J)
+    falls_undo = rooted_falls J (entry_is.Undo pid row out ∷ J) rooted grown falls (λ p. refl) empties rows_now tree_now
 
 pub record All (J : Past) : Type 0 where
   pub falls : Falls J
+  pub apart : Apart J
+  pub asked : Asked J
   pub one : One J
 
 submit_rows : (nonce : Nonce) (request : Request) (J : Past) → Grown J → (p : ℕ) (x : Node) → made J < p → node_of (entry_is.Submit nonce request ∷ J) p ≡ Some x → rows_table x.args ≡ None
@@ -245,8 +265,81 @@ down_rows server J grown p x lt is = elim (cases_eq p (made J + 1)) [
 pub none_at : (J : Past) → J ≡ [] → (p : ℕ) → node_of J p ≡ None
 none_at J e p = ap (λ j. node_of j p) e
 
+kid_sound : (args : Args) → is_kid args ≡ true → IsSound args
+kid_sound (args_are.Root request first) k = absurd (false≢true k)
+kid_sound (args_are.Transit region goal to) k = tt
+kid_sound (args_are.Crash server) k = tt
+kid_sound (args_are.AddRegions table first bounds) k = tt
+kid_sound (args_are.DropRegions table ids) k = tt
+kid_sound (args_are.AssignCall region server) k = tt
+kid_sound (args_are.CloseCall region server) k = tt
+kid_sound (args_are.FenceCall server) k = tt
+kid_sound (args_are.LayoutCall root) k = tt
+kid_sound (args_are.SweepLayout root) k = tt
+
+transits_sound : (goal : Goal) (list : List Batch) → AllMade IsSound (map (λ batch. child_is.Transits batch.table batch.ids goal) list)
+transits_sound goal [] = tt
+transits_sound goal (batch ∷ more) = ((λ id. tt), transits_sound goal more)
+
+followers_sound : (undo : Back) (args : Args) (root : Pid) → AllMade IsSound (undo_followers undo args root)
+followers_sound back_is.Nothing args root = tt
+followers_sound back_is.Edits args root = tt
+followers_sound back_is.Sweep args root = (tt, tt)
+followers_sound back_is.Reopen args root = transits_sound goal_is.Assign (batches (in_name_order (closed_by args)))
+
+-- what stands aside of the tree that a step belongs to, or an undo
+pub step_aside : (pid : Pid) (pick : Option Server) (out : StepOut) (J : Past) (legal : IsLegal (entry_is.Step pid pick out ∷ J)) → All J → Aside J (step_of pid pick out J (grown_all J legal.0) legal).node.root (root_of_node J (grown_all J legal.0) pid.0 (step_of pid pick out J (grown_all J legal.0) legal).node (step_of pid pick out J (grown_all J legal.0) legal).node_is).0
+step_aside pid pick out J legal a =
+    let grown = grown_all J legal.0 in
+    let step = step_of pid pick out J grown legal in
+    let top = root_of_node J grown pid.0 step.node step.node_is in
+    aside_from J step.node.root top.0 (step_apart pid pick out J grown step (does_of pid pick out J grown step) a.apart (begins_apart J pid.0 legal.1.1.1.0) top.0 top.1) a.asked (λ q x is. a.falls.tops q x is) top.1
+
+pub undo_aside : (pid : Pid) (row : ℕ) (out : StepOut) (J : Past) (legal : IsLegal (entry_is.Undo pid row out ∷ J)) (a : All J) → Aside J (root_of J pid.0) (top pid row out J legal (grown_all J legal.0) a.falls)
+undo_aside pid row out J legal a =
+    let grown = grown_all J legal.0 in
+    aside_from J (root_of J pid.0) (top pid row out J legal grown a.falls) (λ s x h differs clash. a.apart (root_of J pid.0) s (top pid row out J legal grown a.falls) x (undo_holds pid row out J legal grown a.falls) h (λ same. differs (sym same)) clash) a.asked (λ q x is. a.falls.tops q x is) (top_is pid row out J legal grown a.falls)
+
+asked_submit : (nonce : Nonce) (request : Request) (J : Past) → IsLegal (entry_is.Submit nonce request ∷ J) → Asked J → Asked (entry_is.Submit nonce request ∷ J)
+asked_submit nonce request J legal asked q x is = elim (cases_eq q (made J + 1)) [
+  | inl same ↦ subst (λ (n : Node). IsSound n.args) (same_Some (submitted J request q) x (sym (cond-true (q == made J + 1) (Some (submitted J request q)) (node_of J q) (eq-eqb q (made J + 1) same)) ∙ is)) legal.1.1.0.0
+  | inr differs ↦ asked q x (sym (cond-false (q == made J + 1) (Some (submitted J request q)) (node_of J q) (ne_eqb q (made J + 1) differs)) ∙ is)
+]
+
+asked_down : (server : Server) (J : Past) → Asked J → Asked (entry_is.Down server ∷ J)
+asked_down server J asked q x is = elim (cases_eq q (made J + 1)) [
+  | inl same ↦ subst (λ (n : Node). IsSound n.args) (same_Some (root_node q (args_are.Crash server) 1) x (sym (cond-true (q == made J + 1) (Some (root_node q (args_are.Crash server) 1)) (node_of J q) (eq-eqb q (made J + 1) same)) ∙ is)) tt
+  | inr differs ↦ asked q x (sym (cond-false (q == made J + 1) (Some (root_node q (args_are.Crash server) 1)) (node_of J q) (ne_eqb q (made J + 1) differs)) ∙ is)
+]
+
+asked_step : (pid : Pid) (pick : Option Server) (out : StepOut) (J : Past) (legal : IsLegal (entry_is.Step pid pick out ∷ J)) → All J → Asked (entry_is.Step pid pick out ∷ J)
+asked_step pid pick out J legal a q x is =
+    let grown = grown_all J legal.0 in
+    let step = step_of pid pick out J grown legal in
+    elim (le_or_lt q (made J)) [
+      | inl le ↦ a.asked q x (sym (node_same pid pick out J q le) ∙ is)
+      | inr lt ↦
+          let c = new_child pid pick out J step.node step.node_is q lt x is in
+          subst (λ (n : Node). IsSound n.args) (sym c.2) (kid_sound c.0 (kid_of pid pick out J grown a.falls step (does_of pid pick out J grown step) (step_aside pid pick out J legal a) (q - made J - 1) c.0 c.1).kid)
+    ]
+
+asked_undo : (pid : Pid) (row : ℕ) (out : StepOut) (J : Past) (legal : IsLegal (entry_is.Undo pid row out ∷ J)) → All J → Asked (entry_is.Undo pid row out ∷ J)
+asked_undo pid row out J legal a q x is = elim (le_or_lt q (made J)) [
+  | inl le ↦ a.asked q x (sym ((undo_rooted pid row out J (grown_all J legal.0)).old q le) ∙ is)
+  | inr lt ↦ new lt (slice_get (args_in out.followers) (q - made J - 1)) refl
+]
+  where
+    its_undo : IsUndoOf J (root_of J pid.0) out
+    its_undo = u pid row out J legal (grown_all J legal.0) a.falls
+
+    new : made J < q → (o : Option Args) → slice_get (args_in out.followers) (q - made J - 1) ≡ o → IsSound x.args
+    new lt None e = absurd (none-some x (sym (cond-true (nat_lt (made J) q) _ (node_of J q) (lt-ltb (made J) q lt) ∙ ap (option_map (λ args. root_node q args 1)) e) ∙ is))
+    new lt (Some args) e =
+        subst (λ (n : Node). IsSound n.args) (same_Some (root_node q args 1) x (sym (cond-true (nat_lt (made J) q) _ (node_of J q) (lt-ltb (made J) q lt) ∙ ap (option_map (λ args. root_node q args 1)) e) ∙ is))
+        (made_at IsSound (undo_followers its_undo.undo its_undo.args its_undo.root) (followers_sound its_undo.undo its_undo.args its_undo.root) (q - made J - 1) args (ap (λ (o : StepOut). slice_get (args_in o.followers) (q - made J - 1)) (sym its_undo.out_is) ∙ e))
+
 pub falls_all : (J : Past) → IsLegal J → All J
-falls_all [] legal = record { falls = falls_nothing; one = λ s t x y h k. absurd (none-some x h.0.0) }
+falls_all [] legal = record { falls = falls_nothing; one = λ s t x y h k. absurd (none-some x h.0.0); apart = λ s t x y h k differs clash. none-some x h.0.0; asked = λ q x is. absurd (none-some x is) }
 falls_all (entry_is.Start sheets ∷ J) legal =
     let a = falls_all J legal.0 in
     let f = a.falls in
@@ -263,7 +356,9 @@ falls_all (entry_is.Start sheets ∷ J) legal =
         bare = λ q x is. absurd (none-some x (sym (none q) ∙ is));
         tree = λ r node h. absurd (none-some node (sym (none r) ∙ h.0.0));
       };
+      apart = λ s t x y h k differs clash. none-some x (sym (none s) ∙ h.0.0);
       one = λ s t x y h k. absurd (none-some x (sym (none s) ∙ h.0.0));
+      asked = a.asked;
     }
 falls_all (entry_is.Submit nonce request ∷ J) legal =
     let a = falls_all J legal.0 in
@@ -272,32 +367,39 @@ falls_all (entry_is.Submit nonce request ∷ J) legal =
     let holds : (r : ℕ) (node : Node) → TopHolds (entry_is.Submit nonce request ∷ J) r node → TopHolds J r node = (λ r node h. back J (entry_is.Submit nonce request ∷ J) rooted grown r node refl refl refl h) in
     record {
       falls = rooted_falls J (entry_is.Submit nonce request ∷ J) rooted grown a.falls (λ p. refl) (λ p e. e) (submit_rows nonce request J grown) (λ r node h. a.falls.tree r node (holds r node h));
+      apart = apart_back J (entry_is.Submit nonce request ∷ J) holds a.apart;
       one = one_back J (entry_is.Submit nonce request ∷ J) holds a.one;
+      asked = asked_submit nonce request J legal a.asked;
     }
 falls_all (entry_is.Step pid pick out ∷ J) legal =
     let a = falls_all J legal.0 in
     let grown = grown_all J legal.0 in
     let step = step_of pid pick out J grown legal in
     let d = does_of pid pick out J grown step in
+    let top = root_of_node J grown pid.0 step.node step.node_is in
     record {
-      falls = falls_step pid pick out J grown a.falls step d (alone_at pid pick out J grown a.one step d legal.1.1.1.0);
+      falls = falls_step pid pick out J grown a.falls step d (step_aside pid pick out J legal a);
+      apart = apart_step pid pick out J grown step d a.apart (begins_apart J pid.0 legal.1.1.1.0) top.0 top.1;
+      asked = asked_step pid pick out J legal a;
       one = one_step pid pick out J grown a.one step d legal.1.1.1.0;
     }
 falls_all (entry_is.Undo pid row out ∷ J) legal =
     let a = falls_all J legal.0 in
     let grown = grown_all J legal.0 in
     record {
-      falls = falls_undo pid row out J legal grown a.falls a.one;
-      one = one_back J (entry_is.Undo pid row out ∷ J) (undo_back pid row out J legal grown a.falls a.one) a.one;
+      falls = falls_undo pid row out J legal grown a.falls (undo_aside pid row out J legal a);
+      apart = apart_back J (entry_is.Undo pid row out ∷ J) (undo_back pid row out J legal grown a.falls) a.apart;
+      asked = asked_undo pid row out J legal a;
+      one = one_back J (entry_is.Undo pid row out ∷ J) (undo_back pid row out J legal grown a.falls) a.one;
     }
 falls_all (entry_is.Report call told ∷ J) legal =
     let a = falls_all J legal.0 in
     let f = a.falls in
-    record { falls = record { fresh = f.fresh; gone = f.gone; tops = f.tops; kids = f.kids; belongs = f.belongs; near = f.near; safe = f.safe; bare = f.bare; tree = f.tree }; one = a.one }
+    record { falls = record { fresh = f.fresh; gone = f.gone; tops = f.tops; kids = f.kids; belongs = f.belongs; near = f.near; safe = f.safe; bare = f.bare; tree = f.tree }; apart = a.apart; asked = a.asked; one = a.one }
 falls_all (entry_is.Up server ∷ J) legal =
     let a = falls_all J legal.0 in
     let f = a.falls in
-    record { falls = record { fresh = f.fresh; gone = f.gone; tops = f.tops; kids = f.kids; belongs = f.belongs; near = f.near; safe = f.safe; bare = f.bare; tree = f.tree }; one = a.one }
+    record { falls = record { fresh = f.fresh; gone = f.gone; tops = f.tops; kids = f.kids; belongs = f.belongs; near = f.near; safe = f.safe; bare = f.bare; tree = f.tree }; apart = a.apart; asked = a.asked; one = a.one }
 falls_all (entry_is.Down server ∷ J) legal =
     let a = falls_all J legal.0 in
     let grown = grown_all J legal.0 in
@@ -305,9 +407,11 @@ falls_all (entry_is.Down server ∷ J) legal =
     let holds : (r : ℕ) (node : Node) → TopHolds (entry_is.Down server ∷ J) r node → TopHolds J r node = (λ r node h. back J (entry_is.Down server ∷ J) rooted grown r node refl refl refl h) in
     record {
       falls = rooted_falls J (entry_is.Down server ∷ J) rooted grown a.falls (λ p. refl) (λ p e. e) (down_rows server J grown) (λ r node h. a.falls.tree r node (holds r node h));
+      apart = apart_back J (entry_is.Down server ∷ J) holds a.apart;
       one = one_back J (entry_is.Down server ∷ J) holds a.one;
+      asked = asked_down server J a.asked;
     }
 falls_all (entry_is.Abort pid ∷ J) legal =
     let a = falls_all J legal.0 in
     let f = a.falls in
-    record { falls = record { fresh = f.fresh; gone = f.gone; tops = f.tops; kids = f.kids; belongs = f.belongs; near = f.near; safe = f.safe; bare = f.bare; tree = f.tree }; one = a.one }
+    record { falls = record { fresh = f.fresh; gone = f.gone; tops = f.tops; kids = f.kids; belongs = f.belongs; near = f.near; safe = f.safe; bare = f.bare; tree = f.tree }; apart = a.apart; asked = a.asked; one = a.one }

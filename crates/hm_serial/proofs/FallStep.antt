@@ -21,7 +21,8 @@ use Rattle.hm_model.specs.Catalog.{Catalog, cat, edited, was}
 use Rattle.hm_model.specs.Journal.{Past}
 use Rattle.hm_model.specs.Kinds.{first_row_of, kind_of}
 use Rattle.hm_model.specs.Lists.{exact_rows}
-use Rattle.hm_model.specs.Locks.{IsIn, asks, covers, exclusive}
+use Rattle.hm_model.specs.Locks.{IsIn, asks, exclusive}
+use Rattle.hm_model.specs.Reads.{covers}
 use Rattle.hm_model.specs.Phase.{cause, or_else}
 use Rattle.hm_model.specs.Sheets.{next_row, row_in, sheet_for, sheets_of, undo_by, undo_of_next}
 use Rattle.hm_model.specs.Tree.{Node, args_in, child_of, is_top, made, node_of, root_in, root_of}
@@ -36,9 +37,10 @@ use Rattle.hm_model.proofs.Trees.{Grown, IsWaiting, answer_now, le_or_lt, new_ch
 use Rattle.hm_serial.proofs.Editing.{rows_table}
 use Rattle.hm_serial.proofs.Falling.{IsEarly, IsPast, StepEdits}
 use Rattle.hm_serial.proofs.Backs.{AllTell, push_tells}
-use Rattle.hm_serial.proofs.Frame.{AllWithin, push_back, push_within, unwound}
+use Rattle.hm_serial.proofs.Frame.{AllWithin, cover_guards, push_back, push_within, unwound}
+use Rattle.hm_serial.proofs.Apart.{Aside}
 use Rattle.hm_serial.proofs.Kinship.{NewKid, editless, is_bare, is_kid, is_lined, kid_fails, kid_quiet, kid_rows, lined_is, may_fail, near_step, new_kid, own_edits, step_clean, step_within}
-use Rattle.hm_serial.proofs.Local.{Within}
+use Rattle.hm_serial.proofs.Local.{Within, within_others}
 use Rattle.hm_serial.specs.Theorem.{Tells}
 use Rattle.hm_serial.proofs.Standing.{Left, TopHolds, TopIs, holds_left, live_child, quiet_tree, step_left, step_open, top_not_me}
 use Rattle.hm_serial.proofs.Fallen.{Falls, MayFall, Unwinds, may_on, root_of_node, some_cons}
@@ -50,7 +52,7 @@ is_whole_table (resource_is.Ns n) = false
 is_whole_table (resource_is.Region r) = false
 is_whole_table (resource_is.Server s) = false
 
-no_asks : (args : Args) (t : TableName) → is_kid args ≡ true → IsIn (exclusive (resource_is.Table t)) (asks args) → ⊥
+pub no_asks : (args : Args) (t : TableName) → is_kid args ≡ true → IsIn (exclusive (resource_is.Table t)) (asks args) → ⊥
 unfolding is_whole_table
 no_asks (args_are.Transit region goal to) t k (inl e) = true≢false (ap (λ (a : Ask). a.exclusive) e)
 no_asks (args_are.Transit region goal to) t k (inr (inl e)) = true≢false (ap (λ (a : Ask). a.exclusive) e)
@@ -67,7 +69,7 @@ no_asks (args_are.FenceCall server) t k among = among
 no_asks (args_are.LayoutCall own) t k among = among
 
 module _ (pid : Pid) (pick : Option Server) (out : StepOut) (J : Past) (grown : Grown J) (falls : Falls J) (step : StepFacts J pid.0 pick out) (d : Does J pid.0 step.node.args (last_answer J pid.0) step.sheet.rows out)
-    (alone : (s : ℕ) (node : Node) → TopHolds J s node → s ≡ step.node.root) where
+    (aside : Aside J step.node.root (root_of_node J grown pid.0 step.node step.node_is).0) where
   abbrev pub J' : Past
   J' = entry_is.Step pid pick out ∷ J
 
@@ -76,6 +78,10 @@ module _ (pid : Pid) (pick : Option Server) (out : StepOut) (J : Past) (grown : 
 
   pub own_root : (y : Node) × TopIs J step.node.root y
   own_root = root_of_node J grown pid.0 step.node step.node_is
+
+  pub own_aside : Aside J step.node.root own_root.0
+  unfolding own_root
+  own_aside = aside
 
   top : Node
   top = own_root.0
@@ -90,7 +96,7 @@ module _ (pid : Pid) (pick : Option Server) (out : StepOut) (J : Past) (grown : 
       let root = grown.tops pid.0 step.node step.node_is e in
       (root, same_Some own_root.0 step.node (sym own_root.1.0 ∙ ap (node_of J) root ∙ step.node_is))
 
-  led_here : exact_rows (kind_of step.node.args) ≡ [] → Rattle.hm_model.proofs.ExactRows.IsLed (kind_of step.node.args) step.sheet.rows (row_of J pid.0 step.node)
+  pub led_here : exact_rows (kind_of step.node.args) ≡ [] → Rattle.hm_model.proofs.ExactRows.IsLed (kind_of step.node.args) step.sheet.rows (row_of J pid.0 step.node)
   led_here e = grown.led pid.0 step.node step.node_is e step.sheet step.sheet_is runs_now
 
   by_above : (above : List ℕ) → step.node.above ≡ above → (step.node.above ≡ []) ⊎ IsKidStep
@@ -100,14 +106,14 @@ module _ (pid : Pid) (pick : Option Server) (out : StepOut) (J : Past) (grown : 
   pub kid_or_root : (step.node.above ≡ []) ⊎ IsKidStep
   kid_or_root = by_above step.node.above refl
 
-  own_args : exact_rows (kind_of step.node.args) ≡ [] → rows_table step.node.args ≡ None → own_root.0.args ≡ step.node.args
+  pub own_args : exact_rows (kind_of step.node.args) ≡ [] → rows_table step.node.args ≡ None → own_root.0.args ≡ step.node.args
   unfolding top
   own_args exact none = elim kid_or_root [
     | inl e ↦ ap (λ (n : Node). n.args) (root_step e).1
     | inr kid ↦ absurd (kid_rows step.node.args (falls.kids pid.0 step.node step.node_is kid) exact none)
   ]
 
-  belongs_here : (t : TableName) → rows_table step.node.args ≡ Some t → IsIn (exclusive (resource_is.Table t)) (asks own_root.0.args)
+  pub belongs_here : (t : TableName) → rows_table step.node.args ≡ Some t → IsIn (exclusive (resource_is.Table t)) (asks own_root.0.args)
   belongs_here t e = falls.belongs pid.0 step.node step.node_is t e own_root.0 own_root.1.0
 
   pub within_now : Within own_root.0.args out.edits
@@ -116,10 +122,10 @@ module _ (pid : Pid) (pick : Option Server) (out : StepOut) (J : Past) (grown : 
   clean_now : (c : Cause) → failing out.answer ≡ Some c → out.edits ≡ []
   clean_now = step_clean J pid.0 pick out step d led_here own_root.0.args own_args belongs_here
 
-  edits_of : exact_rows (kind_of step.node.args) ≡ [] → StepEdits J pid.0 own_root.0.args step.node.args step.sheet step.row out
+  pub edits_of : exact_rows (kind_of step.node.args) ≡ [] → StepEdits J pid.0 own_root.0.args step.node.args step.sheet step.row out
   edits_of e = own_edits J pid.0 pick out step d led_here own_root.0.args own_args belongs_here e
 
-  kid_of : (i : ℕ) (made : Args) → slice_get (args_in out.children) i ≡ Some made → NewKid step.node.args step.sheet out made
+  pub kid_of : (i : ℕ) (made : Args) → slice_get (args_in out.children) i ≡ Some made → NewKid step.node.args step.sheet out made
   kid_of = new_kid J pid.0 pick out step d led_here own_root.0.args own_args belongs_here
 
   root_is : root_of J pid.0 ≡ step.node.root
@@ -168,7 +174,7 @@ module _ (pid : Pid) (pick : Option Server) (out : StepOut) (J : Past) (grown : 
   waiting_some None w e = w
   waiting_some (Some a) w e = none-some a (sym e)
 
-  kid_not_root : step.node.above ≢ [] → step.node.root ≢ pid.0
+  pub kid_not_root : step.node.above ≢ [] → step.node.root ≢ pid.0
   kid_not_root some same = by step.node.above refl
     where
       by : (above : List ℕ) → step.node.above ≡ above → ⊥
@@ -260,7 +266,7 @@ module _ (pid : Pid) (pick : Option Server) (out : StepOut) (J : Past) (grown : 
           nil_is (row ∷ rows) h = absurd (false≢true h)
 
   -- so could the tree of a descendant that steps
-  other_last : step.node.above ≢ [] → last_answer J' step.node.root ≡ last_answer J step.node.root
+  pub other_last : step.node.above ≢ [] → last_answer J' step.node.root ≡ last_answer J step.node.root
   other_last kid = other_answer pid pick out J step.node.root (kid_not_root kid)
 
   kid_back : step.node.above ≢ [] → MayFall J' step.node.root own_root.0 → MayFall J step.node.root own_root.0
@@ -466,7 +472,7 @@ module _ (pid : Pid) (pick : Option Server) (out : StepOut) (J : Past) (grown : 
   root_off : (r : ℕ) → r ≢ step.node.root → (root_of J pid.0 == r) ≡ false
   root_off r differs = ne_eqb (root_of J pid.0) r (λ e. differs (sym e ∙ root_is))
 
-  own_begun : last_answer J' step.node.root ≢ None
+  pub own_begun : last_answer J' step.node.root ≢ None
   own_begun = elim kid_or_root [
     | inl e ↦ λ none. none-some out.answer (sym none ∙ last_root e)
     | inr kid ↦
@@ -496,7 +502,15 @@ module _ (pid : Pid) (pick : Option Server) (out : StepOut) (J : Past) (grown : 
         subst (λ k. Unwinds J' k node × AllWithin node.args (stack J' k)) (sym same) (subst (λ n. Unwinds J' step.node.root n × AllWithin n.args (stack J' step.node.root)) (sym y_is) (unwinds_now, stack_within))
     | inr differs ↦
         let old = old_top r node h.0 in
-        absurd (differs (alone r node (holds_left J J' r node (left_of r node old differs) h)))
+        let left = left_of r node old differs in
+        let before = holds_left J J' r node left h in
+        let t = falls.tree r node before in (
+          (λ may key c.
+              ap (λ l. unwound l key (cat J' key)) left.stack_is
+              ∙ ap (unwound (stack J r) key) (within_others own_root.0.args out.edits within_now key ((own_aside r node before differs key).0 (cover_guards node.args key c)) (cat J key))
+              ∙ t.0 (may_on J' J r node (sym left.cause_is) (sym left.last) (sym left.sheets) may) key c ∙ ap (λ (b : Catalog). b key) (sym left.was_is)),
+          subst (AllWithin node.args) (sym left.stack_is) t.1,
+        )
   ]
 
   pub falls_step : Falls (entry_is.Step pid pick out ∷ J)

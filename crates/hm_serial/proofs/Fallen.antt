@@ -9,7 +9,8 @@ use Rattle.hm_model.specs.Answers.{is_stopped, last_answer, row_after, row_of}
 use Rattle.hm_model.specs.Catalog.{cat, was}
 use Rattle.hm_model.specs.Journal.{Past}
 use Rattle.hm_model.specs.Kinds.{first_row_of}
-use Rattle.hm_model.specs.Locks.{IsIn, asks, covers, exclusive}
+use Rattle.hm_model.specs.Locks.{IsIn, asks, exclusive}
+use Rattle.hm_model.specs.Reads.{covers}
 use Rattle.hm_model.specs.Phase.{cause}
 use Rattle.hm_model.specs.Sheets.{next_row, sheets_of}
 use Rattle.hm_model.specs.Tree.{Node, node_of}

@@ -1,14 +1,5 @@
 pub mod Local
-pub mod Roots
-pub mod CreateNamespace
-pub mod Steps
-pub mod Trees
 pub mod Frame
-pub mod Alone
-pub mod Moves
-pub mod Keeps
-pub mod Serial
-pub mod Paid
 pub mod Editing
 pub mod Kids
 pub mod Standing
@@ -20,3 +11,10 @@ pub mod FallStep
 pub mod FallAll
 pub mod Failing
 pub mod Telling
+pub mod Apart
+pub mod Stands
+pub mod StandStep
+pub mod StandKid
+pub mod StandAll
+pub mod Serial
+pub mod Taken

@@ -1,32 +1,17 @@
 -- Edits: where they stand, what they tell, and what undoing them leaves.
-use Rattle.std.proofs.Common.{◌≡◌, List, [], ◌∷◌, ◌++◌, true, false, cond, Option, refl, ap, sym, ◌∙◌, inl, inr}
-use Rattle.std.proofs.lemmas.Bool.{cond-true, cond-false, true≢false}
+use Rattle.std.proofs.Common.{◌≡◌, List, [], ◌∷◌, ◌++◌, cond, Option, refl, ap, sym, ◌∙◌, inl, inr}
+use Rattle.std.proofs.lemmas.Bool.{cond-true, cond-false}
 use Rattle.hm_data.specs.declared.args.Args.{Args}
 use Rattle.hm_data.specs.declared.catalog.CatKey.{CatKey}
 use Rattle.hm_data.specs.declared.catalog.CatRow.{CatRow}
 use Rattle.hm_data.specs.declared.catalog.Edit.{Edit}
 use Rattle.hm_model.specs.Catalog.{Catalog, edited}
 use Rattle.hm_model.specs.Keys.{same_key}
-use Rattle.hm_model.specs.Locks.{covers}
 use Rattle.hm_model.specs.Undoing.{turned, turned_round}
 use Rattle.hm_model.proofs.KeyTests.{cases_key}
 use Rattle.hm_serial.specs.Theorem.{Tells}
-
--- a procedure's exclusive asks cover each edit
-abbrev pub Within : Args → List Edit → Type 0
-Within args [] = Unit {0}
-Within args (edit ∷ edits) = (covers args edit.key ≡ true) × Within args edits
-
-pub within_others : (args : Args) (edits : List Edit) → Within args edits → (key : CatKey) → covers args key ≡ false → (row : Option CatRow) → edited edits key row ≡ row
-within_others args [] within key off row = refl
-within_others args (edit ∷ edits) within key off row = elim (cases_key key edit.key) [
-  | inl same ↦ absurd (true≢false (sym within.0 ∙ ap (covers args) (sym same.1) ∙ off))
-  | inr differs ↦ ap (edited edits key) (cond-false (same_key key edit.key) edit.after row differs.0) ∙ within_others args edits within.1 key off row
-]
-
-pub edited-append : (xs ys : List Edit) (key : CatKey) (row : Option CatRow) → edited (xs ++ ys) key row ≡ edited ys key (edited xs key row)
-edited-append [] ys key row = refl
-edited-append (x ∷ xs) ys key row = edited-append xs ys key (cond (same_key key x.key) x.after row)
+pub use Rattle.hm_kinds.proofs.Within.{Within}
+pub use Rattle.hm_kinds.proofs.Within.{within_others, edited-append, within_append}
 
 -- the last turned edit gives back what its key had
 turns : (key : CatKey) (edit : Edit) (now : Catalog) (row : Option CatRow) → edit.before ≡ now edit.key → row ≡ cond (same_key key edit.key) edit.after (now key) → cond (same_key key edit.key) edit.before row ≡ now key
@@ -41,10 +26,6 @@ undo_leads_back [] now key told = refl
 undo_leads_back (edit ∷ edits) now key told =
     let later = undo_leads_back edits (λ k. cond (same_key k edit.key) edit.after (now k)) key told.1 in
     edited-append (turned_round edits) (turned edit ∷ []) key _ ∙ turns key edit now _ told.0 later
-
-pub within_append : (args : Args) (xs ys : List Edit) → Within args xs → Within args ys → Within args (xs ++ ys)
-within_append args [] ys one two = two
-within_append args (x ∷ xs) ys one two = (one.0, within_append args xs ys one.1 two)
 
 pub within_undo : (args : Args) (edits : List Edit) → Within args edits → Within args (turned_round edits)
 within_undo args [] within = tt

@@ -1,5 +1,5 @@
--- What holds of the catalog of every legal journal, and of the entries of a tree.
-use Rattle.std.specs.Prelude.{◌≡◌, ◌≢◌, ℕ, ◌≤◌, List, [], ◌∷◌, Option, Some, None, true, false, if◌then◌else◌, ◌⊎◌, Ok}
+-- What holds of the catalog of every legal journal.
+use Rattle.std.specs.Prelude.{◌≡◌, ◌≢◌, ℕ, List, [], ◌∷◌, Option, Some, None, true, false, if◌then◌else◌, ◌⊎◌, Ok}
 use Rattle.hm_names.specs.Server.{Server}
 use Rattle.hm_names.specs.declared.pid.Pid.{Pid}
 use Rattle.hm_data.specs.declared.answer.Answer.TheVariants as answer_is
@@ -14,12 +14,10 @@ use Rattle.hm_model.specs.Tree.{Node, node_of, root_of}
 use Rattle.hm_model.specs.Phase.{cause, root_ended}
 use Rattle.hm_model.specs.Catalog.{Catalog, cat, was, keys_of}
 use Rattle.hm_model.specs.Keys.{same_key}
-use Rattle.hm_model.specs.Locks.{covers, IsBusy}
+use Rattle.hm_model.specs.Reads.{covers, IsBusy}
 use Rattle.hm_model.specs.Records.{unfinished}
 use Rattle.hm_model.specs.Rules.{IsLegal}
-use Rattle.hm_model.specs.Costs.{cost}
 use Rattle.hm_model.specs.Deeds.{deed_of}
-use Rattle.hm_model.specs.Entries.{entries_of, IsQuiet}
 use Rattle.hm_model.specs.Serial.{serial}
 
 -- a key that isn't busy has the row that the deeds of the finished roots give it, one after another
@@ -84,9 +82,3 @@ abbrev pub UndosTell : Type 0
 UndosTell =
     (pid : Pid) (row : ℕ) (out : StepOut) (before : Past) → IsLegal (entry_is.Undo pid row out ∷ before)
     → Tells out.edits (cat before)
-
--- the entries of a root's tree that nothing disturbed, with the one that makes the root, are at most what it costs
-abbrev pub CostBound : Type 0
-CostBound =
-    (J : Past) → IsLegal J → (r : ℕ) (node : Node) → node_of J r ≡ Some node → node.above ≡ []
-    → IsQuiet J r → entries_of J r ≤ cost J r node.args

@@ -1,5 +1,6 @@
 //! The laws.
-ghost use Rattle.hm_serial.specs.Theorem.{CatalogIsSerial, SettledCatalogIsSerial, DeedsApply, EditsAreCovered, FailureLeavesAll, UndosTell, CostBound};
+ghost use Rattle.hm_serial.specs.Theorem.{CatalogIsSerial, SettledCatalogIsSerial, DeedsApply, EditsAreCovered, FailureLeavesAll, UndosTell};
+ghost use Rattle.hm_serial.specs.Taking.{NoneConflict};
 
 /// On every key that no unfinished procedure with a step covers, the catalog is that of the deeds.
 pub fn catalog_is_serial()
@@ -26,12 +27,13 @@ pub fn failure_leaves_all()
     ensures { FailureLeavesAll }
 {}
 
+/// No two procedures that have a step, or are taken, and haven't ended conflict, where whoever is taken was free when it was
+/// taken.
+pub fn none_conflict()
+    ensures { NoneConflict }
+{}
+
 /// The edits of an undo tell the rows that they find.
 pub fn undos_tell()
     ensures { UndosTell }
-{}
-
-/// A tree that nothing disturbs has at most the entries that its root costs.
-pub fn cost_bound()
-    ensures { CostBound }
 {}

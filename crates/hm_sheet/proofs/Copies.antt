@@ -1,11 +1,13 @@
 -- Copies of the sheets of some kinds.
-use Rattle.std.proofs.Common.{◌≡◌, ℕ, ◌+◌, ◌<◌, List, [], ◌∷◌, ◌++◌, map, take, length, get_or, Option, Some, refl, ap, ◌∙◌, sym, arith, Bool, true, false, if◌then◌else◌}
-use Rattle.std.proofs.lemmas.List.{take_more, map-append}
+use Rattle.std.proofs.Common.{◌≡◌, ℕ, ◌+◌, ◌<◌, ◌≤◌, List, [], ◌∷◌, ◌++◌, map, take, length, get_or, Option, Some, refl, ap, ◌∙◌, sym, subst, arith, Bool, true, false, if◌then◌else◌}
+use Rattle.std.proofs.lemmas.List.{take_more, take_all, map-append}
 use Rattle.std.specs.Bool.{◌==◌}
 use Rattle.std.proofs.lemmas.Bool.Decides.{nat_tests}
 use Rattle.hm_data.specs.declared.sheet.Sheet.{Sheet}
+use Rattle.hm_model.specs.Kinds.{running_kinds}
 use Rattle.hm_model.specs.Sheets.{sheet_for}
 use Rattle.hm_model.specs.Validity.{IsValid, AllValid}
+use Rattle.hm_sheet.specs.Words.{AreListed}
 
 -- valid sheets, each the first of its kind
 pub record AreCopies (all : List Sheet) (sheets : List Sheet) (kinds : List ℕ) : Type 0 where
@@ -36,3 +38,10 @@ copies-push all sheets kinds i sheet lt so_far is one =
       named = rw (more, map-append) (cc (so_far.named, kind_of_found all (get_or kinds i 0) sheet is));
       valid = all_valid-push sheets sheet so_far.valid one;
     }
+
+-- copies for all kinds that the master runs
+pub copies-listed : (all sheets : List Sheet) (kinds : List ℕ) (index : ℕ) → kinds ≡ running_kinds → length kinds ≤ index → AreCopies all sheets (take index kinds) → AreListed all sheets
+copies-listed all sheets kinds index running over copies =
+    let whole : take index kinds ≡ running_kinds = take_all index kinds over ∙ running in
+    let own = subst (AreCopies all sheets) whole copies in
+    record { found = own.found; valid = (own.named, own.valid) }

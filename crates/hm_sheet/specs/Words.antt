@@ -1,7 +1,8 @@
 -- Counts, and why sheets make no registry.
-use Rattle.std.specs.Prelude.{ℕ, zero, suc, Bool, true, false, is_some, ◌+◌, ◌-◌, ◌^◌, ◌≤◌, ◌<◌, min, List, [], ◌∷◌, None, sum, ◌⊎◌, Any, IsTrue, IsSome, ◌≡◌, ◌==◌, if◌then◌else◌}
+use Rattle.std.specs.Prelude.{ℕ, zero, suc, Bool, true, false, is_some, ◌+◌, ◌-◌, ◌^◌, ◌≤◌, ◌<◌, min, List, [], ◌∷◌, Some, None, map, sum, ◌⊎◌, Any, IsTrue, IsSome, ◌≡◌, ◌==◌, if◌then◌else◌}
 use Rattle.hm_data.specs.declared.sheet.Sheet.{Sheet}
-use Rattle.hm_model.specs.Kinds.{is_running_kind}
+use Rattle.hm_model.specs.Kinds.{running_kinds, is_running_kind}
+use Rattle.hm_model.specs.Rules.{AreSheets}
 use Rattle.hm_model.specs.Sheets.{sheet_for}
 use Rattle.hm_sheet.specs.declared.fault.RegistryFault.{RegistryFault}
 use Rattle.hm_sheet.specs.declared.fault.RegistryFault.TheVariants as fault_is
@@ -61,8 +62,13 @@ IsLowestMissing sheets kind =
 abbrev pub HasAll : List Sheet → Type 0
 HasAll sheets = (kind : ℕ) → IsTrue (is_running_kind kind) → IsSome (sheet_for sheets kind)
 
--- why sheets make no registry. Making one needs no memory.
+-- the list has the sheet that all have of each kind that the master runs, in the order of the kinds
+pub record AreListed (all list : List Sheet) : Type 0 where
+  pub found : map Some list ≡ map (λ kind. sheet_for all kind) running_kinds
+  pub valid : AreSheets list
+
+-- why sheets make no registry. Memory runs out last.
 abbrev pub IsNoRegistry : List Sheet → RegistryFault → Type 0
 IsNoRegistry sheets (fault_is.Twice kind) = IsLowestTwice sheets kind
 IsNoRegistry sheets (fault_is.Missing kind) = NoneTwice sheets × IsLowestMissing sheets kind
-IsNoRegistry sheets fault_is.Memory = ⊥
+IsNoRegistry sheets fault_is.Memory = NoneTwice sheets × HasAll sheets

@@ -1,12 +1,11 @@
 ghost use Rattle.std.specs.Prelude.{◌≡◌, ◌+◌, ◌-◌, ◌^◌, ◌&&◌, not, min, map, is_none, IsSome, IfOk, IfErr, OnOk, OnErr, MatchOption, Some, option_copied};
 ghost use Rattle.std.specs.List.{flat_map};
-ghost use Rattle.hm_model.specs.Kinds.{running_kinds as running, is_running_kind as runs};
-ghost use Rattle.hm_model.specs.Rules.{AreSheets};
+ghost use Rattle.hm_model.specs.Kinds.{is_running_kind as runs};
 ghost use Rattle.hm_model.specs.Sheets.{sheet_for as first_of};
 ghost use Rattle.hm_model.specs.Validity.{IsValid};
 ghost use Rattle.hm_model.specs.Evaluation.{CanRun, answer_of, is_step};
-ghost use Rattle.hm_sheet.specs.Registry.{calls_of, runs_of, sheets_each, sheets_of, steps_of, undos_of};
-ghost use Rattle.hm_sheet.specs.Words.{CountRises, CountsRise, place_for, risen_if, risen_at_if, IsLowestTwice, NoneTwice, IsLowestMissing, HasAll, IsNoRegistry};
+ghost use Rattle.hm_sheet.specs.Registry.{IsRegistry, calls_of, list_of, runs_of, sheets_each, sheets_of, steps_of, undos_of};
+ghost use Rattle.hm_sheet.specs.Words.{CountRises, CountsRise, place_for, risen_if, risen_at_if, IsLowestTwice, NoneTwice, IsLowestMissing, HasAll, AreListed, IsNoRegistry};
 
 use crate::among::{count_of, place_of, sheet_for};
 use crate::fault::RegistryFault;
@@ -17,10 +16,12 @@ use hm_data::{Sheet, StepIn, StepOut, Turn};
 use hm_names::{Copied, List};
 use std::alloc::{AllocError, Global};
 
-/// Boxed handlers that have a sheet for each kind that the master runs, and how often they were run.
+/// Boxed handlers that have a sheet for each kind that the master runs, the list of these sheets, and how often the
+/// handlers were run.
 #[derive(Drop)]
 pub struct Registry {
     handlers: Vec<Box<dyn Handler>>,
+    list: List<Sheet>,
     runs: u64,
 }
 
@@ -92,26 +93,56 @@ fn sheet_at(handler: &Box<dyn Handler>, kind: u8) -> &Valid
     }
 }
 
+// A copy of the sheet of a kind.
+fn sheet_copy(alloc: Global, handlers: &[Box<dyn Handler>], kind: u8) -> Result<Sheet, AllocError>
+    requires { IsSome (first_of (flat_map (λ h. sheets_are h) handlers.now) kind) }
+    ensures found { IfOk result (λ sheet. first_of (flat_map (λ h. sheets_are h) handlers.now) kind ≡ Some sheet) }
+    ensures valid { IfOk result (λ sheet. IsValid sheet) }
+{
+    let Some(place) = place_of(handlers, kind) else {
+        unreachable!()
+    };
+    sheet_at(&handlers[place], kind).sheet().copy(alloc)
+}
+
+// Copies of the sheets of the kinds that the master runs so far, in the order of the kinds.
+fn running_copies(alloc: Global, handlers: &[Box<dyn Handler>]) -> Result<List<Sheet>, AllocError>
+    requires { HasAll (flat_map (λ h. sheets_are h) handlers.now) }
+    ensures { IfOk result (λ sheets. AreListed (flat_map (λ h. sheets_are h) handlers.now) sheets) }
+{
+    let mut sheets = Vec::new(alloc);
+    for kind in running_kinds() {
+        sheets.push(sheet_copy(alloc, handlers, *kind)?)?;
+    }
+    Ok(List::of(sheets))
+}
+
 impl Registry {
     /// The registry of these handlers. No kind may have two sheets, and each kind that the master runs so far must have
-    /// one. Making a registry takes no memory, so `Memory` isn't answered.
+    /// one. What takes memory is the list of these sheets.
     pub fn new(alloc: Global, handlers: Vec<Box<dyn Handler>>) -> Result<Registry, RegistryFault>
         ensures sheets { IfOk result (λ registry. sheets_of ⟦<dyn Handler as Handler>⟧ registry ≡ flat_map (λ h. sheets_are h) handlers.items) }
         ensures steps { IfOk result (λ registry. steps_of ⟦<dyn Handler as Handler>⟧ registry ≡ map (λ h. steps_are h) handlers.items) }
         ensures undos { IfOk result (λ registry. undos_of ⟦<dyn Handler as Handler>⟧ registry ≡ map (λ h. undos_are h) handlers.items) }
         ensures runs { IfOk result (λ registry. runs_of registry ≡ 0) }
         ensures once { IfOk result (λ registry. NoneTwice (sheets_of ⟦<dyn Handler as Handler>⟧ registry)) }
-        ensures all { IfOk result (λ registry. HasAll (sheets_of ⟦<dyn Handler as Handler>⟧ registry)) }
+        ensures lists { IfOk result (λ registry. IsRegistry ⟦<dyn Handler as Handler>⟧ registry) }
         ensures err { IfErr result (λ fault. IsNoRegistry (flat_map (λ h. sheets_are h) handlers.items) fault) }
     {
-        let _ = alloc;
         if let Some(kind) = lowest_twice(&handlers) {
             return Err(RegistryFault::Twice(kind));
         }
         if let Some(kind) = lowest_missing(&handlers) {
             return Err(RegistryFault::Missing(kind));
         }
-        Ok(Registry { handlers, runs: 0 })
+        let Ok(list) = running_copies(alloc, &handlers) else {
+            return Err(RegistryFault::Memory);
+        };
+        Ok(Registry {
+            handlers,
+            list,
+            runs: 0,
+        })
     }
 
     /// Calls the first handler that has the input's kind, once, by its turn, and leaves in `out` what its sheet says,
@@ -120,6 +151,7 @@ impl Registry {
         requires { CanRun (sheets_of ⟦<dyn Handler as Handler>⟧ self.old) at.now }
         ensures out { OnOk result (answer_of (sheets_of ⟦<dyn Handler as Handler>⟧ self.old) at.now ≡ Some out.new) }
         ensures sheets { sheets_of ⟦<dyn Handler as Handler>⟧ self.new ≡ sheets_of ⟦<dyn Handler as Handler>⟧ self.old }
+        ensures list { list_of self.new ≡ list_of self.old }
         ensures runs { OnOk result (runs_of self.new ≡ min (runs_of self.old + 1) (2 ^ 64 - 1)) }
         ensures steps { OnOk result (steps_of ⟦<dyn Handler as Handler>⟧ self.new ≡ risen_at_if (is_step at.now.turn)
             (place_for at.now.kind (sheets_each ⟦<dyn Handler as Handler>⟧ self.old)) (steps_of ⟦<dyn Handler as Handler>⟧ self.old)) }
@@ -167,27 +199,10 @@ impl Registry {
         }
     }
 
-    // A copy of the sheet of a kind.
-    fn sheet_copy(&self, alloc: Global, kind: u8) -> Result<Sheet, AllocError>
-        requires { IsSome (first_of (sheets_of ⟦<dyn Handler as Handler>⟧ self.now) kind) }
-        ensures found { IfOk result
-            (λ sheet. first_of (sheets_of ⟦<dyn Handler as Handler>⟧ self.now) kind ≡ Some sheet) }
-        ensures valid { IfOk result (λ sheet. IsValid sheet) }
-    {
-        self.sheet(kind).sheet().copy(alloc)
-    }
-
     /// The sheets of the kinds that the master runs so far, in the order of the kinds.
-    pub fn sheets(&self, alloc: Global) -> Result<List<Sheet>, AllocError>
-        requires { HasAll (sheets_of ⟦<dyn Handler as Handler>⟧ self.now) }
-        ensures found { IfOk result (λ sheets. map Some sheets
-            ≡ map (λ kind. first_of (sheets_of ⟦<dyn Handler as Handler>⟧ self.now) kind) running) }
-        ensures valid { IfOk result (λ sheets. AreSheets sheets) }
+    pub fn sheets(&self) -> &List<Sheet>
+        ensures { result.now ≡ list_of self.now }
     {
-        let mut sheets = Vec::new(alloc);
-        for kind in running_kinds() {
-            sheets.push(self.sheet_copy(alloc, *kind)?)?;
-        }
-        Ok(List::of(sheets))
+        &self.list
     }
 }

@@ -20,7 +20,7 @@ use Rattle.hm_model.specs.Records.{record_at, record_of, unfinished}
 use Rattle.hm_model.specs.Rest.{IsAvailable, IsAtRest, MayStep}
 use Rattle.hm_model.specs.Holding.{MayBegin}
 use Rattle.hm_model.specs.Rules.{IsLegal}
-use Rattle.hm_model.specs.Stages.{simple_phase}
+use Rattle.hm_model.specs.StageSteps.{simple_phase}
 use Rattle.hm_model.specs.Tree.{Node, made, node_of, parent_in, is_root, pid_of}
 use Rattle.hm_model.proofs.Counting.{is_open, unfinished_is, may_step, may_step_picked, steps_unstopped, may_begin, begins_alone, begun_goes_on, available_unstopped}
 use Rattle.hm_model.proofs.Grown.{grown_all, made_up_to}

@@ -9,7 +9,7 @@ use Rattle.hm_data.specs.declared.record.Record.{Record}
 use Rattle.hm_data.specs.declared.request.Request.{Request}
 use Rattle.hm_model.specs.Answers.{row_after}
 use Rattle.hm_model.specs.Kinds.{request_kind}
-use Rattle.hm_model.specs.Stages.{simple_phase}
+use Rattle.hm_model.specs.StageSteps.{simple_phase}
 
 -- the record of a root that was just submitted
 abbrev pub new_record : Pid → Request → Record

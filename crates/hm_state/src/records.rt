@@ -4,7 +4,7 @@ ghost use Rattle.std.specs.Option.{option_copied};
 ghost use Rattle.hm_model.specs.Answers.{is_stop as stops, row_after as row_behind};
 ghost use Rattle.hm_model.specs.Kinds.{request_kind};
 ghost use Rattle.hm_model.specs.Counts.{one_if};
-ghost use Rattle.hm_model.specs.Stages.{simple_phase};
+ghost use Rattle.hm_model.specs.StageSteps.{simple_phase};
 ghost use Rattle.hm_state.specs.Records.{has_ended, new_record as record_of_new, stepped};
 
 use hm_data::{Answer, Args, Phase, Record, Request};

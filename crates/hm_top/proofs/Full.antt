@@ -65,11 +65,11 @@ answer_full limits command old answer new was a = by_halted old.halted refl a
     by_halted None going at = at_full limits command old answer new was.0 going at
     by_halted (Some why) is same = subst (IsFull limits) (sym same.1) was
 
--- what a conversation leaves is full only so, where its start isn't halted
-pub talked_full : (limits : Limits) (commands : List Command) (old : Standing) (marks : List ℕ) (answers : List Answer) (new : Standing) → IsFull limits old → Transcript commands old marks answers new → IsFull limits new
-talked_full limits [] old marks answers new was t = subst (IsFull limits) (sym t.2) was
-talked_full limits (command ∷ commands) old marks answers new was t =
-    talked_full limits commands t.0 t.1 t.2 new (answer_full limits command old t.3.answer t.0 was t.3.fits) t.4
+-- what answering leaves is full only so, where its start isn't halted
+pub answered_full : (limits : Limits) (commands : List Command) (old : Standing) (marks : List ℕ) (answers : List Answer) (new : Standing) → IsFull limits old → Transcript commands old marks answers new → IsFull limits new
+answered_full limits [] old marks answers new was t = subst (IsFull limits) (sym t.2) was
+answered_full limits (command ∷ commands) old marks answers new was t =
+    answered_full limits commands t.0 t.1 t.2 new (answer_full limits command old t.3.answer t.0 was t.3.fits) t.4
 
 pub begun_full : (limits : Limits) (at start : Standing) → at ≡ start → start.limits ≡ limits → start.halted ≡ None → IsFull limits at
 begun_full limits at start is same going = goes_on limits start at start.journal same going is

@@ -12,7 +12,7 @@ use Rattle.hm_top.specs.declared.answer.Answer.{Answer}
 use Rattle.hm_top.specs.declared.answer.Answer.TheVariants as answer_is
 use Rattle.hm_script.specs.declared.command.Command.{Command}
 use Rattle.hm_script.specs.declared.command.Command.TheVariants as command_is
-use Rattle.hm_top.specs.Answer.{Answers, AnswersAt, MayAdd, MayAddAt, AreUnsaid, submission}
+use Rattle.hm_top.specs.Answer.{Answers, AnswersAt, MayAdd, MayAddAt, submission}
 use Rattle.hm_top.specs.Hands.{steps_in}
 use Rattle.hm_top.specs.Standing.{Comes, Standing}
 
@@ -62,11 +62,6 @@ answer_adds command old answer new a = by_halted old.halted a
         → (added : List Entry) × MatchOption halted (MayAddAt command old added) (λ why. added ≡ []) × (new.journal ≡ old.journal ++ added)
     by_halted None at = at_adds command old answer new at
     by_halted (Some why) same = ([], refl, none_at old new (ap (λ (s : Standing). s.journal) same.1))
-
--- nothing was recorded for the next command
-pub none_unsaid : (rest : List Command) (old : Standing) → AreUnsaid rest old []
-none_unsaid [] old = refl
-none_unsaid (command ∷ rest) old = inl refl
 
 -- what the opening adds, which is no step
 pub opened_grows : (sheets : List Sheet) (old : List Entry) → (first : List Entry) × (opened sheets old ≡ old ++ first) × (steps_in first ≡ 0)

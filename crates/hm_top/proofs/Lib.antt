@@ -3,12 +3,11 @@ pub mod Pieces
 pub mod Stores
 pub mod Roots
 pub mod Growth
-pub mod Fitting
-pub mod Answered
+pub mod Offered
 pub mod Steps
 pub mod Ran
 pub mod Full
-pub mod Conversations
+pub mod Sessions
 pub mod Registries
 pub mod Outcomes
 pub mod Complete

@@ -1,48 +1,42 @@
--- A line written in parts.
-use Rattle.std.proofs.Common.{◌≡◌, ◌<◌, ◌+◌, suc, get_or, drop-cons, arith, ℕ, List, [], ◌∷◌, ◌++◌, length, take, drop, refl, sym, ap, ◌∙◌, append_assoc}
+-- A text written in pieces.
+use Rattle.std.proofs.Common.{◌≡◌, ◌<◌, ◌+◌, suc, get_or, drop-cons, arith, ℕ, List, [], ◌∷◌, ◌++◌, length, take, drop, Result, Ok, Err, sym, ap, ◌∙◌, inl, inr, append_assoc}
+use Rattle.std.specs.Prelude.{OnOk, OnErr}
 use Rattle.std.specs.List.{flat_map}
+use Rattle.std.proofs.Math.Seq.{take-append-add}
 use Rattle.std.proofs.lemmas.Grind.{flat_map-append}
-use Rattle.std.proofs.lemmas.List.{take-append-drop}
-use Rattle.hm_top.specs.declared.last_line.Piece.{Piece}
-use Rattle.hm_top.specs.Got.{IsFrontOf}
+use Rattle.std.proofs.lemmas.List.{length-append, take-append-drop, take-append-le}
+use Rattle.hm_top.specs.declared.piece.Piece.{Piece}
+use Rattle.hm_ports.specs.Faults.{HasCause, Rose}
+use Rattle.hm_top.specs.Got.{IsLast, IsPartOf}
 use Rattle.hm_top.specs.Pieces.{piece_text}
 
-take_front : (xs ys : List ℕ) → take (length xs) (xs ++ ys) ≡ xs
-take_front [] ys = refl
-take_front (x ∷ xs) ys = ap (λ l. x ∷ l) (take_front xs ys)
+-- a part of a text that stands between others
+part_between : (old mid new before text rest whole : List ℕ) → whole ≡ before ++ (text ++ rest) → mid ≡ old ++ before → IsPartOf mid new text → IsPartOf old new whole
+part_between old mid new before text rest whole parts so_far part =
+    let size : length whole ≡ length before + (length text + length rest) = ap length parts ∙ length-append before (text ++ rest) ∙ ap (λ n. length before + n) (length-append text rest) in
+    let short = part.1 in
+    let front : take (length before + part.0) whole ≡ before ++ take part.0 text =
+    ap (take (length before + part.0)) parts ∙ take-append-add before (text ++ rest) part.0 ∙ ap (λ l. before ++ l) (take-append-le part.0 text rest (omega arith)) in
+    (length before + part.0, omega arith, part.2 ∙ ap (λ l. l ++ take part.0 text) so_far ∙ append_assoc old before (take part.0 text) ∙ ap (λ l. old ++ l) (sym front))
 
--- a text that another begins with
-front_is : (old new text front rest : List ℕ) → text ≡ front ++ rest → new ≡ old ++ front → IsFrontOf old new text
-front_is old new text front rest parts is = (length front, is ∙ ap (λ l. old ++ l) (sym (take_front front rest) ∙ ap (take (length front)) (sym parts)))
-
-module _ (pieces : List Piece) (index : ℕ) (piece : Piece) (next : drop index pieces ≡ piece ∷ drop (index + 1) pieces) where
-  parts : flat_map piece_text pieces ≡ flat_map piece_text (take index pieces) ++ (piece_text piece ++ flat_map piece_text (drop (index + 1) pieces))
-  parts =
-      ap (flat_map piece_text) (sym (take-append-drop index pieces) ∙ ap (λ l. take index pieces ++ l) next)
-      ∙ flat_map-append piece_text (take index pieces) (piece ∷ drop (index + 1) pieces)
-
-  -- part of the next part was written behind those before
-  part_behind : (old mid new : List ℕ) → mid ≡ old ++ flat_map piece_text (take index pieces) → IsFrontOf mid new (piece_text piece) → IsFrontOf old new (flat_map piece_text pieces)
-  part_behind old mid new so_far front =
-      let before = flat_map piece_text (take index pieces) in
-      let text = piece_text piece in
-      let rest = flat_map piece_text (drop (index + 1) pieces) in
-      front_is old new (flat_map piece_text pieces) (before ++ take front.0 text) (drop front.0 text ++ rest)
-      (parts ∙ ap (λ l. before ++ (l ++ rest)) (sym (take-append-drop front.0 text)) ∙ ap (λ l. before ++ l) (append_assoc (take front.0 text) (drop front.0 text) rest)
-      ∙ sym (append_assoc before (take front.0 text) (drop front.0 text ++ rest)))
-      (front.1 ∙ ap (λ l. l ++ take front.0 text) so_far ∙ append_assoc old before (take front.0 text))
-
--- the same, of a part that is there
-pub written_part : (pieces : List Piece) (index : ℕ) (old mid new : List ℕ) → index < length pieces → mid ≡ old ++ flat_map piece_text (take index pieces) → (other : Piece) → IsFrontOf mid new (piece_text (get_or pieces index other))
-    → IsFrontOf old new (flat_map piece_text pieces)
-written_part pieces index old mid new within so_far other front =
-    let next : drop index pieces ≡ get_or pieces index other ∷ drop (index + 1) pieces =
+-- the first pieces were written, and a part of the next one
+pub written_part : (pieces : List Piece) (index : ℕ) (old mid new : List ℕ) → index < length pieces → mid ≡ old ++ flat_map piece_text (take index pieces) → (other : Piece) → IsPartOf mid new (piece_text (get_or pieces index other))
+    → IsPartOf old new (flat_map piece_text pieces)
+written_part pieces index old mid new within so_far other part =
+    let piece = get_or pieces index other in
+    let next : drop index pieces ≡ piece ∷ drop (index + 1) pieces =
     let same : suc index ≡ index + 1 = omega arith in
-    drop-cons pieces index other within ∙ ap (λ n. get_or pieces index other ∷ drop n pieces) same in
-    part_behind pieces index (get_or pieces index other) next old mid new so_far front
+    drop-cons pieces index other within ∙ ap (λ n. piece ∷ drop n pieces) same in
+    part_between old mid new (flat_map piece_text (take index pieces)) (piece_text piece) (flat_map piece_text (drop (index + 1) pieces)) (flat_map piece_text pieces)
+    (ap (flat_map piece_text) (sym (take-append-drop index pieces) ∙ ap (λ l. take index pieces ++ l) next) ∙ flat_map-append piece_text (take index pieces) (piece ∷ drop (index + 1) pieces))
+    so_far part
 
--- the first parts were written
-pub written_front : (pieces : List Piece) (index : ℕ) (old new : List ℕ) → new ≡ old ++ flat_map piece_text (take index pieces) → IsFrontOf old new (flat_map piece_text pieces)
-written_front pieces index old new is =
-    front_is old new (flat_map piece_text pieces) (flat_map piece_text (take index pieces)) (flat_map piece_text (drop index pieces))
-    (ap (flat_map piece_text) (sym (take-append-drop index pieces)) ∙ flat_map-append piece_text (take index pieces) (drop index pieces)) is
+-- a text that was tried, whether it failed or not
+pub tried : {T E : Type 0} (before now : ℕ) (old new text : List ℕ) (r : Result T E) → OnOk r (new ≡ old ++ text) → OnErr r (IsPartOf old new text) → HasCause before now r → IsLast (Rose before now) old new text
+tried before now old new text (Ok done) all part cause = inl all
+tried before now old new text (Err fault) all part cause = inr (cause.failed, part)
+
+-- what holds whatever was answered
+pub on_err : {T E P : Type 0} (r : Result T E) → P → OnErr r P
+on_err (Ok done) p = tt
+on_err (Err fault) p = p

@@ -87,13 +87,13 @@ ran_on old mid new before between after a b c first then = (
 pub ran_idle : (hands : HandsUse) (old new : List Entry) → new ≡ old → RunBy hands 0 → Ran hands old new
 ran_idle hands old new same run = ([], same ∙ sym (append-nil old), run)
 
-rises_less : (before now : List ℕ) → SumRisesBy 1 before now → SumRisesBy 0 before now
-rises_less before now (inl rose) = inl (omega arith)
-rises_less before now (inr full) = inr full
+rises_less : (count : ℕ) (before now : List ℕ) → SumRisesBy count before now → SumRisesBy 0 before now
+rises_less count before now (inl rose) = inl (omega arith)
+rises_less count before now (inr full) = inr full
 
--- one run is none at least
-pub run_less : (hands : HandsUse) → RunBy hands 1 → RunBy hands 0
-run_less hands run = record { alike = run.alike; kept = run.kept; rises = rises_less hands.runs_before hands.runs_after run.rises }
+-- some runs are none at least
+pub run_less : (hands : HandsUse) (count : ℕ) → RunBy hands count → RunBy hands 0
+run_less hands count run = record { alike = run.alike; kept = run.kept; rises = rises_less count hands.runs_before hands.runs_after run.rises }
 
 -- a step that was evaluated was run once, whether it was added or not
 pub ran_step : {E : Type 0} (hands : HandsUse) (old new : Standing) (entry : Entry) (r : Result (Option Halt) E) → IsNextStep (back old.journal) entry → RunBy hands 1
@@ -101,8 +101,8 @@ pub ran_step : {E : Type 0} (hands : HandsUse) (old new : Standing) (entry : Ent
 ran_step hands old new entry (Ok None) next run comes err =
     let one : steps_in (entry ∷ []) ≡ 1 = omega (arith, one_next (back old.journal) entry next) in
     (entry ∷ [], entry_added old new entry comes, subst (RunBy hands) (sym one) run)
-ran_step hands old new entry (Ok (Some why)) next run comes err = ran_idle hands old.journal new.journal (halt_leaves old new entry why comes) (run_less hands run)
-ran_step hands old new entry (Err e) next run comes err = ran_idle hands old.journal new.journal (ap (λ (s : Standing). s.journal) err) (run_less hands run)
+ran_step hands old new entry (Ok (Some why)) next run comes err = ran_idle hands old.journal new.journal (halt_leaves old new entry why comes) (run_less hands 1 run)
+ran_step hands old new entry (Err e) next run comes err = ran_idle hands old.journal new.journal (ap (λ (s : Standing). s.journal) err) (run_less hands 1 run)
 
 -- a submission runs nothing
 pub submit_ran : {E : Type 0} (nonce : Nonce) (ns : List ℕ) (old new : Standing) (r : Result Answer E) (hands : HandsUse) → RunBy hands 0 → IfOk r (λ answer. AnswersAt (command_is.Namespace nonce ns) old answer new) → OnErr r (new ≡ old)

@@ -4,11 +4,10 @@ use Rattle.std.specs.Prelude.{IsTrue}
 use Rattle.std.specs.List.{flat_map, list_any}
 use Rattle.std.proofs.lemmas.Bool.Decides.{nat_tests}
 use Rattle.std.proofs.lemmas.List.{length-map}
-use Rattle.std.proofs.lemmas.List.Elements.{All-head}
 use Rattle.hm_data.specs.declared.sheet.Sheet.{Sheet}
 use Rattle.hm_model.specs.Kinds.{running_kinds}
-use Rattle.hm_model.specs.Rules.{AreSheets}
 use Rattle.hm_model.specs.Sheets.{sheet_for}
+use Rattle.hm_sheet.specs.Words.{AreListed}
 use Rattle.hm_top.specs.Hands.{AgreeOn, HandsAgree, first_sheets, listed, own_sheets}
 
 module _ {R : Type 0} (f : R → List Sheet) (hands : List R) (agree : HandsAgree (map f hands)) where
@@ -24,13 +23,9 @@ module _ {R : Type 0} (f : R → List Sheet) (hands : List R) (agree : HandsAgre
       at [] some e = absurd (omega arith)
       at (r ∷ rs) some e = ap f (sym e)
 
-  -- what all have the first has
-  pub all_first : (P : List Sheet → Type 0) (x : R) → x ≡ get_or hands 0 x → All P (map f hands) → P (f x)
-  all_first P x = at hands some_hands
-    where
-      at : (rs : List R) → 0 < length rs → x ≡ get_or rs 0 x → All P (map f rs) → P (f x)
-      at [] some e all = absurd (omega arith)
-      at (r ∷ rs) some e all = subst (λ y. P (f y)) (sym e) (All-head P (f r) (map f rs) all)
+  -- what all are the first is
+  pub all_first : (P : R → Type 0) (x : R) → x ≡ get_or hands 0 x → All P hands → P x
+  all_first P x is all = subst P (sym is) (all 0 x some_hands)
 
 -- sheets that are found under kinds are those that are listed
 listed_are : (f : ℕ → Option Sheet) (kinds : List ℕ) (sheets : List Sheet) → map Some sheets ≡ map f kinds → flat_map (λ kind. listed (f kind)) kinds ≡ sheets
@@ -65,11 +60,13 @@ found_same f (first ∷ kinds) (sheet ∷ sheets) found same kind runs =
 pub own_is : (first sheets : List Sheet) → map Some sheets ≡ map (λ kind. sheet_for first kind) running_kinds → own_sheets first ≡ sheets
 own_is first sheets found = listed_are (sheet_for first) running_kinds sheets found
 
--- so a run uses the sheets that were found of the first registry
-pub used_are : {R : Type 0} (f : R → List Sheet) (hands : List R) → HandsAgree (map f hands) → (x : R) → x ≡ get_or hands 0 x → (sheets slice : List Sheet)
-    → map Some sheets ≡ map (λ kind. sheet_for (f x) kind) running_kinds → slice ≡ sheets → own_sheets (first_sheets (map f hands)) ≡ slice
-used_are f hands agree x is sheets slice found same = ap own_sheets (first_is f hands agree x is) ∙ own_is (f x) sheets found ∙ sym same
+-- so a run uses the sheets that the first registry lists
+pub used_are : {R : Type 0} (f own : R → List Sheet) (hands : List R) → HandsAgree (map f hands) → All (λ r. AreListed (f r) (own r)) hands → (x : R) → x ≡ get_or hands 0 x → (slice : List Sheet) → slice ≡ own x
+    → own_sheets (first_sheets (map f hands)) ≡ slice
+used_are f own hands agree each x is slice same =
+    let list = all_first f hands agree (λ r. AreListed (f r) (own r)) x is each in
+    ap own_sheets (first_is f hands agree x is) ∙ own_is (f x) (own x) list.found ∙ sym same
 
--- the handlers agree with their own sheets
-pub agree_own : (first sheets : List Sheet) → map Some sheets ≡ map (λ kind. sheet_for first kind) running_kinds → AreSheets sheets → AgreeOn first sheets
-agree_own first sheets found valid = found_same (sheet_for first) running_kinds sheets found valid.0
+-- the handlers agree with the sheets that are listed
+pub agree_own : (first sheets : List Sheet) → AreListed first sheets → AgreeOn first sheets
+agree_own first sheets list = found_same (sheet_for first) running_kinds sheets list.found list.valid.0

@@ -23,19 +23,23 @@ use Rattle.hm_script.specs.declared.command.Command.{Command}
 use Rattle.hm_top.specs.declared.status.EarlyEnd.{EarlyEnd}
 use Rattle.hm_top.specs.declared.status.EarlyEnd.TheVariants as early_is
 use Rattle.hm_top.specs.declared.status.RunStatus.{RunStatus}
-use Rattle.hm_top.specs.Ending.{talked_status, unopened_status}
+use Rattle.hm_top.specs.declared.status.RunStatus.TheVariants.{Memory}
+use Rattle.hm_top.specs.Ending.{ended_status, unopened_status}
 use Rattle.hm_top.specs.Got.{IsLast}
-use Rattle.hm_top.specs.Hands.{Ran, sheets_used}
+use Rattle.hm_top.specs.Hands.{Ran, RunBy, sheets_used}
+use Rattle.hm_top.specs.Left.{AcceptsJournal, IsLeft}
 use Rattle.hm_top.specs.Ports.{HandsUse, SinkUse, disk_use, sink_use}
-use Rattle.hm_top.specs.Run.{AcceptsJournal, Ends, EndsUnfinished, WordsFit, IsRead, KeepsTo, Outcome, Run, before_line, behind_line, talk_of}
+use Rattle.hm_top.specs.Run.{Ends, EndsUnfinished, IsRead, KeepsTo, Run, WordsFit, before_line, behind_line, session_of}
 use Rattle.hm_top.specs.Script.{IsScript}
+use Rattle.hm_top.specs.Session.{Outcome}
 use Rattle.hm_top.specs.Standing.{Standing, begun, whole}
 use Rattle.hm_top.specs.Status.{last_line}
-use Rattle.hm_top.specs.Talking.{IsTalk}
+use Rattle.hm_top.specs.Answering.{IsAnswering}
 use Rattle.hm_top.specs.View.{IsLeftBy, WorldView, standing_of}
 use Rattle.hm_top.proofs.Complete.{complete}
 use Rattle.hm_top.proofs.Growth.{opened_grows}
-use Rattle.hm_top.proofs.Outcomes.{ends_fit, ends_map, got_finished, left_of, outcome_map, outcome_talked, outcome_unopened, spoken}
+use Rattle.hm_top.proofs.Outcomes.{ends_fit, ends_map, got_finished, left_of, outcome_answered, outcome_full, outcome_map, outcome_unopened, spoken}
+use Rattle.hm_top.proofs.Ran.{ran_idle}
 
 rose_late : (old mid new : ℕ) → old ≤ mid → Rose mid new → Rose old new
 rose_late old mid new later rose = omega arith
@@ -93,26 +97,38 @@ module _ {D Setting : Type 0} (d : Disk.Ghosts D Setting) (commands : List Comma
   abbrev its : RunStatus → Type 0
   its = Outcome (spoken commands limits out (disk_use d disk new) hands marks)
 
-  -- the outcome of a conversation with a world that was opened
-  pub converse_talked : (was : WorldView D) (at : Standing) (ended : Result (Unit {0}) EarlyEnd) → status ≡ talked_status ended at.halted → IsOpened d sheets limits disk was → IsCalled d 1 disk was.opened.disk
-      → IsTalk out.tells out.before out.after (Opened (length was.kept.entries) ∷ []) ended commands (standing_of was) marks at → IsLeftBy d was.opened at new → Ran hands was.kept.entries at.journal
-      → (ended ≡ Err early_is.WriteFault → out.failed) → its status
-  converse_talked was at ended ends opening first_called talk leaves ran fails =
+  -- what is left of a world that was opened, whose run stands so
+  left_opened : (was : WorldView D) (at : Standing) (opens : IsOpened d (sheets_used hands) limits disk was) → IsCalled d 1 disk was.opened.disk → IsLeftBy d was.opened at new → Ran hands was.kept.entries at.journal
+      → IsLeft (disk_use d disk new) hands opens.0 at
+  left_opened was at opens first_called leaves ran =
       let own = sheets_used hands in
-      let opens : IsOpened d own limits disk was = subst (λ (l : List Sheet). IsOpened d l limits disk was) (sym listed) opening in
       let old = opens.0 in
-      let stands : standing_of was ≡ begun limits own old = opens.2 in
-      let begins : was.kept.entries ≡ (begun limits own old).journal = ap (λ (s : Standing). s.journal) stands in
+      let begins : was.kept.entries ≡ (begun limits own old).journal = ap (λ (s : Standing). s.journal) opens.2 in
       let first = opened_grows own old in
       let grown : (more : List Entry) × (at.journal ≡ old ++ more) = (first.0 ++ ran.0, ran.1 ∙ ap (λ l. l ++ ran.0) (begins ∙ first.1) ∙ append_assoc old first.0 ran.0) in
       let rose : at.halted ≡ Some halt_is.LogFault → Rose (d.faults disk) (d.faults new) = λ halted_is.
       rose_late (d.faults disk) (d.faults was.opened.disk) (d.faults new) first_called.fault (leaves.since.failed halted_is) in
-      let left = left_of commands limits out (disk_use d disk new) hands marks old at (λ told. (opens.4 told).0) leaves.legal leaves.stored (stops_leave d own limits disk was at new opens grown leaves.since.leaves)
+      left_of commands limits out (disk_use d disk new) hands marks old at (λ told. (opens.4 told).0) leaves.legal leaves.stored (stops_leave d own limits disk was at new opens grown leaves.since.leaves)
       (called_on d 1 (2 * (length (whole at) - length old)) disk was.opened.disk new first_called
-      (subst (λ n. IsCalled d (2 * (length (whole at) - n)) was.opened.disk new) opens.3 leaves.since.called)) rose (subst (λ journal. Ran hands journal at.journal) begins ran) in
+      (subst (λ n. IsCalled d (2 * (length (whole at) - n)) was.opened.disk new) opens.3 leaves.since.called)) rose (subst (λ journal. Ran hands journal at.journal) begins ran)
+
+  -- the outcome of answering over a world that was opened
+  pub converse_answered : (was : WorldView D) (at : Standing) (ended : Result (Unit {0}) EarlyEnd) → status ≡ ended_status ended at.halted → IsOpened d sheets limits disk was → IsCalled d 1 disk was.opened.disk
+      → IsAnswering out.tells out.before out.after (Opened (length was.kept.entries) ∷ []) ended commands (standing_of was) marks at → IsLeftBy d was.opened at new → Ran hands was.kept.entries at.journal
+      → (ended ≡ Err early_is.WriteFault → out.failed) → its status
+  converse_answered was at ended ends opening first_called answering leaves ran fails =
+      let opens : IsOpened d (sheets_used hands) limits disk was = subst (λ (l : List Sheet). IsOpened d l limits disk was) (sym listed) opening in
       subst its (sym ends)
-      (outcome_talked commands limits out (disk_use d disk new) hands marks old at left ended at.halted refl fails
-      (subst (λ (s : Standing). IsTalk out.tells out.before out.after (Opened (length s.journal) ∷ []) ended commands s marks at) stands talk))
+      (outcome_answered commands limits out (disk_use d disk new) hands marks opens.0 at (left_opened was at opens first_called leaves ran) ended at.halted refl fails
+      (subst (λ (s : Standing). IsAnswering out.tells out.before out.after (Opened (length s.journal) ∷ []) ended commands s marks at) opens.2 answering))
+
+  -- the outcome where there was no room for the marks over a world that was opened
+  pub converse_full : (was : WorldView D) → status ≡ Memory → IsOpened d sheets limits disk was → IsCalled d 1 disk was.opened.disk → IsLeftBy d was.opened (standing_of was) new → RunBy hands 0
+      → marks ≡ [] → commands ≢ [] → (out.tells → out.after ≡ out.before) → its status
+  converse_full was ends opening first_called leaves run none some quiet =
+      let opens : IsOpened d (sheets_used hands) limits disk was = subst (λ (l : List Sheet). IsOpened d l limits disk was) (sym listed) opening in
+      let left = left_opened was (standing_of was) opens first_called leaves (ran_idle hands was.kept.entries was.kept.entries refl run) in
+      subst its (sym ends) (outcome_full commands limits out (disk_use d disk new) hands marks none quiet some opens.0 (subst (IsLeft (disk_use d disk new) hands opens.0) opens.2 left))
 
   -- the outcome of an opening that failed
   pub converse_unopened : (why : JournalWhy) → status ≡ unopened_status why → marks ≡ [] → (d.tells → Refuses sheets (d.seen disk) why) → (why ≡ why_is.Fault → Rose (d.faults disk) (d.faults new))
@@ -147,10 +163,10 @@ module _ {K : Type 0} (k : Sink.Ghosts K) (out0 out1 out2 : K) (run : Run) (stat
       let said : (answers : List Answer) → before_line unfinished.out status answers → behind_line finished.out status answers = λ answers t told.
       got_finished (Rose (k.faults out1) (k.faults out2)) (Rose (k.faults out0) (k.faults out2)) (k.got out0) (k.got out1) (k.got out2) status answers (rose_late (k.faults out0) (k.faults out1) (k.faults out2) first) (t told) (line told) in
       ends_map unfinished before_line behind_line finished.out status said
-      (outcome_map (talk_of unfinished before_line) (IsRead unfinished) (behind_line finished.out) finished.out (λ cs c. c) status said (rose_early (k.faults out0) (k.faults out1) (k.faults out2) then)) e
+      (outcome_map (session_of unfinished before_line) (IsRead unfinished) (behind_line finished.out) finished.out (λ cs c. c) status said (rose_early (k.faults out0) (k.faults out1) (k.faults out2) then)) e
 
   -- what the run keeps to
-  pub run_keeps : EndsUnfinished unfinished status → run.hands.after ≡ run.hands.before → AcceptsJournal run.disk run.hands status → KeepsTo finished status
-  run_keeps e alike exact =
+  pub run_keeps : EndsUnfinished unfinished status → RunBy run.hands 0 → AcceptsJournal run.disk run.hands status → KeepsTo finished status
+  run_keeps e run_by accepts =
       let ends = run_finished e in
-      record { ends = ends; complete = complete finished status exact ends; exact = exact; alike = alike }
+      record { ends = ends; complete = complete finished status accepts ends; accepts = accepts; run_by = run_by }

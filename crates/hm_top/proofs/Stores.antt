@@ -20,7 +20,7 @@ use Rattle.hm_journal.specs.Since.{with_tail}
 use Rattle.hm_journal.specs.Stored.{opened}
 use Rattle.hm_journal.specs.declared.limits.Limits.{Limits}
 use Rattle.hm_top.specs.Answer.{submission}
-use Rattle.hm_top.specs.Standing.{Comes, Standing, begun, told_of}
+use Rattle.hm_top.specs.Standing.{Comes, Standing, begun, recorded_as}
 use Rattle.hm_top.specs.View.{IsWorld, standing_in}
 
 -- a legal journal and an entry that may stand behind it
@@ -65,7 +65,7 @@ pub comes_ok : (was new : Recording) (entry : Entry) (number : ℕ) → Records 
 comes_ok was new entry number r = let is = r.3 in ((r.0, r.1, refl, ap unready is), ap (λ (k : Recording). standing_in k) is ∙ sym (ap (λ (k : Recording). stays was k) is))
 
 -- how a run stands behind an entry that halted it
-pub comes_by : (was new : Recording) (entry : Entry) (why : Halt) → Records (with_next was entry) entry (told_of (standing_in was) (Some why)) new → Comes (standing_in was) entry (Some why) (standing_in new)
+pub comes_by : (was new : Recording) (entry : Entry) (why : Halt) → Records (with_next was entry) entry (recorded_as (standing_in was) (Some why)) new → Comes (standing_in was) entry (Some why) (standing_in new)
 comes_by was new entry halt_is.LogFault r = let is = r.2 in ((r.0, r.1, ap unready is), ap (λ (k : Recording). standing_in k) is ∙ sym (ap (λ (k : Recording). stays was k) is))
 comes_by was new entry (halt_is.JournalFull bytes) r = let is = r.3 in ((r.0, r.1, r.2, ap unready is), ap (λ (k : Recording). standing_in k) is ∙ sym (ap (λ (k : Recording). stays was k) is))
 

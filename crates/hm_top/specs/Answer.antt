@@ -71,20 +71,26 @@ pub record IsBrokenOff (old : Standing) (why : Halt) (new : Standing) : Type 0 w
   pub next_is : IsNextStep (back mid.journal) next
   pub halts : Comes mid next (Some why) new
 
+-- the answers to a submission, where nothing halts the run
+abbrev pub AnswersNamespace : Nonce → List ℕ → Standing → Answer → Standing → Type 0
+AnswersNamespace nonce ns old (answer_is.Pid pid) new = IsFree old nonce × (pid ≡ made (back old.journal) + 1) × Comes old (submission nonce ns) None new
+AnswersNamespace nonce ns old (answer_is.Repeated pid) new = (by_nonce (back old.journal) nonce ≡ Some pid) × IsAsked (back old.journal) pid ns × (new ≡ old)
+AnswersNamespace nonce ns old (answer_is.NonceClash pid) new = (by_nonce (back old.journal) nonce ≡ Some pid) × (IsAsked (back old.journal) pid ns → ⊥) × (new ≡ old)
+AnswersNamespace nonce ns old (answer_is.JournalFull bytes) new = (by_nonce (back old.journal) nonce ≡ None) × (full_at (recording old) ≡ Some bytes) × (new ≡ old)
+AnswersNamespace nonce ns old (answer_is.Halted why) new = IsFree old nonce × Comes old (submission nonce ns) (Some why) new
+AnswersNamespace nonce ns old answer new = ⊥
+
+-- the answers to `settle`, where nothing halts the run
+abbrev pub AnswersSettle : Standing → Answer → Standing → Type 0
+AnswersSettle old (answer_is.Settled at) new = IsSettled old new 0 × (at ≡ length new.journal)
+AnswersSettle old (answer_is.Waiting at roots) new = IsSettled old new roots × (roots ≢ 0) × (at ≡ length new.journal)
+AnswersSettle old (answer_is.Halted why) new = IsBrokenOff old why new
+AnswersSettle old answer new = ⊥
+
 -- the answers of a run that isn't halted: a halt begins only where an entry would be added
 abbrev pub AnswersAt : Command → Standing → Answer → Standing → Type 0
-AnswersAt (command_is.Namespace nonce ns) old (answer_is.Pid pid) new =
-    IsFree old nonce × (pid ≡ made (back old.journal) + 1) × Comes old (submission nonce ns) None new
-AnswersAt (command_is.Namespace nonce ns) old (answer_is.Repeated pid) new =
-    (by_nonce (back old.journal) nonce ≡ Some pid) × IsAsked (back old.journal) pid ns × (new ≡ old)
-AnswersAt (command_is.Namespace nonce ns) old (answer_is.NonceClash pid) new =
-    (by_nonce (back old.journal) nonce ≡ Some pid) × (IsAsked (back old.journal) pid ns → ⊥) × (new ≡ old)
-AnswersAt (command_is.Namespace nonce ns) old (answer_is.JournalFull bytes) new =
-    (by_nonce (back old.journal) nonce ≡ None) × (full_at (recording old) ≡ Some bytes) × (new ≡ old)
-AnswersAt (command_is.Namespace nonce ns) old (answer_is.Halted why) new = IsFree old nonce × Comes old (submission nonce ns) (Some why) new
-AnswersAt command_is.Settle old (answer_is.Settled at) new = IsSettled old new 0 × (at ≡ length new.journal)
-AnswersAt command_is.Settle old (answer_is.Waiting at roots) new = IsSettled old new roots × (roots ≢ 0) × (at ≡ length new.journal)
-AnswersAt command_is.Settle old (answer_is.Halted why) new = IsBrokenOff old why new
+AnswersAt (command_is.Namespace nonce ns) old answer new = AnswersNamespace nonce ns old answer new
+AnswersAt command_is.Settle old answer new = AnswersSettle old answer new
 AnswersAt command_is.Procs old (answer_is.Table text) new = (string_bytes text ≡ procs_table (back old.journal)) × (new ≡ old)
 AnswersAt _ old _ new = ⊥
 
@@ -109,16 +115,16 @@ abbrev pub MayRunOut : Command → Standing → Type 0
 MayRunOut (command_is.Namespace nonce ns) old = IsFree old nonce × Accepts (recording old) (submission nonce ns)
 MayRunOut command old = old.halted ≡ None
 
--- what a command may have recorded that wasn't answered: a submission nothing
+-- what a command may have recorded that memory left without an answer: a submission nothing, settling its steps
 abbrev pub MayLeave : Command → Standing → List Entry → Type 0
 MayLeave (command_is.Namespace nonce ns) old entries = entries ≡ []
 MayLeave command old entries = MayAddAt command old entries
 
--- what a command leaves that wasn't answered for want of memory
+-- memory ran out for the command, for which it may, and what was recorded for it was added
 abbrev pub IsUnanswered : Command → Standing → Standing → Type 0
 IsUnanswered command old new = MayRunOut command old × (entries : List Entry) × MayLeave command old entries × (new ≡ record old { journal = old.journal ++ entries })
 
--- what was recorded for the next of these commands, which isn't answered any more
-abbrev pub AreUnsaid : List Command → Standing → List Entry → Type 0
-AreUnsaid [] old entries = entries ≡ []
-AreUnsaid (command ∷ more) old entries = (entries ≡ []) ⊎ (MayRunOut command old × MayLeave command old entries)
+-- memory ran out for the next of these commands, for which it may, and these entries were recorded for it
+abbrev pub RunsOut : List Command → Standing → List Entry → Type 0
+RunsOut [] old entries = ⊥
+RunsOut (command ∷ more) old entries = MayRunOut command old × MayLeave command old entries

@@ -43,6 +43,6 @@ early_status early_is.WriteFault = WriteFault
 early_status early_is.Memory = Memory
 
 -- the status of a run that ended so, halted by this or by nothing
-abbrev pub talked_status : Result (Unit {0}) EarlyEnd → Option Halt → RunStatus
-talked_status (Ok done) halted = halted_status halted
-talked_status (Err end) halted = early_status end
+abbrev pub ended_status : Result (Unit {0}) EarlyEnd → Option Halt → RunStatus
+ended_status (Ok done) halted = halted_status halted
+ended_status (Err end) halted = early_status end

@@ -11,7 +11,8 @@ use Rattle.hm_data.specs.declared.entry.Entry.TheVariants as entry_is
 use Rattle.hm_data.specs.declared.step.StepOut.{StepOut}
 use Rattle.hm_model.specs.Catalog.{cat, keys_of, was}
 use Rattle.hm_model.specs.Journal.{Past}
-use Rattle.hm_model.specs.Locks.{IsBusy, NoneConflict, covers}
+use Rattle.hm_model.specs.Locks.{NoneConflict}
+use Rattle.hm_model.specs.Reads.{IsBusy, covers}
 use Rattle.hm_model.specs.Nonces.{NoncesActOnce}
 use Rattle.hm_model.specs.Phase.{cause, root_ended}
 use Rattle.hm_model.specs.Rules.{IsLegal}

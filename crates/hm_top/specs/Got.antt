@@ -7,41 +7,30 @@ use Rattle.hm_top.specs.Answer.{answer_text}
 use Rattle.hm_top.specs.Status.{last_line}
 use Rattle.hm_top.specs.Transcript.{text_of}
 
--- a front of the text
-abbrev pub IsFrontOf : List ℕ → List ℕ → List ℕ → Type 0
-IsFrontOf old new text = (n : ℕ) × (new ≡ old ++ take n text)
+-- a front of the text, and not all of it
+abbrev pub IsPartOf : (old new text : List ℕ) → Type 0
+IsPartOf old new text = (n : ℕ) × (n < length text) × (new ≡ old ++ take n text)
 
--- the text of all answers but the last, and so many bytes of the last
-pub record IsCutIn (old new : List ℕ) (answers : List Answer) : Type 0 where
+-- a text of which a part may lack only where the sink's faults rose
+abbrev pub IsLast : (rose : Type 0) (old new text : List ℕ) → Type 0
+IsLast rose old new text = (new ≡ old ++ text) ⊎ (rose × IsPartOf old new text)
+
+-- the text of all answers but the last, and a part of that one's
+pub record IsShort (old new : List ℕ) (answers : List Answer) : Type 0 where
   pub before : List Answer
   pub last : Answer
   pub parts : answers ≡ before ++ last ∷ []
-  pub bytes : ℕ
-  pub got : new ≡ old ++ (text_of before ++ take bytes (answer_text last))
+  pub got : IsPartOf (old ++ text_of before) new (answer_text last)
 
--- the last answer lacks a part
-abbrev pub IsShort : List ℕ → List ℕ → List Answer → Type 0
-IsShort old new answers = (cut : IsCutIn old new answers) × (cut.bytes < length (answer_text cut.last))
-
--- the text of these answers, of which the last may lack a part
-abbrev pub IsNearly : List ℕ → List ℕ → List Answer → Type 0
-IsNearly old new answers = (new ≡ old ++ text_of answers) ⊎ IsCutIn old new answers
-
--- a line of which a part may lack only where the sink's faults rose
-abbrev pub IsLast : (rose : Type 0) (old new line : List ℕ) → Type 0
-IsLast rose old new line = IsFrontOf old new line × ((new ≡ old ++ line) ⊎ rose)
-
--- what the sink got before the last line: the text of the answers, of which the last lacks a part where the sink failed,
--- and may lack one where memory ran out
-abbrev pub Talked : (old new : List ℕ) → RunStatus → List Answer → Type 0
-Talked old new WriteFault answers = IsShort old new answers
-Talked old new Memory answers = IsNearly old new answers
-Talked old new _ answers = new ≡ old ++ text_of answers
+-- What the sink got of the answers, before the last line: their text, of which the last lacks a part where the sink failed.
+abbrev pub GotAnswers : (old new : List ℕ) → RunStatus → List Answer → Type 0
+GotAnswers old new WriteFault answers = IsShort old new answers
+GotAnswers old new status answers = new ≡ old ++ text_of answers
 
 -- What the sink got at the end of a run with this status: the text of the answers and the last line, which may lack a part
--- only where the sink's faults rose. Where the sink failed the last answer lacks a part, and where memory ran out it may.
+-- only where the sink's faults rose. Where the sink failed at an answer, that lacks a part, and no line follows.
 abbrev pub Got : (rose : Type 0) (old new : List ℕ) → RunStatus → List Answer → Type 0
 Got rose old new Done answers = new ≡ old ++ text_of answers
 Got rose old new WriteFault answers = IsShort old new answers
-Got rose old new Memory answers = IsNearly old new answers
+Got rose old new Memory answers = new ≡ old ++ text_of answers
 Got rose old new status answers = IsLast rose (old ++ text_of answers) new (last_line status)

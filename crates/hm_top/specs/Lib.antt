@@ -9,9 +9,11 @@ pub mod Status
 pub mod Pieces
 pub mod Ending
 pub mod Got
-pub mod Talking
+pub mod Answering
 pub mod Faith
 pub mod Ports
 pub mod Hands
 pub mod View
+pub mod Left
+pub mod Session
 pub mod Run

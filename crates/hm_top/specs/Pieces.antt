@@ -1,10 +1,10 @@
--- The parts of a line.
+-- The pieces of a text.
 use Rattle.std.specs.Prelude.{ℕ, List}
 use Rattle.std.specs.Fmt.{decimal}
-use Rattle.hm_top.specs.declared.last_line.Piece.{Piece}
-use Rattle.hm_top.specs.declared.last_line.Piece.TheVariants as piece_is
+use Rattle.hm_top.specs.declared.piece.Piece.{Piece}
+use Rattle.hm_top.specs.declared.piece.Piece.TheVariants as piece_is
 
--- the text of a part
+-- the text of a piece
 abbrev pub piece_text : Piece → List ℕ
 piece_text (piece_is.Text text) = text.now
 piece_text (piece_is.Number number) = decimal number

@@ -46,8 +46,8 @@ sink_use sink old new =
     }
 
 -- A disk: what it read as before and after, what a stop might leave before and may leave after, what each stop since has
--- left, what each has left from some moment on, that so many changes at most were counted and the setting stayed, that a call
--- failed, and that it is as handed in.
+-- left, what each left up to some moment and then from it on, that so many changes at most were counted and the setting
+-- stayed, that a call failed, and that it is as handed in.
 pub record DiskUse : Type 1 where
   pub tells : Type 0
   pub before : List ℕ
@@ -55,7 +55,7 @@ pub record DiskUse : Type 1 where
   pub image_before : List ℕ → Type 0
   pub image_after : List ℕ → Type 0
   pub leaves_only : (List ℕ → Type 0) → Type 0
-  pub settles : (List ℕ → Type 0) → (List ℕ → Type 0) → Type 0
+  pub leaves_then : (List ℕ → Type 0) → (List ℕ → Type 0) → Type 0
   pub called : ℕ → Type 0
   pub failed : Type 0
   pub untouched : Type 0
@@ -69,7 +69,7 @@ disk_use disk old new =
       image_before = disk.image old;
       image_after = disk.image new;
       leaves_only = LeavesOnly disk.moment disk.left_since old new;
-      settles = Settles disk.moment disk.left_since old new;
+      leaves_then = Settles disk.moment disk.left_since old new;
       called = λ most. IsCalled disk most old new;
       failed = Rose (disk.faults old) (disk.faults new);
       untouched = new ≡ old;

@@ -12,24 +12,24 @@ use Rattle.hm_script.specs.Script.{IsFaultTo, IsScriptTo}
 use Rattle.hm_script.specs.Spellings.{Spelling, spelling}
 use Rattle.hm_script.specs.Values.{Value}
 
--- the commands that are answered so far: `namespace`, `settle` and `procs`
-abbrev pub is_answered_as : Keyword → List Value → Bool
-is_answered_as (OfNs Namespace) values = true
-is_answered_as (Alone Settle) values = true
-is_answered_as Procs [] = true
-is_answered_as keyword values = false
+-- the commands that are offered so far: `namespace`, `settle` and `procs`
+abbrev pub is_offered_as : Keyword → List Value → Bool
+is_offered_as (OfNs Namespace) values = true
+is_offered_as (Alone Settle) values = true
+is_offered_as Procs [] = true
+is_offered_as keyword values = false
 
 -- the same, of a spelling
-abbrev pub is_answered : Spelling → Bool
-is_answered said = is_answered_as said.keyword said.values
+abbrev pub is_offered : Spelling → Bool
+is_offered said = is_offered_as said.keyword said.values
 
--- a command that is answered
-abbrev pub IsAnswered : Command → Type 0
-IsAnswered command = is_answered (spelling command) ≡ true
+-- a command that is offered
+abbrev pub IsOffered : Command → Type 0
+IsOffered command = is_offered (spelling command) ≡ true
 
 -- the bytes are a script of these commands
 abbrev pub IsScript : List ℕ → List Command → Type 0
-IsScript bytes commands = IsScriptTo is_answered bytes commands
+IsScript bytes commands = IsScriptTo is_offered bytes commands
 
 -- how the fault of a line is told: so far as a wrong word at its start
 abbrev pub told_as : ℕ → Why → Bad
@@ -38,4 +38,4 @@ told_as line why = record { line = line; why = Word 0 }
 
 -- why bytes are no script
 abbrev pub IsBad : List ℕ → Bad → Type 0
-IsBad bytes bad = (fault : Bad) × IsFaultTo is_answered bytes fault × (bad ≡ told_as fault.line fault.why)
+IsBad bytes bad = (fault : Bad) × IsFaultTo is_offered bytes fault × (bad ≡ told_as fault.line fault.why)

@@ -31,12 +31,13 @@ abbrev pub recording : Standing → Recording
 recording at = record { entries = at.journal; next = None; tail = at.tail; halted = at.halted; soft = at.limits.soft; hard = at.limits.hard }
 
 -- what recording an entry answers where it halts the run so, or doesn't halt it
-abbrev pub told_of : Standing → Option Halt → Result ℕ RecordFault
-told_of at None = Ok (length at.journal)
-told_of at (Some halt_is.LogFault) = Err fault_is.LogFault
-told_of at (Some (halt_is.JournalFull bytes)) = Err (fault_is.JournalFull bytes)
+abbrev pub recorded_as : Standing → Option Halt → Result ℕ RecordFault
+recorded_as at None = Ok (length at.journal)
+recorded_as at (Some halt_is.LogFault) = Err fault_is.LogFault
+recorded_as at (Some (halt_is.JournalFull bytes)) = Err (fault_is.JournalFull bytes)
 
--- From old this entry came next, and this halted the run there, if anything. What only the lines know stays.
+-- From old this entry was recorded next, and stands in the journal; or its recording halted the run so, and a log fault has
+-- it as the tail. The marks stay.
 abbrev pub Comes : Standing → Entry → Option Halt → Standing → Type 0
 Comes old entry halt new =
-    Records (recording old) entry (told_of old halt) (recording new) × (new ≡ record old { journal = new.journal; tail = new.tail; halted = new.halted })
+    Records (recording old) entry (recorded_as old halt) (recording new) × (new ≡ record old { journal = new.journal; tail = new.tail; halted = new.halted })

@@ -14,6 +14,16 @@ use Rattle.hm_model.specs.Counts.{count_below}
 use Rattle.hm_model.specs.Records.{record_of}
 use Rattle.hm_model.specs.Tree.{made, is_root}
 
+-- the name of a cause that speaks of regions, or of an abort
+abbrev pub region_cause_text : Cause → List ℕ
+region_cause_text cause_is.RegionMissing = codes "RegionMissing"
+region_cause_text cause_is.RegionNotLive = codes "RegionNotLive"
+region_cause_text cause_is.KeyOutside = codes "KeyOutside"
+region_cause_text cause_is.NotAdjacent = codes "NotAdjacent"
+region_cause_text cause_is.LayoutRefused = codes "LayoutRefused"
+region_cause_text cause_is.Aborted = codes "Aborted"
+region_cause_text cause = []
+
 -- the name of a cause
 abbrev pub cause_text : Cause → List ℕ
 cause_text cause_is.NsExists = codes "NsExists"
@@ -23,12 +33,7 @@ cause_text cause_is.TableExists = codes "TableExists"
 cause_text cause_is.TableMissing = codes "TableMissing"
 cause_text cause_is.NotDisabled = codes "NotDisabled"
 cause_text cause_is.NotEnabled = codes "NotEnabled"
-cause_text cause_is.RegionMissing = codes "RegionMissing"
-cause_text cause_is.RegionNotLive = codes "RegionNotLive"
-cause_text cause_is.KeyOutside = codes "KeyOutside"
-cause_text cause_is.NotAdjacent = codes "NotAdjacent"
-cause_text cause_is.LayoutRefused = codes "LayoutRefused"
-cause_text cause_is.Aborted = codes "Aborted"
+cause_text cause = region_cause_text cause
 
 -- how far a procedure is, and why it failed
 abbrev pub state_text : Phase → List ℕ

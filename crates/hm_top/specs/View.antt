@@ -26,7 +26,8 @@ standing_in kept =
 abbrev pub standing_of : {D : Type 0} → WorldView D → Standing
 standing_of world = standing_in world.kept
 
--- a run with this world may stand so: what the world has is as there, and what only the lines know is free
+-- A run with this world may stand so: marks, journal, tail and halt are the world's. What only the lines of a run will know
+-- is a part of a standing that this leaves free; there is none yet.
 abbrev pub Fits : {D : Type 0} → WorldView D → Standing → Type 0
 Fits world at = standing_of world ≡ at
 

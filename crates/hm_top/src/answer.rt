@@ -1,8 +1,12 @@
 //! What the run answers.
-ghost use Rattle.std.specs.Prelude.{Some};
+ghost use Rattle.std.specs.Prelude.{◌≡◌};
+ghost use Rattle.std.specs.List.{flat_map};
+ghost use Rattle.hm_top.specs.Answer.{answer_text};
+ghost use Rattle.hm_top.specs.Pieces.{piece_text};
 
+use crate::piece::{NONE, Piece};
+use Piece::{Number, Text};
 use hm_hall::Halt;
-use std::fmt;
 
 /// The lines that the run writes for the opening and for each command.
 #[derive(Drop)]
@@ -27,23 +31,43 @@ pub enum Answer {
     Halted(Halt),
 }
 
-impl fmt::Display for Answer {
-    ghost use Rattle.hm_top.specs.Answer.{answer_text};
-
-    ghost output = { λ a. Some (answer_text a) };
-
-    fn fmt<W: fmt::Write>(&self, f: &mut fmt::Formatter<W>) -> fmt::Result {
+impl Answer {
+    /// Its lines, in pieces.
+    pub fn pieces(&self) -> [Piece<'_>; 5]
+        ensures { flat_map piece_text result ≡ answer_text self.now }
+    {
+        let end = Text("\n");
         match self {
-            Answer::Opened(at) => write!(f, "opened at {at}\n"),
-            Answer::Pid(pid) => write!(f, "pid {pid}\n"),
-            Answer::Repeated(pid) => write!(f, "pid {pid} repeated\n"),
-            Answer::NonceClash(pid) => write!(f, "refused NonceClash {pid}\n"),
-            Answer::JournalFull(bytes) => write!(f, "refused JournalFull {bytes}\n"),
-            Answer::Settled(at) => write!(f, "settled at {at}\n"),
-            Answer::Waiting(at, roots) => write!(f, "waiting at {at}: {roots}\n"),
-            Answer::Table(text) => f.write_str(text.as_str()),
-            Answer::Halted(Halt::LogFault) => f.write_str("halted LogFault\n"),
-            Answer::Halted(Halt::JournalFull(bytes)) => write!(f, "halted JournalFull {bytes}\n"),
+            Answer::Opened(at) => [Text("opened at "), Number(*at), end, NONE, NONE],
+            Answer::Pid(pid) => [Text("pid "), Number(*pid), end, NONE, NONE],
+            Answer::Repeated(pid) => [Text("pid "), Number(*pid), Text(" repeated\n"), NONE, NONE],
+            Answer::NonceClash(pid) => {
+                [Text("refused NonceClash "), Number(*pid), end, NONE, NONE]
+            }
+            Answer::JournalFull(bytes) => {
+                [
+                    Text("refused JournalFull "),
+                    Number(*bytes),
+                    end,
+                    NONE,
+                    NONE,
+                ]
+            }
+            Answer::Settled(at) => [Text("settled at "), Number(*at), end, NONE, NONE],
+            Answer::Waiting(at, roots) => {
+                [
+                    Text("waiting at "),
+                    Number(*at),
+                    Text(": "),
+                    Number(*roots),
+                    end,
+                ]
+            }
+            Answer::Table(text) => [Text(text.as_str()), NONE, NONE, NONE, NONE],
+            Answer::Halted(Halt::LogFault) => [Text("halted LogFault\n"), NONE, NONE, NONE, NONE],
+            Answer::Halted(Halt::JournalFull(bytes)) => {
+                [Text("halted JournalFull "), Number(*bytes), end, NONE, NONE]
+            }
         }
     }
 }

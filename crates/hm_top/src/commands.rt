@@ -1,13 +1,13 @@
-//! Which commands of a script are answered.
+//! Which commands a script may have.
 use hm_script::{Command, Commands};
 
-/// The commands that are answered so far.
-pub(crate) struct Answered;
+/// The commands that are offered so far.
+pub(crate) struct Offered;
 
-impl Commands for Answered {
-    ghost use Rattle.hm_top.specs.Script.{is_answered};
+impl Commands for Offered {
+    ghost use Rattle.hm_top.specs.Script.{is_offered};
 
-    ghost has = { is_answered };
+    ghost has = { is_offered };
 
     fn has(command: &Command) -> bool {
         match command {

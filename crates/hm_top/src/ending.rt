@@ -1,19 +1,20 @@
 //! A run, from its words to its last line.
 ghost use Rattle.std.specs.Prelude.{◌≡◌, ◌⊎◌, ◌≤◌, List, ℕ, [], length, map, string_bytes, IfOk, IfErr, OnOk, All};
 ghost use Rattle.hm_ports.specs.Faults.{Rose};
-ghost use Rattle.hm_sheet.specs.Words.{HasAll};
 ghost use Rattle.hm_script.specs.declared.bad.Bad.{Bad as BadValue};
-ghost use Rattle.hm_top.specs.Hands.{HandsAgree};
+ghost use Rattle.hm_top.specs.Hands.{HandsAgree, RunBy};
+ghost use Rattle.hm_top.specs.Left.{AcceptsJournal};
 ghost use Rattle.hm_top.specs.Ending.{early_status, halted_status, unopened_status};
 ghost use Rattle.hm_top.specs.Ports.{disk_use, hands_use, sink_use, source_use};
-ghost use Rattle.hm_sheet.specs.Registry.{sheets_of};
-ghost use Rattle.hm_top.specs.Run.{AcceptsJournal, EndsUnfinished, KeepsTo, Outcome, before_line};
-ghost use Rattle.hm_top.specs.Script.{IsAnswered, IsBad, IsScript, told_as};
+ghost use Rattle.hm_sheet.specs.Registry.{IsRegistry, sheets_of};
+ghost use Rattle.hm_top.specs.Run.{EndsUnfinished, KeepsTo, before_line};
+ghost use Rattle.hm_top.specs.Script.{IsBad, IsOffered, IsScript, told_as};
+ghost use Rattle.hm_top.specs.Session.{Outcome};
 
-use crate::commands::Answered;
+use crate::answering::answer_all;
+use crate::commands::Offered;
 use crate::last_line::finish;
 use crate::status::{EarlyEnd, LogWhy, RunStatus};
-use crate::talking::talk;
 use crate::words::misfit;
 use crate::world::World;
 use hm_disk::Disk;
@@ -68,7 +69,7 @@ fn read_script<S: Source>(alloc: Global, script: &mut S) -> Result<Vec<Command>,
     ensures ok { S.tells → IfOk result (λ commands. IsScript (S.left script.old) commands.items) }
     ensures end { S.tells → OnOk result (S.left script.new ≡ []) }
     ensures few { IfOk result (λ commands. length commands.items ≤ 1048576) }
-    ensures answered { IfOk result (λ commands. All IsAnswered commands.items) }
+    ensures offered { IfOk result (λ commands. All IsOffered commands.items) }
     ensures refusal { IfErr result (λ why. (bad : BadValue) → why ≡ ScriptEnd.Bad bad → (bytes : List ℕ) × IsBad bytes bad) }
     ensures bad { S.tells → IfErr result (λ why. (bad : BadValue) → why ≡ ScriptEnd.Bad bad → IsBad (S.left script.old) bad) }
     ensures whole { S.tells → IfErr result (λ why. (bad : BadValue) → why ≡ ScriptEnd.Bad bad → (bad.why ≡ Why.TooLong) ⊎ (S.left script.new ≡ [])) }
@@ -85,7 +86,7 @@ fn read_script<S: Source>(alloc: Global, script: &mut S) -> Result<Vec<Command>,
         }
         Err(ReadWhy::Memory) => return Err(ScriptEnd::Memory),
     };
-    match parse_for::<Answered>(alloc, &bytes) {
+    match parse_for::<Offered>(alloc, &bytes) {
         Ok(commands) => Ok(commands),
         Err(bad) => match bad.why {
             Why::Memory => Err(ScriptEnd::Memory),
@@ -143,8 +144,8 @@ fn converse<D: Disk, K: Sink>(
 ) -> (RunStatus, D)
     requires fresh { marks.old.items ≡ [] }
     requires agree { HandsAgree (map (sheets_of ⟦<dyn Handler as Handler>⟧) hands.old.items) }
-    requires all { All HasAll (map (sheets_of ⟦<dyn Handler as Handler>⟧) hands.old.items) }
-    requires answered { All IsAnswered commands.items }
+    requires each { All (IsRegistry ⟦<dyn Handler as Handler>⟧) hands.old.items }
+    requires offered { All IsOffered commands.items }
     requires hard { 65551 ≤ limits.hard }
     ensures outcome { Outcome (record {
       given = λ read. read ≡ commands.items;
@@ -155,18 +156,19 @@ fn converse<D: Disk, K: Sink>(
       hands = hands_use ⟦<dyn Handler as Handler>⟧ hands.old.items hands.new.items;
       marks = marks.new.items;
     }) result.0 }
-    ensures exact { AcceptsJournal (disk_use D.Disk disk result.1) (hands_use ⟦<dyn Handler as Handler>⟧ hands.old.items hands.new.items) result.0 }
+    ensures accepts { AcceptsJournal (disk_use D.Disk disk result.1) (hands_use ⟦<dyn Handler as Handler>⟧ hands.old.items hands.new.items) result.0 }
     ensures later { K.faults out.old ≤ K.faults out.new }
-    ensures alike { map (sheets_of ⟦<dyn Handler as Handler>⟧) hands.new.items ≡ map (sheets_of ⟦<dyn Handler as Handler>⟧) hands.old.items }
+    ensures run_by { RunBy (hands_use ⟦<dyn Handler as Handler>⟧ hands.old.items hands.new.items) 0 }
 {
-    let Ok(sheets) = hands[0].sheets(alloc) else {
-        return (RunStatus::Memory, disk);
-    };
+    let sheets = hands[0].sheets();
     let world = match World::open(alloc, disk, sheets.as_slice(), limits) {
         Ok(world) => world,
         Err((disk, why)) => return (status_of(why), disk),
     };
-    match talk(alloc, world, hands, commands, out, marks) {
+    let Ok(()) = marks.reserve(commands.len()) else {
+        return (RunStatus::Memory, world.into_disk());
+    };
+    match answer_all(alloc, world, hands, commands, out, marks) {
         Ok(world) => {
             let halted = world.halted();
             (status_of_halt(halted), world.into_disk())
@@ -188,7 +190,7 @@ fn answer_script<S: Source, K: Sink, D: Disk>(
 ) -> (RunStatus, D)
     requires fresh { marks.old.items ≡ [] }
     requires agree { HandsAgree (map (sheets_of ⟦<dyn Handler as Handler>⟧) hands.old.items) }
-    requires all { All HasAll (map (sheets_of ⟦<dyn Handler as Handler>⟧) hands.old.items) }
+    requires each { All (IsRegistry ⟦<dyn Handler as Handler>⟧) hands.old.items }
     requires hard { 65551 ≤ limits.hard }
     ensures ends { EndsUnfinished (record {
       words = map string_bytes words.now;
@@ -199,9 +201,9 @@ fn answer_script<S: Source, K: Sink, D: Disk>(
       hands = hands_use ⟦<dyn Handler as Handler>⟧ hands.old.items hands.new.items;
       marks = marks.new.items;
     }) result.0 }
-    ensures exact { AcceptsJournal (disk_use D.Disk disk result.1) (hands_use ⟦<dyn Handler as Handler>⟧ hands.old.items hands.new.items) result.0 }
+    ensures accepts { AcceptsJournal (disk_use D.Disk disk result.1) (hands_use ⟦<dyn Handler as Handler>⟧ hands.old.items hands.new.items) result.0 }
     ensures later { K.faults out.old ≤ K.faults out.new }
-    ensures alike { map (sheets_of ⟦<dyn Handler as Handler>⟧) hands.new.items ≡ map (sheets_of ⟦<dyn Handler as Handler>⟧) hands.old.items }
+    ensures run_by { RunBy (hands_use ⟦<dyn Handler as Handler>⟧ hands.old.items hands.new.items) 0 }
 {
     if let Some(word) = misfit(words) {
         return (RunStatus::Usage(word), disk);
@@ -214,9 +216,10 @@ fn answer_script<S: Source, K: Sink, D: Disk>(
     }
 }
 
-/// Runs a script over the log on a disk, whose journal may have 67,108,864 bytes, and takes submissions
-/// below 50,331,648. It judges in this order: the words, the script, the opening of the log, the
-/// commands. It waits for nobody, and returns. The first of the registries runs all steps.
+/// Runs a script over the log on a disk, whose journal may have 67,108,864 bytes, and takes submissions below
+/// 50,331,648. It judges in this order: the words, the script, the opening of the log, the commands. It waits for
+/// nobody, and returns. Of the registries, which have equal sheets, the first runs all steps so far; the clause binds what
+/// all together were run, and gives the others for workers.
 pub fn run<S: Source, K: Sink, D: Disk>(
     alloc: Global,
     words: &[String],
@@ -226,7 +229,7 @@ pub fn run<S: Source, K: Sink, D: Disk>(
     hands: Vec<Registry>,
 ) -> Ended<D>
     requires agree { HandsAgree (map (sheets_of ⟦<dyn Handler as Handler>⟧) hands.items) }
-    requires all { All HasAll (map (sheets_of ⟦<dyn Handler as Handler>⟧) hands.items) }
+    requires each { All (IsRegistry ⟦<dyn Handler as Handler>⟧) hands.items }
     ensures { KeepsTo (record {
       words = map string_bytes words.now;
       limits = record { soft = 50331648; hard = 67108864 };
@@ -251,7 +254,7 @@ pub fn run_within<S: Source, K: Sink, D: Disk>(
     limits: Limits,
 ) -> Ended<D>
     requires agree { HandsAgree (map (sheets_of ⟦<dyn Handler as Handler>⟧) hands.items) }
-    requires all { All HasAll (map (sheets_of ⟦<dyn Handler as Handler>⟧) hands.items) }
+    requires each { All (IsRegistry ⟦<dyn Handler as Handler>⟧) hands.items }
     requires hard { 65551 ≤ limits.hard }
     ensures { KeepsTo (record {
       words = map string_bytes words.now;

@@ -1,32 +1,21 @@
 //! The last line of a run, which takes no memory.
-ghost use Rattle.std.specs.Prelude.{◌≡◌, ◌++◌, ◌≤◌, List, ℕ, OnOk};
+ghost use Rattle.std.specs.Prelude.{◌≡◌, ◌≤◌};
 ghost use Rattle.std.specs.List.{flat_map};
-ghost use Rattle.hm_ports.specs.Faults.{HasCause, Rose};
-ghost use Rattle.hm_top.specs.Got.{IsFrontOf, IsLast};
+ghost use Rattle.hm_ports.specs.Faults.{Rose};
+ghost use Rattle.hm_top.specs.Got.{IsLast};
 ghost use Rattle.hm_script.specs.Faults.{why_text};
 ghost use Rattle.hm_top.specs.Status.{last_line, log_text};
 ghost use Rattle.hm_top.specs.Pieces.{piece_text};
 
+use crate::piece::{NONE, Piece, put_all};
 use crate::status::{LogWhy, RunStatus};
-use hm_names::NameFault;
-use hm_ports::{Failed, Sink, write_all};
-use hm_script::Why;
-use itoa::Buffer;
-
-// A part of a line.
-#[derive(Clone, Copy)]
-enum Piece {
-    Text(&'static str),
-    Number(u64),
-}
-
 use Piece::{Number, Text};
+use hm_names::NameFault;
+use hm_ports::Sink;
+use hm_script::Why;
 
-// A part that isn't there.
-const NONE: Piece = Text("");
-
-// What is wrong with a line of a script, in parts.
-fn why_pieces(why: Why) -> [Piece; 2]
+// What is wrong with a line of a script, in pieces.
+fn why_pieces(why: Why) -> [Piece<'static>; 2]
     ensures { flat_map piece_text result ≡ why_text why }
 {
     match why {
@@ -45,8 +34,8 @@ fn why_pieces(why: Why) -> [Piece; 2]
     }
 }
 
-// Why a log is refused, in parts.
-fn log_pieces(why: LogWhy) -> [Piece; 4]
+// Why a log is refused, in pieces.
+fn log_pieces(why: LogWhy) -> [Piece<'static>; 4]
     ensures { flat_map piece_text result ≡ log_text why }
 {
     match why {
@@ -71,8 +60,8 @@ fn log_pieces(why: LogWhy) -> [Piece; 4]
     }
 }
 
-// The last line, in parts.
-fn pieces(status: RunStatus) -> [Piece; 6]
+// The last line, in pieces.
+fn pieces(status: RunStatus) -> [Piece<'static>; 6]
     ensures { flat_map piece_text result ≡ last_line status }
 {
     let end = Text("\n");
@@ -123,30 +112,6 @@ fn pieces(status: RunStatus) -> [Piece; 6]
             ]
         }
     }
-}
-
-// Writes a part.
-fn put<K: Sink>(out: &mut K, piece: &Piece) -> Result<(), Failed>
-    ensures all { K.tells → OnOk result (K.got out.new ≡ K.got out.old ++ piece_text piece.now) }
-    ensures part { K.tells → IsFrontOf (K.got out.old) (K.got out.new) (piece_text piece.now) }
-    ensures cause { HasCause (K.faults out.old) (K.faults out.new) result }
-{
-    match piece {
-        Text(text) => write_all(out, text.as_bytes()),
-        Number(number) => write_all(out, Buffer::new().format(*number).as_bytes()),
-    }
-}
-
-// Writes parts, up to the first that fails.
-fn put_all<K: Sink>(out: &mut K, pieces: &[Piece]) -> Result<(), Failed>
-    ensures all { K.tells → OnOk result (K.got out.new ≡ K.got out.old ++ flat_map piece_text pieces.now) }
-    ensures part { K.tells → IsFrontOf (K.got out.old) (K.got out.new) (flat_map piece_text pieces.now) }
-    ensures cause { HasCause (K.faults out.old) (K.faults out.new) result }
-{
-    for piece in pieces {
-        put(out, piece)?;
-    }
-    Ok(())
 }
 
 /// Tries the last line once. Its failure changes nothing.

@@ -1,5 +1,5 @@
 //! Laws of the definitions that the contracts cite.
-ghost use Rattle.std.specs.Prelude.{◌≡◌, ℕ, List, Some, None};
+ghost use Rattle.std.specs.Prelude.{◌≡◌, ◌⊎◌, ℕ, List, Some, None};
 ghost use Rattle.hm_data.specs.declared.entry.Entry.{Entry};
 ghost use Rattle.hm_hall.specs.Recording.{Passes, bytes_of};
 ghost use Rattle.hm_journal.specs.Stored.{IsOnDisk};
@@ -8,7 +8,7 @@ ghost use Rattle.hm_script.specs.declared.bad.Bad.{Bad};
 ghost use Rattle.hm_top.specs.declared.status.LogWhy.{LogWhy};
 ghost use Rattle.hm_top.specs.declared.status.RunStatus.TheVariants as status_is;
 ghost use Rattle.hm_top.specs.Hands.{sheets_used};
-ghost use Rattle.hm_top.specs.Run.{EachRun, KeepsTo};
+ghost use Rattle.hm_top.specs.Run.{EachRun, IsRead, KeepsTo, RanOutOver};
 ghost use Rattle.hm_top.specs.Script.{IsBad, IsScript};
 ghost use Rattle.hm_top.specs.Words.{misfit_of};
 
@@ -31,5 +31,6 @@ pub fn each_status_has_a_cause<S: Source, K: Sink, D: Disk>()
     ensures write_fault { EachRun S.Source K.Sink D.Disk (λ run. KeepsTo run status_is.WriteFault → run.out.failed) }
     ensures journal_full { (bytes : ℕ) → EachRun S.Source K.Sink D.Disk (λ run. KeepsTo run (status_is.JournalFull bytes) →
         (journal : List Entry) × (entry : Entry) × (bytes ≡ bytes_of journal) × Passes run.limits.hard journal entry) }
-    ensures memory { EachRun S.Source K.Sink D.Disk (λ run. KeepsTo run status_is.Memory → misfit_of run.words ≡ None) }
+    ensures memory { EachRun S.Source K.Sink D.Disk (λ run. KeepsTo run status_is.Memory →
+        (misfit_of run.words ≡ None) × (run.disk.untouched ⊎ ((commands : List Command) × IsRead run commands × RanOutOver run commands))) }
 {}

@@ -2,14 +2,15 @@
 #![tactic(auto)]
 
 mod answer;
+mod answering;
 mod commands;
 mod ending;
 mod hands;
 mod last_line;
 mod laws;
+mod piece;
 mod status;
 mod table;
-mod talking;
 mod words;
 mod world;
 

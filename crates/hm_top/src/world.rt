@@ -23,7 +23,7 @@ ghost use Rattle.hm_top.specs.Answer.{Answers, AnswersAt, IsAsked, IsFree, IsUna
 ghost use Rattle.hm_top.specs.Hands.{HandsAgree, Ran, RunBy, Serve, first_sheets};
 ghost use Rattle.hm_top.specs.Ports.{hands_use};
 ghost use Rattle.hm_sheet.specs.Registry.{sheets_of};
-ghost use Rattle.hm_top.specs.Script.{IsAnswered};
+ghost use Rattle.hm_top.specs.Script.{IsOffered};
 ghost use Rattle.hm_top.specs.Settling.{IsNextStep, IsWorked};
 ghost use Rattle.hm_top.specs.Standing.{Comes, Standing as StandingValue, begun, recording};
 ghost use Rattle.hm_top.specs.View.{Fits, IsLeftBy, standing_in, standing_of};
@@ -126,7 +126,7 @@ impl<D: Disk> World<D> {
             × Settles D.moment D.left_since disk world.opened.disk (λ c. D.image disk c ⊎ IsMaking (D.seen disk) c) (λ c. Reads c (frames_of old)))) }
         ensures sheets { IfOk result (λ world. begun_with (back world.kept.entries) ≡ sheets.now) }
         ensures why { D.tells → IfErr result (λ e. Refuses sheets.now (D.seen disk) e.1) }
-        ensures exact { D.tells → (journal : List EntryValue) → IsOnDisk sheets.now (D.seen disk) journal → IfErr result (λ e. IsUnjudged e.1) }
+        ensures accepts { D.tells → (journal : List EntryValue) → IsOnDisk sheets.now (D.seen disk) journal → IfErr result (λ e. IsUnjudged e.1) }
         ensures fault { IfErr result (λ e. e.1 ≡ JournalWhy.Fault → Rose (D.faults disk) (D.faults e.0)) }
         ensures same { D.tells → IfErr result (λ e. e.1 ≢ JournalWhy.Fault → SameFrames (D.seen disk) (D.seen e.0) (D.image e.0)) }
         ensures spared { D.tells → IfErr result (λ e. Spares sheets.now (D.seen disk) (D.image disk) (D.seen e.0) (D.image e.0)) }
@@ -374,7 +374,7 @@ impl<D: Disk> World<D> {
         command: Command,
     ) -> Result<Answer, AllocError>
         requires hands { Serve (map (sheets_of ⟦<dyn Handler as Handler>⟧) hands.old.items) self.old.kept.entries }
-        requires answered { IsAnswered command }
+        requires offered { IsOffered command }
         ensures answers { IfOk result (λ answer. Answers command (standing_of self.old) answer (standing_of self.new)) }
         ensures begun { begun_with (back self.new.kept.entries) ≡ begun_with (back self.old.kept.entries) }
         ensures err { OnErr result (IsUnanswered command (standing_of self.old) (standing_of self.new)) }
@@ -402,7 +402,7 @@ impl<D: Disk> World<D> {
         command: Command,
     ) -> Result<(World<D>, Answer), (D, EarlyEnd)>
         requires hands { Serve (map (sheets_of ⟦<dyn Handler as Handler>⟧) hands.old.items) self.kept.entries }
-        requires answered { IsAnswered command }
+        requires offered { IsOffered command }
         ensures answers { (old : StandingValue) → Fits self old → IfOk result (λ r. (new : StandingValue) × Fits r.0 new × Answers command old r.1 new) }
         ensures begun { IfOk result (λ r. begun_with (back r.0.kept.entries) ≡ begun_with (back self.kept.entries)) }
         ensures opened { IfOk result (λ r. r.0.opened ≡ self.opened) }

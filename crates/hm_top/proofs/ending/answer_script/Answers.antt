@@ -1,5 +1,6 @@
 use Rattle.std.proofs.Common.{map, string_bytes, refl, sym, ◌∙◌}
 use Rattle.hm_top.specs.Ports.{source_use}
+use Rattle.hm_top.proofs.Ran.{run_none}
 use Rattle.hm_top.proofs.Runs.{script_read}
 use Rattle.hm_top.proofs.ending.answer_script.Goals as goal
 
@@ -17,3 +18,15 @@ returns-in-Ok-clause-ends g c =
       marks = _;
     })
     c.in-Ok.commands.items c.in-Ok.commands.items _ (sym c.misfit.ensures ∙ c.in_default.is) read.ok refl read.end c.converse.ensures.outcome
+
+pub returns-in-Some-clause-run_by : goal.returns-in-Some-clause-run_by
+returns-in-Some-clause-run_by g c = run_none _ _
+
+pub returns-in-Err-Bad-clause-run_by : goal.returns-in-Err-Bad-clause-run_by
+returns-in-Err-Bad-clause-run_by g c = run_none _ _
+
+pub returns-in-Err-ReadFault-clause-run_by : goal.returns-in-Err-ReadFault-clause-run_by
+returns-in-Err-ReadFault-clause-run_by g c = run_none _ _
+
+pub returns-in-Err-Memory-clause-run_by : goal.returns-in-Err-Memory-clause-run_by
+returns-in-Err-Memory-clause-run_by g c = run_none _ _

@@ -15,4 +15,4 @@ returns g c =
       hands = _;
       marks = _;
     })
-    answered.result.0 answered.ensures.later c.finish.ensures.later c.finish.ensures.line answered.ensures.ends answered.ensures.alike answered.ensures.exact
+    answered.result.0 answered.ensures.later c.finish.ensures.later c.finish.ensures.line answered.ensures.ends answered.ensures.run_by answered.ensures.accepts

@@ -1,5 +1,8 @@
 use Rattle.std.proofs.Common.{refl}
-use Rattle.hm_top.proofs.Full.{begun_full, talked_full}
+use Rattle.hm_top.specs.Ports.{disk_use, sink_use, source_use}
+use Rattle.hm_top.specs.Run.{Run}
+use Rattle.hm_top.proofs.Complete.{ran_out}
+use Rattle.hm_top.proofs.Full.{answered_full, begun_full}
 use Rattle.hm_top.proofs.laws.each_status_has_a_cause.Goals as goal
 
 pub returns-clause-usage : goal.returns-clause-usage
@@ -12,7 +15,7 @@ pub returns-clause-log_fault : goal.returns-clause-log_fault
 returns-clause-log_fault g c words limits s0 s1 k0 k1 d0 d1 hands marks keeps = keeps.ends.1.0
 
 pub returns-clause-log_refused : goal.returns-clause-log_refused
-returns-clause-log_refused g c why journal words limits s0 s1 k0 k1 d0 d1 hands marks keeps told on = keeps.exact told journal on why refl
+returns-clause-log_refused g c why journal words limits s0 s1 k0 k1 d0 d1 hands marks keeps told on = keeps.accepts told journal on why refl
 
 pub returns-clause-read_fault : goal.returns-clause-read_fault
 returns-clause-read_fault g c words limits s0 s1 k0 k1 d0 d1 hands marks keeps = keeps.ends.1
@@ -22,9 +25,11 @@ returns-clause-write_fault g c words limits s0 s1 k0 k1 d0 d1 hands marks keeps 
 
 pub returns-clause-journal_full : goal.returns-clause-journal_full
 returns-clause-journal_full g c bytes words limits s0 s1 k0 k1 d0 d1 hands marks keeps =
-    let talked = keeps.ends.1.0 in
-    let told = talked.told in
-    (talked_full limits told.answered told.start marks told.answers talked.new (begun_full limits told.start _ told.opens.1 refl refl) told.transcript).1 bytes keeps.ends.1.2
+    let opened = keeps.ends.1.0 in
+    let its = opened.answering in
+    (answered_full limits its.answered its.start marks its.answers opened.new (begun_full limits its.start _ its.opens.1 refl refl) its.transcript).1 bytes keeps.ends.1.1
 
 pub returns-clause-memory : goal.returns-clause-memory
-returns-clause-memory g c words limits s0 s1 k0 k1 d0 d1 hands marks keeps = keeps.ends.0
+returns-clause-memory g c words limits s0 s1 k0 k1 d0 d1 hands marks keeps =
+    let run : Run = record { words = words; limits = limits; script = source_use g.S.Source s0 s1; out = sink_use g.K.Sink k0 k1; disk = disk_use g.D.Disk d0 d1; hands = hands; marks = marks } in
+    (keeps.ends.0, ran_out run keeps.ends.1)

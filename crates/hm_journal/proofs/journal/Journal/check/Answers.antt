@@ -6,8 +6,8 @@ use Rattle.hm_journal.specs.Verdict.{IsUnjudged, Refuses}
 use Rattle.hm_journal.proofs.Refusing.{counts_it, log_refuses, log_unjudged, refuses_by}
 use Rattle.hm_journal.proofs.journal.Journal.check.Goals as goal
 
-pub returns-in-Ok-clause-exact : goal.returns-in-Ok-clause-exact
-returns-in-Ok-clause-exact g c tells journal on =
+pub returns-in-Ok-clause-accepts : goal.returns-in-Ok-clause-accepts
+returns-in-Ok-clause-accepts g c tells journal on =
     counts_it c.args.sheets.now c.in-Ok.frames c.count_entries.result c.count_entries.ensures.count c.count_entries.ensures.why journal on.1
     (opens_once (g.D.Disk.seen c.args.disk.now) c.in-Ok.frames (frames_of journal) (c.in-Ok.ensures.reads tells) on.0)
 
@@ -15,8 +15,8 @@ pub returns-in-Ok-clause-why : goal.returns-in-Ok-clause-why
 returns-in-Ok-clause-why g c tells =
     IfErr-weaker c.count_entries.result _ _ (λ why none. refuses_by c.args.sheets.now (g.D.Disk.seen c.args.disk.now) c.in-Ok.frames why (c.in-Ok.ensures.reads tells) (inr none)) c.count_entries.ensures.why
 
-pub returns-in-Err-clause-exact : goal.returns-in-Err-clause-exact
-returns-in-Err-clause-exact g c tells journal on =
+pub returns-in-Err-clause-accepts : goal.returns-in-Err-clause-accepts
+returns-in-Err-clause-accepts g c tells journal on =
     subst IsUnjudged (sym c.why_of.ensures)
     (log_unjudged c.in-Err.why (refused_once c.in-Err.why (g.D.Disk.seen c.args.disk.now) (frames_of journal) on.0
     (λ place is. c.in-Err.ensures.not_a_log tells place (ap Err is)) (λ place is. c.in-Err.ensures.bad_frame tells place (ap Err is))))

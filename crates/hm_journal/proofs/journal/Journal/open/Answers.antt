@@ -35,10 +35,10 @@ returns-in-Ok-clause-journal g c =
     ))
     c.of_frames.ensures.journal
 
-pub returns-in-Ok-clause-exact : goal.returns-in-Ok-clause-exact
-returns-in-Ok-clause-exact g c tells journal on =
+pub returns-in-Ok-clause-accepts : goal.returns-in-Ok-clause-accepts
+returns-in-Ok-clause-accepts g c tells journal on =
     let sheets = c.args.sheets.now in
-    let are = sym (c.in-Ok.ensures.exact tells (frames_of journal) on.opens) in
+    let are = sym (c.in-Ok.ensures.accepts tells (frames_of journal) on.opens) in
     MatchResult-from_both c.of_frames.result _ _
     (IfOk-weaker c.of_frames.result _ _ (λ r old. old.3 ∙ ap (opened sheets) (same_entries old.0 journal old.1.fits on.is.fits (old.2 ∙ sym are))) c.of_frames.ensures.journal)
     (IfErr-weaker c.of_frames.result _ _ (λ e. ⊎_elim (λ unjudged. unjudged) (λ none. inr (not_refused sheets journal c.in-Ok.frames e.1 (of_kinds sheets journal on.is) are none))) c.of_frames.ensures.why)
@@ -55,7 +55,7 @@ pub returns-in-Ok-clause-spared : goal.returns-in-Ok-clause-spared
 returns-in-Ok-clause-spared g c tells =
     IfErr-weaker c.of_frames.result _ _
     (λ e spared journal some on.
-    let all = spared journal (sym (c.in-Ok.ensures.exact tells (frames_of journal) on.opens)) in
+    let all = spared journal (sym (c.in-Ok.ensures.accepts tells (frames_of journal) on.opens)) in
     (all (g.D.Disk.seen e.0) (g.met.D.Disk.reads_now e.0 tells), λ only. all))
     (c.of_frames.ensures.spared tells)
 
@@ -79,8 +79,8 @@ returns-in-Ok-clause-any_moment g c tells =
 pub returns-in-Err-clause-why : goal.returns-in-Err-clause-why
 returns-in-Err-clause-why g c tells = c.in-Err.ensures.why tells c.args.sheets.now
 
-pub returns-in-Err-clause-exact : goal.returns-in-Err-clause-exact
-returns-in-Err-clause-exact g c tells journal on = c.in-Err.ensures.exact tells (frames_of journal) on.opens
+pub returns-in-Err-clause-accepts : goal.returns-in-Err-clause-accepts
+returns-in-Err-clause-accepts g c tells journal on = c.in-Err.ensures.accepts tells (frames_of journal) on.opens
 
 pub returns-in-Err-clause-spared : goal.returns-in-Err-clause-spared
 returns-in-Err-clause-spared g c tells journal some on = (

@@ -1,0 +1,143 @@
+-- A live server isn't fenced.
+use Rattle.std.proofs.Common.{◌≡◌, ℕ, List, [], ◌∷◌, Bool, true, false, not, ◌&&◌, ◌==◌, nat_lt, Option, Some, None, refl, ap, sym, ◌∙◌, subst, arith, inl, inr}
+use Rattle.std.specs.List.{list_any}
+use Rattle.std.proofs.lemmas.Bool.{and_from, and_parts, cases_Bool, false≢true, or_cases, or_left, or_right, true≢false}
+use Rattle.hm_names.specs.Server.{Server}
+use Rattle.hm_data.specs.declared.args.Args.{Args}
+use Rattle.hm_data.specs.declared.args.Args.TheVariants as args_are
+use Rattle.hm_data.specs.declared.entry.Entry.{Entry}
+use Rattle.hm_data.specs.declared.entry.Entry.TheVariants as entry_is
+use Rattle.hm_model.specs.Fleet.{came_up, fences_by, fences_if, has_newer, is_fenced, is_live, same_address, same_server, servers_of, with_server, with_server_at}
+use Rattle.hm_model.specs.Journal.{Past}
+use Rattle.hm_model.specs.Rules.{IsLegal}
+use Rattle.hm_model.specs.Tree.{Node, node_of}
+use Rattle.hm_model.proofs.NameTies.{same_server-is, same_server-refl, server_cmp-is}
+use Rattle.std.specs.declared.cmp.Ordering.{Ordering}
+use Rattle.std.specs.declared.cmp.Ordering.TheVariants.{Equal, Greater, Less}
+use Rattle.hm_names.specs.Order.{server_cmp}
+use Rattle.std.proofs.lemmas.Bool.{and_left, and_right, le-ltb, or_from}
+use Rattle.hm_data.specs.Numbers.{told_number}
+use Rattle.hm_data.specs.declared.call.Told.TheVariants as told_is
+
+-- a server came up, and isn't live
+abbrev pub IsDead : Past → Server → Type 0
+IsDead J server = (came_up J server ≡ true) × (is_live J server ≡ false)
+
+any_with_at : (test : Server → Bool) (o : Ordering) (server first : Server) (more rest : List Server) → (list_any test more ≡ true → list_any test rest ≡ true) → list_any test (first ∷ more) ≡ true → list_any test (with_server_at o server first more rest) ≡ true
+any_with_at test Less server first more rest on h = or_right (test server) (list_any test (first ∷ more)) h
+any_with_at test Equal server first more rest on h = h
+any_with_at test Greater server first more rest on h = elim (or_cases (test first) (list_any test more) h) [
+  | inl here ↦ or_left (test first) (list_any test rest) here
+  | inr later ↦ or_right (test first) (list_any test rest) (on later)
+]
+
+any_with : (test : Server → Bool) (server : Server) (list : List Server) → list_any test list ≡ true → list_any test (with_server server list) ≡ true
+any_with test server [] h = absurd (false≢true h)
+any_with test server (first ∷ more) h = any_with_at test (server_cmp server first) server first more (with_server server more) (any_with test server more) h
+
+any_new_at : (test : Server → Bool) (o : Ordering) (server first : Server) (more rest : List Server) → server_cmp server first ≡ o → list_any test rest ≡ true → test server ≡ true → list_any test (with_server_at o server first more rest) ≡ true
+any_new_at test Less server first more rest e on h = or_left (test server) (list_any test (first ∷ more)) h
+any_new_at test Equal server first more rest e on h = or_left (test first) (list_any test more) (ap test (sym (server_cmp-is server first e)) ∙ h)
+any_new_at test Greater server first more rest e on h = or_right (test first) (list_any test rest) on
+
+any_new : (test : Server → Bool) (server : Server) (list : List Server) → test server ≡ true → list_any test (with_server server list) ≡ true
+any_new test server [] h = or_left (test server) false h
+any_new test server (first ∷ more) h = any_new_at test (server_cmp server first) server first more (with_server server more) refl (any_new test server more h) h
+
+-- who is live came up
+live_came : (J : Past) (server : Server) → is_live J server ≡ true → came_up J server ≡ true
+live_came [] server live = absurd (false≢true live)
+live_came (entry_is.Start sheets ∷ J) server live = live_came J server live
+live_came (entry_is.Submit nonce request ∷ J) server live = live_came J server live
+live_came (entry_is.Step pid pick out ∷ J) server live = live_came J server live
+live_came (entry_is.Undo pid row out ∷ J) server live = live_came J server live
+live_came (entry_is.Report call told ∷ J) server live = live_came J server live
+live_came (entry_is.Up other ∷ J) server live = elim (or_cases (same_server server other) (is_live J server) live) [
+  | inl new ↦ any_new (λ x. same_server server x) other (servers_of J) new
+  | inr old ↦ any_with (λ x. same_server server x) other (servers_of J) (live_came J server old)
+]
+live_came (entry_is.Down other ∷ J) server live = live_came J server (and_parts (not (same_server server other)) (is_live J server) live).1
+live_came (entry_is.Abort pid ∷ J) server live = live_came J server live
+
+-- a server that came up comes up no second time
+newer_of : (server : Server) (list : List Server) → list_any (λ x. same_server server x) list ≡ true → list_any (λ x. same_address server x && not (nat_lt x.start server.start)) list ≡ true
+newer_of server [] h = absurd (false≢true h)
+newer_of server (x ∷ more) h = elim (or_cases (same_server server x) (list_any (λ y. same_server server y) more) h) [
+  | inl here ↦
+      let same = same_server-is server x here in
+      let address = (and_parts (same_address server x) (server.start == x.start) here).0 in
+      or_left (same_address server x && not (nat_lt x.start server.start)) _ (and_from (same_address server x) (not (nat_lt x.start server.start)) address (ap (λ (s : Server). not (nat_lt s.start server.start)) (sym same) ∙ ap not (le-ltb server.start server.start (omega arith))))
+  | inr later ↦ or_right (same_address server x && not (nat_lt x.start server.start)) _ (newer_of server more later)
+]
+
+-- who is dead stays so
+pub dead_stays : (entry : Entry) (J : Past) → IsLegal (entry ∷ J) → (server : Server) → IsDead J server → IsDead (entry ∷ J) server
+dead_stays (entry_is.Start sheets) J legal server dead = dead
+dead_stays (entry_is.Submit nonce request) J legal server dead = dead
+dead_stays (entry_is.Step pid pick out) J legal server dead = dead
+dead_stays (entry_is.Undo pid row out) J legal server dead = dead
+dead_stays (entry_is.Report call told) J legal server dead = dead
+dead_stays (entry_is.Up other) J legal server dead = (
+  any_with (λ x. same_server server x) other (servers_of J) dead.0,
+  elim (cases_Bool (same_server server other)) [
+    | inl same ↦
+        let new = newer_of server (servers_of J) dead.0 in
+        let rule : has_newer J other ≡ false = legal.1.1.0.1 in
+        absurd (true≢false (sym (subst (λ s. has_newer J s ≡ true) (same_server-is server other same) new) ∙ rule))
+    | inr differs ↦ or_from (same_server server other) (is_live J server) differs dead.1
+  ],
+)
+dead_stays (entry_is.Down other) J legal server dead = (dead.0, and_right (not (same_server server other)) (is_live J server) dead.1)
+dead_stays (entry_is.Abort pid) J legal server dead = dead
+
+pub down_dead : (server : Server) (J : Past) → IsLegal (entry_is.Down server ∷ J) → IsDead (entry_is.Down server ∷ J) server
+down_dead server J legal = (live_came J server legal.1.1.0.1, and_left (not (same_server server server)) (is_live J server) (ap not (same_server-refl server)))
+
+-- the server that a procedure is to fence, or has fenced
+abbrev pub fence_in : Args → Option Server
+fence_in (args_are.Root request first) = None
+fence_in (args_are.Transit region goal to) = None
+fence_in (args_are.Crash server) = Some server
+fence_in (args_are.AddRegions table first bounds) = None
+fence_in (args_are.DropRegions table ids) = None
+fence_in (args_are.AssignCall region server) = None
+fence_in (args_are.CloseCall region server) = None
+fence_in (args_are.FenceCall server) = Some server
+fence_in (args_are.LayoutCall root) = None
+fence_in (args_are.SweepLayout root) = None
+
+fences_in : (args : Args) (server : Server) → fences_by args server ≡ true → fence_in args ≡ Some server
+fences_in (args_are.Root request first) server h = absurd (false≢true h)
+fences_in (args_are.Transit region goal to) server h = absurd (false≢true h)
+fences_in (args_are.Crash other) server h = absurd (false≢true h)
+fences_in (args_are.AddRegions table first bounds) server h = absurd (false≢true h)
+fences_in (args_are.DropRegions table ids) server h = absurd (false≢true h)
+fences_in (args_are.AssignCall region other) server h = absurd (false≢true h)
+fences_in (args_are.CloseCall region other) server h = absurd (false≢true h)
+fences_in (args_are.FenceCall other) server h = ap Some (sym (same_server-is server other h))
+fences_in (args_are.LayoutCall root) server h = absurd (false≢true h)
+fences_in (args_are.SweepLayout root) server h = absurd (false≢true h)
+
+-- where each server that a procedure is to fence is dead, so is each that is fenced
+abbrev pub FencersDead : Past → Type 0
+FencersDead J = (p : ℕ) (node : Node) → node_of J p ≡ Some node → (server : Server) → fence_in node.args ≡ Some server → IsDead J server
+
+abbrev pub FencedDead : Past → Type 0
+FencedDead J = (server : Server) → is_fenced J server ≡ true → IsDead J server
+
+pub fenced_step : (entry : Entry) (J : Past) → IsLegal (entry ∷ J) → FencersDead J → FencedDead J → FencedDead (entry ∷ J)
+fenced_step (entry_is.Start sheets) J legal fencers old server fenced = dead_stays (entry_is.Start sheets) J legal server (old server fenced)
+fenced_step (entry_is.Submit nonce request) J legal fencers old server fenced = old server fenced
+fenced_step (entry_is.Step pid pick out) J legal fencers old server fenced = old server fenced
+fenced_step (entry_is.Undo pid row out) J legal fencers old server fenced = old server fenced
+fenced_step (entry_is.Report call told) J legal fencers old server fenced = elim (or_cases ((told_number told == told_number told_is.Fenced) && fences_if (node_of J call.0) server) (is_fenced J server) fenced) [
+  | inl new ↦ by (node_of J call.0) refl (and_parts (told_number told == told_number told_is.Fenced) (fences_if (node_of J call.0) server) new).1
+  | inr was ↦ old server was
+]
+  where
+    by : (o : Option Node) → node_of J call.0 ≡ o → fences_if o server ≡ true → IsDead J server
+    by None e h = absurd (false≢true h)
+    by (Some node) e h = fencers call.0 node e server (fences_in node.args server h)
+fenced_step (entry_is.Up other) J legal fencers old server fenced = dead_stays (entry_is.Up other) J legal server (old server fenced)
+fenced_step (entry_is.Down other) J legal fencers old server fenced = dead_stays (entry_is.Down other) J legal server (old server fenced)
+fenced_step (entry_is.Abort pid) J legal fencers old server fenced = old server fenced

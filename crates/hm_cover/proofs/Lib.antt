@@ -1,0 +1,17 @@
+mod Chains
+mod Tally
+mod Whole
+mod Drawn
+mod DrawnAll
+mod Edits
+mod TableDeeds
+mod SplitDeeds
+mod MergeDeeds
+mod Deeds
+mod SerialWhole
+mod Shapes
+mod Spared
+mod Going
+mod Local
+mod CatWhole
+mod Now

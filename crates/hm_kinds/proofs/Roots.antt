@@ -1,0 +1,91 @@
+-- All kinds of roots that list their rows: how far one is, and its clause.
+use Rattle.std.proofs.Common.{◌≡◌, ℕ, List, [], ◌∷◌, None, refl, ap, sym, ◌∙◌}
+use Rattle.std.proofs.lemmas.Option.{none-some}
+use Rattle.hm_data.specs.declared.args.Args.{Args}
+use Rattle.hm_data.specs.declared.args.Args.TheVariants as args_are
+use Rattle.hm_data.specs.declared.catalog.Edit.{Edit}
+use Rattle.hm_data.specs.declared.request.Request.{Request}
+use Rattle.hm_data.specs.declared.request.Request.TheVariants as request_is
+use Rattle.hm_data.specs.declared.sheet.Sheet.{Sheet}
+use Rattle.hm_model.specs.Catalog.{Catalog}
+use Rattle.hm_model.specs.Kinds.{first_row_of, kind_of}
+use Rattle.hm_model.specs.Lists.{Line, exact_rows, lines_of}
+use Rattle.hm_model.specs.Validity.{IsValid}
+use Rattle.hm_model.proofs.ExactRows.{cons_nil}
+use Rattle.hm_model.proofs.ValidSheets.{Leads, valid_leads}
+use Rattle.hm_kinds.proofs.Clause.{Serves}
+use Rattle.hm_kinds.proofs.Covering.{rows_table}
+use Rattle.hm_kinds.proofs.CreateNamespace.{Making, create_namespace_serves}
+use Rattle.hm_kinds.proofs.DropNamespace.{Dropping, drop_namespace_serves}
+use Rattle.hm_kinds.proofs.CreateTable.{Creating, create_table_serves}
+use Rattle.hm_kinds.proofs.DeleteTable.{Deleting, delete_table_serves}
+use Rattle.hm_kinds.proofs.EnableTable.{Enabling, enable_table_serves}
+use Rattle.hm_kinds.proofs.DisableTable.{Disabling, disable_table_serves}
+use Rattle.hm_kinds.proofs.ModifyTable.{Modifying, modify_table_serves}
+use Rattle.hm_kinds.proofs.SplitRegion.{Splitting, split_region_serves}
+use Rattle.hm_kinds.proofs.MergeRegions.{Merging, merge_regions_serves}
+
+-- how far a request is
+abbrev pub StageOf : Request → ℕ → Catalog → List Line → List Edit → Type 0
+StageOf (request_is.CreateNamespace ns) first = Making ns
+StageOf (request_is.DropNamespace ns) first = Dropping ns
+StageOf (request_is.CreateTable table split) first = Creating table split first
+StageOf (request_is.DeleteTable table) first = Deleting table
+StageOf (request_is.EnableTable table) first = Enabling table
+StageOf (request_is.DisableTable table) first = Disabling table
+StageOf (request_is.ModifyTable table version) first = Modifying table
+StageOf (request_is.SplitRegion region key) first = Splitting region key first
+StageOf (request_is.MergeRegions regions) first = Merging regions first
+StageOf (request_is.Move region to) first = λ base lines then. ⊥
+
+-- how far a root is, by the lines that are left, and what its tree did
+abbrev pub Stage : Args → Catalog → List Line → List Edit → Type 0
+Stage (args_are.Root request first) = StageOf request first
+Stage args = λ base lines then. ⊥
+
+-- each root that lists its rows serves its deed
+pub serves : (args : Args) → exact_rows (kind_of args) ≡ [] → rows_table args ≡ None → Serves args (Stage args)
+serves (args_are.Root (request_is.CreateNamespace ns) first) exact none = create_namespace_serves ns first
+serves (args_are.Root (request_is.DropNamespace ns) first) exact none = drop_namespace_serves ns first
+serves (args_are.Root (request_is.CreateTable table split) first) exact none = create_table_serves table split first
+serves (args_are.Root (request_is.DeleteTable table) first) exact none = delete_table_serves table first
+serves (args_are.Root (request_is.EnableTable table) first) exact none = enable_table_serves table first
+serves (args_are.Root (request_is.DisableTable table) first) exact none = disable_table_serves table first
+serves (args_are.Root (request_is.ModifyTable table version) first) exact none = modify_table_serves table version first
+serves (args_are.Root (request_is.SplitRegion region key) first) exact none = split_region_serves region key first
+serves (args_are.Root (request_is.MergeRegions regions) first) exact none = merge_regions_serves regions first
+serves (args_are.Root (request_is.Move region to) first) exact none = absurd (cons_nil _ _ exact)
+serves (args_are.Transit region goal to) exact none = absurd (cons_nil _ _ exact)
+serves (args_are.Crash server) exact none = absurd (cons_nil _ _ exact)
+serves (args_are.AddRegions table first bounds) exact none = absurd (none-some table (sym none))
+serves (args_are.DropRegions table ids) exact none = absurd (none-some table (sym none))
+serves (args_are.AssignCall region server) exact none = absurd (cons_nil _ _ exact)
+serves (args_are.CloseCall region server) exact none = absurd (cons_nil _ _ exact)
+serves (args_are.FenceCall server) exact none = absurd (cons_nil _ _ exact)
+serves (args_are.LayoutCall root) exact none = absurd (cons_nil _ _ exact)
+serves (args_are.SweepLayout root) exact none = absurd (cons_nil _ _ exact)
+
+leads_for : (sheet : Sheet) → IsValid sheet → (kind : ℕ) → sheet.kind ≡ kind → (line : Line) (lines : List Line) → exact_rows kind ≡ [] → lines_of kind ≡ line ∷ lines → Leads sheet.rows 0 (line ∷ lines)
+leads_for sheet valid kind e line lines exact lined = valid_leads sheet line lines valid (ap exact_rows e ∙ exact) (ap lines_of e ∙ lined)
+
+-- its sheet leads through all its lines from its first row on
+pub root_leads : (args : Args) → exact_rows (kind_of args) ≡ [] → rows_table args ≡ None → (sheet : Sheet) → IsValid sheet → sheet.kind ≡ kind_of args → Leads sheet.rows (first_row_of args) (lines_of (kind_of args))
+root_leads (args_are.Root (request_is.CreateNamespace ns) first) exact none sheet valid e = leads_for sheet valid 1 e _ _ refl refl
+root_leads (args_are.Root (request_is.DropNamespace ns) first) exact none sheet valid e = leads_for sheet valid 2 e _ _ refl refl
+root_leads (args_are.Root (request_is.CreateTable table split) first) exact none sheet valid e = leads_for sheet valid 3 e _ _ refl refl
+root_leads (args_are.Root (request_is.DeleteTable table) first) exact none sheet valid e = leads_for sheet valid 4 e _ _ refl refl
+root_leads (args_are.Root (request_is.EnableTable table) first) exact none sheet valid e = leads_for sheet valid 5 e _ _ refl refl
+root_leads (args_are.Root (request_is.DisableTable table) first) exact none sheet valid e = leads_for sheet valid 6 e _ _ refl refl
+root_leads (args_are.Root (request_is.ModifyTable table version) first) exact none sheet valid e = leads_for sheet valid 7 e _ _ refl refl
+root_leads (args_are.Root (request_is.SplitRegion region key) first) exact none sheet valid e = leads_for sheet valid 8 e _ _ refl refl
+root_leads (args_are.Root (request_is.MergeRegions regions) first) exact none sheet valid e = leads_for sheet valid 9 e _ _ refl refl
+root_leads (args_are.Root (request_is.Move region to) first) exact none sheet valid e = absurd (cons_nil _ _ exact)
+root_leads (args_are.Transit region goal to) exact none sheet valid e = absurd (cons_nil _ _ exact)
+root_leads (args_are.Crash server) exact none sheet valid e = absurd (cons_nil _ _ exact)
+root_leads (args_are.AddRegions table first bounds) exact none sheet valid e = absurd (none-some table (sym none))
+root_leads (args_are.DropRegions table ids) exact none sheet valid e = absurd (none-some table (sym none))
+root_leads (args_are.AssignCall region server) exact none sheet valid e = absurd (cons_nil _ _ exact)
+root_leads (args_are.CloseCall region server) exact none sheet valid e = absurd (cons_nil _ _ exact)
+root_leads (args_are.FenceCall server) exact none sheet valid e = absurd (cons_nil _ _ exact)
+root_leads (args_are.LayoutCall root) exact none sheet valid e = absurd (cons_nil _ _ exact)
+root_leads (args_are.SweepLayout root) exact none sheet valid e = absurd (cons_nil _ _ exact)

@@ -1,0 +1,14 @@
+mod Walks
+mod Places
+mod Blank
+mod Facts
+mod Shown
+mod Counts
+mod Runs
+mod InTrees
+mod Enters
+mod Steps
+mod Members
+mod Rolled
+mod Readers
+mod Needs

@@ -1,0 +1,32 @@
+use Rattle.std.proofs.Common.{◌+◌, length, map, arith, ap, ◌∙◌, length-append}
+use Rattle.std.proofs.lemmas.List.{length_push}
+use Rattle.std.proofs.lemmas.Iterator.Adapters.{YieldsList-from_vec}
+use Rattle.std.proofs.lemmas.Iterator.Consumers.{YieldsList-turn}
+use Rattle.hm_procedures.specs.Changes.{added}
+use Rattle.hm_procedures.specs.Kept.{root_shown}
+use Rattle.hm_procedures.proofs.Needs.{roots_more, roots_still}
+use Rattle.hm_procedures.proofs.Places.{added_next, length-added, roots_next}
+use Rattle.hm_procedures.proofs.book.Book.add_all.Goals as goal
+
+pub add-requires-clause-room : goal.add-requires-clause-room
+add-requires-clause-room c =
+    let b = c.into_iter-args-iterator.ensures.into_iter_gives in
+    let turn = YieldsList-turn (YieldsList-from_vec {s = c.into_iter-args-iterator.result} c.args.made (b.0 ∙ c.into_vec-args-items.ensures) (b.1 ∙ c.into_vec-args-items.result.ok.0 ∙ ap length c.into_vec-args-items.ensures)) c.loop-args.yielded c.loop-args.args-iterator c.loop-args.yielded_by c.next.result c.next.new.self c.in-Some.args c.in-Some.is c.next.ensures.steps in
+    omega (arith, turn.0, c.loop-args.invariant.spare, c.requires.room)
+
+pub add-requires-clause-count : goal.add-requires-clause-count
+add-requires-clause-count c = roots_more c.args.self.now.trees.roots c.args.self.now.kept.items c.args.up c.loop-args.yielded c.loop-args.self.trees.roots c.loop-args.self.kept.items c.requires.count c.loop-args.invariant.trees c.loop-args.invariant.kept
+
+pub add-requires-clause-root : goal.add-requires-clause-root
+add-requires-clause-root c = roots_still c.args.up c.args.self.now.trees.roots (map root_shown (added (length c.args.self.now.kept.items) c.args.up c.loop-args.yielded)) c.loop-args.self.trees.roots c.loop-args.invariant.trees c.requires.root
+
+pub loop-args-preserved : goal.loop-args-preserved
+loop-args-preserved c =
+    let long = ap length c.loop-args.invariant.kept ∙ length-append c.args.self.now.kept.items (added (length c.args.self.now.kept.items) c.args.up c.loop-args.yielded) ∙ ap (λ k. length c.args.self.now.kept.items + k) (length-added (length c.args.self.now.kept.items) c.args.up c.loop-args.yielded) in
+    record {
+      kept = c.add.ensures.kept ∙ added_next c.args.self.now.kept.items c.args.up c.loop-args.yielded c.in-Some.args c.loop-args.self.kept.items c.loop-args.invariant.kept;
+      trees = c.add.ensures.trees ∙ roots_next c.args.self.now.trees.roots root_shown (length c.args.self.now.kept.items) c.args.up c.loop-args.yielded c.in-Some.args (length c.loop-args.self.kept.items) c.loop-args.self.trees.roots long c.loop-args.invariant.trees;
+      unfinished = c.add.ensures.unfinished ∙ c.loop-args.invariant.unfinished;
+      spare = omega (arith, c.add.ensures.spare, c.loop-args.invariant.spare, length_push c.loop-args.yielded c.in-Some.args);
+      room = c.add.ensures.room ∙ c.loop-args.invariant.room;
+    }

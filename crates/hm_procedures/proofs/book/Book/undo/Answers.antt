@@ -1,0 +1,267 @@
+use Rattle.std.proofs.Common.{◌≡◌, ◌-◌, ◌∷◌, Some, None, length, map, slice_get, refl, ap, sym, subst, ◌∙◌, arith}
+use Rattle.std.specs.Option.{option_map}
+use Rattle.std.proofs.lemmas.Option.{slice_get_within}
+use Rattle.hm_names.specs.declared.pid.Pid.{Pid}
+use Rattle.hm_data.specs.declared.entry.Entry.TheVariants as entry_is
+use Rattle.hm_model.specs.Journal.{Past}
+use Rattle.hm_model.specs.Apart.{tree_of}
+use Rattle.hm_model.specs.Tree.{Node, args_in, made, pid_of}
+use Rattle.hm_model.specs.Undo.{is_empty, stack}
+use Rattle.hm_procedures.specs.Changes.{added, has_ended}
+use Rattle.hm_procedures.specs.Kept.{args_made, kept_at, root_shown}
+use Rattle.hm_procedures.specs.declared.book.Book.{Book}
+use Rattle.hm_procedures.specs.declared.kept.Kept.{Kept}
+use Rattle.hm_procedures.proofs.Enters.{count_more}
+use Rattle.hm_procedures.proofs.Facts.{parent_shown}
+use Rattle.hm_procedures.proofs.InTrees.{undo_tree, undone_there}
+use Rattle.hm_procedures.proofs.Needs.{few_roots, kept_here, parent_here, root_here, roots_long}
+use Rattle.hm_procedures.proofs.Places.{slice_get-low, written}
+use Rattle.hm_procedures.proofs.Steps.{Shows, mid_undo, roots_undo, roots_undo_are, undo_enough, undo_kept, undo_long}
+use Rattle.hm_data.specs.declared.entry.Entry.{Entry}
+use Rattle.hm_model.specs.Rules.{IsLegal}
+use Rattle.hm_procedures.proofs.book.Book.undo.Goals as goal
+
+pub family-parent-requires-clause-low : goal.family-parent-requires-clause-low
+family-parent-requires-clause-low c =
+    let legal : IsLegal (entry_is.Undo c.in-Undo.pid c.in-Undo._row c.in-Undo._out ∷ c.args.past.now.entries) = subst (λ (e : Entry). IsLegal (e ∷ c.args.past.now.entries)) c.in-Undo.is c.requires.legal in
+    let J : Past = c.args.past.now.entries in
+    let b : Book = c.args.self.now in
+    let found = undone_there c.in-Undo.pid c.in-Undo._row c.in-Undo._out c.args.past.now.entries legal in
+    let me : Node = found.0 in
+    let is_me = found.1 in
+    let here = kept_here J b.kept.items b.trees.roots b.unfinished c.requires.book c.in-Undo.pid.0 me is_me in
+    here.0
+
+pub family-parent-requires-clause-high : goal.family-parent-requires-clause-high
+family-parent-requires-clause-high c =
+    let legal : IsLegal (entry_is.Undo c.in-Undo.pid c.in-Undo._row c.in-Undo._out ∷ c.args.past.now.entries) = subst (λ (e : Entry). IsLegal (e ∷ c.args.past.now.entries)) c.in-Undo.is c.requires.legal in
+    let J : Past = c.args.past.now.entries in
+    let b : Book = c.args.self.now in
+    let found = undone_there c.in-Undo.pid c.in-Undo._row c.in-Undo._out c.args.past.now.entries legal in
+    let me : Node = found.0 in
+    let is_me = found.1 in
+    let here = kept_here J b.kept.items b.trees.roots b.unfinished c.requires.book c.in-Undo.pid.0 me is_me in
+    rw c.deref.ensures.value here.1
+
+pub overflow_add-self : goal.overflow_add-self
+overflow_add-self c =
+    let b : Book = c.args.self.now in
+    let few = few_roots c.args.past.now.entries b.kept.items b.trees.roots b.unfinished c.requires.book in
+    let m = ap length c.as_slice.ensures in
+    omega (arith, few, m, c.requires.room, b.kept.ok.0, b.kept.small)
+
+pub add_all-requires-clause-count : goal.add_all-requires-clause-count
+add_all-requires-clause-count c =
+    let b : Book = c.args.self.now in
+    roots_long c.args.past.now.entries b.kept.items b.trees.roots b.unfinished c.requires.book
+
+pub show_phases-requires-clause-pid_low : goal.show_phases-requires-clause-pid_low
+show_phases-requires-clause-pid_low c =
+    let legal : IsLegal (entry_is.Undo c.in-Undo.pid c.in-Undo._row c.in-Undo._out ∷ c.args.past.now.entries) = subst (λ (e : Entry). IsLegal (e ∷ c.args.past.now.entries)) c.in-Undo.is c.requires.legal in
+    let J : Past = c.args.past.now.entries in
+    let b : Book = c.args.self.now in
+    let found = undone_there c.in-Undo.pid c.in-Undo._row c.in-Undo._out c.args.past.now.entries legal in
+    let me : Node = found.0 in
+    let is_me = found.1 in
+    let here = kept_here J b.kept.items b.trees.roots b.unfinished c.requires.book c.in-Undo.pid.0 me is_me in
+    here.0
+
+pub show_phases-requires-clause-pid_high : goal.show_phases-requires-clause-pid_high
+show_phases-requires-clause-pid_high c =
+    let legal : IsLegal (entry_is.Undo c.in-Undo.pid c.in-Undo._row c.in-Undo._out ∷ c.args.past.now.entries) = subst (λ (e : Entry). IsLegal (e ∷ c.args.past.now.entries)) c.in-Undo.is c.requires.legal in
+    let made_is : c.args.made ≡ args_made c.args.past.now.entries (entry_is.Undo c.in-Undo.pid c.in-Undo._row c.in-Undo._out) = c.requires.made ∙ ap (args_made c.args.past.now.entries) c.in-Undo.is in
+    let J : Past = c.args.past.now.entries in
+    let b : Book = c.args.self.now in
+    let found = undone_there c.in-Undo.pid c.in-Undo._row c.in-Undo._out c.args.past.now.entries legal in
+    let me : Node = found.0 in
+    let is_me = found.1 in
+    let here = kept_here J b.kept.items b.trees.roots b.unfinished c.requires.book c.in-Undo.pid.0 me is_me in
+    let fam = c.family-parent.ensures (kept_at J c.in-Undo.pid.0 me) (ap (λ l. slice_get l (c.in-Undo.pid.0 - 1)) c.deref.ensures.value ∙ here.2) in
+    let top = root_here J b.kept.items b.trees.roots b.unfinished c.requires.book c.in-Undo.pid.0 me is_me in
+    let er = ap (λ (p : Pid). p.0) fam.1 in
+    let mid_is : c.add_all.new.self.kept.items ≡ mid_undo c.args.past.now.entries c.args.self.now.kept.items c.args.self.now.trees.roots c.args.self.now.unfinished c.requires.book c.in-Undo.pid c.in-Undo._row c.in-Undo._out legal me is_me = c.add_all.ensures.kept ∙ rw made_is refl in
+    let roots_is : c.add_all.new.self.trees.roots ≡ roots_undo c.args.past.now.entries c.args.self.now.kept.items c.args.self.now.trees.roots c.args.self.now.unfinished c.requires.book c.in-Undo.pid c.in-Undo._row c.in-Undo._out legal me is_me = c.add_all.ensures.trees ∙ rw made_is refl in
+    let n = c.requires.book.count in
+    let more = ap length mid_is ∙ count_more b.kept.items None (args_in c.in-Undo._out.followers) (made J) n in
+    let long = ap length c.deref_mut.ensures.value in omega (arith, here.1, more, n, long)
+
+pub show_phases-requires-clause-parent_low : goal.show_phases-requires-clause-parent_low
+show_phases-requires-clause-parent_low c =
+    let legal : IsLegal (entry_is.Undo c.in-Undo.pid c.in-Undo._row c.in-Undo._out ∷ c.args.past.now.entries) = subst (λ (e : Entry). IsLegal (e ∷ c.args.past.now.entries)) c.in-Undo.is c.requires.legal in
+    let J : Past = c.args.past.now.entries in
+    let b : Book = c.args.self.now in
+    let found = undone_there c.in-Undo.pid c.in-Undo._row c.in-Undo._out c.args.past.now.entries legal in
+    let me : Node = found.0 in
+    let is_me = found.1 in
+    let here = kept_here J b.kept.items b.trees.roots b.unfinished c.requires.book c.in-Undo.pid.0 me is_me in
+    let fam = c.family-parent.ensures (kept_at J c.in-Undo.pid.0 me) (ap (λ l. slice_get l (c.in-Undo.pid.0 - 1)) c.deref.ensures.value ∙ here.2) in
+    let top = root_here J b.kept.items b.trees.roots b.unfinished c.requires.book c.in-Undo.pid.0 me is_me in
+    let er = ap (λ (p : Pid). p.0) fam.1 in
+    λ up is. (parent_here J b.kept.items b.trees.roots b.unfinished c.requires.book c.in-Undo.pid.0 me is_me up (sym fam.0 ∙ is)).0
+
+pub show_phases-requires-clause-parent_high : goal.show_phases-requires-clause-parent_high
+show_phases-requires-clause-parent_high c =
+    let legal : IsLegal (entry_is.Undo c.in-Undo.pid c.in-Undo._row c.in-Undo._out ∷ c.args.past.now.entries) = subst (λ (e : Entry). IsLegal (e ∷ c.args.past.now.entries)) c.in-Undo.is c.requires.legal in
+    let made_is : c.args.made ≡ args_made c.args.past.now.entries (entry_is.Undo c.in-Undo.pid c.in-Undo._row c.in-Undo._out) = c.requires.made ∙ ap (args_made c.args.past.now.entries) c.in-Undo.is in
+    let J : Past = c.args.past.now.entries in
+    let b : Book = c.args.self.now in
+    let found = undone_there c.in-Undo.pid c.in-Undo._row c.in-Undo._out c.args.past.now.entries legal in
+    let me : Node = found.0 in
+    let is_me = found.1 in
+    let here = kept_here J b.kept.items b.trees.roots b.unfinished c.requires.book c.in-Undo.pid.0 me is_me in
+    let fam = c.family-parent.ensures (kept_at J c.in-Undo.pid.0 me) (ap (λ l. slice_get l (c.in-Undo.pid.0 - 1)) c.deref.ensures.value ∙ here.2) in
+    let top = root_here J b.kept.items b.trees.roots b.unfinished c.requires.book c.in-Undo.pid.0 me is_me in
+    let er = ap (λ (p : Pid). p.0) fam.1 in
+    let mid_is : c.add_all.new.self.kept.items ≡ mid_undo c.args.past.now.entries c.args.self.now.kept.items c.args.self.now.trees.roots c.args.self.now.unfinished c.requires.book c.in-Undo.pid c.in-Undo._row c.in-Undo._out legal me is_me = c.add_all.ensures.kept ∙ rw made_is refl in
+    let roots_is : c.add_all.new.self.trees.roots ≡ roots_undo c.args.past.now.entries c.args.self.now.kept.items c.args.self.now.trees.roots c.args.self.now.unfinished c.requires.book c.in-Undo.pid c.in-Undo._row c.in-Undo._out legal me is_me = c.add_all.ensures.trees ∙ rw made_is refl in
+    let n = c.requires.book.count in
+    let more = ap length mid_is ∙ count_more b.kept.items None (args_in c.in-Undo._out.followers) (made J) n in
+    let long = ap length c.deref_mut.ensures.value in λ up is. (let high = (parent_here J b.kept.items b.trees.roots b.unfinished c.requires.book c.in-Undo.pid.0 me is_me up (sym fam.0 ∙ is)).1 in omega (arith, high, more, n, long))
+
+pub show_phases-requires-clause-root_low : goal.show_phases-requires-clause-root_low
+show_phases-requires-clause-root_low c =
+    let legal : IsLegal (entry_is.Undo c.in-Undo.pid c.in-Undo._row c.in-Undo._out ∷ c.args.past.now.entries) = subst (λ (e : Entry). IsLegal (e ∷ c.args.past.now.entries)) c.in-Undo.is c.requires.legal in
+    let J : Past = c.args.past.now.entries in
+    let b : Book = c.args.self.now in
+    let found = undone_there c.in-Undo.pid c.in-Undo._row c.in-Undo._out c.args.past.now.entries legal in
+    let me : Node = found.0 in
+    let is_me = found.1 in
+    let here = kept_here J b.kept.items b.trees.roots b.unfinished c.requires.book c.in-Undo.pid.0 me is_me in
+    let fam = c.family-parent.ensures (kept_at J c.in-Undo.pid.0 me) (ap (λ l. slice_get l (c.in-Undo.pid.0 - 1)) c.deref.ensures.value ∙ here.2) in
+    let top = root_here J b.kept.items b.trees.roots b.unfinished c.requires.book c.in-Undo.pid.0 me is_me in
+    let er = ap (λ (p : Pid). p.0) fam.1 in
+    rw er top.0
+
+pub show_phases-requires-clause-root : goal.show_phases-requires-clause-root
+show_phases-requires-clause-root c =
+    let legal : IsLegal (entry_is.Undo c.in-Undo.pid c.in-Undo._row c.in-Undo._out ∷ c.args.past.now.entries) = subst (λ (e : Entry). IsLegal (e ∷ c.args.past.now.entries)) c.in-Undo.is c.requires.legal in
+    let made_is : c.args.made ≡ args_made c.args.past.now.entries (entry_is.Undo c.in-Undo.pid c.in-Undo._row c.in-Undo._out) = c.requires.made ∙ ap (args_made c.args.past.now.entries) c.in-Undo.is in
+    let J : Past = c.args.past.now.entries in
+    let b : Book = c.args.self.now in
+    let found = undone_there c.in-Undo.pid c.in-Undo._row c.in-Undo._out c.args.past.now.entries legal in
+    let me : Node = found.0 in
+    let is_me = found.1 in
+    let here = kept_here J b.kept.items b.trees.roots b.unfinished c.requires.book c.in-Undo.pid.0 me is_me in
+    let fam = c.family-parent.ensures (kept_at J c.in-Undo.pid.0 me) (ap (λ l. slice_get l (c.in-Undo.pid.0 - 1)) c.deref.ensures.value ∙ here.2) in
+    let top = root_here J b.kept.items b.trees.roots b.unfinished c.requires.book c.in-Undo.pid.0 me is_me in
+    let er = ap (λ (p : Pid). p.0) fam.1 in
+    let mid_is : c.add_all.new.self.kept.items ≡ mid_undo c.args.past.now.entries c.args.self.now.kept.items c.args.self.now.trees.roots c.args.self.now.unfinished c.requires.book c.in-Undo.pid c.in-Undo._row c.in-Undo._out legal me is_me = c.add_all.ensures.kept ∙ rw made_is refl in
+    let roots_is : c.add_all.new.self.trees.roots ≡ roots_undo c.args.past.now.entries c.args.self.now.kept.items c.args.self.now.trees.roots c.args.self.now.unfinished c.requires.book c.in-Undo.pid c.in-Undo._row c.in-Undo._out legal me is_me = c.add_all.ensures.trees ∙ rw made_is refl in
+    let n = c.requires.book.count in
+    let more = ap length mid_is ∙ count_more b.kept.items None (args_in c.in-Undo._out.followers) (made J) n in
+    let low = slice_get-low b.trees.roots (map root_shown (added (length b.kept.items) None (args_in c.in-Undo._out.followers))) (me.root - 1) (slice_get_within b.trees.roots (me.root - 1) (pid_of me.root) top.2) in
+    rw fam.1 (ap (λ l. slice_get l (me.root - 1)) roots_is ∙ low ∙ top.2)
+
+pub show_phases-requires-clause-roots : goal.show_phases-requires-clause-roots
+show_phases-requires-clause-roots c =
+    let legal : IsLegal (entry_is.Undo c.in-Undo.pid c.in-Undo._row c.in-Undo._out ∷ c.args.past.now.entries) = subst (λ (e : Entry). IsLegal (e ∷ c.args.past.now.entries)) c.in-Undo.is c.requires.legal in
+    let made_is : c.args.made ≡ args_made c.args.past.now.entries (entry_is.Undo c.in-Undo.pid c.in-Undo._row c.in-Undo._out) = c.requires.made ∙ ap (args_made c.args.past.now.entries) c.in-Undo.is in
+    let J : Past = c.args.past.now.entries in
+    let b : Book = c.args.self.now in
+    let found = undone_there c.in-Undo.pid c.in-Undo._row c.in-Undo._out c.args.past.now.entries legal in
+    let me : Node = found.0 in
+    let is_me = found.1 in
+    let here = kept_here J b.kept.items b.trees.roots b.unfinished c.requires.book c.in-Undo.pid.0 me is_me in
+    let fam = c.family-parent.ensures (kept_at J c.in-Undo.pid.0 me) (ap (λ l. slice_get l (c.in-Undo.pid.0 - 1)) c.deref.ensures.value ∙ here.2) in
+    let top = root_here J b.kept.items b.trees.roots b.unfinished c.requires.book c.in-Undo.pid.0 me is_me in
+    let er = ap (λ (p : Pid). p.0) fam.1 in
+    let mid_is : c.add_all.new.self.kept.items ≡ mid_undo c.args.past.now.entries c.args.self.now.kept.items c.args.self.now.trees.roots c.args.self.now.unfinished c.requires.book c.in-Undo.pid c.in-Undo._row c.in-Undo._out legal me is_me = c.add_all.ensures.kept ∙ rw made_is refl in
+    let roots_is : c.add_all.new.self.trees.roots ≡ roots_undo c.args.past.now.entries c.args.self.now.kept.items c.args.self.now.trees.roots c.args.self.now.unfinished c.requires.book c.in-Undo.pid c.in-Undo._row c.in-Undo._out legal me is_me = c.add_all.ensures.trees ∙ rw made_is refl in
+    let n = c.requires.book.count in
+    let more = ap length mid_is ∙ count_more b.kept.items None (args_in c.in-Undo._out.followers) (made J) n in
+    λ p. ap (λ l. slice_get l p) roots_is ∙ roots_undo_are c.args.past.now.entries c.args.self.now.kept.items c.args.self.now.trees.roots c.args.self.now.unfinished c.requires.book c.in-Undo.pid c.in-Undo._row c.in-Undo._out legal me is_me p ∙ sym (ap (λ l. option_map root_shown (slice_get l p)) (c.deref_mut.ensures.value ∙ mid_is))
+
+pub has_ended-over-requires-clause-low : goal.has_ended-over-requires-clause-low
+has_ended-over-requires-clause-low c =
+    let legal : IsLegal (entry_is.Undo c.in-Undo.pid c.in-Undo._row c.in-Undo._out ∷ c.args.past.now.entries) = subst (λ (e : Entry). IsLegal (e ∷ c.args.past.now.entries)) c.in-Undo.is c.requires.legal in
+    let J : Past = c.args.past.now.entries in
+    let b : Book = c.args.self.now in
+    let found = undone_there c.in-Undo.pid c.in-Undo._row c.in-Undo._out c.args.past.now.entries legal in
+    let me : Node = found.0 in
+    let is_me = found.1 in
+    let here = kept_here J b.kept.items b.trees.roots b.unfinished c.requires.book c.in-Undo.pid.0 me is_me in
+    let fam = c.family-parent.ensures (kept_at J c.in-Undo.pid.0 me) (ap (λ l. slice_get l (c.in-Undo.pid.0 - 1)) c.deref.ensures.value ∙ here.2) in
+    let top = root_here J b.kept.items b.trees.roots b.unfinished c.requires.book c.in-Undo.pid.0 me is_me in
+    let er = ap (λ (p : Pid). p.0) fam.1 in
+    rw er top.0
+
+pub has_ended-over-requires-clause-high : goal.has_ended-over-requires-clause-high
+has_ended-over-requires-clause-high c =
+    let legal : IsLegal (entry_is.Undo c.in-Undo.pid c.in-Undo._row c.in-Undo._out ∷ c.args.past.now.entries) = subst (λ (e : Entry). IsLegal (e ∷ c.args.past.now.entries)) c.in-Undo.is c.requires.legal in
+    let made_is : c.args.made ≡ args_made c.args.past.now.entries (entry_is.Undo c.in-Undo.pid c.in-Undo._row c.in-Undo._out) = c.requires.made ∙ ap (args_made c.args.past.now.entries) c.in-Undo.is in
+    let left_is : c.args.nothing_left ≡ is_empty (stack (entry_is.Undo c.in-Undo.pid c.in-Undo._row c.in-Undo._out ∷ c.args.past.now.entries) (tree_of c.args.past.now.entries (entry_is.Undo c.in-Undo.pid c.in-Undo._row c.in-Undo._out))) = c.requires.left ∙ ap (λ (e : Entry). is_empty (stack (e ∷ c.args.past.now.entries) (tree_of c.args.past.now.entries e))) c.in-Undo.is in
+    let J : Past = c.args.past.now.entries in
+    let b : Book = c.args.self.now in
+    let found = undone_there c.in-Undo.pid c.in-Undo._row c.in-Undo._out c.args.past.now.entries legal in
+    let me : Node = found.0 in
+    let is_me = found.1 in
+    let here = kept_here J b.kept.items b.trees.roots b.unfinished c.requires.book c.in-Undo.pid.0 me is_me in
+    let fam = c.family-parent.ensures (kept_at J c.in-Undo.pid.0 me) (ap (λ l. slice_get l (c.in-Undo.pid.0 - 1)) c.deref.ensures.value ∙ here.2) in
+    let top = root_here J b.kept.items b.trees.roots b.unfinished c.requires.book c.in-Undo.pid.0 me is_me in
+    let er = ap (λ (p : Pid). p.0) fam.1 in
+    let mid_is : c.add_all.new.self.kept.items ≡ mid_undo c.args.past.now.entries c.args.self.now.kept.items c.args.self.now.trees.roots c.args.self.now.unfinished c.requires.book c.in-Undo.pid c.in-Undo._row c.in-Undo._out legal me is_me = c.add_all.ensures.kept ∙ rw made_is refl in
+    let roots_is : c.add_all.new.self.trees.roots ≡ roots_undo c.args.past.now.entries c.args.self.now.kept.items c.args.self.now.trees.roots c.args.self.now.unfinished c.requires.book c.in-Undo.pid c.in-Undo._row c.in-Undo._out legal me is_me = c.add_all.ensures.trees ∙ rw made_is refl in
+    let n = c.requires.book.count in
+    let more = ap length mid_is ∙ count_more b.kept.items None (args_in c.in-Undo._out.followers) (made J) n in
+    let shown : Shows (mid_undo c.args.past.now.entries c.args.self.now.kept.items c.args.self.now.trees.roots c.args.self.now.unfinished c.requires.book c.in-Undo.pid c.in-Undo._row c.in-Undo._out legal me is_me) c.show_phases.new.kept c.in-Undo.pid (parent_shown found.0.above) (pid_of found.0.root) c.args.nothing_left = rw (c.deref_mut.ensures.value, mid_is, fam.0, fam.1) at c.show_phases.ensures in
+    let left = left_is ∙ ap (λ r. is_empty (stack (entry_is.Undo c.in-Undo.pid c.in-Undo._row c.in-Undo._out ∷ J) r)) (undo_tree c.in-Undo.pid c.in-Undo._row c.in-Undo._out J legal me is_me) in
+    let new_long = undo_long c.args.past.now.entries c.args.self.now.kept.items c.args.self.now.trees.roots c.args.self.now.unfinished c.requires.book c.in-Undo.pid c.in-Undo._row c.in-Undo._out legal me is_me c.show_phases.new.kept c.args.nothing_left left shown in
+    let once = written c.add_all.new.self.kept.items c.show_phases.new.kept c.add_all.new.self.kept.len (new_long ∙ sym (ap length mid_is)) (omega (arith, c.add_all.new.self.kept.ok.0)) in
+    let now = ap length (c.deref-2.ensures.value ∙ once) ∙ new_long ∙ sym (ap length mid_is) in
+    omega (arith, top.1, er, now, n, more)
+
+pub less_if-self-requires : goal.less_if-self-requires
+less_if-self-requires c =
+    let legal : IsLegal (entry_is.Undo c.in-Undo.pid c.in-Undo._row c.in-Undo._out ∷ c.args.past.now.entries) = subst (λ (e : Entry). IsLegal (e ∷ c.args.past.now.entries)) c.in-Undo.is c.requires.legal in
+    let made_is : c.args.made ≡ args_made c.args.past.now.entries (entry_is.Undo c.in-Undo.pid c.in-Undo._row c.in-Undo._out) = c.requires.made ∙ ap (args_made c.args.past.now.entries) c.in-Undo.is in
+    let left_is : c.args.nothing_left ≡ is_empty (stack (entry_is.Undo c.in-Undo.pid c.in-Undo._row c.in-Undo._out ∷ c.args.past.now.entries) (tree_of c.args.past.now.entries (entry_is.Undo c.in-Undo.pid c.in-Undo._row c.in-Undo._out))) = c.requires.left ∙ ap (λ (e : Entry). is_empty (stack (e ∷ c.args.past.now.entries) (tree_of c.args.past.now.entries e))) c.in-Undo.is in
+    let J : Past = c.args.past.now.entries in
+    let b : Book = c.args.self.now in
+    let found = undone_there c.in-Undo.pid c.in-Undo._row c.in-Undo._out c.args.past.now.entries legal in
+    let me : Node = found.0 in
+    let is_me = found.1 in
+    let here = kept_here J b.kept.items b.trees.roots b.unfinished c.requires.book c.in-Undo.pid.0 me is_me in
+    let fam = c.family-parent.ensures (kept_at J c.in-Undo.pid.0 me) (ap (λ l. slice_get l (c.in-Undo.pid.0 - 1)) c.deref.ensures.value ∙ here.2) in
+    let top = root_here J b.kept.items b.trees.roots b.unfinished c.requires.book c.in-Undo.pid.0 me is_me in
+    let er = ap (λ (p : Pid). p.0) fam.1 in
+    let mid_is : c.add_all.new.self.kept.items ≡ mid_undo c.args.past.now.entries c.args.self.now.kept.items c.args.self.now.trees.roots c.args.self.now.unfinished c.requires.book c.in-Undo.pid c.in-Undo._row c.in-Undo._out legal me is_me = c.add_all.ensures.kept ∙ rw made_is refl in
+    let roots_is : c.add_all.new.self.trees.roots ≡ roots_undo c.args.past.now.entries c.args.self.now.kept.items c.args.self.now.trees.roots c.args.self.now.unfinished c.requires.book c.in-Undo.pid c.in-Undo._row c.in-Undo._out legal me is_me = c.add_all.ensures.trees ∙ rw made_is refl in
+    let n = c.requires.book.count in
+    let more = ap length mid_is ∙ count_more b.kept.items None (args_in c.in-Undo._out.followers) (made J) n in
+    let shown : Shows (mid_undo c.args.past.now.entries c.args.self.now.kept.items c.args.self.now.trees.roots c.args.self.now.unfinished c.requires.book c.in-Undo.pid c.in-Undo._row c.in-Undo._out legal me is_me) c.show_phases.new.kept c.in-Undo.pid (parent_shown found.0.above) (pid_of found.0.root) c.args.nothing_left = rw (c.deref_mut.ensures.value, mid_is, fam.0, fam.1) at c.show_phases.ensures in
+    let left = left_is ∙ ap (λ r. is_empty (stack (entry_is.Undo c.in-Undo.pid c.in-Undo._row c.in-Undo._out ∷ J) r)) (undo_tree c.in-Undo.pid c.in-Undo._row c.in-Undo._out J legal me is_me) in
+    let new_long = undo_long c.args.past.now.entries c.args.self.now.kept.items c.args.self.now.trees.roots c.args.self.now.unfinished c.requires.book c.in-Undo.pid c.in-Undo._row c.in-Undo._out legal me is_me c.show_phases.new.kept c.args.nothing_left left shown in
+    let once = written c.add_all.new.self.kept.items c.show_phases.new.kept c.add_all.new.self.kept.len (new_long ∙ sym (ap length mid_is)) (omega (arith, c.add_all.new.self.kept.ok.0)) in
+    let told : (k : Kept) → slice_get c.show_phases.new.kept (found.0.root - 1) ≡ Some k → c.has_ended-over.result ≡ has_ended k = λ k at. c.has_ended-over.ensures k (rw er (ap (λ l. slice_get l (me.root - 1)) (c.deref-2.ensures.value ∙ once) ∙ at)) in
+    let m = ap length (c.as_slice.ensures ∙ made_is) in
+    let same = c.add_all.ensures.unfinished in
+    let enough = undo_enough c.args.past.now.entries c.args.self.now.kept.items c.args.self.now.trees.roots c.args.self.now.unfinished c.requires.book c.in-Undo.pid c.in-Undo._row c.in-Undo._out legal me is_me c.show_phases.new.kept c.args.nothing_left c.has_ended-over.result 0 left shown told in
+    omega (arith, enough, same, m)
+
+pub returns-clause-book : goal.returns-clause-book
+returns-clause-book c =
+    let legal : IsLegal (entry_is.Undo c.in-Undo.pid c.in-Undo._row c.in-Undo._out ∷ c.args.past.now.entries) = subst (λ (e : Entry). IsLegal (e ∷ c.args.past.now.entries)) c.in-Undo.is c.requires.legal in
+    let made_is : c.args.made ≡ args_made c.args.past.now.entries (entry_is.Undo c.in-Undo.pid c.in-Undo._row c.in-Undo._out) = c.requires.made ∙ ap (args_made c.args.past.now.entries) c.in-Undo.is in
+    let left_is : c.args.nothing_left ≡ is_empty (stack (entry_is.Undo c.in-Undo.pid c.in-Undo._row c.in-Undo._out ∷ c.args.past.now.entries) (tree_of c.args.past.now.entries (entry_is.Undo c.in-Undo.pid c.in-Undo._row c.in-Undo._out))) = c.requires.left ∙ ap (λ (e : Entry). is_empty (stack (e ∷ c.args.past.now.entries) (tree_of c.args.past.now.entries e))) c.in-Undo.is in
+    let J : Past = c.args.past.now.entries in
+    let b : Book = c.args.self.now in
+    let found = undone_there c.in-Undo.pid c.in-Undo._row c.in-Undo._out c.args.past.now.entries legal in
+    let me : Node = found.0 in
+    let is_me = found.1 in
+    let here = kept_here J b.kept.items b.trees.roots b.unfinished c.requires.book c.in-Undo.pid.0 me is_me in
+    let fam = c.family-parent.ensures (kept_at J c.in-Undo.pid.0 me) (ap (λ l. slice_get l (c.in-Undo.pid.0 - 1)) c.deref.ensures.value ∙ here.2) in
+    let top = root_here J b.kept.items b.trees.roots b.unfinished c.requires.book c.in-Undo.pid.0 me is_me in
+    let er = ap (λ (p : Pid). p.0) fam.1 in
+    let mid_is : c.add_all.new.self.kept.items ≡ mid_undo c.args.past.now.entries c.args.self.now.kept.items c.args.self.now.trees.roots c.args.self.now.unfinished c.requires.book c.in-Undo.pid c.in-Undo._row c.in-Undo._out legal me is_me = c.add_all.ensures.kept ∙ rw made_is refl in
+    let roots_is : c.add_all.new.self.trees.roots ≡ roots_undo c.args.past.now.entries c.args.self.now.kept.items c.args.self.now.trees.roots c.args.self.now.unfinished c.requires.book c.in-Undo.pid c.in-Undo._row c.in-Undo._out legal me is_me = c.add_all.ensures.trees ∙ rw made_is refl in
+    let n = c.requires.book.count in
+    let more = ap length mid_is ∙ count_more b.kept.items None (args_in c.in-Undo._out.followers) (made J) n in
+    let shown : Shows (mid_undo c.args.past.now.entries c.args.self.now.kept.items c.args.self.now.trees.roots c.args.self.now.unfinished c.requires.book c.in-Undo.pid c.in-Undo._row c.in-Undo._out legal me is_me) c.show_phases.new.kept c.in-Undo.pid (parent_shown found.0.above) (pid_of found.0.root) c.args.nothing_left = rw (c.deref_mut.ensures.value, mid_is, fam.0, fam.1) at c.show_phases.ensures in
+    let left = left_is ∙ ap (λ r. is_empty (stack (entry_is.Undo c.in-Undo.pid c.in-Undo._row c.in-Undo._out ∷ J) r)) (undo_tree c.in-Undo.pid c.in-Undo._row c.in-Undo._out J legal me is_me) in
+    let new_long = undo_long c.args.past.now.entries c.args.self.now.kept.items c.args.self.now.trees.roots c.args.self.now.unfinished c.requires.book c.in-Undo.pid c.in-Undo._row c.in-Undo._out legal me is_me c.show_phases.new.kept c.args.nothing_left left shown in
+    let once = written c.add_all.new.self.kept.items c.show_phases.new.kept c.add_all.new.self.kept.len (new_long ∙ sym (ap length mid_is)) (omega (arith, c.add_all.new.self.kept.ok.0)) in
+    let told : (k : Kept) → slice_get c.show_phases.new.kept (found.0.root - 1) ≡ Some k → c.has_ended-over.result ≡ has_ended k = λ k at. c.has_ended-over.ensures k (rw er (ap (λ l. slice_get l (me.root - 1)) (c.deref-2.ensures.value ∙ once) ∙ at)) in
+    let m = ap length (c.as_slice.ensures ∙ made_is) in
+    let same = c.add_all.ensures.unfinished in
+    let rest = c.less_if-self.ensures in
+    λ is. rw (c.in-Undo.is, once, roots_is) (undo_kept c.args.past.now.entries c.args.self.now.kept.items c.args.self.now.trees.roots c.args.self.now.unfinished c.requires.book c.in-Undo.pid c.in-Undo._row c.in-Undo._out legal me is_me c.show_phases.new.kept c.args.nothing_left c.has_ended-over.result c.less_if-self.result left shown told (omega (arith, rest, same, m)))

@@ -1,0 +1,69 @@
+-- What the book's fields hold.
+use Rattle.std.specs.Prelude.{◌≡◌, ◌≤◌, ℕ, ◌+◌, ◌-◌, List, Option, Some, None, min, slice_get, vec_capacity, vec_len}
+use Rattle.hm_names.specs.declared.pid.Pid.{Pid}
+use Rattle.hm_data.specs.declared.entry.Entry.{Entry}
+use Rattle.hm_data.specs.declared.entry.Entry.TheVariants as entry_is
+use Rattle.hm_model.specs.Journal.{Past}
+use Rattle.hm_procedures.specs.Kept.{IsKept}
+use Rattle.hm_procedures.specs.declared.book.Book.{Book}
+
+-- the book is what the journal says
+abbrev pub IsBook : Past → Book → Type 0
+IsBook past book = IsKept past book.kept.items book.trees.roots book.unfinished
+
+-- for how many procedures more there is room
+abbrev pub spare_of : Book → ℕ
+spare_of book = min (vec_capacity book.kept - vec_len book.kept) book.trees.spare
+
+-- how much memory there is
+abbrev pub room_of : Book → ℕ
+room_of book = vec_capacity book.kept + book.trees.room
+
+-- the root of a new procedure that has a parent is there
+abbrev pub HasRoot : List Pid → Option (Pid × Pid) → Type 0
+HasRoot roots None = Unit {0}
+HasRoot roots (Some up) = (let root = up.1 in 1 ≤ root.0) × (let root = up.1 in slice_get roots (root.0 - 1) ≡ Some root)
+
+-- the entry makes a root of its own
+abbrev pub IsRooting : Entry → Type 0
+IsRooting (entry_is.Start sheets) = ⊥
+IsRooting (entry_is.Submit nonce request) = Unit {0}
+IsRooting (entry_is.Step pid pick out) = ⊥
+IsRooting (entry_is.Undo pid row out) = ⊥
+IsRooting (entry_is.Report call told) = ⊥
+IsRooting (entry_is.Up server) = ⊥
+IsRooting (entry_is.Down server) = Unit {0}
+IsRooting (entry_is.Abort pid) = ⊥
+
+-- the entry undoes a step
+abbrev pub IsUndo : Entry → Type 0
+IsUndo (entry_is.Start sheets) = ⊥
+IsUndo (entry_is.Submit nonce request) = ⊥
+IsUndo (entry_is.Step pid pick out) = ⊥
+IsUndo (entry_is.Undo pid row out) = Unit {0}
+IsUndo (entry_is.Report call told) = ⊥
+IsUndo (entry_is.Up server) = ⊥
+IsUndo (entry_is.Down server) = ⊥
+IsUndo (entry_is.Abort pid) = ⊥
+
+-- the entry is the report of a call
+abbrev pub IsReport : Entry → Type 0
+IsReport (entry_is.Start sheets) = ⊥
+IsReport (entry_is.Submit nonce request) = ⊥
+IsReport (entry_is.Step pid pick out) = ⊥
+IsReport (entry_is.Undo pid row out) = ⊥
+IsReport (entry_is.Report call told) = Unit {0}
+IsReport (entry_is.Up server) = ⊥
+IsReport (entry_is.Down server) = ⊥
+IsReport (entry_is.Abort pid) = ⊥
+
+-- the entry is an abort
+abbrev pub IsAbort : Entry → Type 0
+IsAbort (entry_is.Start sheets) = ⊥
+IsAbort (entry_is.Submit nonce request) = ⊥
+IsAbort (entry_is.Step pid pick out) = ⊥
+IsAbort (entry_is.Undo pid row out) = ⊥
+IsAbort (entry_is.Report call told) = ⊥
+IsAbort (entry_is.Up server) = ⊥
+IsAbort (entry_is.Down server) = ⊥
+IsAbort (entry_is.Abort pid) = Unit {0}

@@ -1,0 +1,88 @@
+-- What is kept of each procedure.
+use Rattle.std.specs.Prelude.{◌≡◌, ℕ, ◌+◌, ◌==◌, List, [], ◌∷◌, length, Option, if◌then◌else◌, is_some, slice_get}
+use Rattle.std.specs.Option.{option_map}
+use Rattle.hm_names.specs.declared.pid.Pid.{Pid}
+use Rattle.hm_data.specs.declared.args.Args.{Args}
+use Rattle.hm_data.specs.declared.args.Args.TheVariants as args_are
+use Rattle.hm_data.specs.declared.entry.Entry.{Entry}
+use Rattle.hm_data.specs.declared.entry.Entry.TheVariants as entry_is
+use Rattle.hm_data.specs.declared.record.Phase.{Phase}
+use Rattle.hm_model.specs.Answers.{is_aborted, last_answer, report_of, row_of}
+use Rattle.hm_model.specs.Inputs.{made_at_step}
+use Rattle.hm_model.specs.Journal.{Past}
+use Rattle.hm_model.specs.Kinds.{kind_of, table_of_request}
+use Rattle.hm_model.specs.Phase.{cause, phase}
+use Rattle.hm_model.specs.Places.{tries_of}
+use Rattle.hm_model.specs.Records.{unfinished}
+use Rattle.hm_model.specs.Reports.{verb_of}
+use Rattle.hm_model.specs.Rules.{IsLegal}
+use Rattle.hm_model.specs.Tree.{Node, args_in, first_of, made, node_of, parent_in, pid_of}
+use Rattle.hm_model.specs.Waiting.{open_children, open_under}
+use Rattle.hm_procedures.specs.declared.kept.Kept.{Kept}
+
+-- what the procedures that an entry makes work on, in order
+abbrev pub args_made : Past → Entry → List Args
+args_made before (entry_is.Start sheets) = []
+args_made before (entry_is.Submit nonce request) = args_are.Root request (first_of before (table_of_request request)) ∷ []
+args_made before (entry_is.Step pid pick out) = args_in out.children
+args_made before (entry_is.Undo pid row out) = args_in out.followers
+args_made before (entry_is.Report call told) = []
+args_made before (entry_is.Up server) = []
+args_made before (entry_is.Down server) = args_are.Crash server ∷ []
+args_made before (entry_is.Abort pid) = []
+
+-- how many procedures the last step of a procedure made
+abbrev pub made_in_step : Past → ℕ → ℕ
+made_in_step [] p = 0
+made_in_step (entry_is.Start sheets ∷ before) p = made_in_step before p
+made_in_step (entry_is.Submit nonce request ∷ before) p = made_in_step before p
+made_in_step (entry_is.Step pid pick out ∷ before) p = if p == pid.0 then length (args_in out.children) else made_in_step before p
+made_in_step (entry_is.Undo pid row out ∷ before) p = made_in_step before p
+made_in_step (entry_is.Report call told ∷ before) p = made_in_step before p
+made_in_step (entry_is.Up server ∷ before) p = made_in_step before p
+made_in_step (entry_is.Down server ∷ before) p = made_in_step before p
+made_in_step (entry_is.Abort pid ∷ before) p = made_in_step before p
+
+-- what is kept of a procedure that is shown in a phase
+abbrev pub kept_in : Phase → Past → ℕ → Node → Kept
+kept_in phase before p node = record {
+  shown = record {
+    pid = pid_of p;
+    parent = option_map pid_of (parent_in node.above);
+    root = pid_of node.root;
+    kind = kind_of node.args;
+    row = row_of before p node;
+    args = node.args;
+    tries = tries_of before p;
+    aborted = is_aborted before p;
+    phase = phase;
+  };
+  last = last_answer before p;
+  report = report_of before p;
+  has_called = is_some (verb_of before p);
+  cause = cause before p;
+  open_children = open_children before p;
+  open_under = open_under before p;
+  made_at_step = made_at_step before p;
+  made_in_step = made_in_step before p;
+}
+
+-- what is kept of a procedure
+abbrev pub kept_at : Past → ℕ → Node → Kept
+kept_at before p node = kept_in (phase before p node) before p node
+
+-- what is kept of a procedure by its number
+abbrev pub kept_of : Past → ℕ → Option Kept
+kept_of before p = option_map (kept_at before p) (node_of before p)
+
+-- the root that is shown
+abbrev pub root_shown : Kept → Pid
+root_shown one = let shown = one.shown in shown.root
+
+-- what is kept is what a legal journal says of its procedures, of their roots, and of how many roots haven't ended
+pub record IsKept (past : Past) (kept : List Kept) (roots : List Pid) (left : ℕ) : Type 0 where
+  pub legal : IsLegal past
+  pub count : length kept ≡ made past
+  pub kept_are : (p : ℕ) → slice_get kept p ≡ kept_of past (p + 1)
+  pub roots_are : (p : ℕ) → slice_get roots p ≡ option_map root_shown (slice_get kept p)
+  pub left_are : left ≡ unfinished past

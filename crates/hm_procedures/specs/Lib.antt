@@ -1,0 +1,5 @@
+pub mod Trees
+pub mod Kept
+pub mod Changes
+pub mod Book
+pub mod Procedures

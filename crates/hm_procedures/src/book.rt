@@ -1,0 +1,239 @@
+//! What is kept of all procedures, and how entries change it.
+ghost use Rattle.std.specs.Prelude.{◌≡◌, ℕ, ◌+◌, ◌-◌, ◌<◌, ◌≤◌, ◌++◌, [], ◌∷◌, length, map, OnOk, Some, None, slice_get};
+ghost use Rattle.hm_names.specs.declared.pid.Pid.{Pid as PidOf};
+ghost use Rattle.hm_data.specs.declared.entry.Entry.TheVariants as entry_is;
+ghost use Rattle.hm_model.specs.Apart.{tree_of};
+ghost use Rattle.hm_model.specs.Counts.{one_if};
+ghost use Rattle.hm_model.specs.Rules.{IsLegal};
+ghost use Rattle.hm_model.specs.Undo.{is_empty, stack};
+ghost use Rattle.hm_procedures.specs.Book.{HasRoot, IsAbort, IsBook, IsReport, IsRooting, IsUndo, room_of, spare_of};
+ghost use Rattle.hm_procedures.specs.Changes.{added};
+ghost use Rattle.hm_procedures.specs.Kept.{args_made, root_shown};
+ghost use Rattle.hm_procedures.specs.declared.kept.Kept.{Kept as KeptOf};
+
+use crate::changes::{note_abort, note_all, note_report};
+use crate::journal::Journal;
+use crate::kept::Kept;
+use crate::phases::{family, has_ended, show_phases};
+use crate::trees::Trees;
+use hm_data::{Args, Entry, StepOut, Told};
+use hm_names::{List, Pid, ServerName};
+use std::alloc::{AllocError, Global};
+
+// One less, where a root has ended.
+fn less_if(count: u64, over: bool) -> u64
+    requires { one_if over ≤ count }
+    ensures { result + one_if over ≡ count }
+{
+    if over { count - 1 } else { count }
+}
+
+// What is kept of each procedure, the trees, and how many roots haven't ended.
+#[derive(Drop)]
+pub(crate) struct Book {
+    pub(crate) kept: Vec<Kept>,
+    pub(crate) trees: Trees,
+    pub(crate) unfinished: u64,
+}
+
+impl Book {
+    pub(crate) fn new(alloc: Global) -> Book
+        ensures { IsBook [] result }
+    {
+        Book {
+            kept: Vec::new(alloc),
+            trees: Trees::new(alloc),
+            unfinished: 0,
+        }
+    }
+
+    // Makes room for so many procedures more.
+    pub(crate) fn reserve(&mut self, count: u64) -> Result<(), AllocError>
+        ensures kept { self.new.kept.items ≡ self.old.kept.items }
+        ensures trees { self.new.trees.roots ≡ self.old.trees.roots }
+        ensures unfinished { self.new.unfinished ≡ self.old.unfinished }
+        ensures room { OnOk result (count ≤ spare_of self.new) }
+        ensures spare { spare_of self.old ≤ spare_of self.new }
+    {
+        self.kept.reserve(count as usize)?;
+        self.trees.reserve(count as usize)
+    }
+
+    // Adds a new procedure, as a root or with its parent and its root.
+    fn add(&mut self, up: Option<(Pid, Pid)>, args: Args)
+        requires room { 1 ≤ spare_of self.old }
+        requires count { length self.old.trees.roots ≡ length self.old.kept.items }
+        requires root { HasRoot self.old.trees.roots up }
+        ensures kept { self.new.kept.items ≡ self.old.kept.items ++ added (length self.old.kept.items) up (args ∷ []) }
+        ensures trees { self.new.trees.roots ≡ self.old.trees.roots ++ map root_shown (added (length self.old.kept.items) up (args ∷ [])) }
+        ensures unfinished { self.new.unfinished ≡ self.old.unfinished }
+        ensures spare { spare_of self.old ≤ spare_of self.new + 1 }
+        ensures room { room_of self.new ≡ room_of self.old }
+    {
+        let pid = Pid(self.kept.len() as u64 + 1);
+        match up {
+            Some((_, root)) => self.trees.add(root),
+            None => self.trees.add_root(),
+        }
+        self.kept.push_reserved(Kept::fresh(pid, up, args));
+    }
+
+    // Adds new procedures, as roots or with their parent and their root.
+    fn add_all(&mut self, up: Option<(Pid, Pid)>, made: List<Args>)
+        requires room { length made ≤ spare_of self.old }
+        requires count { length self.old.trees.roots ≡ length self.old.kept.items }
+        requires root { HasRoot self.old.trees.roots up }
+        ensures kept { self.new.kept.items ≡ self.old.kept.items ++ added (length self.old.kept.items) up made }
+        ensures trees { self.new.trees.roots ≡ self.old.trees.roots ++ map root_shown (added (length self.old.kept.items) up made) }
+        ensures unfinished { self.new.unfinished ≡ self.old.unfinished }
+        ensures spare { spare_of self.old ≤ spare_of self.new + length made }
+        ensures room { room_of self.new ≡ room_of self.old }
+    {
+        for args in made.into_vec() {
+            self.add(up, args);
+        }
+    }
+
+    // Takes in a submission, or that a server went down.
+    fn root(&mut self, past: &Journal, entry: &Entry, made: List<Args>)
+        requires book { IsBook past.now.entries self.old }
+        requires legal { IsLegal (entry.now ∷ past.now.entries) }
+        requires roots { IsRooting entry.now }
+        requires made { made ≡ args_made past.now.entries entry.now }
+        requires room { length made ≤ spare_of self.old }
+        ensures book { IsBook (entry.now ∷ past.now.entries) self.new }
+        ensures spare { spare_of self.old ≤ spare_of self.new + length made }
+        ensures room { room_of self.new ≡ room_of self.old }
+    {
+        self.add_all(None, made);
+        self.unfinished += 1;
+    }
+
+    // Takes in a step.
+    fn step(
+        &mut self,
+        past: &Journal,
+        pid: Pid,
+        _pick: &Option<ServerName>,
+        out: &StepOut,
+        made: List<Args>,
+        nothing_left: bool,
+    )
+        requires book { IsBook past.now.entries self.old }
+        requires legal { IsLegal (entry_is.Step pid _pick.now out.now ∷ past.now.entries) }
+        requires made { made ≡ args_made past.now.entries (entry_is.Step pid _pick.now out.now) }
+        requires left { nothing_left ≡ is_empty (stack (entry_is.Step pid _pick.now out.now ∷ past.now.entries) (tree_of past.now.entries (entry_is.Step pid _pick.now out.now))) }
+        requires room { length made ≤ spare_of self.old }
+        ensures book { IsBook (entry_is.Step pid _pick.now out.now ∷ past.now.entries) self.new }
+        ensures spare { spare_of self.old ≤ spare_of self.new + length made }
+        ensures room { room_of self.new ≡ room_of self.old }
+    {
+        let (parent, root) = family(&self.kept, pid);
+        let before = self.kept.len() as u64;
+        let count = made.as_slice().len() as u64;
+        note_all(&mut self.kept, pid, parent, root, out, before, count);
+        self.add_all(Some((pid, root)), made);
+        show_phases(&mut self.kept, &self.trees, pid, parent, root, nothing_left);
+        let over = has_ended(&self.kept, root);
+        self.unfinished = less_if(self.unfinished, over);
+    }
+
+    // Takes in that a step was undone.
+    fn undo(&mut self, past: &Journal, entry: &Entry, made: List<Args>, nothing_left: bool)
+        requires book { IsBook past.now.entries self.old }
+        requires legal { IsLegal (entry.now ∷ past.now.entries) }
+        requires made { made ≡ args_made past.now.entries entry.now }
+        requires left { nothing_left ≡ is_empty (stack (entry.now ∷ past.now.entries) (tree_of past.now.entries entry.now)) }
+        requires room { length made ≤ spare_of self.old }
+        ensures book { IsUndo entry.now → IsBook (entry.now ∷ past.now.entries) self.new }
+        ensures spare { spare_of self.old ≤ spare_of self.new + length made }
+        ensures room { room_of self.new ≡ room_of self.old }
+    {
+        let Entry::Undo {
+            pid,
+            row: _row,
+            out: _out,
+        } = entry
+        else {
+            return;
+        };
+        let (parent, root) = family(&self.kept, *pid);
+        self.unfinished += made.as_slice().len() as u64;
+        self.add_all(None, made);
+        show_phases(
+            &mut self.kept,
+            &self.trees,
+            *pid,
+            parent,
+            root,
+            nothing_left,
+        );
+        let over = has_ended(&self.kept, root);
+        self.unfinished = less_if(self.unfinished, over);
+    }
+
+    // Takes in the report of a call.
+    fn report(&mut self, past: &Journal, entry: &Entry)
+        requires book { IsBook past.now.entries self.old }
+        requires legal { IsLegal (entry.now ∷ past.now.entries) }
+        ensures book { IsReport entry.now → IsBook (entry.now ∷ past.now.entries) self.new }
+        ensures spare { spare_of self.old ≤ spare_of self.new }
+        ensures room { room_of self.new ≡ room_of self.old }
+    {
+        let _past = past;
+        let Entry::Report { call, told } = entry else {
+            return;
+        };
+        note_report(&mut self.kept, *call, *told);
+    }
+
+    // Takes in an abort.
+    fn abort(&mut self, past: &Journal, entry: &Entry)
+        requires book { IsBook past.now.entries self.old }
+        requires legal { IsLegal (entry.now ∷ past.now.entries) }
+        ensures book { IsAbort entry.now → IsBook (entry.now ∷ past.now.entries) self.new }
+        ensures spare { spare_of self.old ≤ spare_of self.new }
+        ensures room { room_of self.new ≡ room_of self.old }
+    {
+        let _past = past;
+        let Entry::Abort { pid } = entry else {
+            return;
+        };
+        note_abort(&mut self.kept, *pid);
+    }
+
+    // Takes in an entry.
+    pub(crate) fn enter(
+        &mut self,
+        past: &Journal,
+        entry: &Entry,
+        made: List<Args>,
+        nothing_left: bool,
+    )
+        requires book { IsBook past.now.entries self.old }
+        requires legal { IsLegal (entry.now ∷ past.now.entries) }
+        requires made { made ≡ args_made past.now.entries entry.now }
+        requires left { nothing_left ≡ is_empty (stack (entry.now ∷ past.now.entries) (tree_of past.now.entries entry.now)) }
+        requires room { length made ≤ spare_of self.old }
+        ensures book { IsBook (entry.now ∷ past.now.entries) self.new }
+        ensures spare { spare_of self.old ≤ spare_of self.new + length made }
+        ensures room { room_of self.new ≡ room_of self.old }
+    {
+        match entry {
+            Entry::Submit {
+                nonce: _,
+                request: _,
+            }
+            | Entry::Down { server: _ } => self.root(past, entry, made),
+            Entry::Step { pid, pick, out } => self.step(past, *pid, pick, out, made, nothing_left),
+            Entry::Undo {
+                pid: _,
+                row: _,
+                out: _,
+            } => self.undo(past, entry, made, nothing_left),
+            Entry::Report { call: _, told: _ } => self.report(past, entry),
+            Entry::Abort { pid: _ } => self.abort(past, entry),
+            Entry::Start { sheets: _ } | Entry::Up { server: _ } => {}
+        }
+    }
+}

@@ -1,0 +1,183 @@
+ghost use Rattle.std.specs.Prelude.{◌≡◌, ◌≢◌, ◌+◌, ◌<◌, ◌≤◌, ◌^◌, ◌↔◌, [], ◌∷◌, length, IfOk, OnOk, None, is_some, IsTrue};
+ghost use Rattle.std.specs.Option.{option_copied};
+ghost use Rattle.hm_model.specs.Answers.{last_answer, report_of};
+ghost use Rattle.hm_model.specs.Apart.{tree_of};
+ghost use Rattle.hm_model.specs.Inputs.{ends_of, made_at_step};
+ghost use Rattle.hm_model.specs.Phase.{ended};
+ghost use Rattle.hm_model.specs.Records.{record_of, unfinished};
+ghost use Rattle.hm_model.specs.Reports.{verb_of};
+ghost use Rattle.hm_model.specs.Rest.{MayUndo};
+ghost use Rattle.hm_model.specs.Rules.{IsLegal};
+ghost use Rattle.hm_model.specs.Tree.{made};
+ghost use Rattle.hm_model.specs.Undo.{is_empty, stack};
+ghost use Rattle.hm_procedures.specs.Kept.{args_made, kept_of, made_in_step};
+
+use crate::book::Book;
+use crate::ends::ends_from;
+use crate::journal::Journal;
+use crate::kept::{Kept, kept_at};
+use hm_data::{Args, Entry, Record, Told};
+use hm_names::{List, Pid};
+use std::alloc::{AllocError, Global};
+use std::marker::Model;
+
+/// The procedures of a journal as they stand. Contracts see the journal, back from its newest entry, and for how many
+/// procedures more there is room.
+#[derive(Drop)]
+pub struct Procedures {
+    past: Journal,
+    book: Book,
+}
+
+impl Model for Procedures {
+    ghost use Rattle.hm_procedures.specs.Book.{IsBook, room_of, spare_of};
+    ghost use Rattle.hm_procedures.specs.Procedures.{ProceduresView};
+
+    ghost Value = { ProceduresView };
+
+    ghost view = { λ s. record { past = s.past.entries; spare = spare_of s.book; room = room_of s.book } };
+
+    ghost invariant = { λ s. IsBook s.past.entries s.book };
+}
+
+impl Procedures {
+    /// No procedure, before any entry.
+    pub fn new(alloc: Global) -> Result<Procedures, AllocError>
+        ensures { IfOk result (λ it. it.past ≡ []) }
+    {
+        Ok(Procedures {
+            past: Journal::new(),
+            book: Book::new(alloc),
+        })
+    }
+
+    /// The number of the procedure that was made last; 0 where there is none.
+    pub fn last_pid(&self) -> u64
+        ensures last { result ≡ made self.now.past }
+        ensures small { result < 2 ^ 63 }
+        ensures legal { IsLegal self.now.past }
+    {
+        self.book.kept.len() as u64
+    }
+
+    // What is kept of a procedure.
+    fn kept(&self, pid: Pid) -> Option<&Kept>
+        ensures kept { option_copied result ≡ kept_of self.now.past pid.0 }
+        ensures legal { IsLegal self.now.past }
+    {
+        let kept = &self.book.kept;
+        if pid.0 == 0 {
+            return None;
+        }
+        kept_at(kept, pid.0 - 1)
+    }
+
+    /// A procedure as it stands.
+    pub fn find(&self, pid: Pid) -> Option<&Record>
+        ensures { option_copied result ≡ record_of self.now.past pid.0 }
+    {
+        match self.kept(pid) {
+            Some(kept) => Some(&kept.shown),
+            None => None,
+        }
+    }
+
+    /// Whether it has made a step.
+    pub fn has_step(&self, pid: Pid) -> bool
+        ensures { IsTrue result ↔ (last_answer self.now.past pid.0 ≢ None) }
+    {
+        match self.kept(pid) {
+            Some(kept) => kept.last.is_some(),
+            None => false,
+        }
+    }
+
+    /// Whether it has ended.
+    pub fn has_ended(&self, pid: Pid) -> bool
+        ensures { result ≡ ended self.now.past pid.0 }
+    {
+        match self.kept(pid) {
+            Some(kept) => kept.has_ended(),
+            None => false,
+        }
+    }
+
+    /// The report of its call.
+    pub fn report(&self, pid: Pid) -> Option<Told>
+        ensures { result ≡ report_of self.now.past pid.0 }
+    {
+        match self.kept(pid) {
+            Some(kept) => kept.report,
+            None => None,
+        }
+    }
+
+    /// Whether it has made a call. Its verb is that of what the procedure works on.
+    pub fn has_called(&self, pid: Pid) -> bool
+        ensures { result ≡ is_some (verb_of self.now.past pid.0) }
+    {
+        match self.kept(pid) {
+            Some(kept) => kept.has_called,
+            None => false,
+        }
+    }
+
+    /// Whether it is a failed root with its descendants ended and something left to undo.
+    pub fn undoes(&self, pid: Pid) -> bool
+        ensures { IsTrue result ↔ MayUndo self.now.past pid.0 }
+    {
+        match self.kept(pid) {
+            Some(kept) => kept.undoes(),
+            None => false,
+        }
+    }
+
+    /// What those children that its last step made ended with, in the order of their numbers, where they ended well.
+    pub fn ends(&self, alloc: Global, pid: Pid) -> Result<List<(Pid, Told)>, AllocError>
+        ensures { IfOk result (λ ends. ends ≡ ends_of self.now.past pid.0) }
+    {
+        let (from, count) = self.children(pid);
+        ends_from(alloc, &self.book.kept, from, count)
+    }
+
+    // How many procedures had been made before the last step of a procedure, and how many that made.
+    fn children(&self, pid: Pid) -> (u64, u64)
+        ensures { (result.0 ≡ made_at_step self.now.past pid.0) × (result.1 ≡ made_in_step self.now.past pid.0) }
+    {
+        match self.kept(pid) {
+            Some(kept) => (kept.made_at_step, kept.made_in_step),
+            None => (0, 0),
+        }
+    }
+
+    /// How many roots haven't ended.
+    pub fn unfinished(&self) -> u64
+        ensures { result ≡ unfinished self.now.past }
+    {
+        self.book.unfinished
+    }
+
+    /// Makes room for so many procedures more.
+    pub fn reserve(&mut self, _alloc: Global, count: u64) -> Result<(), AllocError>
+        ensures past { self.new.past ≡ self.old.past }
+        ensures room { OnOk result (count ≤ self.new.spare) }
+        ensures kept { self.old.spare ≤ self.new.spare }
+    {
+        self.book.reserve(count)
+    }
+
+    /// Takes in an entry: `made` are what the procedures that it makes work on, in order, `nothing_left` whether nothing is
+    /// left to undo of its tree behind it. It takes no memory.
+    pub fn enter(&mut self, entry: &Entry, made: List<Args>, nothing_left: bool)
+        requires legal { IsLegal (entry.now ∷ self.old.past) }
+        requires made { made ≡ args_made self.old.past entry.now }
+        requires left { nothing_left ≡ is_empty (stack (entry.now ∷ self.old.past) (tree_of self.old.past entry.now)) }
+        requires room { length made ≤ self.old.spare }
+        ensures past { self.new.past ≡ entry.now ∷ self.old.past }
+        ensures spare { self.old.spare ≤ self.new.spare + length made }
+        ensures room { self.new.room ≡ self.old.room }
+    {
+        self.book.enter(&self.past, entry, made, nothing_left);
+        self.past = self.past.then(entry);
+    }
+}

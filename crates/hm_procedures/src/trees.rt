@@ -1,0 +1,136 @@
+//! The trees of procedures, to go over one.
+ghost use Rattle.std.specs.Prelude.{◌≡◌, ◌+◌, ◌-◌, ◌<◌, ◌≤◌, ◌++◌, [], ◌∷◌, ◌==◌, ℕ, length, OnOk, Some, slice_get};
+ghost use Rattle.std.specs.Option.{option_map};
+ghost use Rattle.hm_names.specs.declared.pid.Pid.{Pid as PidOf};
+ghost use Rattle.hm_procedures.specs.Trees.{IsLast, IsNext, lasted, nexted};
+
+use hm_names::Pid;
+use std::alloc::{AllocError, Global};
+use std::marker::Model;
+
+// A procedure in its tree: the root, and the next procedure of the tree; of a root also the last of its tree.
+#[derive(Clone, Copy)]
+pub(crate) struct Member {
+    pub(crate) root: Pid,
+    pub(crate) next: Option<Pid>,
+    pub(crate) last: Pid,
+}
+
+/// The procedures in their trees. Contracts see the root of each, in the order of their numbers from 1 on, and for how many
+/// more there is room.
+#[derive(Drop)]
+pub(crate) struct Trees {
+    members: Vec<Member>,
+}
+
+impl Model for Trees {
+    ghost use Rattle.std.specs.Prelude.{◌-◌, vec_len, vec_capacity};
+    ghost use Rattle.hm_procedures.specs.Trees.{AreLinked, TreesView, roots_of};
+
+    ghost Value = { TreesView };
+
+    ghost view = { λ s. record { roots = roots_of s.members.items; spare = vec_capacity s.members - vec_len s.members; room = vec_capacity s.members } };
+
+    ghost invariant = { λ s. AreLinked s.members.items };
+}
+
+// Has a procedure lead to this one.
+fn set_next(members: &mut [Member], pid: Pid, next: Pid)
+    requires low { 1 ≤ pid.0 }
+    requires high { pid.0 ≤ length members.old }
+    ensures { (i : ℕ) → slice_get members.new i ≡ option_map (nexted (pid.0 == i + 1) next) (slice_get members.old i) }
+{
+    members[pid.0 as usize - 1].next = Some(next);
+}
+
+// Has a root lead to this one as the last of its tree.
+fn set_last(members: &mut [Member], root: Pid, last: Pid)
+    requires low { 1 ≤ root.0 }
+    requires high { root.0 ≤ length members.old }
+    ensures { (i : ℕ) → slice_get members.new i ≡ option_map (lasted (root.0 == i + 1) last) (slice_get members.old i) }
+{
+    members[root.0 as usize - 1].last = last;
+}
+
+impl Trees {
+    // No procedure.
+    pub(crate) fn new(alloc: Global) -> Trees
+        ensures { result.roots ≡ [] }
+    {
+        Trees {
+            members: Vec::new(alloc),
+        }
+    }
+
+    // Makes room for so many procedures more.
+    pub(crate) fn reserve(&mut self, count: usize) -> Result<(), AllocError>
+        ensures roots { self.new.roots ≡ self.old.roots }
+        ensures room { OnOk result (count ≤ self.new.spare) }
+        ensures kept { self.old.spare ≤ self.new.spare }
+    {
+        self.members.reserve(count)
+    }
+
+    // Adds a root.
+    pub(crate) fn add_root(&mut self)
+        requires { 1 ≤ self.old.spare }
+        ensures roots { let own : PidOf = record { 0 = length self.old.roots + 1 } in self.new.roots ≡ self.old.roots ++ own ∷ [] }
+        ensures spare { self.old.spare ≤ self.new.spare + 1 }
+        ensures room { self.new.room ≡ self.old.room }
+    {
+        let own = Pid(self.members.len() as u64 + 1);
+        self.members.push_reserved(Member {
+            root: own,
+            next: None,
+            last: own,
+        });
+    }
+
+    // Adds a procedure to the tree of a root.
+    pub(crate) fn add(&mut self, root: Pid)
+        requires low { 1 ≤ root.0 }
+        requires root { slice_get self.old.roots (root.0 - 1) ≡ Some root }
+        requires room { 1 ≤ self.old.spare }
+        ensures roots { self.new.roots ≡ self.old.roots ++ root ∷ [] }
+        ensures spare { self.old.spare ≤ self.new.spare + 1 }
+        ensures room { self.new.room ≡ self.old.room }
+    {
+        let own = Pid(self.members.len() as u64 + 1);
+        let last = self.last(root);
+        set_next(&mut self.members, last, own);
+        set_last(&mut self.members, root, own);
+        self.members.push_reserved(Member {
+            root,
+            next: None,
+            last: own,
+        });
+    }
+
+    // The last procedure of a root's tree.
+    fn last(&self, root: Pid) -> Pid
+        requires low { 1 ≤ root.0 }
+        requires root { slice_get self.now.roots (root.0 - 1) ≡ Some root }
+        ensures { IsLast self.now.roots root result }
+    {
+        self.members[root.0 as usize - 1].last
+    }
+
+    // The first procedure of a root's tree, which is the root.
+    pub(crate) fn first(&self, root: Pid) -> Option<Pid>
+        requires low { 1 ≤ root.0 }
+        requires root { slice_get self.now.roots (root.0 - 1) ≡ Some root }
+        ensures root { result ≡ Some root }
+        ensures first { (i : ℕ) → i + 1 < root.0 → slice_get self.now.roots i ≡ Some root → ⊥ }
+    {
+        Some(self.members[root.0 as usize - 1].root)
+    }
+
+    // The next procedure of the tree, in the order of their numbers.
+    pub(crate) fn next(&self, pid: Pid) -> Option<Pid>
+        requires low { 1 ≤ pid.0 }
+        requires high { pid.0 ≤ length self.now.roots }
+        ensures { (root : PidOf) → slice_get self.now.roots (pid.0 - 1) ≡ Some root → IsNext self.now.roots root (pid.0 - 1) result }
+    {
+        self.members[pid.0 as usize - 1].next
+    }
+}

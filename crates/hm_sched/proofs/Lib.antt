@@ -1,0 +1,6 @@
+mod Keeping
+mod Members
+mod Moving
+mod Numbers
+mod Passing
+mod Waking

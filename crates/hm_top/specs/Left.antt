@@ -1,0 +1,52 @@
+-- What a run left of the disk that it was handed.
+use Rattle.std.specs.Prelude.{◌≡◌, ◌⊎◌, ◌+◌, ◌-◌, ◌*◌, ℕ, List, ◌++◌, length, take, Some}
+use Rattle.hm_data.specs.declared.entry.Entry.{Entry}
+use Rattle.hm_model.specs.Journal.{back}
+use Rattle.hm_hall.specs.declared.fault.Halt.TheVariants as halt_is
+use Rattle.hm_log.specs.Opening.{IsMaking}
+use Rattle.hm_journal.specs.Since.{IsFront}
+use Rattle.hm_journal.specs.Stored.{AllStored, IsOnDisk, IsOpening, SameFrames, Spares}
+use Rattle.hm_journal.specs.Verdict.{Refuses}
+use Rattle.hm_journal.specs.declared.why.JournalWhy.{JournalWhy}
+use Rattle.hm_top.specs.declared.status.LogWhy.{LogWhy}
+use Rattle.hm_top.specs.declared.status.RunStatus.{RunStatus}
+use Rattle.hm_top.specs.declared.status.RunStatus.TheVariants.{LogRefused}
+use Rattle.hm_top.specs.Faith.{KeepsFaith}
+use Rattle.hm_top.specs.Hands.{SumRisesBy, sheets_used, steps_in}
+use Rattle.hm_top.specs.Ports.{DiskUse, HandsUse}
+use Rattle.hm_top.specs.Standing.{Standing, recording, whole}
+
+module _ (disk : DiskUse) (hands : HandsUse) where
+  -- From some moment on each stop left a log of a front of the new journal with its tail, no shorter than the old journal. Up
+  -- to that moment it left what it could of the disk that was handed in, or the log of a new disk in the making.
+  abbrev pub StopsLeave : List Entry → Standing → Type 0
+  StopsLeave old new = disk.leaves_then (λ bytes. disk.image_before bytes ⊎ IsMaking disk.before bytes) (IsFront (length old) (whole new))
+
+  -- The disk held the old journal. It holds the new one, which begins so, behind which the tail may stand; each front of them
+  -- keeps faith. What stops left, changes and the setting are bound, the registries ran each step, and a log fault has a cause.
+  pub record IsLeft (old : List Entry) (new : Standing) : Type 0 where
+    pub added : List Entry
+    pub longer : new.journal ≡ old ++ added
+    pub faith : (mark : ℕ) → KeepsFaith (back (take mark (whole new)))
+    pub held : disk.tells → IsOnDisk (sheets_used hands) disk.before old
+    pub holds : disk.tells → AllStored disk.image_after (recording new)
+    pub stops : disk.tells → StopsLeave old new
+    pub called : disk.called (1 + 2 * (length (whole new) - length old))
+    pub ran : SumRisesBy (steps_in added) hands.runs_before hands.runs_after
+    pub cause : new.halted ≡ Some halt_is.LogFault → disk.failed
+
+  -- each stop left what one in the middle of an opening may leave
+  abbrev pub StopsInOpening : Type 0
+  StopsInOpening = disk.leaves_only (IsOpening (sheets_used hands) disk.before disk.image_before)
+
+  -- an opening that failed spared the journal that the disk held
+  abbrev pub IsSpared : Type 0
+  IsSpared = disk.called 3 × (disk.tells → Spares (sheets_used hands) disk.before disk.image_before disk.after disk.image_after × StopsInOpening)
+
+  -- the log wasn't opened, for this reason, and its frames are as they were
+  abbrev pub IsNotOpened : JournalWhy → Type 0
+  IsNotOpened why = disk.called 3 × (disk.tells → Refuses (sheets_used hands) disk.before why × SameFrames disk.before disk.after disk.image_after × StopsInOpening)
+
+  -- a journal that the disk holds isn't refused
+  abbrev pub AcceptsJournal : RunStatus → Type 0
+  AcceptsJournal status = disk.tells → (journal : List Entry) → IsOnDisk (sheets_used hands) disk.before journal → (why : LogWhy) → status ≡ LogRefused why → ⊥

@@ -1,0 +1,78 @@
+-- What answering commands over the ports says and leaves, and how each status of it comes.
+use Rattle.std.specs.Prelude.{◌≡◌, ◌≢◌, ◌⊎◌, ℕ, List, [], ◌++◌, Option, Some, None}
+use Rattle.hm_data.specs.declared.entry.Entry.{Entry}
+use Rattle.hm_hall.specs.declared.fault.Halt.{Halt}
+use Rattle.hm_hall.specs.declared.fault.Halt.TheVariants as halt_is
+use Rattle.hm_journal.specs.declared.limits.Limits.{Limits}
+use Rattle.hm_journal.specs.declared.why.JournalWhy.{JournalWhy}
+use Rattle.hm_journal.specs.declared.why.JournalWhy.TheVariants as journal_why_is
+use Rattle.hm_script.specs.declared.command.Command.{Command}
+use Rattle.hm_top.specs.declared.answer.Answer.{Answer}
+use Rattle.hm_top.specs.declared.status.RunStatus.{RunStatus}
+use Rattle.hm_top.specs.declared.status.RunStatus.TheVariants.{Done, LogFault, LogRefused, WriteFault, JournalFull, Memory}
+use Rattle.hm_top.specs.Answering.{Remains}
+use Rattle.hm_top.specs.Ending.{log_why_of}
+use Rattle.hm_top.specs.Hands.{sheets_used}
+use Rattle.hm_top.specs.Left.{IsLeft, IsNotOpened, IsSpared}
+use Rattle.hm_top.specs.Ports.{DiskUse, HandsUse, SinkUse}
+use Rattle.hm_top.specs.Standing.{Standing, begun}
+use Rattle.hm_top.specs.Transcript.{Opens, Transcript}
+
+-- commands answered over the ports: which they are, what the sink has of answers under a status, and the marks
+pub record Session : Type 1 where
+  pub given : List Command → Type 0
+  pub said : RunStatus → List Answer → Type 0
+  pub limits : Limits
+  pub out : SinkUse
+  pub disk : DiskUse
+  pub hands : HandsUse
+  pub marks : List ℕ
+
+module _ (session : Session) where
+  open session use {given, said, limits, out, disk, hands, marks}
+
+  -- behind the lines of the opening these commands were answered in turn, but for what remains under this status
+  pub record AreAnswered (status : RunStatus) (commands : List Command) (old : List Entry) (new : Standing) (unanswered : List Entry) : Type 0 where
+    pub lines : List Answer
+    pub start : Standing
+    pub opens : Opens limits (sheets_used hands) old lines start
+    pub answered : List Command
+    pub rest : List Command
+    pub parts : commands ≡ answered ++ rest
+    pub answers : List Answer
+    pub transcript : Transcript answered start marks answers new
+    pub remains : Remains status rest new unanswered
+    pub said_are : said status (lines ++ answers)
+
+  -- the log was opened, and commands were answered, but for what remains under this status
+  pub record WasOpened (status : RunStatus) : Type 0 where
+    pub commands : List Command
+    pub given_are : given commands
+    pub old : List Entry
+    pub new : Standing
+    pub unanswered : List Entry
+    pub answering : AreAnswered status commands old new unanswered
+    pub left : IsLeft disk hands old (record new { journal = new.journal ++ unanswered })
+
+  -- the same, and this halted the run behind its lines, or nothing
+  abbrev pub EndedBy : RunStatus → Option Halt → Type 0
+  EndedBy status halted = (opened : WasOpened status) × (opened.new.halted ≡ halted)
+
+  -- there were commands, and no line was said
+  abbrev pub IsSilent : RunStatus → Type 0
+  IsSilent status = (marks ≡ []) × said status [] × ((commands : List Command) × given commands)
+
+  -- the log was opened, no line was said, and there was no room for the marks of the commands
+  abbrev pub HasNoRoom : Type 0
+  HasNoRoom =
+      (marks ≡ []) × said Memory [] × ((commands : List Command) × given commands × (commands ≢ [])) × ((old : List Entry) × IsLeft disk hands old (begun limits (sheets_used hands) old))
+
+  -- how it ended
+  abbrev pub Outcome : RunStatus → Type 0
+  Outcome Done = EndedBy Done None
+  Outcome LogFault = disk.failed × ((IsSilent LogFault × IsSpared disk hands) ⊎ EndedBy LogFault (Some halt_is.LogFault))
+  Outcome (JournalFull bytes) = EndedBy (JournalFull bytes) (Some (halt_is.JournalFull bytes))
+  Outcome (LogRefused why) = IsSilent (LogRefused why) × ((cause : JournalWhy) × (log_why_of cause ≡ Some why) × IsNotOpened disk hands cause)
+  Outcome WriteFault = out.failed × WasOpened WriteFault
+  Outcome Memory = (IsSilent Memory × IsSpared disk hands × IsNotOpened disk hands journal_why_is.Memory) ⊎ (HasNoRoom ⊎ WasOpened Memory)
+  Outcome _ = ⊥

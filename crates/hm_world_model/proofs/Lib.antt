@@ -1,0 +1,14 @@
+pub mod Facts
+pub mod Servers
+pub mod Known
+pub mod From
+pub mod Serving
+pub mod Storing
+pub mod Appending
+pub mod Tails
+pub mod Opening
+pub mod Ranges
+pub mod Points
+pub mod Fleets
+pub mod Progress
+pub mod Measure

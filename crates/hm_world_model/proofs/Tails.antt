@@ -1,0 +1,268 @@
+-- Every event keeps what is kept, for each length of the journal that a stop may leave.
+use Rattle.std.proofs.Common.{◌≡◌, ℕ, zero, suc, ◌+◌, ◌-◌, ◌≤◌, List, [], ◌∷◌, ◌++◌, length, drop, length-drop, true, false, Option, Some, None, refl, sym, ◌∙◌, subst, inl, inr, arith}
+use Rattle.std.proofs.lemmas.Bool.{false_from_ne_true, true≢false}
+use Rattle.std.proofs.lemmas.Option.{none-some}
+use Rattle.hm_names.specs.Server.{Server}
+use Rattle.hm_data.specs.declared.call.Call.{Call}
+use Rattle.hm_data.specs.declared.call.Peer.{Peer}
+use Rattle.hm_data.specs.declared.call.Peer.TheVariants as peer_is
+use Rattle.hm_data.specs.declared.call.ReportMsg.{ReportMsg}
+use Rattle.hm_data.specs.declared.entry.Entry.{Entry}
+use Rattle.hm_data.specs.declared.entry.Entry.TheVariants as entry_is
+use Rattle.hm_model.specs.Fleet.{came_up, has_newer}
+use Rattle.hm_model.specs.Journal.{Past}
+use Rattle.hm_model.specs.Locks.{IsIn}
+use Rattle.hm_model.specs.Reports.{call_of}
+use Rattle.hm_model.specs.Rules.{Allowed}
+use Rattle.hm_world_model.specs.Events.{Event, Submit, Claim, Commit, GiveUp, Flush, Send, Deliver, DeliverAgain, Hear, Ignore, HearAgain, Lose, Repeat, Start, Die, Expire, Abort, Arm, Fault, Full, Stop, happens, with_older_down}
+use Rattle.hm_world_model.specs.History.{Follows, IsHistory}
+use Rattle.hm_world_model.specs.Outside.{Outside, answer_by, deliver_by, delivered, report_to, started, with_report, with_sent, armed}
+use Rattle.hm_world_model.specs.Runs.{GoesOn, IsTrueReport, IsWork, May, MayEnter, MayStart}
+use Rattle.hm_world_model.specs.Safe.{IsKept, Safe}
+use Rattle.hm_world_model.specs.World.{Claimed, Halt, LogFault, JournalFull, World, first, whole, with_tail}
+use Rattle.hm_world_model.proofs.Appending.{safe_append}
+use Rattle.hm_world_model.proofs.Facts.{allowed_of, call_now, history_before, history_on, in_both, in_pushed, legal_of, pushed_new, pushed_old}
+use Rattle.hm_world_model.proofs.From.{safe_arm, safe_die, safe_send, safe_start}
+use Rattle.hm_world_model.proofs.Known.{uncalled}
+use Rattle.hm_world_model.proofs.Servers.{not_up, up_stays}
+use Rattle.hm_world_model.proofs.Storing.{safe_deliver}
+
+-- for each length from d on
+abbrev pub AllTails : Option Entry → Past → ℕ → Outside → Type 0
+AllTails tail past d o = (n : ℕ) → n + d ≤ length (with_tail tail past) → Safe (drop n (with_tail tail past)) o
+
+-- the parts of lists
+drop_nothing : (n : ℕ) → drop {A = Entry} n [] ≡ []
+drop_nothing zero = refl
+drop_nothing (suc n) = refl
+
+drop_again : (m n : ℕ) (past : Past) → drop m (drop n past) ≡ drop (n + m) past
+drop_again m zero past = let e : 0 + m ≡ m = omega arith in rw e refl
+drop_again m (suc n) [] = let e : suc n + m ≡ suc (n + m) = omega arith in rw e (drop_nothing m)
+drop_again m (suc n) (x ∷ past) = let e : suc n + m ≡ suc (n + m) = omega arith in rw e (drop_again m n past)
+
+in_dropped : {A : Type 0} (x : A) (xs : List A) → IsIn x (drop 1 xs) → IsIn x xs
+in_dropped x [] h = absurd h
+in_dropped x (y ∷ xs) h = inr h
+
+in_first : {A : Type 0} (x : A) (xs rest : List A) → xs ≡ x ∷ rest → IsIn x xs
+in_first x xs rest e = subst (IsIn x) (sym e) (inl refl)
+
+in_reported : (r : ReportMsg) (xs ys : List ReportMsg) (made : Option ReportMsg) → ((x : ReportMsg) → IsIn x xs → IsIn x ys) → IsIn r (with_report xs made) → IsIn r (with_report ys made)
+in_reported r xs ys None more h = more r h
+in_reported r xs ys (Some new) more h = elim (in_pushed r new xs h) [
+  | inl e ↦ subst (λ x. IsIn x (ys ++ new ∷ [])) (sym e) (pushed_new new ys)
+  | inr old ↦ pushed_old r new ys (more r old)
+]
+
+-- an entry behind the journal
+pushed : (entry : Entry) (past : Past) (d : ℕ) (o : Outside) → AllTails None past d o → Safe (entry ∷ past) o → AllTails None (entry ∷ past) d o
+pushed entry past d o all safe zero h = safe
+pushed entry past d o all safe (suc n) h = all n (omega (arith, h))
+
+-- what a shorter journal recorded stays
+calls_grow : (past : Past) → IsHistory past → (n : ℕ) (call : Call) → call_of (drop n past) call.id.0 ≡ Some call → call_of past call.id.0 ≡ Some call
+calls_grow past history zero call h = h
+calls_grow [] history (suc n) call h = h
+calls_grow (e ∷ past) history (suc n) call h = call_now e past (legal_of (e ∷ past) history) call (calls_grow past (history_before e past history) n call h)
+
+ups_grow : (past : Past) (n : ℕ) (s : Server) → came_up (drop n past) s ≡ true → came_up past s ≡ true
+ups_grow past zero s h = h
+ups_grow [] (suc n) s h = h
+ups_grow (e ∷ past) (suc n) s h = up_stays e past s (ups_grow past n s h)
+
+not_up_before : (past : Past) (n : ℕ) (s : Server) → came_up past s ≡ false → came_up (drop n past) s ≡ false
+not_up_before past n s h = false_from_ne_true (came_up (drop n past) s) (λ up. true≢false (sym (ups_grow past n s up) ∙ h))
+
+pub newer_of : (past : Past) (s : Server) → Allowed past (entry_is.Up s) → has_newer past s ≡ false
+newer_of past s allowed = allowed.1.0.1
+
+-- a server that may come up never did
+never_up : (past : Past) (s : Server) → Follows past (entry_is.Up s) → came_up past s ≡ false
+never_up past s follows = not_up past s (newer_of past s (allowed_of (entry_is.Up s) past follows))
+
+module _ (past : Past) (d : ℕ) (o : Outside) (within : d ≤ length past) (all : AllTails None past d o) where
+  safe_here : Safe past o
+  safe_here = all 0 (omega (arith, within))
+
+  recorded : (entry : Entry) → Follows past entry → IsTrueReport o entry → AllTails None (entry ∷ past) d o
+  recorded entry follows true_report = pushed entry past d o all (safe_append entry past (history_on entry past safe_here.history follows) o safe_here true_report)
+
+  begins : (s : Server) → Follows past (entry_is.Up s) → AllTails None (entry_is.Up s ∷ past) d (started o s)
+  begins s follows zero h =
+      safe_append (entry_is.Up s) past (history_on (entry_is.Up s) past safe_here.history follows) (started o s)
+      (safe_start past o s safe_here (uncalled past (legal_of past safe_here.history) s (never_up past s follows))) tt
+  begins s follows (suc n) h =
+      let safe = all n (omega (arith, h)) in
+      safe_start (drop n past) o s safe (uncalled (drop n past) (legal_of (drop n past) safe.history) s (not_up_before past n s (never_up past s follows)))
+
+-- what is durable is in each longer journal
+sent_tail : (past : Past) (d : ℕ) (o : Outside) → AllTails None past d o → (call : Call) → call_of (first d past) call.id.0 ≡ Some call → (n : ℕ) → n + d ≤ length past → call_of (drop n past) call.id.0 ≡ Some call
+sent_tail past d o all call is n h = calls_grow (drop n past) (all n h).history (length past - d - n) call (rw (drop_again (length past - d - n) n past, same_place) is)
+  where
+    same_place : n + (length past - d - n) ≡ length past - d
+    same_place = omega (arith, h)
+
+-- the work of a claim is no report
+work_true : (past : Past) (claim : Claimed) (o : Outside) (entry : Entry) → IsWork past claim entry → IsTrueReport o entry
+work_true past claim o (entry_is.Start sheets) work = tt
+work_true past claim o (entry_is.Submit nonce request) work = tt
+work_true past claim o (entry_is.Step pid pick out) work = tt
+work_true past claim o (entry_is.Undo pid row out) work = tt
+work_true past claim o (entry_is.Report call told) work = absurd work
+work_true past claim o (entry_is.Up server) work = tt
+work_true past claim o (entry_is.Down server) work = tt
+work_true past claim o (entry_is.Abort pid) work = tt
+
+delivered_reports : (o : Outside) (call : Call) (peer : Peer) → (deliver_by o call peer).reports ≡ with_report o.reports (answer_by o call peer)
+delivered_reports o call (peer_is.Server s) = refl
+delivered_reports o call peer_is.Storage = refl
+
+delivered_sent : (o : Outside) (call : Call) (peer : Peer) → (deliver_by o call peer).sent ≡ o.sent
+delivered_sent o call (peer_is.Server s) = refl
+delivered_sent o call peer_is.Storage = refl
+
+module _ (w : World) (kept : IsKept w) where
+  abbrev d : ℕ
+  d = w.durable
+
+  calm_tails : GoesOn w → AllTails None w.past d w.outside
+  calm_tails going = subst (λ t. AllTails t w.past d w.outside) (kept.tailless going) kept.tails
+
+  with_tails : (past : Past) (o : Outside) → GoesOn w → AllTails None past d o → AllTails w.tail past d o
+  with_tails past o going all = subst (λ t. AllTails t past d o) (sym (kept.tailless going)) all
+
+  entered : (entry : Entry) → MayEnter w entry → IsTrueReport w.outside entry → AllTails w.tail (entry ∷ w.past) d w.outside
+  entered entry may true_report = with_tails (entry ∷ w.past) w.outside may.0 (recorded w.past d w.outside kept.within (calm_tails may.0) entry may.1 true_report)
+
+  -- what is delivered
+  deliver_tails : (call : Call) → IsIn call w.outside.sent → AllTails w.tail w.past d (delivered w.outside call)
+  deliver_tails call there n h = let safe = kept.tails n h in safe_deliver (drop n (whole w)) w.outside safe call (safe.sent_is call there)
+
+  deliver_wire : (call : Call) (c : Call) → IsIn c w.wire → IsIn c (delivered w.outside call).sent
+  deliver_wire call c h = subst (IsIn c) (sym (delivered_sent w.outside call call.peer)) (kept.wire_is c h)
+
+  deliver_waiting : (call : Call) (r : ReportMsg) → IsIn r (with_report w.waiting (report_to w.outside call)) → IsIn r (delivered w.outside call).reports
+  deliver_waiting call r h = subst (IsIn r) (sym (delivered_reports w.outside call call.peer)) (in_reported r w.waiting w.outside.reports (report_to w.outside call) kept.waiting_is h)
+
+  -- a report is recorded
+  heard : (report : ReportMsg) → MayEnter w (entry_is.Report report.call report.told) → IsIn report w.outside.reports → AllTails w.tail (entry_is.Report report.call report.told ∷ w.past) d w.outside
+  heard report may there = entered (entry_is.Report report.call report.told) may (report, there, refl, refl)
+
+  start_tails : (s : Server) (older : Option Server) → MayStart w s older
+      → AllTails w.tail (entry_is.Up s ∷ (with_older_down older w).past) d (started w.outside s)
+  start_tails s None may = with_tails (entry_is.Up s ∷ w.past) (started w.outside s) may.0 (begins w.past d w.outside kept.within (calm_tails may.0) s may.1)
+  start_tails s (Some older) may =
+      let going = may.1.0 in
+      let within = kept.within in
+      with_tails (entry_is.Up s ∷ entry_is.Down older ∷ w.past) (started w.outside s) going
+      (begins (entry_is.Down older ∷ w.past) d w.outside (omega (arith, within)) (recorded w.past d w.outside within (calm_tails going) (entry_is.Down older) may.1.1 tt) s may.2)
+
+  longer : (t : Option Entry) → w.tail ≡ t → length w.past ≤ length (with_tail t w.past)
+  longer None e = omega arith
+  longer (Some entry) e = omega arith
+
+  pub within_whole : 0 + d ≤ length (whole w)
+  within_whole = (let a = kept.within in let b = longer w.tail refl in omega (arith, a, b))
+
+  stop_tails : (k : ℕ) → d ≤ k → k ≤ length (whole w) → AllTails None (first k (whole w)) k w.outside
+  stop_tails k low high n h =
+      let zero_is : n ≡ 0 = omega (arith, h, high, length-drop (length (whole w) - k) (whole w)) in
+      rw zero_is (kept.tails (length (whole w) - k) (omega (arith, low, high)))
+
+  stop_within : (k : ℕ) → k ≤ length (whole w) → k ≤ length (first k (whole w))
+  stop_within k high = omega (arith, high, length-drop (length (whole w) - k) (whole w))
+
+one_longer : (entry : Entry) (past : Past) (d : ℕ) → d ≤ length past → d ≤ length (entry ∷ past)
+one_longer entry past d h = omega (arith, h)
+
+halted_not : (h : Halt) → Some h ≡ None → ⊥
+halted_not h e = none-some h (sym e)
+
+pub event_keeps : (w : World) (event : Event) → IsKept w → May w event → IsKept (happens w event)
+event_keeps w (Submit nonce request) k may = record { within = one_longer (entry_is.Submit nonce request) w.past w.durable k.within; tailless = k.tailless; wire_is = k.wire_is; waiting_is = k.waiting_is; tails = entered w k (entry_is.Submit nonce request) may tt }
+event_keeps w (Claim claim) k may = record { within = k.within; tailless = k.tailless; wire_is = k.wire_is; waiting_is = k.waiting_is; tails = k.tails }
+event_keeps w (Commit claim entry) k may = record { within = one_longer entry w.past w.durable k.within; tailless = k.tailless; wire_is = k.wire_is; waiting_is = k.waiting_is; tails = entered w k entry may.2 (work_true w.past claim w.outside entry may.1) }
+event_keeps w (GiveUp claim) k may = record { within = k.within; tailless = k.tailless; wire_is = k.wire_is; waiting_is = k.waiting_is; tails = k.tails }
+event_keeps w Flush k may = record {
+  within = omega arith;
+  tailless = k.tailless;
+  wire_is = k.wire_is;
+  waiting_is = k.waiting_is;
+  tails = λ n h. k.tails n (let a = k.within in omega (arith, h, a));
+}
+event_keeps w (Send call) k may = record {
+  within = k.within;
+  tailless = k.tailless;
+  wire_is = λ c h. elim (in_pushed c call w.wire h) [ inl e ↦ subst (λ x. IsIn x (w.outside.sent ++ call ∷ [])) (sym e) (pushed_new call w.outside.sent) | inr old ↦ pushed_old c call w.outside.sent (k.wire_is c old) ];
+  waiting_is = k.waiting_is;
+  tails = with_tails w k w.past (with_sent w.outside call) may.0 (λ n h. safe_send (drop n w.past) w.outside call (calm_tails w k may.0 n h) (sent_tail w.past w.durable w.outside (calm_tails w k may.0) call may.1 n h));
+}
+event_keeps w (Deliver call) k may = record {
+  within = k.within;
+  tailless = k.tailless;
+  wire_is = λ c h. deliver_wire w k call c (in_dropped c w.wire h);
+  waiting_is = deliver_waiting w k call;
+  tails = deliver_tails w k call (k.wire_is call (in_first call w.wire may.1.0 may.1.1));
+}
+event_keeps w (DeliverAgain call) k may = record { within = k.within; tailless = k.tailless; wire_is = deliver_wire w k call; waiting_is = deliver_waiting w k call; tails = deliver_tails w k call may.1 }
+event_keeps w (Hear report) k may = record {
+  within = one_longer (entry_is.Report report.call report.told) w.past w.durable k.within;
+  tailless = k.tailless;
+  wire_is = k.wire_is;
+  waiting_is = λ r h. k.waiting_is r (in_dropped r w.waiting h);
+  tails = heard w k report may.0.0 (k.waiting_is report (in_first report w.waiting may.1.0 may.1.1));
+}
+event_keeps w (Ignore report) k may = record { within = k.within; tailless = k.tailless; wire_is = k.wire_is; waiting_is = λ r h. k.waiting_is r (in_dropped r w.waiting h); tails = k.tails }
+event_keeps w (HearAgain report) k may = record { within = one_longer (entry_is.Report report.call report.told) w.past w.durable k.within; tailless = k.tailless; wire_is = k.wire_is; waiting_is = k.waiting_is; tails = heard w k report may.0.0 may.1 }
+event_keeps w Lose k may = record { within = k.within; tailless = k.tailless; wire_is = λ c h. absurd h; waiting_is = λ r h. absurd h; tails = k.tails }
+event_keeps w Repeat k may = record {
+  within = k.within;
+  tailless = k.tailless;
+  wire_is = λ c h. elim (in_both c w.wire w.outside.sent h) [ inl old ↦ k.wire_is c old | inr again ↦ again ];
+  waiting_is = λ r h. elim (in_both r w.waiting w.outside.reports h) [ inl old ↦ k.waiting_is r old | inr again ↦ again ];
+  tails = k.tails;
+}
+event_keeps w (Start server older) k may = record { within = up_within older; tailless = tailless_of older; wire_is = wire_of older; waiting_is = waiting_of older; tails = tails_of older may }
+  where
+    up_within : (x : Option Server) → (happens w (Start server x)).durable ≤ length (happens w (Start server x)).past
+    up_within None = one_longer (entry_is.Up server) w.past w.durable k.within
+    up_within (Some o) = one_longer (entry_is.Up server) (entry_is.Down o ∷ w.past) w.durable (one_longer (entry_is.Down o) w.past w.durable k.within)
+
+    tailless_of : (x : Option Server) → (happens w (Start server x)).halted ≡ None → (happens w (Start server x)).tail ≡ None
+    tailless_of None = k.tailless
+    tailless_of (Some o) = k.tailless
+
+    wire_of : (x : Option Server) (c : Call) → IsIn c (happens w (Start server x)).wire → IsIn c w.outside.sent
+    wire_of None c h = k.wire_is c h
+    wire_of (Some o) c h = k.wire_is c h
+
+    waiting_of : (x : Option Server) (r : ReportMsg) → IsIn r (happens w (Start server x)).waiting → IsIn r w.outside.reports
+    waiting_of None r h = k.waiting_is r h
+    waiting_of (Some o) r h = k.waiting_is r h
+
+    tails_of : (x : Option Server) → MayStart w server x → (n : ℕ) → n + (happens w (Start server x)).durable ≤ length (whole (happens w (Start server x))) → Safe (drop n (whole (happens w (Start server x)))) (started w.outside server)
+    tails_of None m = start_tails w k server None m
+    tails_of (Some o) m = start_tails w k server (Some o) m
+event_keeps w (Die server) k may = record { within = k.within; tailless = k.tailless; wire_is = k.wire_is; waiting_is = k.waiting_is; tails = λ n h. safe_die (drop n (whole w)) w.outside server (k.tails n h) }
+event_keeps w (Expire server) k may = record { within = one_longer (entry_is.Down server) w.past w.durable k.within; tailless = k.tailless; wire_is = k.wire_is; waiting_is = k.waiting_is; tails = entered w k (entry_is.Down server) may tt }
+event_keeps w (Abort pid) k may = record { within = one_longer (entry_is.Abort pid) w.past w.durable k.within; tailless = k.tailless; wire_is = k.wire_is; waiting_is = k.waiting_is; tails = entered w k (entry_is.Abort pid) may tt }
+event_keeps w (Arm peer count) k may = record { within = k.within; tailless = k.tailless; wire_is = armed_wire peer; waiting_is = armed_waiting peer; tails = λ n h. safe_arm (drop n (whole w)) w.outside peer count (k.tails n h) }
+  where
+    armed_wire : (p : Peer) (c : Call) → IsIn c w.wire → IsIn c (armed w.outside p count).sent
+    armed_wire (peer_is.Server s) c h = k.wire_is c h
+    armed_wire peer_is.Storage c h = k.wire_is c h
+
+    armed_waiting : (p : Peer) (r : ReportMsg) → IsIn r w.waiting → IsIn r (armed w.outside p count).reports
+    armed_waiting (peer_is.Server s) r h = k.waiting_is r h
+    armed_waiting peer_is.Storage r h = k.waiting_is r h
+event_keeps w (Fault None) k may = record { within = k.within; tailless = λ e. absurd (halted_not LogFault e); wire_is = k.wire_is; waiting_is = k.waiting_is; tails = calm_tails w k may }
+event_keeps w (Fault (Some entry)) k may = record {
+  within = k.within;
+  tailless = λ e. absurd (halted_not LogFault e);
+  wire_is = k.wire_is;
+  waiting_is = k.waiting_is;
+  tails = recorded w.past w.durable w.outside k.within (calm_tails w k may.0.0) entry may.0.1 may.1;
+}
+event_keeps w Full k may = record { within = k.within; tailless = λ e. absurd (halted_not JournalFull e); wire_is = k.wire_is; waiting_is = k.waiting_is; tails = k.tails }
+event_keeps w (Stop n) k may = record { within = stop_within w k n may.1; tailless = λ e. refl; wire_is = k.wire_is; waiting_is = k.waiting_is; tails = stop_tails w k n may.0 may.1 }

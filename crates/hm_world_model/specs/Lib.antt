@@ -1,0 +1,12 @@
+pub mod History
+pub mod Outside
+pub mod World
+pub mod Events
+pub mod Runs
+pub mod Safe
+pub mod Twice
+pub mod Points
+pub mod Overlaps
+pub mod Fleets
+pub mod Progress
+pub mod Measure

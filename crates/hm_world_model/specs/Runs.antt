@@ -1,0 +1,108 @@
+-- When an event may come, and runs of them.
+use Rattle.std.specs.Prelude.{◌≡◌, ◌≤◌, List, [], ◌∷◌, length, Option, Some, None, true}
+use Rattle.hm_names.specs.Server.{Server}
+use Rattle.hm_names.specs.declared.pid.Pid.{Pid}
+use Rattle.hm_data.specs.declared.call.ReportMsg.{ReportMsg}
+use Rattle.hm_data.specs.declared.call.Peer.TheVariants as peer_is
+use Rattle.hm_data.specs.declared.call.Told.{Told}
+use Rattle.hm_data.specs.declared.entry.Entry.{Entry}
+use Rattle.hm_data.specs.declared.entry.Entry.TheVariants as entry_is
+use Rattle.hm_model.specs.Fleet.{same_address}
+use Rattle.hm_model.specs.Journal.{Past}
+use Rattle.hm_model.specs.Locks.{IsIn}
+use Rattle.hm_model.specs.Picks.{PicksRight}
+use Rattle.hm_model.specs.Reports.{call_of, peer_of}
+use Rattle.hm_model.specs.Rest.{IsAvailable}
+use Rattle.hm_model.specs.Tree.{root_of}
+use Rattle.hm_world_model.specs.Events.{Event, Submit, Claim, Commit, GiveUp, Flush, Send, Deliver, DeliverAgain, Hear, Ignore, HearAgain, Lose, Repeat, Start, Die, Expire, Abort, Arm, Fault, Full, Stop, happens}
+use Rattle.hm_world_model.specs.History.{Follows}
+use Rattle.hm_world_model.specs.Outside.{Outside, runs}
+use Rattle.hm_world_model.specs.World.{Claimed, World, claimed_pids, durable_part, whole}
+use Rattle.hm_data.specs.declared.call.Call.{Call}
+
+-- the master isn't halted
+abbrev pub GoesOn : World → Type 0
+GoesOn w = w.halted ≡ None
+
+-- an entry may be recorded next
+abbrev pub MayEnter : World → Entry → Type 0
+MayEnter w entry = GoesOn w × Follows w.past entry
+
+-- the step of a claimed procedure with the server that was picked, or what undoes one of its tree
+abbrev pub IsWork : Past → Claimed → Entry → Type 0
+IsWork past claim (entry_is.Start sheets) = ⊥
+IsWork past claim (entry_is.Submit nonce request) = ⊥
+IsWork past claim (entry_is.Step pid pick out) = (pid.0 ≡ claim.pid) × (pick ≡ claim.pick)
+IsWork past claim (entry_is.Undo pid row out) = root_of past pid.0 ≡ claim.pid
+IsWork past claim (entry_is.Report call told) = ⊥
+IsWork past claim (entry_is.Up server) = ⊥
+IsWork past claim (entry_is.Down server) = ⊥
+IsWork past claim (entry_is.Abort pid) = ⊥
+
+-- a report of whom was called may be recorded next
+abbrev pub MayHear : World → ReportMsg → Type 0
+MayHear w report =
+    MayEnter w (entry_is.Report report.call report.told) × (peer_of w.past report.call.0 ≡ Some report.from)
+
+-- a report was made with this answer to this call
+abbrev pub IsMade : Outside → Pid → Told → Type 0
+IsMade o call told = (report : ReportMsg) × IsIn report o.reports × (report.call ≡ call) × (report.told ≡ told)
+
+-- a report is recorded only where it was ever made
+abbrev pub IsTrueReport : Outside → Entry → Type 0
+IsTrueReport o (entry_is.Start sheets) = Unit {0}
+IsTrueReport o (entry_is.Submit nonce request) = Unit {0}
+IsTrueReport o (entry_is.Step pid pick out) = Unit {0}
+IsTrueReport o (entry_is.Undo pid row out) = Unit {0}
+IsTrueReport o (entry_is.Report call told) = IsMade o call told
+IsTrueReport o (entry_is.Up server) = Unit {0}
+IsTrueReport o (entry_is.Down server) = Unit {0}
+IsTrueReport o (entry_is.Abort pid) = Unit {0}
+
+-- what a fault may leave behind the journal: nothing, or an entry that may be recorded next, a report only where it was made
+abbrev pub MayLeave : World → Option Entry → Type 0
+MayLeave w None = GoesOn w
+MayLeave w (Some entry) = MayEnter w entry × IsTrueReport w.outside entry
+
+-- a server may come up, and before it an older one of its host and port that is live goes down
+abbrev pub MayStart : World → Server → Option Server → Type 0
+MayStart w server None = MayEnter w (entry_is.Up server)
+MayStart w server (Some older) =
+    (same_address server older ≡ true) × MayEnter w (entry_is.Down older)
+    × Follows (entry_is.Down older ∷ w.past) (entry_is.Up server)
+
+-- an event may come. While the master is halted only those that need nothing recorded: giving up, loss, death, a stop.
+abbrev pub May : World → Event → Type 0
+May w (Submit nonce request) = MayEnter w (entry_is.Submit nonce request)
+May w (Claim claim) =
+    GoesOn w × IsAvailable w.past w.taken (claimed_pids w) claim.pid × PicksRight w.past claim.pid claim.pick
+May w (Commit claim entry) = IsIn claim w.claimed × IsWork w.past claim entry × MayEnter w entry
+May w (GiveUp claim) = IsIn claim w.claimed
+May w Flush = GoesOn w
+May w (Send call) =
+    GoesOn w × (call_of (durable_part w) call.id.0 ≡ Some call) × (runs w.outside call.peer ≡ true)
+May w (Deliver call) = GoesOn w × ((rest : List Call) × (w.wire ≡ call ∷ rest))
+May w (DeliverAgain call) = GoesOn w × IsIn call w.outside.sent
+May w (Hear report) = MayHear w report × ((rest : List ReportMsg) × (w.waiting ≡ report ∷ rest))
+May w (Ignore report) = GoesOn w × ((rest : List ReportMsg) × (w.waiting ≡ report ∷ rest)) × (MayHear w report → ⊥)
+May w (HearAgain report) = MayHear w report × IsIn report w.outside.reports
+May w Lose = Unit {0}
+May w Repeat = GoesOn w
+May w (Start server older) = MayStart w server older
+May w (Die server) = runs w.outside (peer_is.Server server) ≡ true
+May w (Expire server) = MayEnter w (entry_is.Down server)
+May w (Abort pid) = MayEnter w (entry_is.Abort pid)
+May w (Arm peer count) = GoesOn w × (runs w.outside peer ≡ true)
+May w (Fault tail) = MayLeave w tail
+May w Full = GoesOn w
+May w (Stop k) = (w.durable ≤ k) × (k ≤ length (whole w))
+
+-- a world behind events, of which the newest stands first
+abbrev pub after : World → List Event → World
+after w [] = w
+after w (event ∷ before) = happens (after w before) event
+
+-- each event could come where it came
+abbrev pub IsRun : World → List Event → Type 0
+IsRun w [] = Unit {0}
+IsRun w (event ∷ before) = IsRun w before × May (after w before) event

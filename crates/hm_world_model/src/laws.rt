@@ -1,0 +1,54 @@
+//! The laws.
+ghost use Rattle.hm_world_model.specs.Fleets.{FitsTheFirst, ResumedIsKept, ResumedIsStopped};
+ghost use Rattle.hm_world_model.specs.Measure.{CarryingGoesOn};
+ghost use Rattle.hm_world_model.specs.Overlaps.{KeptIsNeverTwiceOver, NeverTwiceOver};
+ghost use Rattle.hm_world_model.specs.Progress.{EarlierHaveEnded, OpenIsAnswered, ReportsAreHeard};
+ghost use Rattle.hm_world_model.specs.Points.{HeldAreLive, PointsHold};
+ghost use Rattle.hm_world_model.specs.Twice.{EventsKeep, KeptIsNeverTwice, NeverTwice, OpenedIsKept};
+
+/// What is kept of a world: a master that opens a journal has it, and each event keeps it.
+pub fn worlds_are_kept()
+    ensures opened { OpenedIsKept }
+    ensures events { EventsKeep }
+{}
+
+/// After every list of events no region is held by two running servers that aren't fenced.
+pub fn never_twice()
+    ensures kept { KeptIsNeverTwice }
+    ensures never { NeverTwice }
+{}
+
+/// Nor are two regions of one table whose ranges overlap, by two such servers or by one, where the regions of the journal are
+/// apart.
+pub fn never_twice_over()
+    ensures kept { KeptIsNeverTwiceOver }
+    ensures never { NeverTwiceOver }
+{}
+
+/// What holds for each region, for every length of the journal that a stop may leave.
+pub fn points_hold()
+    ensures points { PointsHold }
+    ensures live { HeldAreLive }
+{}
+
+/// What lives on while a master is stopped fits the first entries of the journal that it lived with, from so many on as a stop
+/// may have left. A master that goes on with it over such a journal is the world behind that stop.
+pub fn fleets_fit()
+    ensures fit { FitsTheFirst }
+    ensures stopped { ResumedIsStopped }
+    ensures kept { ResumedIsKept }
+{}
+
+/// An open call is answered when it is delivered, and what is answered to one is recorded. About a region only the last call
+/// is open.
+pub fn calls_are_answered()
+    ensures earlier { EarlierHaveEnded }
+    ensures answered { OpenIsAnswered }
+    ensures heard { ReportsAreHeard }
+{}
+
+/// There is less to carry behind each call that is delivered, each that is sent where it is to be sent, and each report of a
+/// settled call that is ignored.
+pub fn carrying_goes_on()
+    ensures { CarryingGoesOn }
+{}

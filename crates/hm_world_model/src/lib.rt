@@ -1,0 +1,12 @@
+//! The world of a master: its journal, the calls and reports that travel, the region servers and the storage, and the stops
+//! that leave some of it. Definitions of what may happen and of what is kept, and laws about them: no region is open on two
+//! servers that run and aren't fenced, whatever comes. Each function is a law: its contract is proved, and its body has
+//! nothing to do.
+#![tactic(auto)]
+
+mod laws;
+
+pub use laws::{
+    calls_are_answered, carrying_goes_on, fleets_fit, never_twice, never_twice_over, points_hold,
+    worlds_are_kept,
+};
