@@ -1,4 +1,5 @@
 mod Order
 mod Ahead
+mod Spans
 mod Asked
 mod Follows

@@ -1,7 +1,7 @@
 -- Rows in the order of their keys, where one is looked for or set.
 use Rattle.std.proofs.Common.{Bor, ◌^◌, ◌≡◌, ◌≢◌, ℕ, suc, ◌+◌, ◌<◌, ◌≤◌, List, [], ◌∷◌, length, Bool, true, false, if◌then◌else◌, Option, Some, None, is_some, slice_get, refl, inl, inr, arith, ap, sym, ◌∙◌, subst}
 use Rattle.std.specs.Option.{option_copied, option_flatten}
-use Rattle.std.specs.Ordering.{is_eq, ordering_reverse}
+use Rattle.std.specs.Ordering.{is_eq, is_ne, ordering_reverse}
 use Rattle.std.specs.declared.cmp.Ordering.{Ordering}
 use Rattle.std.specs.declared.cmp.Ordering.TheVariants.{Less, Equal, Greater}
 use Rattle.std.proofs.lemmas.Bool.{cond-true, cond-false}
@@ -14,8 +14,8 @@ use Rattle.hm_model.specs.Keys.{same_key}
 use Rattle.hm_model.specs.RowLaws.{AllBehind, AreInOrder}
 use Rattle.hm_model.specs.RowsSaid.{Rows}
 use Rattle.hm_model.proofs.KeyTests.{cases_key, key_cmp-is, key_cmp-same, same_key-refl}
-use Rattle.hm_index.specs.Index.{IsRising, by_order, find, placed}
-use Rattle.hm_catalog.specs.Kept.{Pairs, keys_kept, one_if, present}
+use Rattle.hm_index.specs.Index.{IsRising, by_order, find, or_more, pairs_from, placed}
+use Rattle.hm_catalog.specs.Kept.{Pairs, first_tied, keys_kept, one_if, present}
 use Rattle.hm_catalog.specs.Rows.{keys_in, with_row, with_row_at}
 
 -- rising keys are in order
@@ -49,6 +49,13 @@ order_keep first (Some row) rows behind order = (behind, order)
 pub order_present : (pairs : Pairs) → AreInOrder (keys_kept pairs) → AreInOrder (keys_in (present pairs))
 order_present [] order = tt
 order_present ((first, row) ∷ more) order = order_keep first row (present more) (behind_present first more order.0) (order_present more order.1)
+
+turned : (key first : CatKey) (o : Ordering) → key_cmp first key ≡ o → key_cmp key first ≡ ordering_reverse o
+turned key first o e = keys_total.antisymm key first ∙ ap ordering_reverse e
+
+pub behind_further : (k key : CatKey) (others : List CatKey) → key_cmp k key ≡ Less → AllBehind key others → AllBehind k others
+behind_further k key [] less behind = tt
+behind_further k key (first ∷ more) less behind = (keys_total.trans k key first less behind.0, behind_further k key more less behind.1)
 
 -- a key before all others has no row
 less_differs : (key first : CatKey) → key_cmp key first ≡ Less → same_key key first ≡ false
@@ -94,17 +101,41 @@ found_row ((first, row) ∷ more) key order = elim (cases_key key first) [
       ∙ sym (keep_other key first row (present more) differs.0)
 ]
 
+-- the first of the pairs that don't stand below a key is its own, or the key has no row
+module _ (key : CatKey) where
+  none_tied : (k : CatKey) (more : Pairs) → key_cmp key k ≡ Less → AllBehind k (keys_kept more) → row_at (present more) key ≡ None
+  none_tied k more less behind = none_behind key (present more) (behind_present key more (behind_further key k (keys_kept more) less behind))
+
+  tied_at : (k : CatKey) (row : Option CatRow) (more : Pairs) (o : Ordering) → key_cmp k key ≡ o → (o ≡ Less → ⊥) → AllBehind k (keys_kept more) → (if is_eq (key_cmp k key) then row else None) ≡ row_at (keep true k row (present more)) key
+  tied_at k row more Less e on behind = absurd (on refl)
+  tied_at k row more Equal e on behind =
+      let same : k ≡ key = key_cmp-is k key e in
+      cond-true (is_eq (key_cmp k key)) row None (ap is_eq e)
+      ∙ sym (keep_same key k row (present more) (subst (λ q. same_key key q ≡ true) (sym same) (same_key-refl key)) (subst (λ q. row_at (present more) q ≡ None) same (none_behind k (present more) (behind_present k more behind))))
+  tied_at k row more Greater e on behind =
+      let less : key_cmp key k ≡ Less = turned key k Greater e in
+      cond-false (is_eq (key_cmp k key)) row None (ap is_eq e)
+      ∙ sym (keep_other key k row (present more) (less_differs key k less) ∙ none_tied k more less behind)
+
+  first_row : (pairs : Pairs) → AreInOrder (keys_kept pairs) → first_tied key (pairs_from key_cmp pairs key) ≡ row_at (present pairs) key
+  first_row [] order = refl
+  first_row ((k, row) ∷ more) order = by (first_row more order.1) (key_cmp k key) refl
+    where
+      by : first_tied key (pairs_from key_cmp more key) ≡ row_at (present more) key → (o : Ordering) → key_cmp k key ≡ o → first_tied key (or_more o (k, row) more (pairs_from key_cmp more key)) ≡ row_at (keep true k row (present more)) key
+      by rest Less e = rest ∙ sym (keep_other key k row (present more) (less_differs_from k e))
+        where
+          less_differs_from : (k : CatKey) → key_cmp k key ≡ Less → same_key key k ≡ false
+          less_differs_from k less = elim (cases_key key k) [
+            | inl same ↦ let tied = key_cmp-same k key (sym same.1) in cc
+            | inr differs ↦ differs.0
+          ]
+      by rest Equal e = tied_at k row more Equal e (λ h. cc) order.0
+      by rest Greater e = tied_at k row more Greater e (λ h. cc) order.0
+
 -- a row that is set
 pub with_behind : (key : CatKey) (after : Option CatRow) (rows : Rows) → AllBehind key (keys_in rows) → with_row key after rows ≡ keep true key after rows
 with_behind key after [] behind = refl
 with_behind key after ((first, row) ∷ more) behind = ap (λ o. with_row_at o key after (first, row) more (with_row key after more)) behind.0
-
-turned : (key first : CatKey) (o : Ordering) → key_cmp first key ≡ o → key_cmp key first ≡ ordering_reverse o
-turned key first o e = keys_total.antisymm key first ∙ ap ordering_reverse e
-
-pub behind_further : (k key : CatKey) (others : List CatKey) → key_cmp k key ≡ Less → AllBehind key others → AllBehind k others
-behind_further k key [] less behind = tt
-behind_further k key (first ∷ more) less behind = (keys_total.trans k key first less behind.0, behind_further k key more less behind.1)
 
 pub after_first : (first key : CatKey) (row after : Option CatRow) (rows : Rows) → key_cmp key first ≡ Greater → with_row key after (keep true first row rows) ≡ keep true first row (with_row key after rows)
 after_first first key None after rows greater = refl
@@ -158,6 +189,37 @@ fewer_present ((first, Some row) ∷ more) = let rest = fewer_present more in om
 module _ (cmp : CatKey → CatKey → Ordering) (alike : cmp ≡ key_cmp) where
   pub get_by : (pairs : Pairs) (key : CatKey) (got : Option (Option CatRow)) → AreInOrder (keys_kept pairs) → got ≡ find cmp pairs key → option_flatten got ≡ row_at (present pairs) key
   get_by pairs key got order got_is = ap option_flatten (got_is ∙ ap (λ o. find o pairs key) alike) ∙ found_row pairs key order
+
+  pub first_by : (pairs shown : Pairs) (key : CatKey) → AreInOrder (keys_kept pairs) → shown ≡ pairs_from cmp pairs key → first_tied key shown ≡ row_at (present pairs) key
+  first_by pairs shown key order is_shown = ap (first_tied key) (is_shown ∙ ap (λ o. pairs_from o pairs key) alike) ∙ first_row key pairs order
+
+  tied_by : (first key : CatKey) → is_ne (cmp first key) ≡ false → key_cmp first key ≡ Equal
+  tied_by first key tied = by (key_cmp first key) (sym (ap (λ o. is_ne (o first key)) alike) ∙ tied)
+    where
+      by : (o : Ordering) → is_ne o ≡ false → o ≡ Equal
+      by Less e = cc
+      by Equal e = refl
+      by Greater e = cc
+
+  apart_by : (first key : CatKey) → is_ne (cmp first key) ≡ true → is_eq (key_cmp first key) ≡ false
+  apart_by first key apart = by (key_cmp first key) (sym (ap (λ o. is_ne (o first key)) alike) ∙ apart)
+    where
+      by : (o : Ordering) → is_ne o ≡ true → is_eq o ≡ false
+      by Less e = refl
+      by Equal e = cc
+      by Greater e = refl
+
+  pub own_key : (first key : CatKey) → is_ne (cmp first key) ≡ false → first ≡ key
+  own_key first key tied = key_cmp-is first key (tied_by first key tied)
+
+  module _ (pairs shown more : Pairs) (pair : CatKey × Option CatRow) (key : CatKey) (order : AreInOrder (keys_kept pairs)) (is_shown : shown ≡ pairs_from cmp pairs key) (begins : shown ≡ pair ∷ more) where
+    pub other_first : is_ne (cmp pair.0 key) ≡ true → None ≡ row_at (present pairs) key
+    other_first apart =
+        sym (ap (first_tied key) begins ∙ cond-false (is_eq (key_cmp pair.0 key)) pair.1 None (apart_by pair.0 key apart)) ∙ first_by pairs shown key order is_shown
+
+    pub own_first : is_ne (cmp pair.0 key) ≡ false → pair.1 ≡ row_at (present pairs) key
+    own_first tied =
+        sym (ap (first_tied key) begins ∙ cond-true (is_eq (key_cmp pair.0 key)) pair.1 None (ap is_eq (tied_by pair.0 key tied))) ∙ first_by pairs shown key order is_shown
 
   pub set_by : (pairs new : Pairs) (key : CatKey) (after : Option CatRow) → AreInOrder (keys_kept pairs) → new ≡ placed cmp pairs key after → present new ≡ with_row key after (present pairs)
   set_by pairs new key after order set_is = ap present (set_is ∙ ap (λ o. placed o pairs key after) alike) ∙ row_placed pairs key after order

@@ -1,7 +1,8 @@
 -- How the rows are kept: the keys that ever had one, each with its row or none.
-use Rattle.std.specs.Prelude.{ℕ, List, [], ◌∷◌, map, Option, Some, None, Bool, true, false, ◌&&◌, ◌||◌, if◌then◌else◌, is_some}
-use Rattle.hm_names.specs.Region.{Region}
+use Rattle.std.specs.Prelude.{ℕ, List, [], ◌∷◌, map, Option, None, Bool, true, false, if◌then◌else◌}
+use Rattle.std.specs.Ordering.{is_eq}
 use Rattle.hm_names.specs.declared.table.TableName.{TableName}
+use Rattle.hm_data.specs.Keys.{key_cmp}
 use Rattle.hm_data.specs.declared.catalog.CatKey.{CatKey}
 use Rattle.hm_data.specs.declared.catalog.CatKey.TheVariants as key_is
 use Rattle.hm_data.specs.declared.catalog.CatRow.{CatRow}
@@ -24,13 +25,18 @@ present ((key, row) ∷ more) = keep true key row (present more)
 abbrev pub keys_kept : Pairs → List CatKey
 keys_kept pairs = map (λ pair. pair.0) pairs
 
--- the key that a name stands for; a table's regions and a namespace's tables begin at keys that nothing has
+-- the key that a name stands for; a namespace's tables, and a table's regions from number 0 on, begin at keys that nothing has
 abbrev pub key_of : Name → CatKey
 key_of (name_is.Ns ns) = key_is.Ns ns.now
 key_of (name_is.Table table) = key_is.Table table.now
 key_of (name_is.Region region) = key_is.Region region.now
 key_of (name_is.FirstTable ns) = key_is.Table (record { ns = ns.now; qualifier = [] })
-key_of (name_is.FirstRegion table) = key_is.Region (record { table = table.now; id = 0 })
+key_of (name_is.RegionsFrom table id) = key_is.Region (record { table = table.now; id = id })
+
+-- the row of the first of pairs, where its key ties with this one
+abbrev pub first_tied : CatKey → Pairs → Option CatRow
+first_tied key [] = None
+first_tied key ((first, row) ∷ more) = if is_eq (key_cmp first key) then row else None
 
 -- a key is of a region of the table
 abbrev pub is_region_of : TableName → CatKey → Bool
@@ -38,22 +44,10 @@ is_region_of table (key_is.Ns ns) = false
 is_region_of table (key_is.Table other) = false
 is_region_of table (key_is.Region region) = same_table table region.table
 
--- a key that passes the test has a row, up to the first that doesn't pass it
-abbrev pub any_ahead : (CatKey → Bool) → Pairs → Bool
-any_ahead test [] = false
-any_ahead test ((key, row) ∷ more) = test key && (is_some row || any_ahead test more)
-
--- a region in front of others, if it is there
-abbrev pub if_there : CatKey → Option CatRow → List Region → List Region
-if_there key None more = more
-if_there (key_is.Ns ns) (Some row) more = more
-if_there (key_is.Table table) (Some row) more = more
-if_there (key_is.Region region) (Some row) more = region ∷ more
-
--- the regions of a table that have a row, up to the first key that isn't of one
-abbrev pub regions_ahead : TableName → Pairs → List Region
-regions_ahead table [] = []
-regions_ahead table ((key, row) ∷ more) = if is_region_of table key then if_there key row (regions_ahead table more) else []
+-- the rows of the keys that pass the test, up to the first that doesn't pass it
+abbrev pub rows_ahead : (CatKey → Bool) → Pairs → Rows
+rows_ahead test [] = []
+rows_ahead test ((key, row) ∷ more) = if test key then keep true key row (rows_ahead test more) else []
 
 -- a row counts if it is there
 abbrev pub one_if : Bool → ℕ

@@ -1,4 +1,5 @@
 pub mod Rows
 pub mod Kept
+pub mod Spans
 pub mod Deeds
 pub mod Laws

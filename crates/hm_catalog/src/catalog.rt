@@ -1,6 +1,6 @@
 //! The rows of the catalog.
-ghost use Rattle.std.specs.Prelude.{◌≡◌, ◌+◌, ◌^◌, ◌≤◌, ◌<◌, [], length, Ok, IfOk, OnOk};
-ghost use Rattle.std.specs.Option.{option_copied};
+ghost use Rattle.std.specs.Prelude.{◌≡◌, ◌+◌, ◌^◌, ◌≤◌, ◌<◌, [], length, Ok, IfOk, OnOk, IfSome};
+ghost use Rattle.std.specs.Option.{option_copied, option_map};
 ghost use Rattle.hm_data.specs.declared.catalog.CatKey.TheVariants as Key_is;
 ghost use Rattle.hm_names.specs.Names.{read_ns};
 ghost use Rattle.hm_model.specs.Catalog.{row_at};
@@ -10,9 +10,10 @@ ghost use Rattle.hm_model.specs.RowsSaid.{all_among};
 ghost use Rattle.hm_data.specs.Keys.{key_cmp};
 ghost use Rattle.hm_catalog.specs.Kept.{keys_kept, one_if};
 ghost use Rattle.hm_catalog.specs.Rows.{keys_in, rows_in, with_row};
+ghost use Rattle.hm_catalog.specs.Spans.{in_span, rows_of};
 
-use crate::name::Name;
 use crate::rows::{Regions, Rows};
+use crate::span::{RowsOf, Span};
 use hm_data::laws::keys_order_by_name;
 use hm_data::{CatKey, CatRow, Edit};
 use hm_index::{Index, Sought};
@@ -68,6 +69,19 @@ impl Catalog {
         self.pairs.get(key)?.as_ref()
     }
 
+    /// The row of a key, or of what stands for one, with the key.
+    pub fn find<S: Sought<CatKey>>(&self, key: &S) -> Option<(&CatKey, &CatRow)>
+        ensures key { IfSome result (λ found. found.0.now ≡ S.stands_for key.now) }
+        ensures row { option_map (λ found. found.1.now) result ≡ row_at self.now.rows (S.stands_for key.now) }
+    {
+        in_order(&self.pairs);
+        let (first, row) = self.pairs.iter_from(key).next()?;
+        if key.compared(first).is_ne() {
+            return None;
+        }
+        Some((first, row.as_ref()?))
+    }
+
     /// How many rows there are.
     pub fn len(&self) -> usize
         ensures count { result ≡ length self.now.rows }
@@ -88,26 +102,22 @@ impl Catalog {
     pub fn regions_of<'a>(&'a self, table: &'a TableName) -> Regions<'a>
         ensures { result ≡ all_among table.now self.now.rows }
     {
+        Regions::new(self.rows_of(Span::Regions(table)))
+    }
+
+    /// The rows of keys that stand together, in key order.
+    pub fn rows_of<'a>(&'a self, span: Span<'a>) -> RowsOf<'a>
+        ensures { result ≡ rows_of (in_span span.entry) self.now.rows }
+    {
         in_order(&self.pairs);
-        Regions::new(table, self.pairs.iter_from(&Name::FirstRegion(table)))
+        RowsOf::new(span, self.pairs.iter_from(&span.start()))
     }
 
     /// Whether a table of a namespace has a row.
     pub fn has_table(&self, ns: &Ns) -> bool
         ensures { result ≡ has_table ns.now self.now.rows }
     {
-        in_order(&self.pairs);
-        for (key, row) in self.pairs.iter_from(&Name::FirstTable(ns)) {
-            match key {
-                CatKey::Table(table) if table.ns == *ns => {
-                    if row.is_some() {
-                        return true;
-                    }
-                }
-                _ => return false,
-            }
-        }
-        false
+        self.rows_of(Span::Tables(ns)).next().is_some()
     }
 
     /// Makes room for so many edits more.

@@ -10,9 +10,11 @@ pub mod laws;
 mod name;
 mod requests;
 mod rows;
+mod span;
 
 pub use catalog::Catalog;
 pub use deeds::{DeedWhy, deed};
 pub use name::Name;
 pub use requests::wrong_in;
 pub use rows::{Regions, Rows};
+pub use span::{RowsOf, Span};

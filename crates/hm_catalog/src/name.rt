@@ -18,8 +18,8 @@ pub enum Name<'a> {
     Region(&'a RegionName),
     /// Where the tables of a namespace begin.
     FirstTable(&'a Ns),
-    /// Where the regions of a table begin.
-    FirstRegion(&'a TableName),
+    /// Where the regions of a table begin that have this number or a higher one.
+    RegionsFrom(&'a TableName, u64),
 }
 
 impl<'a> Sought<CatKey> for Name<'a> {
@@ -43,7 +43,7 @@ impl<'a> Sought<CatKey> for Name<'a> {
             },
             CatKey::Region(region) => match self {
                 Name::Region(other) => region.cmp(other),
-                Name::FirstRegion(table) => after_table(region, table),
+                Name::RegionsFrom(table, id) => after_number(region, table, *id),
                 _ => Ordering::Greater,
             },
         }
@@ -59,10 +59,10 @@ fn after_namespace(table: &TableName, ns: &Ns) -> Ordering
     table.ns.cmp(ns).then(rest)
 }
 
-// How a region compares with the place where those of a table begin.
-fn after_table(region: &RegionName, table: &TableName) -> Ordering
-    ensures { result ≡ key_cmp (CatKey.Region region.now) (CatKey.Region (record { table = table.now; id = 0 })) }
+// How a region compares with the place where those of a table begin that have this number or a higher one.
+fn after_number(region: &RegionName, table: &TableName, id: u64) -> Ordering
+    ensures { result ≡ key_cmp (CatKey.Region region.now) (CatKey.Region (record { table = table.now; id = id })) }
 {
     names_order_by_parts();
-    region.table.cmp(table).then(region.id.cmp(&0))
+    region.table.cmp(table).then(region.id.cmp(&id))
 }

@@ -1,11 +1,13 @@
 //! What a catalog shows of its rows.
 ghost use Rattle.std.specs.Prelude.{◌≡◌};
 ghost use Rattle.std.specs.Iterator.{YieldsFirstBy, YieldsFirstRef, item_count};
-ghost use Rattle.hm_catalog.specs.Kept.{Pairs, present, regions_ahead};
+ghost use Rattle.hm_catalog.specs.Kept.{present};
+ghost use Rattle.hm_catalog.specs.Spans.{regions_in};
 
+use crate::span::RowsOf;
 use hm_data::{CatKey, CatRow};
 use hm_index::Iter;
-use hm_names::{RegionName, TableName};
+use hm_names::RegionName;
 use std::marker::Model;
 
 /// Rows with their keys, in key order. Contracts see the list of those that are left.
@@ -51,30 +53,24 @@ impl<'a> Iterator for Rows<'a> {
 /// The regions of a table that have a row, in name order. Contracts see the list of those that are left.
 #[derive(Drop)]
 pub struct Regions<'a> {
-    table: &'a TableName,
-    pairs: Iter<'a, CatKey, Option<CatRow>>,
-    ended: bool,
+    rows: RowsOf<'a>,
 }
 
 impl<'a> Model for Regions<'a> {
-    ghost use Rattle.std.specs.Prelude.{List, [], if◌then◌else◌};
+    ghost use Rattle.std.specs.Prelude.{List};
     ghost use Rattle.hm_names.specs.Region.{Region};
-    ghost use Rattle.hm_catalog.specs.Kept.{regions_ahead};
+    ghost use Rattle.hm_catalog.specs.Spans.{regions_in};
 
     ghost Value = { List Region };
 
-    ghost view = { λ s. if s.ended then [] else regions_ahead s.table.now s.pairs };
+    ghost view = { λ s. regions_in s.rows };
 }
 
 impl<'a> Regions<'a> {
-    pub(crate) fn new(table: &'a TableName, pairs: Iter<'a, CatKey, Option<CatRow>>) -> Regions<'a>
-        ensures { result ≡ regions_ahead table.now pairs.entry }
+    pub(crate) fn new(rows: RowsOf<'a>) -> Regions<'a>
+        ensures { result ≡ regions_in rows.entry }
     {
-        Regions {
-            table,
-            pairs,
-            ended: false,
-        }
+        Regions { rows }
     }
 }
 
@@ -86,16 +82,11 @@ impl<'a> Iterator for Regions<'a> {
     ghost remaining = { item_count (λ rest. rest) };
 
     fn next(&mut self) -> Option<&'a RegionName> {
-        while !self.ended {
-            match self.pairs.next() {
-                Some((CatKey::Region(region), row)) if region.table == *self.table => {
-                    if row.is_some() {
-                        return Some(region);
-                    }
-                }
-                _ => self.ended = true,
+        loop {
+            let (key, _row) = self.rows.next()?;
+            if let CatKey::Region(region) = key {
+                return Some(region);
             }
         }
-        None
     }
 }

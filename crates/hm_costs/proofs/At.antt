@@ -181,6 +181,7 @@ counts_soon args (line ∷ lines) = (not (reading args lines) || goes_at_once li
 -- what the lines of such a root count is within a number, and it is idle till then
 pub record Counting (J : Past) (q : ℕ) (x : Node) (n : ℕ) (lines : List Line) : Type 0 where
   pub counter : IsCounter x.args
+  pub top : x.above ≡ []
   pub idle : IsIdle (last_answer J q)
   pub soon : counts_soon x.args lines ≡ true
   pub counted : AllCounted J x.args n lines

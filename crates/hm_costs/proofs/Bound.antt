@@ -65,7 +65,7 @@ use Rattle.hm_costs.proofs.Paid.{all_within}
 use Rattle.hm_costs.proofs.Prices.{AllAt, ArePriced, Going, IsPaid}
 use Rattle.hm_costs.proofs.Spend.{price}
 use Rattle.hm_costs.proofs.Stays.{all_stays}
-use Rattle.hm_costs.proofs.Stuck.{sound_all}
+use Rattle.hm_costs.proofs.GoesOn.{sound_all}
 use Rattle.hm_costs.proofs.TransitPaid.{transit_paid}
 use Rattle.hm_costs.proofs.Trees.{ended_by, quiet_unaborted, step_root}
 use Rattle.hm_model.proofs.Trees.{at_top}
@@ -137,15 +137,15 @@ module _ (pid : Pid) (pick : Option Server) (out : StepOut) (J : Past) (legal : 
   begin_args (args_are.Root (request_is.DeleteTable table) first) fresh last report =
       let n = length (all_among table (rows_read J (args_are.Root (request_is.DeleteTable table) first))) in
       let same = first_counted pid pick out J last table (λ row. true) in
-      (left (args_are.Root (request_is.DeleteTable table) first) n (lines_of (kind_of (args_are.Root (request_is.DeleteTable table) first))), at_lined J pid.0 (node (args_are.Root (request_is.DeleteTable table) first)) _ refl refl refl (λ runs. start_lined J legal pid.0 (node (args_are.Root (request_is.DeleteTable table) first)) n _ _ refl refl refl last (inr (record { counter = tt; idle = subst IsIdle (sym last) tt; soon = refl; counted = (tt, (omega arith, (tt, tt))) })) (inl top_is) refl), omega (arith, same))
+      (left (args_are.Root (request_is.DeleteTable table) first) n (lines_of (kind_of (args_are.Root (request_is.DeleteTable table) first))), at_lined J pid.0 (node (args_are.Root (request_is.DeleteTable table) first)) _ refl refl refl (λ runs. start_lined J legal pid.0 (node (args_are.Root (request_is.DeleteTable table) first)) n _ _ refl refl refl last (inr (record { counter = tt; top = top_is; idle = subst IsIdle (sym last) tt; soon = refl; counted = (tt, (omega arith, (tt, tt))) })) (inl top_is) refl), omega (arith, same))
   begin_args (args_are.Root (request_is.EnableTable table) first) fresh last report =
       let n = length (live_among table (rows_read J (args_are.Root (request_is.EnableTable table) first))) in
       let same = first_counted pid pick out J last table (λ row. is_live_status (status_in (Some row))) in
-      (left (args_are.Root (request_is.EnableTable table) first) n (lines_of (kind_of (args_are.Root (request_is.EnableTable table) first))), at_lined J pid.0 (node (args_are.Root (request_is.EnableTable table) first)) _ refl refl refl (λ runs. start_lined J legal pid.0 (node (args_are.Root (request_is.EnableTable table) first)) n _ _ refl refl refl last (inr (record { counter = tt; idle = subst IsIdle (sym last) tt; soon = refl; counted = (tt, (tt, (omega arith, (tt, tt)))) })) (inl top_is) refl), omega (arith, same))
+      (left (args_are.Root (request_is.EnableTable table) first) n (lines_of (kind_of (args_are.Root (request_is.EnableTable table) first))), at_lined J pid.0 (node (args_are.Root (request_is.EnableTable table) first)) _ refl refl refl (λ runs. start_lined J legal pid.0 (node (args_are.Root (request_is.EnableTable table) first)) n _ _ refl refl refl last (inr (record { counter = tt; top = top_is; idle = subst IsIdle (sym last) tt; soon = refl; counted = (tt, (tt, (omega arith, (tt, tt)))) })) (inl top_is) refl), omega (arith, same))
   begin_args (args_are.Root (request_is.DisableTable table) first) fresh last report =
       let n = length (live_among table (rows_read J (args_are.Root (request_is.DisableTable table) first))) in
       let same = first_counted pid pick out J last table (λ row. is_live_status (status_in (Some row))) in
-      (left (args_are.Root (request_is.DisableTable table) first) n (lines_of (kind_of (args_are.Root (request_is.DisableTable table) first))), at_lined J pid.0 (node (args_are.Root (request_is.DisableTable table) first)) _ refl refl refl (λ runs. start_lined J legal pid.0 (node (args_are.Root (request_is.DisableTable table) first)) n _ _ refl refl refl last (inr (record { counter = tt; idle = subst IsIdle (sym last) tt; soon = refl; counted = (tt, (tt, (omega arith, (tt, tt)))) })) (inl top_is) refl), omega (arith, same))
+      (left (args_are.Root (request_is.DisableTable table) first) n (lines_of (kind_of (args_are.Root (request_is.DisableTable table) first))), at_lined J pid.0 (node (args_are.Root (request_is.DisableTable table) first)) _ refl refl refl (λ runs. start_lined J legal pid.0 (node (args_are.Root (request_is.DisableTable table) first)) n _ _ refl refl refl last (inr (record { counter = tt; top = top_is; idle = subst IsIdle (sym last) tt; soon = refl; counted = (tt, (tt, (omega arith, (tt, tt)))) })) (inl top_is) refl), omega (arith, same))
   begin_args (args_are.Transit region goal_is.Assign to) fresh last report = (6, at_moves J pid.0 (node _) 6 region refl refl refl (start_transit J pid.0 (node _) region 0 refl last (λ e. top_is) (λ e. omega (arith, e)) (λ e. omega (arith, e))), omega arith)
   begin_args (args_are.Transit region goal_is.Unassign to) fresh last report = (5, at_moves J pid.0 (node _) 5 region refl refl refl (start_transit J pid.0 (node _) region 3 refl last (λ e. top_is) (λ e. omega (arith, e)) (λ e. omega (arith, e))), omega arith)
   begin_args (args_are.Transit region goal_is.Move to) fresh last report = absurd fresh
@@ -284,7 +284,7 @@ fresh_stays : (entry : Entry) (J : Past) → IsLegal (entry ∷ J) → (r : ℕ)
 fresh_stays entry J legal r top going later last (inl fresh, at_top) = (inl fresh, at_top)
 fresh_stays entry J legal r top going later last (inr crash, at_top) =
     let few = is_there J (grown_all J legal.0) r top going.is_top in
-    (inr (crash.0, crash.1, dead_stays entry J legal crash.0 crash.2, crash.3, crash.4 ∙ sym (lost_same entry J r few), within_stays entry J legal r top crash.0 going.is_top crash.1 crash.3 crash.5), at_top)
+    (inr (crash.0, crash.1, dead_stays entry J legal crash.0 crash.2, crash.3, crash.4 ∙ sym (lost_same entry J r few), within_stays entry J legal crash.0 crash.2 crash.3 crash.5), at_top)
 
 begins_priced : (pid : Pid) (pick : Option Server) (out : StepOut) (J : Past) → IsLegal (entry_is.Step pid pick out ∷ J) → (top : Node) → Going J pid.0 top → last_answer J pid.0 ≡ None → Fresh J pid.0 top → (budget : ℕ) × At J pid.0 top budget × (1 + budget ≤ cost (entry_is.Step pid pick out ∷ J) pid.0 top.args)
 begins_priced pid pick out J legal top going last (inl fresh, at_top) =
@@ -307,7 +307,7 @@ priced = record {
   costs = cost_same;
   steps = steps_priced;
   reports = reports_priced;
-  stays = λ entry J legal r top going later all q x is of spares begun budget at. all_stays entry J legal r top going later q x is of spares budget at;
+  stays = λ entry J legal r top going later all q x is of spares begun budget at. all_stays entry J legal r top going later begun all q x is of spares budget at;
 }
 
 pub cost_bound_is : CostBound

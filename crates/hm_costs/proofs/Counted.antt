@@ -177,7 +177,7 @@ same_region_row true table region test None one other same = same
 same_region_row true table region test (Some row) one other same = ap (keep_region table test (key_is.Region region) row) same
 
 -- the regions among the rows of a table are those among the rows of its regions
-among_same : (table : TableName) (test : CatRow → Bool) (there : Catalog) (keys : List CatKey) → regions_among table test (rows_at (is_over (resource_is.Table table)) there keys) ≡ regions_among table test (rows_at (is_region_in table (λ id. true)) there keys)
+pub among_same : (table : TableName) (test : CatRow → Bool) (there : Catalog) (keys : List CatKey) → regions_among table test (rows_at (is_over (resource_is.Table table)) there keys) ≡ regions_among table test (rows_at (is_region_in table (λ id. true)) there keys)
 among_same table test there [] = refl
 among_same table test there (key_is.Ns ns ∷ keys) = among_same table test there keys
 among_same table test there (key_is.Table other ∷ keys) = no_region (same_table table other) table other test (there (key_is.Table other)) (rows_at (is_over (resource_is.Table table)) there keys) ∙ among_same table test there keys

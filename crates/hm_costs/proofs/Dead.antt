@@ -37,7 +37,7 @@ use Rattle.hm_model.proofs.UndoMakes.{undo_of}
 use Rattle.hm_costs.proofs.At.{IsFreshArgs}
 use Rattle.hm_costs.proofs.CallPaid.{exact_row_is}
 use Rattle.hm_costs.proofs.Live.{FencedDead, FencersDead, IsDead, dead_stays, down_dead, fence_in, fenced_step}
-use Rattle.hm_costs.proofs.Spend.{AreChildren, IsChild, act_spent, is_child_at}
+use Rattle.hm_costs.proofs.Spend.{AreChildren, IsChild, IsChildGoal, act_spent, is_child_at}
 use Rattle.std.proofs.Common.{is_some, nat_lt}
 use Rattle.std.proofs.lemmas.Bool.{lt-ltb}
 use Rattle.hm_data.specs.declared.sheet.Row.{Row}
@@ -45,13 +45,25 @@ use Rattle.hm_data.specs.declared.step.StepIn.{StepIn}
 use Rattle.hm_model.proofs.StepDoes.{bears_by}
 
 -- what undos make: transits that assign, and sweeps
+abbrev pub IsFollower : Args → Type 0
+IsFollower (args_are.Transit region goal to) = IsChildGoal goal
+IsFollower (args_are.SweepLayout root) = Unit {0}
+IsFollower args = ⊥
+
+-- so are some of the roots that are made
+pub follows_fresh : (args : Args) → IsFollower args → IsFreshArgs args
+follows_fresh (args_are.Transit region goal to) is = is
+follows_fresh (args_are.SweepLayout root) is = tt
+follows_fresh args is = absurd is
+
+-- all are such
 abbrev pub AllFresh : List Args → Type 0
 AllFresh [] = Unit {0}
-AllFresh (args ∷ more) = IsFreshArgs args × AllFresh more
+AllFresh (args ∷ more) = IsFollower args × AllFresh more
 
-fresh_at : (list : List Args) → AllFresh list → (i : ℕ) (args : Args) → slice_get list i ≡ Some args → IsFreshArgs args
+fresh_at : (list : List Args) → AllFresh list → (i : ℕ) (args : Args) → slice_get list i ≡ Some args → IsFollower args
 fresh_at [] all i args is = absurd (none-some args is)
-fresh_at (first ∷ more) all zero args is = subst IsFreshArgs (same_Some first args is) all.0
+fresh_at (first ∷ more) all zero args is = subst IsFollower (same_Some first args is) all.0
 fresh_at (first ∷ more) all (suc i) args is = fresh_at more all.1 i args is
 
 fresh_ids : (table : TableName) (ids : List ℕ) (more : List Args) → AllFresh more → AllFresh (map (λ id. args_are.Transit (record { table = table; id = id }) goal_is.Assign None) ids ++ more)
@@ -69,8 +81,8 @@ fresh_followers back_is.Sweep args root = (tt, tt)
 fresh_followers back_is.Reopen args root = fresh_batches (batches (in_name_order (closed_by args)))
 
 -- a follower of an undo
-pub follower_fresh : (pid : Pid) (row : ℕ) (out : StepOut) (J : Past) → IsLegal (entry_is.Undo pid row out ∷ J) → (q : ℕ) (x : Node) → node_of J q ≡ None → node_of (entry_is.Undo pid row out ∷ J) q ≡ Some x → IsFreshArgs x.args
-follower_fresh pid row out J legal q x none is =
+pub follower_is : (pid : Pid) (row : ℕ) (out : StepOut) (J : Past) → IsLegal (entry_is.Undo pid row out ∷ J) → (q : ℕ) (x : Node) → node_of J q ≡ None → node_of (entry_is.Undo pid row out ∷ J) q ≡ Some x → IsFollower x.args
+follower_is pid row out J legal q x none is =
     let u = undo_of pid row out J legal in
     let rooted = undo_rooted pid row out J (grown_all J legal.0) in
     elim (le_or_lt q (made J)) [
@@ -78,9 +90,13 @@ follower_fresh pid row out J legal q x none is =
       | inr lt ↦ by (slice_get (args_in out.followers) (q - made J - 1)) refl (sym (cond-true (nat_lt (made J) q) (option_map (λ args. root_node q args 1) (slice_get (args_in out.followers) (q - made J - 1))) (node_of J q) (lt-ltb (made J) q lt)) ∙ is) (subst (λ (o : StepOut). AllFresh (args_in o.followers)) (sym u.out_is) (fresh_followers u.undo u.args u.root))
     ]
   where
-    by : (o : Option Args) → slice_get (args_in out.followers) (q - made J - 1) ≡ o → option_map (λ args. root_node q args 1) o ≡ Some x → AllFresh (args_in out.followers) → IsFreshArgs x.args
+    by : (o : Option Args) → slice_get (args_in out.followers) (q - made J - 1) ≡ o → option_map (λ args. root_node q args 1) o ≡ Some x → AllFresh (args_in out.followers) → IsFollower x.args
     by None e m all = absurd (none-some x m)
-    by (Some args) e m all = subst (λ (n : Node). IsFreshArgs n.args) (same_Some (root_node q args 1) x m) (fresh_at (args_in out.followers) all (q - made J - 1) args e)
+    by (Some args) e m all = subst (λ (n : Node). IsFollower n.args) (same_Some (root_node q args 1) x m) (fresh_at (args_in out.followers) all (q - made J - 1) args e)
+
+-- so it is one of the roots that are made
+pub follower_fresh : (pid : Pid) (row : ℕ) (out : StepOut) (J : Past) → IsLegal (entry_is.Undo pid row out ∷ J) → (q : ℕ) (x : Node) → node_of J q ≡ None → node_of (entry_is.Undo pid row out ∷ J) q ≡ Some x → IsFreshArgs x.args
+follower_fresh pid row out J legal q x none is = follows_fresh x.args (follower_is pid row out J legal q x none is)
 
 fresh_unfenced : (args : Args) (server : Server) → IsFreshArgs args → fence_in args ≡ Some server → ⊥
 fresh_unfenced (args_are.Root request first) server fresh f = none-some server f
@@ -107,7 +123,7 @@ caller_unfenced (args_are.AssignCall region own) server h f = none-some server f
 caller_unfenced (args_are.CloseCall region own) server h f = none-some server f
 caller_unfenced args server h f = absurd (false≢true h)
 
-plain_children : (row : Row) (at : StepIn) → is_plain row.act ≡ true → AreChildren at.args (args_in (row_answer row at).children)
+pub plain_children : (row : Row) (at : StepIn) → is_plain row.act ≡ true → AreChildren at.args (args_in (row_answer row at).children)
 plain_children row at plain = row_by (λ o. AreChildren at.args (args_in o.children)) row at (λ c. tt) (act_spent row.act plain row.next at).children
 
 made_fences : (pid : Pid) (pick : Option Server) (out : StepOut) (J : Past) (legal : IsLegal (entry_is.Step pid pick out ∷ J)) (step : StepFacts J pid.0 pick out) → Does J pid.0 step.node.args (last_answer J pid.0) step.sheet.rows out → (i : ℕ) (args : Args) → slice_get (args_in out.children) i ≡ Some args → (server : Server) → fence_in args ≡ Some server → fence_in step.node.args ≡ Some server

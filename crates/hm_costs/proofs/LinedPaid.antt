@@ -35,7 +35,7 @@ use Rattle.hm_data.specs.declared.call.Told.TheVariants as told_is
 use Rattle.hm_data.specs.declared.answer.Cause.{Cause}
 use Rattle.hm_data.specs.declared.catalog.CatKey.TheVariants as key_is
 use Rattle.hm_data.specs.declared.catalog.TableState.TheVariants as state_is
-use Rattle.hm_costs.proofs.RowsStay.{counts_stay}
+use Rattle.hm_costs.proofs.RowsStay.{own_counts_stay}
 use Rattle.hm_costs.proofs.At.{Counting, CountsNow, IsIdle, counts_soon, goes_at_once}
 use Rattle.hm_model.specs.Rules.{IsLegal}
 use Rattle.hm_model.specs.Sheets.{sheet_for, sheets_of}
@@ -185,7 +185,7 @@ module _ (pid : Pid) (pick : Option Server) (out : StepOut) (J : Past) (legal : 
         let once : goes_at_once line.act ≡ true = elim (or_cases (not (reading me.args lines)) (goes_at_once line.act) p.0) [ inl off ↦ absurd (false≢true (sym (ap not on) ∙ off)) | inr now ↦ now ] in
         let last = answer_now pid pick out J in
         let idle = subst IsIdle (sym last) (at_once line_step.row.act (ap goes_at_once act ∙ once) line_step.row.next sees out says (ap is_stopped (sym last) ∙ runs)) in
-        inr (record { counter = c.counter; idle = idle; soon = p.1; counted = counts_stay (entry_is.Step pid pick out) J legal pid.0 me is_me c.counter c.idle n lines c.counted.1 })
+        inr (record { counter = c.counter; top = c.top; idle = idle; soon = p.1; counted = own_counts_stay pid pick out J me.args c.counter line_step.row.act (ap goes_at_once act ∙ once) line_step.row.next sees says n lines c.counted.1 })
   ]
 
   by_lines : (n : ℕ) (lines : List Line) → Leads line_step.sheet.rows (row_of J pid.0 me) lines → left me.args n lines ≤ budget → ((last_answer J pid.0 ≡ None) × (me.above ≡ [])) ⊎ (no_checks lines ≡ true) → no_checks (tail_of lines) ≡ true → (reading me.args lines ≡ false) ⊎ Counting J pid.0 me n lines → ((sheet : Sheet) → sheet_for (sheets_of J) (kind_of me.args) ≡ Some sheet → sheet ≡ line_step.sheet) → IsPaid At Fresh price pid pick out J me budget

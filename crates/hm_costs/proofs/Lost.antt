@@ -114,7 +114,7 @@ order_filter test (region ∷ more) order = subst InOrder (sym (filter_if test r
 pub at_order : (J : Past) (server : Server) → InOrder (at_server J server)
 at_order J server = order_filter (λ region. is_at server (place_of J region)) (placed J) (placed_order J)
 
-not_later : (region : Region) (list : List Region) → AllLater region list → IsIn region list → ⊥
+pub not_later : (region : Region) (list : List Region) → AllLater region list → IsIn region list → ⊥
 not_later region [] all h = elim h [ ]
 not_later region (first ∷ more) all h = elim h [
   | inl here ↦ let tied : region_cmp region first ≡ Equal = ap (region_cmp region) (sym here) ∙ tied_itself regions_total region in cc (tied, all.0)

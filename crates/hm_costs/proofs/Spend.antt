@@ -75,8 +75,8 @@ abbrev pub IsChild : Args → Args → Type 0
 IsChild up (args_are.Root request first) = ⊥
 IsChild up (args_are.Transit region goal to) = IsChildGoal goal
 IsChild up (args_are.Crash server) = ⊥
-IsChild up (args_are.AddRegions table first bounds) = Unit {0}
-IsChild up (args_are.DropRegions table ids) = Unit {0}
+IsChild up (args_are.AddRegions table first bounds) = table_of up ≡ Some table
+IsChild up (args_are.DropRegions table ids) = table_of up ≡ Some table
 IsChild up (args_are.AssignCall region server) = ⊥
 IsChild up (args_are.CloseCall region server) = ⊥
 IsChild up (args_are.FenceCall server) = server_of up ≡ Some server
@@ -178,13 +178,13 @@ transits_spent up goal ok regions =
     (t.0 ∙ ap (transits_price goal) (length_ordered regions), t.1)
 
 -- pieces of 64
-adding_one : (b : Bool) (up : Args) (table : TableName) (first : ℕ) (bounds : List (List ℕ)) (more : List Child) → AreChildren up (args_in more) → AreChildren up (args_in (cond b [] (child_is.One (args_are.AddRegions table first (take 65 bounds)) ∷ more)))
-adding_one true up table first bounds more all = tt
-adding_one false up table first bounds more all = (tt, all)
+adding_one : (b : Bool) (up : Args) (table : TableName) → table_of up ≡ Some table → (first : ℕ) (bounds : List (List ℕ)) (more : List Child) → AreChildren up (args_in more) → AreChildren up (args_in (cond b [] (child_is.One (args_are.AddRegions table first (take 65 bounds)) ∷ more)))
+adding_one true up table own first bounds more all = tt
+adding_one false up table own first bounds more all = (own, all)
 
-adding_children : (up : Args) (most : ℕ) (table : TableName) (first : ℕ) (bounds : List (List ℕ)) → AreChildren up (args_in (adding most table first bounds))
-adding_children up zero table first bounds = tt
-adding_children up (suc most) table first bounds = adding_one (nat_le (length bounds) 1) up table first bounds (adding most table (first + 64) (drop 64 bounds)) (adding_children up most table (first + 64) (drop 64 bounds))
+adding_children : (up : Args) (most : ℕ) (table : TableName) → table_of up ≡ Some table → (first : ℕ) (bounds : List (List ℕ)) → AreChildren up (args_in (adding most table first bounds))
+adding_children up zero table own first bounds = tt
+adding_children up (suc most) table own first bounds = adding_one (nat_le (length bounds) 1) up table own first bounds (adding most table (first + 64) (drop 64 bounds)) (adding_children up most table own (first + 64) (drop 64 bounds))
 
 length_drop : {A : Type 0} (n : ℕ) (list : List A) → length (drop n list) ≡ length list - n
 length_drop zero list = omega arith
@@ -206,9 +206,9 @@ adding_price (suc most) table first bounds = elim (cases_Bool (nat_le (length bo
       omega (arith, e, low, fewer, some)
 ]
 
-pieces_children : (up : Args) (table : TableName) (pieces : List (List ℕ)) → AreChildren up (args_in (map (λ piece. child_is.One (args_are.DropRegions table piece)) pieces))
-pieces_children up table [] = tt
-pieces_children up table (piece ∷ more) = (tt, pieces_children up table more)
+pieces_children : (up : Args) (table : TableName) → table_of up ≡ Some table → (pieces : List (List ℕ)) → AreChildren up (args_in (map (λ piece. child_is.One (args_are.DropRegions table piece)) pieces))
+pieces_children up table own [] = tt
+pieces_children up table own (piece ∷ more) = (own, pieces_children up table own more)
 
 pieces_price : (table : TableName) (pieces : List (List ℕ)) → total price (args_in (map (λ piece. child_is.One (args_are.DropRegions table piece)) pieces)) ≡ length pieces
 pieces_price table [] = refl
@@ -241,11 +241,15 @@ pub spawns_spent : (up : Args) (amount : ℕ) (next : ℕ) (children : List Chil
 spawns_spent up amount next [] pays all = record { pays = pays; children = tt }
 spawns_spent up amount next (child ∷ more) pays all = record { pays = pays; children = all }
 
-add_spent : (up : Args) (bounds : Option (List (List ℕ))) (next : ℕ) (table : TableName) → IsSpent up (1 + pieces_in bounds) (given bounds next (λ bounds. spawns next (adding (length bounds) table (first_id_of up) bounds)))
-add_spent up None next table = none_spent up 1 (omega arith) (gives (on_to next) []) refl
-add_spent up (Some bounds) next table =
+add_spent : (up : Args) (bounds : Option (List (List ℕ))) (next : ℕ) (table : TableName) → table_of up ≡ Some table → IsSpent up (1 + pieces_in bounds) (given bounds next (λ bounds. spawns next (adding (length bounds) table (first_id_of up) bounds)))
+add_spent up None next table own = none_spent up 1 (omega arith) (gives (on_to next) []) refl
+add_spent up (Some bounds) next table own =
     spawns_spent up (1 + by_64s (length bounds - 1)) next (adding (length bounds) table (first_id_of up) bounds)
-    (let low = adding_price (length bounds) table (first_id_of up) bounds in omega (arith, low)) (adding_children up (length bounds) table (first_id_of up) bounds)
+    (let low = adding_price (length bounds) table (first_id_of up) bounds in omega (arith, low)) (adding_children up (length bounds) table own (first_id_of up) bounds)
+
+adds_spent : (up : Args) (table : Option TableName) → table_of up ≡ table → (next : ℕ) → IsSpent up (1 + pieces_in (bounds_of up)) (given table next (λ table. given (bounds_of up) next (λ bounds. spawns next (adding (length bounds) table (first_id_of up) bounds))))
+adds_spent up None own next = none_spent up (1 + pieces_in (bounds_of up)) (omega arith) (gives (on_to next) []) refl
+adds_spent up (Some table) own next = add_spent up (bounds_of up) next table own
 
 length_numbers : (first count : ℕ) → length (numbers_from first count) ≡ count
 length_numbers first zero = refl
@@ -279,13 +283,13 @@ length_map : {A B : Type 0} (f : A → B) (list : List A) → length (map f list
 length_map f [] = refl
 length_map f (x ∷ list) = let on = length_map f list in omega (arith, on)
 
-drop_spent : (up : Args) (table : Option TableName) (next : ℕ) (rows : Rows) → IsSpent up (spend act_is.DropRegions up (rows_counted act_is.DropRegions table rows)) (given table next (λ table. spawns next (dropping table (map (λ region. region.id) (all_among table rows)))))
-drop_spent up None next rows = none_spent up (1 + by_64s 0) (omega arith) (gives (on_to next) []) refl
-drop_spent up (Some table) next rows =
+drop_spent : (up : Args) (table : Option TableName) → table_of up ≡ table → (next : ℕ) (rows : Rows) → IsSpent up (spend act_is.DropRegions up (rows_counted act_is.DropRegions table rows)) (given table next (λ table. spawns next (dropping table (map (λ region. region.id) (all_among table rows)))))
+drop_spent up None own next rows = none_spent up (1 + by_64s 0) (omega arith) (gives (on_to next) []) refl
+drop_spent up (Some table) own next rows =
     let sum = pieces_price table (by_64 (map (λ (region : Region). region.id) (all_among table rows))) in
     let few = pieces_many (length (map (λ (region : Region). region.id) (all_among table rows))) (map (λ (region : Region). region.id) (all_among table rows)) in
     let count = length_map (λ (region : Region). region.id) (all_among table rows) in
-    spawns_spent up (1 + by_64s (length (all_among table rows))) next (dropping table (map (λ region. region.id) (all_among table rows))) (omega (arith, sum, few, count)) (pieces_children up table (by_64 (map (λ region. region.id) (all_among table rows))))
+    spawns_spent up (1 + by_64s (length (all_among table rows))) next (dropping table (map (λ region. region.id) (all_among table rows))) (omega (arith, sum, few, count)) (pieces_children up table own (by_64 (map (λ region. region.id) (all_among table rows))))
 
 parents_spent : (up : Args) (next : ℕ) → IsSpent up (1 + 5 * length (closed_by up)) (spawns next (transits goal_is.Unassign (closed_by up)))
 parents_spent up next =
@@ -322,12 +326,12 @@ act_spent act_is.DropNamespace h next at = given_spent at.args 1 (omega arith) (
 act_spent act_is.CheckTableFree h next at = given_spent at.args 1 (omega arith) (table_of at.args) next (λ table. checked next (table_free (row_at at.rows (key_is.Ns table.ns)) (row_at at.rows (key_is.Table table)))) (λ table. check_spent at.args 1 (omega arith) next (table_free (row_at at.rows (key_is.Ns table.ns)) (row_at at.rows (key_is.Table table))))
 act_spent act_is.AddTable h next at = given_spent at.args 1 (omega arith) (table_of at.args) next (λ table. edits_rows next (set_to (row_at at.rows) (key_is.Table table) (Some (row_is.Table state_is.Disabled 1)) ∷ [])) (λ table. none_spent at.args 1 (omega arith) _ refl)
 act_spent act_is.Layout h next at = record { pays = omega arith; children = (tt, tt) }
-act_spent act_is.AddRegions h next at = given_spent at.args (1 + pieces_in (bounds_of at.args)) (omega arith) (table_of at.args) next (λ table. given (bounds_of at.args) next (λ bounds. spawns next (adding (length bounds) table (first_id_of at.args) bounds))) (λ table. add_spent at.args (bounds_of at.args) next table)
+act_spent act_is.AddRegions h next at = adds_spent at.args (table_of at.args) refl next
 act_spent act_is.SetEnabling h next at = given_spent at.args 1 (omega arith) (table_of at.args) next (λ table. edits_rows next (changed (row_at at.rows) (key_is.Table table) (in_state state_is.Enabling) ∷ [])) (λ table. none_spent at.args 1 (omega arith) _ refl)
 act_spent act_is.OpenRegions h next at = open_spent at.args (table_of at.args) next at.rows
 act_spent act_is.SetEnabled h next at = given_spent at.args 1 (omega arith) (table_of at.args) next (λ table. edits_rows next (changed (row_at at.rows) (key_is.Table table) (in_state state_is.Enabled) ∷ [])) (λ table. none_spent at.args 1 (omega arith) _ refl)
 act_spent act_is.CheckTableDisabled h next at = given_spent at.args 1 (omega arith) (table_of at.args) next (λ table. checked next (table_disabled (row_at at.rows (key_is.Table table)))) (λ table. check_spent at.args 1 (omega arith) next (table_disabled (row_at at.rows (key_is.Table table))))
-act_spent act_is.DropRegions h next at = drop_spent at.args (table_of at.args) next at.rows
+act_spent act_is.DropRegions h next at = drop_spent at.args (table_of at.args) refl next at.rows
 act_spent act_is.DropTable h next at = given_spent at.args 1 (omega arith) (table_of at.args) next (λ table. edits_rows next (set_to (row_at at.rows) (key_is.Table table) None ∷ [])) (λ table. none_spent at.args 1 (omega arith) _ refl)
 act_spent act_is.CheckTableEnabled h next at = given_spent at.args 1 (omega arith) (table_of at.args) next (λ table. checked next (table_enabled (row_at at.rows (key_is.Table table)))) (λ table. check_spent at.args 1 (omega arith) next (table_enabled (row_at at.rows (key_is.Table table))))
 act_spent act_is.SetDisabling h next at = given_spent at.args 1 (omega arith) (table_of at.args) next (λ table. edits_rows next (changed (row_at at.rows) (key_is.Table table) (in_state state_is.Disabling) ∷ [])) (λ table. none_spent at.args 1 (omega arith) _ refl)

@@ -1,13 +1,13 @@
 -- What a procedure may still cost stays, whatever others of the tree, and other trees, do.
 use Rattle.hm_model.specs.Fleet.{is_fenced}
 use Rattle.hm_model.specs.Whereabouts.{crashed_in}
-use Rattle.hm_costs.proofs.At.{CrashAt, crash_is}
-use Rattle.hm_costs.proofs.Live.{dead_stays}
+use Rattle.hm_costs.proofs.At.{CrashAt}
+use Rattle.hm_costs.proofs.Live.{IsDead, dead_stays}
 use Rattle.hm_costs.proofs.Lost.{CrashDue, Moving}
 use Rattle.hm_costs.proofs.RegionsLeave.{covered_stays, within_stays}
-use Rattle.std.proofs.Common.{◌≡◌, ◌≢◌, ℕ, List, [], ◌∷◌, true, false, ◌==◌, cond, Option, Some, None, refl, ap, sym, ◌∙◌, subst, arith, inl, inr, ◌⊎◌}
-use Rattle.std.proofs.lemmas.Bool.{cases_Bool, cond-false, false≢true, ne_eqb, or_right, true≢false}
-use Rattle.std.proofs.lemmas.Option.{none-some}
+use Rattle.std.proofs.Common.{◌≡◌, ◌≢◌, ℕ, List, ◌∷◌, true, ◌==◌, Option, Some, None, refl, ap, sym, ◌∙◌, subst, arith, inl, inr, ◌⊎◌}
+use Rattle.std.proofs.lemmas.Bool.{cond-false, ne_eqb, or_right, true≢false}
+use Rattle.std.proofs.lemmas.Option.{none-some, same_Some}
 use Rattle.hm_names.specs.Region.{Region}
 use Rattle.hm_names.specs.Server.{Server}
 use Rattle.hm_data.specs.declared.answer.Answer.{Answer}
@@ -17,34 +17,25 @@ use Rattle.hm_data.specs.declared.args.Args.TheVariants as args_are
 use Rattle.hm_data.specs.declared.entry.Entry.{Entry}
 use Rattle.hm_data.specs.declared.entry.Entry.TheVariants as entry_is
 use Rattle.hm_data.specs.declared.place.Place.{Place}
-use Rattle.hm_model.specs.Answers.{is_stopped, last_answer, no_row, report_of, row_after, row_of}
+use Rattle.hm_model.specs.Answers.{is_stopped, last_answer, report_of, row_after, row_of}
 use Rattle.hm_model.specs.Fleet.{is_live, same_server}
-use Rattle.hm_model.specs.Holding.{HoldsWith}
 use Rattle.hm_model.specs.Inputs.{made_at_step}
 use Rattle.hm_model.specs.Journal.{Past}
-use Rattle.hm_model.specs.Keys.{same_region}
 use Rattle.hm_model.specs.Kinds.{first_row_of, kind_of}
-use Rattle.hm_model.specs.Phase.{ended, ended_node, root_ended}
-use Rattle.hm_model.specs.Places.{place_of, placed_by, region_if}
-use Rattle.hm_model.specs.Reports.{is_the_region}
 use Rattle.hm_model.specs.Rules.{IsLegal}
 use Rattle.hm_model.specs.Sheets.{sheet_for, sheets_of}
-use Rattle.hm_model.specs.Tree.{Node, is_top, node_of}
+use Rattle.hm_model.specs.Tree.{Node, node_of}
 use Rattle.hm_model.specs.Whereabouts.{moved_by}
 use Rattle.hm_model.proofs.Grown.{nodes_stay}
-use Rattle.hm_model.proofs.KeyTests.{same_region-is}
-use Rattle.hm_model.proofs.StepDoes.{Does}
-use Rattle.hm_model.proofs.LegalSteps.{StepFacts}
 use Rattle.hm_model.proofs.ValidSheets.{Leads}
-use Rattle.hm_model.proofs.Trees.{does_of, grown_all, other_answer, other_steps, step_of}
-use Rattle.hm_costs.proofs.At.{At, CallAt, CallGoes, Lined, OpensAt, TransitAt, call_due, due_at}
+use Rattle.hm_model.proofs.Trees.{grown_all, other_answer, other_steps}
+use Rattle.hm_costs.proofs.Tops.{ended_top}
+use Rattle.hm_costs.proofs.At.{AllCounted, At, CallAt, Counting, Fresh, CallGoes, Lined, OpensAt, TransitAt, call_due, due_at}
 use Rattle.hm_costs.proofs.RowsStay.{counts_stay}
 use Rattle.hm_costs.proofs.At.{IsIdle}
-use Rattle.hm_costs.proofs.Free.{step_free, transits_conflict}
-use Rattle.hm_costs.proofs.Prices.{Going, Spares}
-use Rattle.hm_costs.proofs.TransitPaid.{is_moving}
-use Rattle.hm_data.specs.declared.place.Goal.TheVariants as goal_is
-use Rattle.hm_data.specs.declared.request.Request.TheVariants as request_is
+use Rattle.hm_costs.proofs.Opening.{opens_holds, place_stays}
+use Rattle.hm_costs.proofs.Prices.{AllAt, Going, Spares}
+use Rattle.hm_costs.proofs.Spend.{price}
 use Rattle.hm_model.specs.Wanted.{goal_in}
 
 spared_last : (entry : Entry) (J : Past) (q : ℕ) → Spares entry q → last_answer (entry ∷ J) q ≡ last_answer J q
@@ -88,9 +79,6 @@ sheets_stay (entry_is.Up server) J legal q x is = refl
 sheets_stay (entry_is.Down server) J legal q x is = refl
 sheets_stay (entry_is.Abort pid) J legal q x is = refl
 
-ended_top : (J : Past) (r : ℕ) (top : Node) → node_of J r ≡ Some top → top.above ≡ [] → ended J r ≡ root_ended J r
-ended_top J r top is at_top = ap (ended_node J r) is ∙ ap (λ a. cond (is_top a) (root_ended J r) (is_stopped (last_answer J r))) at_top
-
 pub fenced_stays : (entry : Entry) (J : Past) (server : Server) → is_fenced J server ≡ true → is_fenced (entry ∷ J) server ≡ true
 fenced_stays (entry_is.Start sheets) J server fenced = fenced
 fenced_stays (entry_is.Submit nonce request) J server fenced = fenced
@@ -113,97 +101,15 @@ live_stays (entry_is.Down other) J r top going later server live =
     absurd (true≢false (sym (later.quiet.1 (λ none. none-some top (sym none ∙ going.is_top))) ∙ ended_top J r top going.is_top going.at_top ∙ going.unended))
 live_stays (entry_is.Abort pid) J r top going later server live = live
 
--- the place of a region stays where a transit of it holds, and doesn't step
-place_stays : (entry : Entry) (J : Past) → IsLegal (entry ∷ J) → (q : ℕ) (x : Node) (region : Region) → node_of J q ≡ Some x → moved_by x.args ≡ Some region → HoldsWith J [] q → Spares entry q → place_of (entry ∷ J) region ≡ place_of J region
-place_stays (entry_is.Start sheets) J legal q x region is m holds spares = refl
-place_stays (entry_is.Submit nonce request) J legal q x region is m holds spares = refl
-place_stays (entry_is.Step pid pick out) J legal q x region is m holds spares =
-    let g = grown_all J legal.0 in
-    let step = step_of pid pick out J g legal in
-    let does = does_of pid pick out J g step in
-    by step does (moved_by step.node.args) refl
-  where
-    unplaced : (o : Option Place) → out.place ≡ o → o ≡ None → placed_by region (region_if (node_of J pid.0)) out.place (place_of J region) ≡ place_of J region
-    unplaced o e none = ap (λ p. placed_by region (region_if (node_of J pid.0)) p (place_of J region)) (e ∙ none)
-
-    other : (o : Option Place) → is_the_region region (region_if (node_of J pid.0)) ≡ false → placed_by region (region_if (node_of J pid.0)) o (place_of J region) ≡ place_of J region
-    other None off = refl
-    other (Some place) off = cond-false (is_the_region region (region_if (node_of J pid.0))) place (place_of J region) off
-
-    by : (step : StepFacts J pid.0 pick out) → Does J pid.0 step.node.args (last_answer J pid.0) step.sheet.rows out → (o : Option Region) → moved_by step.node.args ≡ o → place_of (entry_is.Step pid pick out ∷ J) region ≡ place_of J region
-    by step does None e = unplaced out.place refl (does.unplaced e)
-    by step does (Some own) e =
-        let region_is : region_if (node_of J pid.0) ≡ Some own = ap region_if step.node_is ∙ (is_moving step.node.args own e).region_is in
-        elim (cases_Bool (same_region region own)) [
-          | inr off ↦ other out.place (ap (is_the_region region) region_is ∙ off)
-          | inl on ↦
-              let same = same_region-is region own on in
-              absurd (step_free pid pick out J legal q holds (transits_conflict J (grown_all J legal.0) pid.0 q step.node x region (λ here. spares (sym here)) step.node_is (e ∙ ap Some (sym same)) is m))
-        ]
-place_stays (entry_is.Undo pid row out) J legal q x region is m holds spares = refl
-place_stays (entry_is.Report call told) J legal q x region is m holds spares = refl
-place_stays (entry_is.Up server) J legal q x region is m holds spares = refl
-place_stays (entry_is.Down server) J legal q x region is m holds spares = refl
-place_stays (entry_is.Abort pid) J legal q x region is m holds spares = refl
-
--- at row 1 or 2 it has a step that didn't end it
-stopped_row : (first : ℕ) (last : Option Answer) → is_stopped last ≡ true → row_after first last ≡ no_row
-stopped_row first None h = absurd (false≢true h)
-stopped_row first (Some (answer_is.More n)) h = absurd (false≢true h)
-stopped_row first (Some (answer_is.Wait n)) h = absurd (false≢true h)
-stopped_row first (Some (answer_is.Await n)) h = absurd (false≢true h)
-stopped_row first (Some (answer_is.Done told)) h = refl
-stopped_row first (Some (answer_is.Fail c)) h = refl
-stopped_row first (Some answer_is.Undone) h = refl
-
-first_row : (args : Args) (region : Region) → moved_by args ≡ Some region → (first_row_of args ≡ 0) ⊎ ((first_row_of args ≡ 3) ⊎ (first_row_of args ≡ 5))
-first_row (args_are.Transit region goal_is.Assign to) r m = inl refl
-first_row (args_are.Transit region goal_is.Unassign to) r m = inr (inl refl)
-first_row (args_are.Transit region goal_is.Move to) r m = inr (inr refl)
-first_row (args_are.Root (request_is.Move region to) first) r m = inr (inr refl)
-first_row (args_are.Root request first) r m = absurd (none-some r m)
-first_row args r m = absurd (none-some r m)
-
-module _ (entry : Entry) (J : Past) (legal : IsLegal (entry ∷ J)) (r : ℕ) (top : Node) (going : Going J r top) (later : Going (entry ∷ J) r top) (q : ℕ) (x : Node) (is : node_of J q ≡ Some x) (of : x.root ≡ r) (spares : Spares entry q) where
+module _ (entry : Entry) (J : Past) (legal : IsLegal (entry ∷ J)) (r : ℕ) (top : Node) (going : Going J r top) (later : Going (entry ∷ J) r top) (stepped : last_answer J r ≢ None) (all : AllAt At Fresh price J r) (q : ℕ) (x : Node) (is : node_of J q ≡ Some x) (of : x.root ≡ r) (spares : Spares entry q) where
   last_stays : last_answer (entry ∷ J) q ≡ last_answer J q
   last_stays = spared_last entry J q spares
 
   row_stays : row_of (entry ∷ J) q x ≡ row_of J q x
   row_stays = ap (row_after (first_row_of x.args)) last_stays
 
-  -- a transit at row 1 or 2 holds
-  holds_at : (region : Region) → moved_by x.args ≡ Some region → (row_of J q x ≡ 1) ⊎ (row_of J q x ≡ 2) → HoldsWith J [] q
-  holds_at region m at = (
-    λ none. none-some x (sym none ∙ is),
-    by x.above refl,
-    inl begun,
-  )
-    where
-      runs : is_stopped (last_answer J q) ≡ false
-      runs = elim (cases_Bool (is_stopped (last_answer J q))) [
-        | inr off ↦ off
-        | inl on ↦ let row = stopped_row (first_row_of x.args) (last_answer J q) on in elim at [ inl one ↦ absurd (omega (arith, row, one)) | inr two ↦ absurd (omega (arith, row, two)) ]
-      ]
-
-      begun : last_answer J q ≢ None
-      begun none =
-          let row : row_of J q x ≡ first_row_of x.args = ap (row_after (first_row_of x.args)) none in
-          elim (first_row x.args region m) [
-            | inl zero ↦ elim at [ inl one ↦ omega (arith, row, zero, one) | inr two ↦ omega (arith, row, zero, two) ]
-            | inr more ↦ elim more [
-              | inl three ↦ elim at [ inl one ↦ omega (arith, row, three, one) | inr two ↦ omega (arith, row, three, two) ]
-              | inr five ↦ elim at [ inl one ↦ omega (arith, row, five, one) | inr two ↦ omega (arith, row, five, two) ]
-            ]
-          ]
-
-      by : (above : List ℕ) → x.above ≡ above → ended J q ≡ false
-      by [] e =
-          let here : q ≡ r = sym ((grown_all J legal.0).tops q x is e) ∙ of in
-          ap (ended J) here ∙ ended_top J r top going.is_top going.at_top ∙ going.unended
-      by (u ∷ rest) e = ap (ended_node J q) is ∙ ap (λ a. cond (is_top a) (root_ended J q) (is_stopped (last_answer J q))) e ∙ runs
-
   opens_stays : (region : Region) → moved_by x.args ≡ Some region → (row_of J q x ≡ 1) ⊎ (row_of J q x ≡ 2) → OpensAt J region → OpensAt (entry ∷ J) region
-  opens_stays region m at o = (o.0, ap (λ (p : Place). p.server) (place_stays entry J legal q x region is m (holds_at region m at) spares) ∙ o.1, live_stays entry J r top going later o.0 o.2)
+  opens_stays region m at o = (o.0, ap (λ (p : Place). p.server) (place_stays entry J legal q x region is m (opens_holds J legal.0 q x region is m at) spares) ∙ o.1, live_stays entry J r top going later o.0 o.2)
 
   transit_stays : (budget : ℕ) (region : Region) → moved_by x.args ≡ Some region → TransitAt J q x region budget → TransitAt (entry ∷ J) q x region budget
   transit_stays budget region m at = record {
@@ -249,13 +155,20 @@ module _ (entry : Entry) (J : Past) (legal : IsLegal (entry ∷ J)) (r : ℕ) (t
     later = at.later;
     known = elim at.known [
       | inl off ↦ inl off
-      | inr c ↦ inr (record { counter = c.counter; idle = subst IsIdle (sym last_stays) c.idle; soon = c.soon; counted = counts_stay entry J legal q x is c.counter c.idle at.n at.lines c.counted })
+      | inr c ↦ inr (record { counter = c.counter; top = c.top; idle = subst IsIdle (sym last_stays) c.idle; soon = c.soon; counted = counted_stay c })
     ];
   }
+    where
+      counted_stay : Counting J q x at.n at.lines → AllCounted (entry ∷ J) x.args at.n at.lines
+      counted_stay c =
+          let here : q ≡ r = sym ((grown_all J legal.0).tops q x is c.top) ∙ of in
+          let one : top ≡ x = same_Some top x (sym going.is_top ∙ ap (node_of J) (sym here) ∙ is) in
+          let own : Going J q x = subst (Going J q) one (subst (λ k. Going J k top) (sym here) going) in
+          counts_stay J q x own (λ none. stepped (ap (last_answer J) (sym here) ∙ none)) c.counter c.idle entry legal spares at.n at.lines c.counted
 
-  moving_stays : (server : Server) (rest : List Region) → x.args ≡ args_are.Crash server → Moving J q x server rest → Moving (entry ∷ J) q x server rest
-  moving_stays server rest c (inl fencing) = inl (within_stays entry J legal q x server is c rest fencing.0, fencing.1, nodes_stay entry J legal fencing.1 _ fencing.2)
-  moving_stays server rest c (inr moving) = inr (fenced_stays entry J server moving.0, covered_stays entry J legal q x server is c rest moving.0 moving.1)
+  moving_stays : (server : Server) (rest : List Region) → IsDead J server → Moving J q x server rest → Moving (entry ∷ J) q x server rest
+  moving_stays server rest dead (inl fencing) = inl (within_stays entry J legal server dead rest fencing.0, fencing.1, nodes_stay entry J legal fencing.1 _ fencing.2)
+  moving_stays server rest dead (inr moving) = inr (fenced_stays entry J server moving.0, covered_stays J r all q x of server dead moving.0 rest entry legal moving.1)
 
   crash_stays : (budget : ℕ) (server : Server) → crashed_in x.args ≡ Some server → CrashAt J q x server budget → CrashAt (entry ∷ J) q x server budget
   crash_stays budget server c at = record {
@@ -264,9 +177,9 @@ module _ (entry : Entry) (J : Past) (legal : IsLegal (entry ∷ J)) (r : ℕ) (t
   }
     where
       by : (last : Option Answer) → CrashDue J q x server budget last → CrashDue (entry ∷ J) q x server budget last
-      by None d = (d.0, d.1, within_stays entry J legal q x server is (crash_is x.args server c) d.0 d.2)
+      by None d = (d.0, d.1, within_stays entry J legal server at.dead d.0 d.2)
       by (Some (answer_is.More n)) d = d
-      by (Some (answer_is.Wait n)) d = (d.0, d.1, d.2, moving_stays server d.1 (crash_is x.args server c) d.3)
+      by (Some (answer_is.Wait n)) d = (d.0, d.1, d.2, moving_stays server d.1 at.dead d.3)
       by (Some (answer_is.Await n)) d = d
       by (Some (answer_is.Done told)) d = d
       by (Some (answer_is.Fail k)) d = d

@@ -1,13 +1,12 @@
 -- Steps of transits are paid for.
 use Rattle.hm_model.proofs.Grown.{grown_all as made_all}
-use Rattle.std.proofs.Common.{◌≡◌, ◌≢◌, ℕ, zero, suc, ◌+◌, ◌-◌, ◌<◌, ◌≤◌, List, [], ◌∷◌, ◌++◌, Bool, true, false, not, ◌&&◌, Option, Some, None, refl, ap, sym, ◌∙◌, subst, arith, inl, inr, ◌⊎◌, slice_get, cond, nat_lt}
+use Rattle.std.proofs.Common.{◌≡◌, ◌≢◌, ℕ, zero, suc, ◌+◌, ◌-◌, ◌<◌, ◌≤◌, List, [], ◌∷◌, ◌++◌, Bool, true, false, Option, Some, None, refl, ap, sym, ◌∙◌, subst, arith, inl, inr, ◌⊎◌, slice_get, cond, nat_lt}
 use Rattle.std.specs.List.{list_any}
-use Rattle.std.proofs.lemmas.Bool.{and_from, and_left, and_parts, and_right, cases_eq, cond-false, cond-true, eq-eqb, false≢true, lt-ltb, or_cases, or_left, or_right, true≢false}
+use Rattle.std.proofs.lemmas.Bool.{and_from, cases_eq, cond-true, eq-eqb, false≢true, lt-ltb, or_cases, or_left, or_right, true≢false}
 use Rattle.std.proofs.lemmas.Option.{none-some, same_Some}
 use Rattle.hm_names.specs.Region.{Region}
 use Rattle.hm_names.specs.Server.{Server}
 use Rattle.hm_names.specs.declared.pid.Pid.{Pid}
-use Rattle.hm_data.specs.declared.act.Act.TheVariants as act_is
 use Rattle.hm_data.specs.declared.answer.Answer.{Answer}
 use Rattle.hm_data.specs.declared.answer.Answer.TheVariants as answer_is
 use Rattle.hm_data.specs.declared.answer.Cause.{Cause}
@@ -19,50 +18,35 @@ use Rattle.hm_data.specs.declared.args.Child.TheVariants as child_is
 use Rattle.hm_data.specs.declared.call.Told.{Told}
 use Rattle.hm_data.specs.declared.call.Told.TheVariants as told_is
 use Rattle.hm_data.specs.declared.call.Verb.TheVariants as verb_is
-use Rattle.hm_data.specs.declared.catalog.CatKey.TheVariants as key_is
 use Rattle.hm_data.specs.declared.entry.Entry.TheVariants as entry_is
 use Rattle.hm_data.specs.declared.place.Goal.{Goal}
 use Rattle.hm_data.specs.declared.place.Goal.TheVariants as goal_is
 use Rattle.hm_data.specs.declared.place.Place.{Place}
 use Rattle.hm_data.specs.declared.place.RegionState.TheVariants as place_is
-use Rattle.hm_data.specs.declared.request.Request.TheVariants as request_is
-use Rattle.hm_data.specs.declared.sheet.Row.{Row}
-use Rattle.hm_data.specs.declared.step.StepIn.{StepIn}
 use Rattle.hm_data.specs.declared.step.StepOut.{StepOut}
-use Rattle.hm_model.specs.Acts.{act_answer}
 use Rattle.hm_model.specs.Answers.{done_with, failing, is_aborted, is_stopped, last_answer, report_of, row_after, row_of}
-use Rattle.hm_model.specs.Catalog.{row_at}
-use Rattle.hm_model.specs.Checks.{region_ready}
-use Rattle.hm_model.specs.Evaluation.{is_cut_off, picks_at, row_answer, wants_server}
 use Rattle.hm_model.specs.Fleet.{is_live}
-use Rattle.hm_model.specs.Inputs.{ends_below, input, is_new_child, made_at_step, place_if, step_input}
+use Rattle.hm_model.specs.Inputs.{ends_below, is_new_child, made_at_step}
 use Rattle.hm_model.specs.Journal.{Past}
-use Rattle.hm_model.specs.Kinds.{first_row_of, kind_of}
-use Rattle.hm_model.specs.Lists.{exact_rows, fixed}
+use Rattle.hm_model.specs.Kinds.{first_row_of}
 use Rattle.hm_model.specs.Outs.{checked, fails, given, places, spawns}
 use Rattle.hm_model.specs.Phase.{child_in, end_of}
-use Rattle.hm_model.specs.Picks.{is_pick_right}
-use Rattle.hm_model.specs.Places.{place_of, placed_by, region_if}
-use Rattle.hm_model.specs.Reports.{is_the_region}
+use Rattle.hm_model.specs.Places.{place_of}
 use Rattle.hm_model.specs.Rules.{IsLegal}
-use Rattle.hm_model.specs.TransitActs.{behind_close, candidate, close_at, close_or_go, is_open, is_told, may_open_in, opened_or_not, told_place}
+use Rattle.hm_model.specs.TransitActs.{behind_close, candidate, close_at, close_or_go, is_open, is_told, may_open_in, opened_or_not}
 use Rattle.hm_model.specs.Tree.{Node, args_in, child_of, made, node_of}
 use Rattle.hm_model.specs.Verbs.{verb_in}
-use Rattle.hm_model.specs.Views.{region_of}
 use Rattle.hm_model.specs.Wanted.{goal_in}
 use Rattle.hm_model.specs.Whereabouts.{moved_by}
-use Rattle.hm_model.proofs.KeyTests.{same_region-refl}
 use Rattle.hm_model.proofs.LegalSteps.{ReadyBy, StepFacts, ready_stops}
 use Rattle.hm_model.proofs.Trees.{Grown, answer_now, child_stopped, grown_all, is_there, node_new, other_answer, step_of, steps_now}
 use Rattle.hm_costs.proofs.At.{At, Fresh, OpensAt, TransitAt, WaitsFor, at_calls, at_moves, close_due, closed_due, due_at, start_call}
-use Rattle.hm_costs.proofs.CallPaid.{exact_row_is}
+use Rattle.hm_costs.proofs.Moves.{IsMoving, Says, answers, is_moving, picked_live, place_now, place_still, row_now as row_moved, seen}
 use Rattle.hm_costs.proofs.Prices.{AllAt, IsPaid}
 use Rattle.hm_costs.proofs.Spend.{price}
 use Rattle.hm_costs.proofs.Sums.{total}
 use Rattle.hm_data.specs.declared.call.Verb.{Verb}
 use Rattle.hm_costs.proofs.At.{CallGoes}
-use Rattle.hm_model.specs.Picks.{is_another, is_as_wanted}
-use Rattle.hm_model.specs.Wanted.{wanted_of}
 use Rattle.hm_model.specs.Outs.{ends_with}
 use Rattle.std.proofs.Common.{option_map}
 
@@ -85,18 +69,6 @@ told_child J p (suc n) c lt new last = elim (cases_eq c n) [
       any_append _ (ends_below J p n) _ (inr (ap (is_told told_is.Opened) mine))
   | inr other ↦ any_append _ (ends_below J p n) _ (inl (told_child J p n c (omega (arith, lt, other)) new last))
 ]
-
--- a transit is of kind 10, and works on its region
-pub record IsMoving (args : Args) (region : Region) : Type 0 where
-  pub region_is : region_of args ≡ Some region
-  pub kind : kind_of args ≡ 10
-  pub uncalled : verb_in args ≡ None
-
-pub is_moving : (args : Args) (region : Region) → moved_by args ≡ Some region → IsMoving args region
-is_moving (args_are.Root (request_is.Move own to) first) region m = record { region_is = m; kind = refl; uncalled = refl }
-is_moving (args_are.Transit own goal to) region m = record { region_is = m; kind = refl; uncalled = refl }
-is_moving (args_are.Root request first) region m = absurd (none-some region m)
-is_moving args region m = absurd (none-some region m)
 
 -- a new procedure has no step and no report
 pub new_unstepped : (pid : Pid) (pick : Option Server) (out : StepOut) (J : Past) → IsLegal (entry_is.Step pid pick out ∷ J) → (me : Node) → node_of J pid.0 ≡ Some me → (q : ℕ) → made J < q → (last_answer (entry_is.Step pid pick out ∷ J) q ≡ None) × (report_of (entry_is.Step pid pick out ∷ J) q ≡ None)
@@ -126,7 +98,7 @@ module _ (pid : Pid) (pick : Option Server) (out : StepOut) (J : Past) (legal : 
   move_runs = ready_stops J pid.0 move_step.node (last_answer J pid.0) move_step.ready
 
   row_now : (a : Answer) → out.answer ≡ a → row_of (entry_is.Step pid pick out ∷ J) pid.0 me ≡ row_after (first_row_of me.args) (Some a)
-  row_now a e = ap (row_after (first_row_of me.args)) (answer_now pid pick out J ∙ ap Some e)
+  row_now = row_moved pid pick out J legal me is_me region moved
 
   at_now : (rest : ℕ) → TransitAt (entry_is.Step pid pick out ∷ J) pid.0 me region rest → At (entry_is.Step pid pick out ∷ J) pid.0 me rest
   at_now rest is = at_moves (entry_is.Step pid pick out ∷ J) pid.0 me rest region moved moving.kind moving.uncalled is
@@ -194,58 +166,18 @@ module _ (pid : Pid) (pick : Option Server) (out : StepOut) (J : Past) (legal : 
           (subst (At (entry_is.Step pid pick out ∷ J) (made J + 0 + 1) (child_of pid.0 me made_args)) (sym three) (at_calls (entry_is.Step pid pick out ∷ J) (made J + 0 + 1) (child_of pid.0 me made_args) 3 verb v (start_call (entry_is.Step pid pick out ∷ J) (made J + 0 + 1) (child_of pid.0 me made_args) new.0 new.1 (goes (made J + 0 + 1) (child_of pid.0 me made_args) new.0))))
       by (suc i) args is = absurd (none-some args is)
 
-  place_now : (place : Place) → out.place ≡ Some place → place_of (entry_is.Step pid pick out ∷ J) region ≡ place
-  place_now place e =
-      ap (λ o. placed_by region (region_if (node_of J pid.0)) o (place_of J region)) e
-      ∙ cond-true (is_the_region region (region_if (node_of J pid.0))) place (place_of J region) (ap (λ n. is_the_region region (region_if n)) is_me ∙ ap (is_the_region region) moving.region_is ∙ same_region-refl region)
-
-  place_still : out.place ≡ None → place_of (entry_is.Step pid pick out ∷ J) region ≡ place_of J region
-  place_still e = ap (λ o. placed_by region (region_if (node_of J pid.0)) o (place_of J region)) e
-
-  abbrev seen : StepIn
-  seen = step_input J pid.0 me pick
-
-  place_seen : seen.place ≡ Some (place_of J region)
-  place_seen = ap (place_if J) moved
-
   due_here : (n : ℕ) → row_of J pid.0 me ≡ n → due_at (goal_in me.args) n ≤ budget
   due_here n here = let due = at.due move_runs in let same = ap (due_at (goal_in me.args)) here in omega (arith, due, same)
 
-  said_row : (row : Row) (place : ℕ) → row_of J pid.0 me ≡ place → slice_get (exact_rows 10) place ≡ Some row → (move_step.row ≡ row) × (out ≡ act_answer row.act row.next seen)
-  said_row row place here there =
-      let found = exact_row_is J pid.0 pick out move_step 10 (ap (λ (n : Node). kind_of n.args) move_is_me ∙ moving.kind) _ _ refl in
-      let same : move_step.row ≡ row = same_Some move_step.row row (sym found ∙ ap (λ (n : Node). slice_get (exact_rows 10) (row_of J pid.0 n)) move_is_me ∙ ap (slice_get (exact_rows 10)) here ∙ there) in
-      (same, move_step.out_is ∙ ap (λ n. row_answer move_step.row (step_input J pid.0 n pick)) move_is_me ∙ ap (λ w. row_answer w seen) same ∙ cond-false (is_cut_off row seen) (fails cause_is.Aborted) (act_answer row.act row.next seen) (and_left (is_aborted J pid.0) (not row.after) unaborted))
-
-  -- a server that was picked is live
-  picked_live : row_of J pid.0 me ≡ 0 → may_open_in seen.rows region ≡ true → is_open (place_of J region) seen.fenced ≡ false → (server : Server) × (pick ≡ Some server) × (is_live J server ≡ true)
-  picked_live here may unopened =
-      let row = (said_row (fixed act_is.GetAssignCandidate 1 true) 0 here refl).0 in
-      let cut : is_cut_off (fixed act_is.GetAssignCandidate 1 true) (step_input J pid.0 me None) ≡ false = and_right (is_aborted J pid.0) false refl in
-      let wants : wants_server (region_of me.args) (step_input J pid.0 me None) ≡ true =
-      ap (λ o. wants_server o (step_input J pid.0 me None)) moving.region_is
-      ∙ and_from (may_open_in seen.rows region) (not (is_open (told_place seen.place) seen.fenced)) may (ap not (ap (λ o. is_open (told_place o) seen.fenced) place_seen ∙ unopened)) in
-      let needed : picks_at (Some move_step.row) (step_input J pid.0 move_step.node None) ≡ true =
-      ap (λ n. picks_at (Some move_step.row) (step_input J pid.0 n None)) move_is_me
-      ∙ ap (λ w. picks_at (Some w) (step_input J pid.0 me None)) row
-      ∙ and_from (not (is_cut_off (fixed act_is.GetAssignCandidate 1 true) (step_input J pid.0 me None))) (wants_server (region_of me.args) (step_input J pid.0 me None)) (ap not cut) wants in
-      by pick (ap (is_pick_right J pid.0 move_step.node pick) (sym needed) ∙ move_step.right)
-    where
-      by : (o : Option Server) → is_pick_right J pid.0 move_step.node o true ≡ true → (server : Server) × (o ≡ Some server) × (is_live J server ≡ true)
-      by None right = absurd (false≢true right)
-      by (Some server) right =
-          let at = input J pid.0 move_step.node None in
-          (server, refl, (and_parts (is_live J server) (is_as_wanted J (wanted_of at.args) at.tries server && is_another J (told_place at.place) server) right).0)
-
-  candidate_paid : row_of J pid.0 me ≡ 0 → (may : Bool) → may_open_in seen.rows region ≡ may → out ≡ candidate 1 may (place_of J region) seen.fenced pick → Paid
+  candidate_paid : row_of J pid.0 me ≡ 0 → (may : Bool) → may_open_in (seen pid pick out J legal me is_me region moved).rows region ≡ may → out ≡ candidate 1 may (place_of J region) (seen pid pick out J legal me is_me region moved).fenced pick → Paid
   candidate_paid here false e is = ends_paid told_is.Nothing (ap (λ (o : StepOut). o.answer) is) (ap (λ (o : StepOut). o.children) is) (let due = due_here 0 here in omega (arith, due))
-  candidate_paid here true e is = by (is_open (place_of J region) seen.fenced) refl is
+  candidate_paid here true e is = by (is_open (place_of J region) (seen pid pick out J legal me is_me region moved).fenced) refl is
     where
-      by : (b : Bool) → is_open (place_of J region) seen.fenced ≡ b → out ≡ cond b (ends_with told_is.Nothing) (places (answer_is.More 1) (Some (record { state = place_is.Opening; server = pick }))) → Paid
+      by : (b : Bool) → is_open (place_of J region) (seen pid pick out J legal me is_me region moved).fenced ≡ b → out ≡ cond b (ends_with told_is.Nothing) (places (answer_is.More 1) (Some (record { state = place_is.Opening; server = pick }))) → Paid
       by true opened is = ends_paid told_is.Nothing (ap (λ (o : StepOut). o.answer) is) (ap (λ (o : StepOut). o.children) is) (let due = due_here 0 here in omega (arith, due))
       by false unopened is =
-          let p = picked_live here e unopened in
-          let now = place_now (record { state = place_is.Opening; server = pick }) (ap (λ (o : StepOut). o.place) is) in
+          let p = picked_live pid pick out J legal me is_me region moved here e unopened in
+          let now = place_now pid pick out J legal me is_me region moved (record { state = place_is.Opening; server = pick }) (ap (λ (o : StepOut). o.place) is) in
           on_paid 1 (ap (λ (o : StepOut). o.answer) is) (ap (λ (o : StepOut). o.children) is) (λ e. (p.0, ap (λ (x : Place). x.server) now ∙ p.1, p.2)) (λ e. omega (arith, e)) (λ e. omega (arith, e)) (let due = due_here 0 here in omega (arith, due))
 
   open_paid : row_of J pid.0 me ≡ 1 → (server : Server) → is_live J server ≡ true → (place_of J region).server ≡ Some server → out ≡ spawns 2 (child_is.One (args_are.AssignCall region server) ∷ []) → Paid
@@ -260,10 +192,10 @@ module _ (pid : Pid) (pick : Option Server) (out : StepOut) (J : Past) (legal : 
       ∙ ap (λ k. option_map (child_of pid.0 me) (slice_get (args_are.AssignCall region server ∷ []) k)) first in
       let since = steps_now pid pick out J in
       wait_paid 2 (args_are.AssignCall region server) (verb_is.AssignRegion region) refl refl answer children (λ q x none. (live, λ stops. absurd (false≢true (sym (ap is_stopped none) ∙ stops)))) (λ e. omega (arith, e)) (λ e. omega (arith, e))
-      (λ e. ((server, ap (λ (x : Place). x.server) (place_still (ap (λ (o : StepOut). o.place) is)) ∙ placed, live), (last, made J + 1, server, made_is, omega (arith, since))))
+      (λ e. ((server, ap (λ (x : Place). x.server) (place_still pid pick out J legal me is_me region moved (ap (λ (o : StepOut). o.place) is)) ∙ placed, live), (last, made J + 1, server, made_is, omega (arith, since))))
       (let due = due_here 1 here in omega (arith, due))
 
-  opened_told : row_of J pid.0 me ≡ 2 → is_told told_is.Opened seen.ends ≡ true
+  opened_told : row_of J pid.0 me ≡ 2 → is_told told_is.Opened (seen pid pick out J legal me is_me region moved).ends ≡ true
   opened_told here =
       let w = at.waiting here in
       let child = w.1 in
@@ -316,26 +248,21 @@ module _ (pid : Pid) (pick : Option Server) (out : StepOut) (J : Past) (legal : 
     children = λ fine i args e. absurd (no_child out.children (ap (λ (o : StepOut). o.children) is) i args e);
   }
 
-  on_region : (next : ℕ) (act : Region → StepOut) → given (region_of me.args) next act ≡ act region
-  on_region next act = ap (λ o. given o next act) moving.region_is
+  -- nobody in the tree is aborted
+  uncut : (out ≡ fails cause_is.Aborted) × (is_aborted J pid.0 ≡ true) → ⊥
+  uncut cut = true≢false (sym cut.1 ∙ unaborted)
 
-  by_row : (n : ℕ) → row_of J pid.0 me ≡ n → slice_get (exact_rows 10) n ≡ Some move_step.row → Paid
-  by_row zero here there =
-      candidate_paid here (may_open_in seen.rows region) refl ((said_row (fixed act_is.GetAssignCandidate 1 true) 0 here refl).1 ∙ on_region 1 (λ region. candidate 1 (may_open_in seen.rows region) (told_place seen.place) seen.fenced pick) ∙ ap (λ o. candidate 1 (may_open_in seen.rows region) (told_place o) seen.fenced pick) place_seen)
-  by_row (suc zero) here there =
+  by_row : (n : ℕ) → row_of J pid.0 me ≡ n → ((out ≡ fails cause_is.Aborted) × (is_aborted J pid.0 ≡ true)) ⊎ Says pid pick out J legal me is_me region moved n → Paid
+  by_row n here (inl cut) = absurd (uncut cut)
+  by_row zero here (inr is) = candidate_paid here (may_open_in (seen pid pick out J legal me is_me region moved).rows region) refl is
+  by_row (suc zero) here (inr is) =
       let opens = at.opening (inl here) in
-      open_paid here opens.0 opens.2 opens.1 ((said_row (fixed act_is.Open 2 true) 1 here refl).1 ∙ on_region 2 (λ region. given ((told_place seen.place).server) 2 (λ server. spawns 2 (child_is.One (args_are.AssignCall region server) ∷ []))) ∙ ap (λ o. given ((told_place o).server) 2 (λ server. spawns 2 (child_is.One (args_are.AssignCall region server) ∷ []))) place_seen ∙ ap (λ o. given o 2 (λ server. spawns 2 (child_is.One (args_are.AssignCall region server) ∷ []))) opens.1)
-  by_row (suc (suc zero)) here there =
-      confirm_paid here ((said_row (fixed act_is.ConfirmOpened 0 true) 2 here refl).1 ∙ ap (λ o. opened_or_not 0 (told_place o).server (is_told told_is.Opened seen.ends)) place_seen ∙ ap (opened_or_not 0 (place_of J region).server) (opened_told here))
-  by_row (suc (suc (suc zero))) here there =
-      close_paid here (is_open (told_place seen.place) seen.fenced) ((said_row (fixed act_is.Close 4 true) 3 here refl).1 ∙ on_region 4 (λ region. close_or_go 4 (goal_in me.args) region (told_place seen.place) (is_open (told_place seen.place) seen.fenced)) ∙ ap (λ o. close_or_go 4 (goal_in me.args) region (told_place o) (is_open (told_place seen.place) seen.fenced)) place_seen)
-  by_row (suc (suc (suc (suc zero)))) here there =
-      let is = (said_row (fixed act_is.ConfirmClosed 0 true) 4 here refl).1 in
-      behind_paid (goal_in me.args) refl told_is.Closed (ap (λ (o : StepOut). o.answer) is) (ap (λ (o : StepOut). o.children) is) (due_here 4 here)
-  by_row (suc (suc (suc (suc (suc zero))))) here there =
-      check_paid here (region_ready (row_at seen.rows (key_is.Table region.table)) (row_at seen.rows (key_is.Region region))) ((said_row (fixed act_is.CheckMove 3 false) 5 here refl).1 ∙ on_region 3 (λ region. checked 3 (region_ready (row_at seen.rows (key_is.Table region.table)) (row_at seen.rows (key_is.Region region)))))
-  by_row (suc (suc (suc (suc (suc (suc n)))))) here there = absurd (none-some move_step.row there)
+      open_paid here opens.0 opens.2 opens.1 (is ∙ ap (λ o. given o 2 (λ server. spawns 2 (child_is.One (args_are.AssignCall region server) ∷ []))) opens.1)
+  by_row (suc (suc zero)) here (inr is) = confirm_paid here (is ∙ ap (opened_or_not 0 (place_of J region).server) (opened_told here))
+  by_row (suc (suc (suc zero))) here (inr is) = close_paid here (is_open (place_of J region) (seen pid pick out J legal me is_me region moved).fenced) is
+  by_row (suc (suc (suc (suc zero)))) here (inr is) = behind_paid (goal_in me.args) refl told_is.Closed (ap (λ (o : StepOut). o.answer) is) (ap (λ (o : StepOut). o.children) is) (due_here 4 here)
+  by_row (suc (suc (suc (suc (suc zero))))) here (inr is) = check_paid here is.0 is.1
+  by_row (suc (suc (suc (suc (suc (suc n)))))) here (inr is) = absurd is
 
   pub transit_paid : Paid
-  transit_paid =
-      by_row (row_of J pid.0 me) refl (ap (λ (n : Node). slice_get (exact_rows 10) (row_of J pid.0 n)) (sym move_is_me) ∙ exact_row_is J pid.0 pick out move_step 10 (ap (λ (n : Node). kind_of n.args) move_is_me ∙ moving.kind) _ _ refl)
+  transit_paid = by_row (row_of J pid.0 me) refl (answers pid pick out J legal me is_me region moved (row_of J pid.0 me) refl)

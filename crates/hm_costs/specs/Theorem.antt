@@ -16,8 +16,8 @@ HasOneThatGoes J r =
     × ((phase J p node ≡ phase_is.Runnable) ⊎ (phase J p node ≡ phase_is.Awaiting))
 
 -- in the tree of a root that hasn't ended a procedure goes on, or a step is to be undone
-abbrev pub NoneStuck : Type 0
-NoneStuck =
+abbrev pub EachTreeGoesOn : Type 0
+EachTreeGoesOn =
     (J : Past) → IsLegal J → (r : ℕ) (node : Node) → node_of J r ≡ Some node → node.above ≡ [] → root_ended J r ≡ false
     → HasOneThatGoes J r ⊎ MayUndo J r
 

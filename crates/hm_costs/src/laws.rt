@@ -1,13 +1,21 @@
 //! The laws.
-ghost use Rattle.hm_costs.specs.Theorem.{CostBound, NoneStuck};
+ghost use Rattle.hm_costs.specs.Met.{CostsAreMet};
+ghost use Rattle.hm_costs.specs.Theorem.{CostBound, EachTreeGoesOn};
 
 /// A root that hasn't ended has a procedure in its tree that is runnable or awaits an answer, or its latest step that has an
 /// undo is to be undone.
-pub fn none_stuck()
-    ensures { NoneStuck }
+pub fn each_tree_goes_on()
+    ensures { EachTreeGoesOn }
 {}
 
 /// A tree that nothing disturbs has at most the entries that its root costs.
 pub fn cost_bound()
     ensures { CostBound }
+{}
+
+/// Each kind of root costs just what a root of the kind takes in some journal: requests of each kind, with one region in a
+/// table and two that are split or merged, a crash of one region, and the transit and the sweep that an undo makes. Their
+/// entries meet each rule, whichever kinds the master runs, and one root at a time has a step and hasn't ended.
+pub fn costs_are_met()
+    ensures { CostsAreMet }
 {}

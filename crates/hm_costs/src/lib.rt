@@ -4,4 +4,4 @@
 
 mod laws;
 
-pub use laws::{cost_bound, none_stuck};
+pub use laws::{cost_bound, costs_are_met, each_tree_goes_on};

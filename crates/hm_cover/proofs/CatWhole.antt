@@ -1,23 +1,19 @@
 -- In every legal journal the catalog has a whole table where no root asks for it alone: the deeds of the roots that go on,
 -- where they are done, come on top of those of the roots that ended.
-use Rattle.std.proofs.Common.{◌≡◌, ◌≢◌, ℕ, zero, suc, ◌+◌, ◌<◌, ◌≤◌, List, [], ◌∷◌, Bool, true, false, is_some, Option, Some, None, refl, ap, sym, ◌∙◌, subst, inl, inr, ◌⊎◌, arith}
-use Rattle.std.specs.Prelude.{Ok}
-use Rattle.std.proofs.lemmas.Bool.{cases_Bool, cases_eq, false≢true, true≢false}
+use Rattle.std.proofs.Common.{◌≡◌, ◌≢◌, ℕ, zero, suc, ◌+◌, ◌<◌, ◌≤◌, [], ◌∷◌, true, false, is_some, Option, Some, None, refl, ap, sym, ◌∙◌, subst, inl, inr, ◌⊎◌, arith}
+use Rattle.std.proofs.lemmas.Bool.{cases_Bool, cases_eq, true≢false}
 use Rattle.std.proofs.lemmas.Option.{none-some, same_Some}
 use Rattle.hm_names.specs.declared.table.TableName.{TableName}
 use Rattle.hm_data.specs.declared.act.Act.TheVariants as act_is
-use Rattle.hm_data.specs.declared.answer.Answer.{Answer}
 use Rattle.hm_data.specs.declared.args.Args.{Args}
 use Rattle.hm_data.specs.declared.args.Args.TheVariants as args_are
 use Rattle.hm_data.specs.declared.call.Told.TheVariants as told_is
 use Rattle.hm_data.specs.declared.catalog.CatKey.{CatKey}
 use Rattle.hm_data.specs.declared.catalog.CatKey.TheVariants as key_is
-use Rattle.hm_data.specs.declared.catalog.CatRow.{CatRow}
-use Rattle.hm_data.specs.declared.catalog.Edit.{Edit}
 use Rattle.hm_data.specs.declared.request.Request.{Request}
 use Rattle.hm_data.specs.declared.step.StepIn.{StepIn}
 use Rattle.hm_model.specs.Acts.{act_answer}
-use Rattle.hm_model.specs.Answers.{done_with, is_stopped, last_answer, no_row}
+use Rattle.hm_model.specs.Answers.{is_stopped, last_answer, no_row}
 use Rattle.hm_model.specs.Catalog.{Catalog, cat, edited, keys_of, was}
 use Rattle.hm_model.specs.Changes.{region_key}
 use Rattle.hm_model.specs.Deeds.{deed_of}
@@ -25,8 +21,8 @@ use Rattle.hm_model.specs.Inputs.{step_input}
 use Rattle.hm_model.specs.Journal.{Past}
 use Rattle.hm_model.specs.Kinds.{kind_of, table_of_request}
 use Rattle.hm_model.specs.Lists.{exact_rows, late}
-use Rattle.hm_model.specs.Locks.{Clash, IsIn, asks}
-use Rattle.hm_model.specs.Phase.{cause, root_ended}
+use Rattle.hm_model.specs.Locks.{IsIn}
+use Rattle.hm_model.specs.Phase.{cause}
 use Rattle.hm_model.specs.Reads.{covers, guards}
 use Rattle.hm_model.specs.Rules.{IsLegal}
 use Rattle.hm_model.specs.Serial.{serial}
@@ -50,19 +46,16 @@ use Rattle.hm_serial.proofs.StandStep.{touches_rows}
 use Rattle.hm_cover.proofs.Deeds.{MayDo, deed_stays}
 use Rattle.hm_cover.proofs.DrawnAll.{DrawnIn, drawn_all}
 use Rattle.hm_cover.proofs.Going.{goes_all}
-use Rattle.hm_cover.proofs.Local.{IsReadyOr, asks_regions, covers_new, local_free, stage_ready}
-use Rattle.hm_cover.proofs.SerialWhole.{asked_ids, none_from, running_undone, whole_all}
+use Rattle.hm_cover.proofs.Holding.{holds_or}
+use Rattle.hm_cover.proofs.Local.{asks_regions, covers_new, local_free, stage_ready}
+use Rattle.hm_cover.proofs.SerialWhole.{asked_ids, running_undone, whole_all}
 use Rattle.hm_cover.proofs.Spared.{is_local, spared, spared_all, wide_covers}
 use Rattle.hm_cover.proofs.Whole.{Whole, whole_same}
 
 -- a root that asks for no regions alone covers a region's row with the table's
-wide_rows : (args : Args) → asks_regions args ≡ false → (t : TableName) (id : ℕ) → covers args (region_key t id) ≡ covers args (key_is.Table t)
+pub wide_rows : (args : Args) → asks_regions args ≡ false → (t : TableName) (id : ℕ) → covers args (region_key t id) ≡ covers args (key_is.Table t)
 wide_rows (args_are.Root request first) h t id = wide_covers request first h t id
 wide_rows args h t id = absurd (true≢false h)
-
-none_or : (o : Option Answer) → (o ≡ None) ⊎ (o ≢ None)
-none_or None = inl refl
-none_or (Some a) = inr (λ e. none-some a (sym e))
 
 module _ (n : ℕ) (big : 4096 < n) (J : Past) (legal : IsLegal J) where
   -- a root that holds, and asks for regions alone
@@ -139,7 +132,7 @@ module _ (n : ℕ) (big : 4096 < n) (J : Past) (legal : IsLegal J) where
           sound = (whole_all n big J legal).sound r node (record { request = request; first = first }) acts.0.0.0 asked;
           free = λ u is i low high. agree (region_key u i) (cover_guards node.args (region_key u i) (covered_new u is i low high)) ∙ (whole_all n big J legal).free r node (record { request = request; first = first }) acts.0.0.0 asked (running_undone (last_answer J r) runs) u i (is, low, high);
           low = λ u is i low high. (
-              let le = asked_ids (DrawnIn J) node.args (record { request = request; first = first }) ((drawn_all J legal).args r node acts.0.0.0) asked u i (is, low, high) in
+              let le = (asked_ids (DrawnIn J) node.args (record { request = request; first = first }) ((drawn_all J legal).args r node acts.0.0.0) asked u i (is, low, high)).1 in
               let few = ids_within J legal u in
               omega (arith, le, few, big));
           listed = listed;
@@ -194,29 +187,15 @@ module _ (n : ℕ) (big : 4096 < n) (J : Past) (legal : IsLegal J) where
     pub off : (key : CatKey) → Unasked k key → there key ≡ serial J key
     pub listed : (key : CatKey) → there key ≢ None → IsIn key (keys_of J)
 
-  -- whether a root holds
-  holds_or : (r : ℕ) → ((node : Node) × Acts r node) ⊎ ((node : Node) → Acts r node → ⊥)
-  holds_or r = by_node (node_of J r) refl
-    where
-      by_node : (o : Option Node) → node_of J r ≡ o → ((node : Node) × Acts r node) ⊎ ((node : Node) → Acts r node → ⊥)
-      by_node None e = inr (λ node acts. none-some node (sym e ∙ acts.0.0.0))
-      by_node (Some x) e = by_above x.above refl
-        where
-          one : (node : Node) → Acts r node → x ≡ node
-          one node acts = same_Some x node (sym e ∙ acts.0.0.0)
-
-          by_above : (above : List ℕ) → x.above ≡ above → ((node : Node) × Acts r node) ⊎ ((node : Node) → Acts r node → ⊥)
-          by_above (u ∷ rest) a = inr (λ node acts. Rattle.hm_serial.proofs.Fallen.some_cons u rest (sym a ∙ ap (λ (y : Node). y.above) (one node acts) ∙ acts.0.0.1))
-          by_above [] a = elim (none_or (last_answer J r)) [
-            | inl none ↦ inr (λ node acts. acts.0.1 none)
-            | inr some ↦ elim (cases_Bool (root_ended J r)) [
-              | inl over ↦ inr (λ node acts. true≢false (sym over ∙ acts.0.2))
-              | inr open_still ↦ elim (cases_Bool (asks_regions x.args)) [
-                | inl own ↦ inl (x, (((e, a), some, open_still), own))
-                | inr wide ↦ inr (λ node acts. true≢false (sym acts.1 ∙ ap (λ (y : Node). asks_regions y.args) (sym (one node acts)) ∙ wide))
-              ]
-            ]
-          ]
+  -- whether a root holds, and asks for regions alone
+  acts_or : (r : ℕ) → ((node : Node) × Acts r node) ⊎ ((node : Node) → Acts r node → ⊥)
+  acts_or r = elim (holds_or J r) [
+    | inr none ↦ inr (λ node acts. none node acts.0)
+    | inl is ↦ elim (cases_Bool (asks_regions is.0.args)) [
+      | inl own ↦ inl (is.0, (is.1, own))
+      | inr wide ↦ inr (λ node acts. true≢false (sym acts.1 ∙ ap (λ (y : Node). asks_regions y.args) (same_Some node is.0 (sym acts.0.0.0 ∙ is.1.0.0)) ∙ wide))
+    ]
+  ]
 
   -- with a root more that doesn't hold
   skip : (k : ℕ) → Reached k → ((node : Node) → Acts k node → ⊥) → Reached (suc k)
@@ -264,7 +243,7 @@ module _ (n : ℕ) (big : 4096 < n) (J : Past) (legal : IsLegal J) where
     where
       none_first : (key : CatKey) → Unasked 0 key
       none_first key r node lt acts = absurd (omega (arith, lt))
-  reach (suc k) = elim (holds_or k) [
+  reach (suc k) = elim (acts_or k) [
     | inl is ↦ with_root k (reach k) is.0 is.1
     | inr none ↦ skip k (reach k) none
   ]

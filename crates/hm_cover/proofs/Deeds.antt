@@ -50,17 +50,17 @@ from_length : (start : List ℕ) (bounds : List (List ℕ)) → length (ranges_f
 from_length start [] = refl
 from_length start (end ∷ bounds) = ap suc (from_length end bounds)
 
-between_length : (keys : List (List ℕ)) → length (ranges_between ([] ∷ keys ++ [] ∷ [])) ≡ length keys + 1
+pub between_length : (keys : List (List ℕ)) → length (ranges_between ([] ∷ keys ++ [] ∷ [])) ≡ length keys + 1
 between_length keys = from_length [] (keys ++ [] ∷ []) ∙ length-append keys ([] ∷ [])
 
-keys_rise : (keys : List (List ℕ)) → wrong_keys keys ≡ None → rise [] keys ≡ true
+pub keys_rise : (keys : List (List ℕ)) → wrong_keys keys ≡ None → rise [] keys ≡ true
 keys_rise keys e = by (rise [] keys) e
   where
     by : (b : Bool) → cond {A = Option ℕ} (not b) (Some 2) (cond (Rattle.std.specs.Prelude.nat_lt 255 (length keys)) (Some 3) None) ≡ None → b ≡ true
     by true h = refl
     by false h = absurd (none-some {A = ℕ} 2 (sym h))
 
-absent_is : (o : Option CatRow) → table_absent o ≡ None → o ≡ None
+pub absent_is : (o : Option CatRow) → table_absent o ≡ None → o ≡ None
 absent_is None e = refl
 absent_is (Some row) e = absurd (none-some cause_is.TableExists (sym e))
 

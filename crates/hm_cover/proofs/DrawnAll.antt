@@ -40,7 +40,11 @@ StackDrawn d (step ∷ below) = AllDrawn d step.edits × StackDrawn d below
 
 -- an id that a journal has drawn for a table
 abbrev pub DrawnIn : Past → TableName → ℕ → Type 0
-DrawnIn J t i = i ≤ drawn J t
+DrawnIn J t i = (1 ≤ i) × (i ≤ drawn J t)
+
+-- where as many are drawn, or more
+pub drawn_more : (J J' : Past) → ((t : TableName) → drawn J t ≤ drawn J' t) → (t : TableName) (i : ℕ) → DrawnIn J t i → DrawnIn J' t i
+drawn_more J J' more t i at = (at.0, (let le = at.1 in let all = more t in omega (arith, le, all)))
 
 pub record IsDrawn (J : Past) : Type 0 where
   pub rows : SeenDrawn (DrawnIn J) (cat J)
@@ -124,8 +128,12 @@ start_drawn (key_is.Region region) = λ some. absurd (some refl)
 
 -- a submission
 module _ (nonce : Nonce) (request : Request) (J : Past) (kept : IsDrawn J) where
-  more_drawn : (t : TableName) (i : ℕ) → i ≤ drawn J t → i ≤ drawn (entry_is.Submit nonce request ∷ J) t
-  more_drawn t i le = omega (arith, le)
+  more_drawn : (t : TableName) (i : ℕ) → DrawnIn J t i → DrawnIn (entry_is.Submit nonce request ∷ J) t i
+  more_drawn = drawn_more J (entry_is.Submit nonce request ∷ J) (λ t. omega arith)
+
+  from_one : (o : Option TableName) → 1 ≤ first_of J o
+  from_one None = omega arith
+  from_one (Some table) = omega arith
 
   own_ids : (o : Option TableName) (t : TableName) → o ≡ Some t → first_of J o + new_ids request ≤ drawn J t + ids_for o (new_ids request) t + 1
   own_ids None t e = absurd (none-some t e)
@@ -138,7 +146,7 @@ module _ (nonce : Nonce) (request : Request) (J : Past) (kept : IsDrawn J) where
   submit_args p node is = elim (cases_eq p (made J + 1)) [
     | inl same ↦
         let one : submitted J request p ≡ node = same_Some (submitted J request p) node (sym (cond-true (p == made J + 1) (Some (submitted J request p)) (node_of J p) (eq-eqb p (made J + 1) same)) ∙ is) in
-        subst (λ (n : Node). ArgsDrawn (DrawnIn (entry_is.Submit nonce request ∷ J)) n.args) one (λ t e i low high. (let own = own_ids (table_of_request request) t e in omega (arith, own, high)))
+        subst (λ (n : Node). ArgsDrawn (DrawnIn (entry_is.Submit nonce request ∷ J)) n.args) one (λ t e i low high. ((let one = from_one (table_of_request request) in omega (arith, low, one)), (let own = own_ids (table_of_request request) t e in omega (arith, own, high))))
     | inr differs ↦ args_more (DrawnIn J) (DrawnIn (entry_is.Submit nonce request ∷ J)) more_drawn node.args (kept.args p node (sym (cond-false (p == made J + 1) (Some (submitted J request p)) (node_of J p) (ne_eqb p (made J + 1) differs)) ∙ is))
   ]
 

@@ -1,5 +1,5 @@
 -- A root that holds goes on, or its tree has failed.
-use Rattle.std.proofs.Common.{◌≡◌, ◌≢◌, ℕ, ◌==◌, List, [], ◌∷◌, Bool, true, false, Option, Some, None, is_some, refl, ap, sym, ◌∙◌, subst, inl, inr, ◌⊎◌}
+use Rattle.std.proofs.Common.{◌≡◌, ◌≢◌, ℕ, ◌==◌, List, [], ◌∷◌, Bool, false, Option, Some, None, refl, ap, sym, ◌∙◌, subst, inl, inr, ◌⊎◌}
 use Rattle.std.proofs.lemmas.Bool.{cases_eq, cond-true, eq-eqb, true≢false}
 use Rattle.std.proofs.lemmas.Option.{none-some}
 use Rattle.hm_names.specs.Server.{Server}
@@ -11,12 +11,12 @@ use Rattle.hm_data.specs.declared.entry.Entry.TheVariants as entry_is
 use Rattle.hm_data.specs.declared.step.StepOut.{StepOut}
 use Rattle.hm_model.specs.Answers.{done_with, failing, is_stopped, last_answer}
 use Rattle.hm_model.specs.Journal.{Past}
-use Rattle.hm_model.specs.Phase.{cause, or_else, rolled_back, root_ended, root_over}
+use Rattle.hm_model.specs.Phase.{cause, or_else, rolled_back, root_over}
 use Rattle.hm_model.specs.Rules.{IsLegal}
 use Rattle.hm_model.specs.Tree.{Node, is_top, root_in, root_of}
 use Rattle.hm_model.proofs.LegalSteps.{StepFacts, ready_stops}
 use Rattle.hm_model.proofs.StepDoes.{Does, IsSound}
-use Rattle.hm_model.proofs.Trees.{Grown, answer_now, does_of, down_rooted, grown_all, other_answer, step_of, submit_rooted}
+use Rattle.hm_model.proofs.Trees.{answer_now, does_of, down_rooted, grown_all, other_answer, step_of, submit_rooted}
 use Rattle.hm_serial.proofs.Apart.{step_top}
 use Rattle.hm_serial.proofs.FallAll.{back, falls_all, none_at, step_aside, undo_back}
 use Rattle.hm_serial.proofs.Fallen.{some_cons}

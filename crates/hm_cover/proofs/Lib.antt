@@ -1,17 +1,22 @@
-mod Chains
-mod Tally
-mod Whole
-mod Drawn
-mod DrawnAll
-mod Edits
-mod TableDeeds
-mod SplitDeeds
-mod MergeDeeds
-mod Deeds
-mod SerialWhole
-mod Shapes
-mod Spared
-mod Going
-mod Local
-mod CatWhole
-mod Now
+pub mod Chains
+pub mod Tally
+pub mod Whole
+pub mod Drawn
+pub mod DrawnAll
+pub mod Edits
+pub mod TableDeeds
+pub mod SplitDeeds
+pub mod MergeDeeds
+pub mod Deeds
+pub mod SerialWhole
+pub mod Shapes
+pub mod Spared
+pub mod Going
+pub mod Holding
+pub mod Local
+pub mod Given
+pub mod Mixed
+pub mod Stages
+pub mod Never
+pub mod CatWhole
+pub mod Now

@@ -16,12 +16,12 @@ use Rattle.hm_model.specs.Catalog.{Catalog}
 use Rattle.hm_model.specs.Changes.{region_key}
 use Rattle.hm_model.specs.Kinds.{kind_of, table_of_request}
 use Rattle.hm_model.specs.Lists.{Line, exact_rows, late}
-use Rattle.hm_model.specs.Locks.{asks, exclusive, in_name_order, region_alone}
+use Rattle.hm_model.specs.Locks.{exclusive, in_name_order, region_alone}
 use Rattle.hm_model.specs.Reads.{covers, is_over}
 use Rattle.hm_model.specs.Tree.{new_ids}
 use Rattle.hm_model.specs.declared.lock.Ask.{Ask}
 use Rattle.hm_model.specs.declared.lock.Resource.TheVariants as resource_is
-use Rattle.hm_kinds.proofs.Covering.{covers_from, merge_new, rows_table, same_region-itself}
+use Rattle.hm_kinds.proofs.Covering.{covers_from, merge_new, same_region-itself}
 use Rattle.hm_kinds.proofs.MergeRegions.{Merging}
 use Rattle.hm_kinds.proofs.Roots.{Stage}
 use Rattle.hm_kinds.proofs.SplitRegion.{Splitting}

@@ -55,7 +55,7 @@ use Rattle.hm_serial.proofs.Standing.{TopHolds, live_child, root_low, waiting_ru
 use Rattle.hm_model.proofs.LegalSteps.{StepFacts, ready_stops}
 use Rattle.hm_cover.proofs.Deeds.{MayDo, deed_drawn, deed_stays}
 use Rattle.hm_cover.proofs.Drawn.{ArgsDrawn, IsDrawnAt, SeenDrawn}
-use Rattle.hm_cover.proofs.DrawnAll.{DrawnIn, at_more, drawn_all, edited_drawn}
+use Rattle.hm_cover.proofs.DrawnAll.{DrawnIn, at_more, drawn_all, drawn_more, edited_drawn}
 use Rattle.hm_cover.proofs.Whole.{Whole, bare_at, covered, none_overlap, whole_none, whole_same}
 use Rattle.hm_cover.specs.Theorem.{DeedsKeepRanges}
 use Rattle.hm_model.specs.Ranges.{IsBare, IsCovered, NoneOverlap}
@@ -208,7 +208,7 @@ module _ (n : ℕ) (nonce : Nonce) (request : Request) (J : Past) (legal : IsLeg
   high a e u i at le = let own : InRange mine u i = subst (λ x. InRange x u i) e at in mine_high (table_of_request request) u i own.0 own.1 le
 
   old_ids : (q : ℕ) (y : Node) (b : Asked) → node_of J q ≡ Some y → asked_of y.args ≡ Some b → (u : TableName) (i : ℕ) → InRange b u i → i ≤ drawn J u
-  old_ids q y b is asked u i at = asked_ids (DrawnIn J) y.args b ((drawn_all J legal.0).args q y is) asked u i at
+  old_ids q y b is asked u i at = (asked_ids (DrawnIn J) y.args b ((drawn_all J legal.0).args q y is) asked u i at).1
 
   submit_whole : IsWhole n (entry_is.Submit nonce request ∷ J)
   submit_whole = record {
@@ -229,10 +229,10 @@ module _ (n : ℕ) (nonce : Nonce) (request : Request) (J : Past) (legal : IsLeg
     ];
     free = λ p x a is asked undone u i at. elim (submit_or p x a is asked) [
       | inl old ↦ kept.free p x a old asked undone u i at
-      | inr new ↦ none_from (serial J (region_key u i)) (λ some. high a new.1 u i at (kept.rows (region_key u i) some))
+      | inr new ↦ none_from (serial J (region_key u i)) (λ some. high a new.1 u i at (kept.rows (region_key u i) some).1)
     ];
     listed = kept.listed;
-    rows = λ key. at_more (DrawnIn J) (DrawnIn (entry_is.Submit nonce request ∷ J)) (λ t i le. omega (arith, le)) key (serial J key) (kept.rows key);
+    rows = λ key. at_more (DrawnIn J) (DrawnIn (entry_is.Submit nonce request ∷ J)) (drawn_more J (entry_is.Submit nonce request ∷ J) (λ t. omega arith)) key (serial J key) (kept.rows key);
   }
 
 -- an entry that leaves the catalog of the deeds, and makes procedures that nobody asked for
@@ -246,7 +246,7 @@ module _ (n : ℕ) (J J' : Past) (kept : IsWhole n J) (same : (key : CatKey) →
     apart = λ p q x y a b differs px qy pa qb. kept.apart p q x y a b differs (old p x a px pa) (old q y b qy qb) pa qb;
     free = λ p x a is asked undone u i at. same (region_key u i) ∙ kept.free p x a (old p x a is asked) asked (ap done_with (sym (last p)) ∙ undone) u i at;
     listed = λ key some. keys key (kept.listed key (λ none. some (same key ∙ none)));
-    rows = λ key. at_more (DrawnIn J) (DrawnIn J') (λ t i le. (let e = ids t in omega (arith, le, e))) key (serial J' key) (subst (IsDrawnAt (DrawnIn J) key) (sym (same key)) (kept.rows key));
+    rows = λ key. at_more (DrawnIn J) (DrawnIn J') (drawn_more J J' (λ t. (let e = ids t in omega (arith, e)))) key (serial J' key) (subst (IsDrawnAt (DrawnIn J) key) (sym (same key)) (kept.rows key));
   }
 
 -- a step
@@ -329,7 +329,7 @@ module _ (n : ℕ) (big : 4096 < n) (pid : Pid) (pick : Option Server) (out : St
       sound = kept.sound pid.0 step.node is.0 step.node_is is.1;
       free = λ u own i low high. kept.free pid.0 step.node is.0 step.node_is is.1 (running_undone (last_answer J pid.0) runs) u i (own, low, high);
       low = λ u own i low high. (
-          let le = asked_ids (DrawnIn J) step.node.args is.0 ((drawn_all J legal.0).args pid.0 step.node step.node_is) is.1 u i (own, low, high) in
+          let le = (asked_ids (DrawnIn J) step.node.args is.0 ((drawn_all J legal.0).args pid.0 step.node step.node_is) is.1 u i (own, low, high)).1 in
           let few = ids_within J legal.0 u in
           omega (arith, le, few, big));
       listed = kept.listed;

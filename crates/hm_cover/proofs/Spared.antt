@@ -3,7 +3,6 @@ use Rattle.std.proofs.Common.{◌≡◌, ◌≢◌, ℕ, ◌==◌, List, [], ◌
 use Rattle.std.proofs.lemmas.Bool.{cases_Bool, cases_eq, cond-false, cond-true, eq-eqb, false≢true, ne_eqb, true≢false}
 use Rattle.std.proofs.lemmas.Option.{none-some, same_Some}
 use Rattle.hm_names.specs.Server.{Server}
-use Rattle.hm_names.specs.declared.nonce.Nonce.{Nonce}
 use Rattle.hm_names.specs.declared.pid.Pid.{Pid}
 use Rattle.hm_names.specs.declared.table.TableName.{TableName}
 use Rattle.hm_data.specs.Numbers.{act_number}
@@ -29,7 +28,7 @@ use Rattle.hm_data.specs.declared.step.StepOut.{StepOut}
 use Rattle.hm_model.specs.ActSorts.{is_edit}
 use Rattle.hm_model.specs.Acts.{act_answer}
 use Rattle.hm_model.specs.Evaluation.{is_cut_off}
-use Rattle.hm_model.specs.Answers.{failing, is_stop, is_stopped, last_answer, row_after, row_of}
+use Rattle.hm_model.specs.Answers.{failing, is_stopped, last_answer, row_after, row_of}
 use Rattle.hm_model.specs.Catalog.{edited}
 use Rattle.hm_model.specs.Changes.{region_key}
 use Rattle.hm_model.specs.Inputs.{step_input}
@@ -58,7 +57,7 @@ use Rattle.hm_serial.proofs.Editing.{covers_from, none_act, rows_table}
 use Rattle.hm_serial.proofs.FallAll.{back, falls_all, none_at, step_aside, undo_back}
 use Rattle.hm_serial.proofs.Fallen.{Falls, MayFall, may_on, root_of_node}
 use Rattle.hm_serial.proofs.Falling.{IsPast, StepEdits, places_of}
-use Rattle.hm_serial.proofs.FallStep.{belongs_here, edits_of, kid_not_root, kid_or_root, led_here, other_last, own_args, own_root}
+use Rattle.hm_serial.proofs.FallStep.{belongs_here, edits_of, kid_or_root, led_here, other_last, own_args, own_root}
 use Rattle.hm_serial.proofs.Frame.{unwound}
 use Rattle.hm_serial.proofs.Kinship.{editless, is_kid, is_lined, is_nil, kid_fails, kid_rows, led_at, lined_is, step_clean, step_within}
 use Rattle.hm_serial.proofs.Local.{Within, within_others, within_undo}
@@ -160,7 +159,7 @@ nil_is (row ∷ rows) h = absurd (false≢true h)
 
 module _ (pid : Pid) (pick : Option Server) (out : StepOut) (J : Past) (grown : Grown J) (falls : Falls J) (step : StepFacts J pid.0 pick out) (d : Does J pid.0 step.node.args (last_answer J pid.0) step.sheet.rows out)
     (aside : Aside J step.node.root (root_of_node J grown pid.0 step.node step.node_is).0) where
-  abbrev J' : Past
+  abbrev pub J' : Past
   J' = entry_is.Step pid pick out ∷ J
 
   abbrev top : Node
@@ -180,13 +179,13 @@ module _ (pid : Pid) (pick : Option Server) (out : StepOut) (J : Past) (grown : 
   on : (root_of J pid.0 == step.node.root) ≡ true
   on = eq-eqb (root_of J pid.0) step.node.root (ap root_in step.node_is)
 
-  cause_now : cause J' step.node.root ≡ or_else (cause J step.node.root) (failing out.answer)
+  pub cause_now : cause J' step.node.root ≡ or_else (cause J step.node.root) (failing out.answer)
   cause_now = cond-true (root_of J pid.0 == step.node.root) _ (cause J step.node.root) on
 
   next_undo : undo_of_next J pid.0 (node_of J pid.0) ≡ step.row.undo
   next_undo = ap (undo_of_next J pid.0) step.node_is ∙ ap (λ s. undo_by (row_in s (row_of J pid.0 step.node))) step.sheet_is ∙ ap undo_by step.row_is
 
-  stack_is : stack J' step.node.root ≡ pushed step.row.undo (is_some (failing out.answer)) pid.0 (row_if_there J pid.0 (node_of J pid.0)) out.edits (stack J step.node.root)
+  pub stack_is : stack J' step.node.root ≡ pushed step.row.undo (is_some (failing out.answer)) pid.0 (row_if_there J pid.0 (node_of J pid.0)) out.edits (stack J step.node.root)
   stack_is = cond-true (root_of J pid.0 == step.node.root) _ (stack J step.node.root) on ∙ ap (λ u. pushed u (is_some (failing out.answer)) pid.0 (row_if_there J pid.0 (node_of J pid.0)) out.edits (stack J step.node.root)) next_undo
 
   led_now : exact_rows (kind_of step.node.args) ≡ [] → Rattle.hm_model.proofs.ExactRows.IsLed (kind_of step.node.args) step.sheet.rows (row_of J pid.0 step.node)
@@ -349,6 +348,14 @@ module _ (pid : Pid) (pick : Option Server) (out : StepOut) (J : Past) (grown : 
 
   could : MayFall J' step.node.root top → MayFall J step.node.root top × EditsSpare top.args out.edits
   could may = elim (kid_or_root pid pick out J grown falls step d aside) [ inl e ↦ root_could e may | inr kid ↦ (kid_back kid may, kid_spares kid) ]
+
+  -- a tree that may be undone behind the step might before
+  pub could_fall : MayFall J' step.node.root top → MayFall J step.node.root top
+  could_fall may = (could may).0
+
+  -- behind a root's row past the point it may not
+  pub late_stands : exact_rows (kind_of step.node.args) ≡ [] → step.node.above ≡ [] → step.row.after ≡ true → MayFall J' step.node.root top → ⊥
+  late_stands exact e late may = let l = (edits_now exact).late late in past_not e (lined_top exact e) l.0 l.1 may
 
   pub spares_now : (MayFall J step.node.root top → Spares top.args (stack J step.node.root)) → MayFall J' step.node.root top → Spares top.args (stack J' step.node.root)
   spares_now before may =

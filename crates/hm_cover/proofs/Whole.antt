@@ -144,7 +144,7 @@ whole_even n edits there t whole told even present =
 serves_live : (k : List ℕ) (range : KeyRange) (parents : List ℕ) (o : Option CatRow) → o ≡ Some (row_is.Region range status_is.Live parents) → serves k o ≡ holds range k
 serves_live k range parents o e = ap (serves k) e
 
-key_of_id : (region : Region) (t : TableName) → region.table ≡ t → region_key t region.id ≡ key_is.Region region
+pub key_of_id : (region : Region) (t : TableName) → region.table ≡ t → region_key t region.id ≡ key_is.Region region
 key_of_id region t e = ap (λ x. key_is.Region (let one : Region = record { table = x; id = region.id } in one)) (sym e)
 
 row_at_most : (o : Option CatRow) → one_if (is_some o) ≤ 1

@@ -20,9 +20,10 @@ DeedsKeepRanges =
     × (serial J (key_is.Table table) ≢ None → IsCovered (serial J) table)
     × (serial J (key_is.Table table) ≡ None → IsBare (serial J) table)
 
--- a region's row has an id that its table has drawn
+-- a region's row has an id that its table has drawn: ids are drawn from 1 on
 abbrev pub RegionIdsAreDrawn : Type 0
-RegionIdsAreDrawn = (J : Past) → IsLegal J → (table : TableName) (id : ℕ) → cat J (region_key table id) ≢ None → id ≤ drawn J table
+RegionIdsAreDrawn =
+    (J : Past) → IsLegal J → (table : TableName) (id : ℕ) → cat J (region_key table id) ≢ None → (1 ≤ id) × (id ≤ drawn J table)
 
 -- where no unfinished procedure with a step asks for a table alone and the table is there, each key lies in a live region
 abbrev pub LiveRegionsCover : Type 0
@@ -35,3 +36,7 @@ abbrev pub MissingTablesAreBare : Type 0
 MissingTablesAreBare =
     (J : Past) → IsLegal J → (table : TableName) → (IsBusy J (key_is.Table table) → ⊥) → cat J (key_is.Table table) ≡ None
     → IsBare (cat J) table
+
+-- live regions of one table never overlap, at any moment
+abbrev pub LiveRegionsNeverOverlap : Type 0
+LiveRegionsNeverOverlap = (J : Past) → IsLegal J → (table : TableName) → NoneOverlap (cat J) table

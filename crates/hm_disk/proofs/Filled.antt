@@ -61,9 +61,9 @@ pub fill_next : (v i : ℕ) (marks bytes new goal : List ℕ) → i < length mar
 fill_next v i marks bytes new goal m b is so_far =
     let x : ℕ = if get_or marks i 0 == 1 then v else get_or bytes i 0 in
     let front : take (i + 1) new ≡ take i bytes ++ x ∷ [] = ap (λ (l : List ℕ). take (i + 1) l) is ∙ (rw add-one (take-suc-set bytes i x b)) in
-    let back : drop (i + 1) new ≡ drop (i + 1) bytes = ap (λ (l : List ℕ). drop (i + 1) l) is ∙ drop-set-lt (i + 1) bytes i x (omega arith) in
+    let over : drop (i + 1) new ≡ drop (i + 1) bytes = ap (λ (l : List ℕ). drop (i + 1) l) is ∙ drop-set-lt (i + 1) bytes i x (omega arith) in
     ap (λ (l : List ℕ). l ++ filled v (drop (i + 1) marks) (drop (i + 1) new)) front
-    ∙ ap (λ (l : List ℕ). take i bytes ++ x ∷ [] ++ filled v (drop (i + 1) marks) l) back
+    ∙ ap (λ (l : List ℕ). take i bytes ++ x ∷ [] ++ filled v (drop (i + 1) marks) l) over
     ∙ append_assoc (take i bytes) (x ∷ []) (filled v (drop (i + 1) marks) (drop (i + 1) bytes))
     ∙ ap (λ (l : List ℕ). take i bytes ++ l) (sym (first_filled v i marks bytes m b))
     ∙ so_far

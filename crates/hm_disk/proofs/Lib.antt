@@ -1,6 +1,6 @@
 mod Filled
 mod Fronts
-mod Kept
+mod Calls
 pub mod Moments
 pub mod Splice
 mod Walks

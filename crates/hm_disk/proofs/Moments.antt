@@ -1,6 +1,6 @@
 -- How runs of disk calls are put together: what a stop at any moment leaves.
 use Rattle.std.proofs.Common.{inl, inr, ⊎_elim, ℕ, List, arith}
-use Rattle.hm_disk.specs.Disk.{Elapses, LeavesOnly, Settles}
+use Rattle.hm_disk.specs.Disk.{Elapses, LeavesOnly, LeavesThen}
 
 module _ {D : Type 0} (moment : D → ℕ) (left_since : D → ℕ → List ℕ → Type 0) where
   -- before the first call
@@ -32,9 +32,9 @@ module _ {D : Type 0} (moment : D → ℕ) (left_since : D → ℕ → List ℕ 
     before = λ t c le left. ⊎_elim (λ past. inl past) (λ p. inr (so c p)) (run.before t c le left);
   }
 
-  -- the moment at which it settled is now
-  pub settled_now : (old new : D) (Q P : List ℕ → Type 0) → LeavesOnly moment left_since old new Q → ((c : List ℕ) → left_since new (moment new) c → P c) → Settles moment left_since old new Q P
-  settled_now old new Q P run now = record {
+  -- the moment of the turn is now
+  pub then_now : (old new : D) (Q P : List ℕ → Type 0) → LeavesOnly moment left_since old new Q → ((c : List ℕ) → left_since new (moment new) c → P c) → LeavesThen moment left_since old new Q P
+  then_now old new Q P run now = record {
     at = moment new;
     from = run.later;
     to = omega arith;
@@ -43,8 +43,8 @@ module _ {D : Type 0} (moment : D → ℕ) (left_since : D → ℕ → List ℕ 
   }
 
   -- what comes after has P too
-  pub stays_settled : (old mid new : D) (Q P : List ℕ → Type 0) → Settles moment left_since old mid Q P → LeavesOnly moment left_since mid new P → Settles moment left_since old new Q P
-  stays_settled old mid new Q P so_far run = record {
+  pub then_stays : (old mid new : D) (Q P : List ℕ → Type 0) → LeavesThen moment left_since old mid Q P → LeavesOnly moment left_since mid new P → LeavesThen moment left_since old new Q P
+  then_stays old mid new Q P so_far run = record {
     at = so_far.at;
     from = so_far.from;
     to = omega (arith, so_far.to, run.later);
@@ -53,8 +53,8 @@ module _ {D : Type 0} (moment : D → ℕ) (left_since : D → ℕ → List ℕ 
   }
 
   -- what has P has R
-  pub settles_weaker : (old new : D) (Q P R : List ℕ → Type 0) → ((c : List ℕ) → P c → R c) → Settles moment left_since old new Q P → Settles moment left_since old new Q R
-  settles_weaker old new Q P R so run = record {
+  pub then_weaker : (old new : D) (Q P R : List ℕ → Type 0) → ((c : List ℕ) → P c → R c) → LeavesThen moment left_since old new Q P → LeavesThen moment left_since old new Q R
+  then_weaker old new Q P R so run = record {
     at = run.at;
     from = run.from;
     to = run.to;
@@ -63,7 +63,7 @@ module _ {D : Type 0} (moment : D → ℕ) (left_since : D → ℕ → List ℕ 
   }
 
   -- what had Q had R
-  pub earlier_weaker : (old new : D) (Q P R : List ℕ → Type 0) → ((c : List ℕ) → Q c → R c) → Settles moment left_since old new Q P → Settles moment left_since old new R P
+  pub earlier_weaker : (old new : D) (Q P R : List ℕ → Type 0) → ((c : List ℕ) → Q c → R c) → LeavesThen moment left_since old new Q P → LeavesThen moment left_since old new R P
   earlier_weaker old new Q P R so run = record {
     at = run.at;
     from = run.from;

@@ -2,7 +2,7 @@
 use Rattle.std.proofs.Common.{◌≡◌, inl, inr, ℕ, ◌+◌, ◌-◌, ◌≤◌, List, [], ◌++◌, length, take, drop, refl, sym, ◌∙◌, ap, arith, append_assoc, length-append, length-drop, take-append-drop}
 use Rattle.std.proofs.lemmas.List.{append-nil, take_at, drop_at, take_all, drop_all, length-take}
 use Rattle.std.proofs.Math.Seq.{drop-drop}
-use Rattle.hm_disk.specs.Disk.{written, Torn, Cut}
+use Rattle.hm_disk.specs.Disk.{written, Torn, CutOrWhole}
 
 -- a write that did nothing is a torn one
 pub torn_same : (at n : ℕ) (c : List ℕ) → Torn at n c c
@@ -29,19 +29,19 @@ torn_end at n old c is torn =
     )
 
 -- a torn write within leaves what stood before it and behind it
-pub torn_over : (at n : ℕ) (front mid back c : List ℕ) → at ≡ length front → n ≡ length mid → Torn at n (front ++ mid ++ back) c
-    → (new : List ℕ) × (length new ≡ n) × (c ≡ front ++ new ++ back)
-torn_over at n front mid back c is_front is_mid torn =
-    let long : length (front ++ mid ++ back) ≡ at + n + length back = omega (arith, length-append (front ++ mid) back, length-append front mid) in
-    let before : take at c ≡ front = torn.before ∙ ap (λ (l : List ℕ). take at l) (append_assoc front mid back) ∙ take_at front (mid ++ back) at (sym is_front) in
-    let after : drop (at + n) c ≡ back = torn.after ∙ drop_at (front ++ mid) back (at + n) (omega (arith, length-append front mid)) in
+pub torn_over : (at n : ℕ) (front mid behind c : List ℕ) → at ≡ length front → n ≡ length mid → Torn at n (front ++ mid ++ behind) c
+    → (new : List ℕ) × (length new ≡ n) × (c ≡ front ++ new ++ behind)
+torn_over at n front mid behind c is_front is_mid torn =
+    let long : length (front ++ mid ++ behind) ≡ at + n + length behind = omega (arith, length-append (front ++ mid) behind, length-append front mid) in
+    let before : take at c ≡ front = torn.before ∙ ap (λ (l : List ℕ). take at l) (append_assoc front mid behind) ∙ take_at front (mid ++ behind) at (sym is_front) in
+    let after : drop (at + n) c ≡ behind = torn.after ∙ drop_at (front ++ mid) behind (at + n) (omega (arith, length-append front mid)) in
     let rest : List ℕ = drop at c in
-    let size : length c ≡ at + n + length back = omega (arith, torn.no_shorter, torn.no_longer, long) in
-    let tail : drop n rest ≡ back = drop-drop n at c ∙ after in
+    let size : length c ≡ at + n + length behind = omega (arith, torn.no_shorter, torn.no_longer, long) in
+    let tail : drop n rest ≡ behind = drop-drop n at c ∙ after in
     let split : c ≡ take at c ++ (take n rest ++ drop n rest) = sym (take-append-drop at c) ∙ ap (λ (l : List ℕ). take at c ++ l) (sym (take-append-drop n rest)) in (
       take n rest,
       omega (arith, length-take n rest, length-drop at c, size),
-      split ∙ ap (λ (l : List ℕ). l ++ (take n rest ++ drop n rest)) before ∙ ap (λ (l : List ℕ). front ++ (take n rest ++ l)) tail ∙ sym (append_assoc front (take n rest) back),
+      split ∙ ap (λ (l : List ℕ). l ++ (take n rest ++ drop n rest)) before ∙ ap (λ (l : List ℕ). front ++ (take n rest ++ l)) tail ∙ sym (append_assoc front (take n rest) behind),
     )
 
 -- a write at the end appends
@@ -52,13 +52,13 @@ written_end at old bytes is =
     ∙ append-nil (old ++ bytes)
 
 -- a write within replaces what stood there
-pub written_over : (at : ℕ) (front mid bytes back : List ℕ) → at ≡ length front → length bytes ≡ length mid → written at bytes (front ++ mid ++ back) ≡ front ++ bytes ++ back
-written_over at front mid bytes back is same =
-    ap (λ (l : List ℕ). l ++ bytes ++ drop (at + length bytes) (front ++ mid ++ back)) (ap (λ (l : List ℕ). take at l) (append_assoc front mid back) ∙ take_at front (mid ++ back) at (sym is))
-    ∙ ap (λ (l : List ℕ). front ++ bytes ++ l) (drop_at (front ++ mid) back (at + length bytes) (omega (arith, length-append front mid)))
+pub written_over : (at : ℕ) (front mid bytes behind : List ℕ) → at ≡ length front → length bytes ≡ length mid → written at bytes (front ++ mid ++ behind) ≡ front ++ bytes ++ behind
+written_over at front mid bytes behind is same =
+    ap (λ (l : List ℕ). l ++ bytes ++ drop (at + length bytes) (front ++ mid ++ behind)) (ap (λ (l : List ℕ). take at l) (append_assoc front mid behind) ∙ take_at front (mid ++ behind) at (sym is))
+    ∙ ap (λ (l : List ℕ). front ++ bytes ++ l) (drop_at (front ++ mid) behind (at + length bytes) (omega (arith, length-append front mid)))
 
 -- a cut behind what stays leaves it
-pub cut_end : (at : ℕ) (front tail c : List ℕ) → at ≡ length front → Cut at (front ++ tail) c → (rest : List ℕ) × (c ≡ front ++ rest)
+pub cut_end : (at : ℕ) (front tail c : List ℕ) → at ≡ length front → CutOrWhole at (front ++ tail) c → (rest : List ℕ) × (c ≡ front ++ rest)
 cut_end at front tail c is (inl same) = (tail, same)
 cut_end at front tail c is (inr cut) = ([], cut ∙ take_at front tail at (sym is) ∙ sym (append-nil front))
 

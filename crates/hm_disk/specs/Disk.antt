@@ -13,8 +13,8 @@ pub record Torn (at n : ℕ) (old new : List ℕ) : Type 0 where
   pub no_longer : length new ≤ max (length old) (at + n)
 
 -- after some part of a cut: the old size or the new one
-abbrev pub Cut : ℕ → List ℕ → List ℕ → Type 0
-Cut n old new = (new ≡ old) ⊎ (new ≡ take n old)
+abbrev pub CutOrWhole : ℕ → List ℕ → List ℕ → Type 0
+CutOrWhole n old new = (new ≡ old) ⊎ (new ≡ take n old)
 
 -- each image now comes of an image before by this step
 abbrev pub Follows : (List ℕ → List ℕ → Type 0) → (List ℕ → Type 0) → (List ℕ → Type 0) → Type 0
@@ -31,7 +31,7 @@ pub record Elapses (before now : ℕ) (past since : ℕ → List ℕ → Type 0)
   pub keeps : (t : ℕ) (c : List ℕ) → t ≤ before → past t c → since t c
 
 -- the count rose by this number, or by less up to the end of its type
-pub record Rises (by old new : ℕ) : Type 0 where
+pub record RisesBy (by old new : ℕ) : Type 0 where
   pub later : old ≤ new
   pub least : min (old + by) (2 ^ 64 - 1) ≤ new
   pub most : new ≤ old + by
@@ -44,7 +44,7 @@ pub record LeavesOnly {D : Type 0} (moment : D → ℕ) (left_since : D → ℕ 
   pub before : (t : ℕ) (c : List ℕ) → t ≤ moment old → left_since new t c → left_since old t c ⊎ P c
 
 -- from some moment on a stop leaves an image that has P, and before it one that had Q
-pub record Settles {D : Type 0} (moment : D → ℕ) (left_since : D → ℕ → List ℕ → Type 0) (old new : D) (Q P : List ℕ → Type 0) : Type 0 where
+pub record LeavesThen {D : Type 0} (moment : D → ℕ) (left_since : D → ℕ → List ℕ → Type 0) (old new : D) (Q P : List ℕ → Type 0) : Type 0 where
   pub at : ℕ
   pub from : moment old ≤ at
   pub to : at ≤ moment new

@@ -28,7 +28,7 @@ pub record IsKept (m : MemView) : Type 0 where
   pub fills : (v : ℕ) → Reaches m.events (filled v m.dirty m.bytes)
 
 -- what is kept of the fields: also that the room was made for all three
-pub record IsSound (d : Inside) : Type 0 where
+pub record IsMemDisk (d : Inside) : Type 0 where
   pub kept : IsKept (view_of d)
   pub bytes_room : d.room ≤ vec_capacity d.bytes
   pub synced_room : d.room ≤ vec_capacity d.synced

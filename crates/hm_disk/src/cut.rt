@@ -1,7 +1,7 @@
 //! A disk that stops at a chosen change.
 ghost use Rattle.std.specs.Prelude.{◌≡◌, ◌⊎◌, ◌+◌, ◌≤◌, ◌<◌, ◌↔◌, List, ℕ, length, take, drop, min, IsTrue, IsErr, IfOk, OnOk, OnErr};
 ghost use Rattle.hm_ports.specs.Faults.{raised, Rose};
-ghost use Rattle.hm_disk.specs.Disk.{written, Torn, Cut, Follows, Only, Elapses, Rises};
+ghost use Rattle.hm_disk.specs.Disk.{written, Torn, CutOrWhole, Follows, Only, Elapses, RisesBy};
 ghost use Rattle.hm_disk.specs.Cutting.{IsCut, armed, disarmed, new_cut, stopped, after_change, passed};
 
 use crate::Disk;
@@ -237,7 +237,7 @@ impl<D: Disk> Disk for CutDisk<D> {
         ensures fault { OnErr result (Rose (D.faults self.old.inner + self.old.faults)
             (D.faults self.new.inner + self.new.faults)) }
         ensures faults { D.faults self.old.inner + self.old.faults ≤ D.faults self.new.inner + self.new.faults }
-        ensures changes { Rises 1 self.old.changes self.new.changes }
+        ensures changes { RisesBy 1 self.old.changes self.new.changes }
         ensures setting { self.new.arming ≡ self.old.arming }
     {
         let was_cut = is_cut(&self.arming, self.changes);
@@ -262,14 +262,14 @@ impl<D: Disk> Disk for CutDisk<D> {
             self.new ≡ record (after_change self.old) { inner = self.new.inner } }
         ensures cut { D.tells → OnOk result (D.seen self.new.inner ≡ take size (D.seen self.old.inner)) }
 
-        ensures part { D.tells → Cut size (D.seen self.old.inner) (D.seen self.new.inner) }
-        ensures crash { Follows (Cut size) (D.image self.old.inner) (D.image self.new.inner) }
+        ensures part { D.tells → CutOrWhole size (D.seen self.old.inner) (D.seen self.new.inner) }
+        ensures crash { Follows (CutOrWhole size) (D.image self.old.inner) (D.image self.new.inner) }
         ensures time { Elapses (D.moment self.old.inner) (D.moment self.new.inner)
             (D.left_since self.old.inner) (D.left_since self.new.inner) (D.image self.new.inner) }
         ensures fault { OnErr result (Rose (D.faults self.old.inner + self.old.faults)
             (D.faults self.new.inner + self.new.faults)) }
         ensures faults { D.faults self.old.inner + self.old.faults ≤ D.faults self.new.inner + self.new.faults }
-        ensures changes { Rises 1 self.old.changes self.new.changes }
+        ensures changes { RisesBy 1 self.old.changes self.new.changes }
         ensures setting { self.new.arming ≡ self.old.arming }
     {
         raise(&mut self.changes);

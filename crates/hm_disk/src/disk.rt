@@ -1,7 +1,7 @@
 //! What every disk promises.
 ghost use Rattle.std.specs.Prelude.{◌≡◌, ◌+◌, ◌≤◌, ◌<◌, List, ℕ, length, take, drop, IfOk, OnOk, OnErr};
 ghost use Rattle.hm_ports.specs.Faults.{Rose};
-ghost use Rattle.hm_disk.specs.Disk.{written, Torn, Cut, Follows, Only, Elapses, Rises};
+ghost use Rattle.hm_disk.specs.Disk.{written, Torn, CutOrWhole, Follows, Only, Elapses, RisesBy};
 
 use hm_ports::Failed;
 
@@ -81,21 +81,21 @@ pub trait Disk: Drop {
             (left_since self.old) (left_since self.new) (image self.new) }
         ensures fault { OnErr result (Rose (faults self.old) (faults self.new)) }
         ensures faults { faults self.old ≤ faults self.new }
-        ensures changes { Rises 1 (changes self.old) (changes self.new) }
+        ensures changes { RisesBy 1 (changes self.old) (changes self.new) }
         ensures setting { setting self.new ≡ setting self.old };
 
     /// Makes this the size. It doesn't enlarge.
     fn cut(&mut self, size: u64) -> Result<(), Failed>
         requires place { tells → size ≤ length (seen self.old) }
         ensures cut { tells → OnOk result (seen self.new ≡ take size (seen self.old)) }
-        ensures part { tells → Cut size (seen self.old) (seen self.new) }
+        ensures part { tells → CutOrWhole size (seen self.old) (seen self.new) }
 
-        ensures crash { Follows (Cut size) (image self.old) (image self.new) }
+        ensures crash { Follows (CutOrWhole size) (image self.old) (image self.new) }
         ensures time { Elapses (moment self.old) (moment self.new)
             (left_since self.old) (left_since self.new) (image self.new) }
         ensures fault { OnErr result (Rose (faults self.old) (faults self.new)) }
         ensures faults { faults self.old ≤ faults self.new }
-        ensures changes { Rises 1 (changes self.old) (changes self.new) }
+        ensures changes { RisesBy 1 (changes self.old) (changes self.new) }
         ensures setting { setting self.new ≡ setting self.old };
 
     /// Waits until what a read gives is all that a stop can leave.

@@ -1,7 +1,7 @@
 //! A disk over a file of the system.
 ghost use Rattle.std.specs.Prelude.{◌≡◌, ◌+◌, ◌-◌, ◌^◌, ◌≤◌, [], min, max, IfOk, IfSome, OnOk, OnErr};
 ghost use Rattle.hm_ports.specs.Faults.{raised, Rose};
-ghost use Rattle.hm_disk.specs.Disk.{Rises};
+ghost use Rattle.hm_disk.specs.Disk.{RisesBy};
 ghost use Rattle.hm_disk.specs.File.{IsOwn};
 
 use crate::Disk;
@@ -275,7 +275,7 @@ impl Disk for FileDisk {
             record { faults = raised self.old.faults; changes = raised self.old.changes }) }
         ensures fault { OnErr result (Rose self.old.faults self.new.faults) }
         ensures faults { self.old.faults ≤ self.new.faults }
-        ensures changes { Rises 1 self.old.changes self.new.changes }
+        ensures changes { RisesBy 1 self.old.changes self.new.changes }
     {
         raise(&mut self.changes);
         self.unsynced = self.unsynced.with(at, bytes.len());
@@ -293,7 +293,7 @@ impl Disk for FileDisk {
             record { faults = raised self.old.faults; changes = raised self.old.changes }) }
         ensures fault { OnErr result (Rose self.old.faults self.new.faults) }
         ensures faults { self.old.faults ≤ self.new.faults }
-        ensures changes { Rises 1 self.old.changes self.new.changes }
+        ensures changes { RisesBy 1 self.old.changes self.new.changes }
     {
         raise(&mut self.changes);
         self.remade = true;

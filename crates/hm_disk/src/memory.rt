@@ -2,7 +2,7 @@
 ghost use Rattle.std.specs.Prelude.{◌≡◌, ◌+◌, ◌≤◌, ◌<◌, ◌↔◌, ◌⊎◌, List, ℕ, length, take, drop, vec_len, vec_capacity, IsErr, IfOk, OnOk, OnErr, Contains};
 ghost use Rattle.std.proofs.Common.{inl, refl};
 ghost use Rattle.hm_ports.specs.Faults.{Rose};
-ghost use Rattle.hm_disk.specs.Disk.{Torn, Cut, Follows, Only, Rises};
+ghost use Rattle.hm_disk.specs.Disk.{Torn, CutOrWhole, Follows, Only, RisesBy};
 ghost use Rattle.hm_disk.specs.Chosen.{chosen};
 ghost use Rattle.hm_disk.specs.Memory.{mem_image, mem_since, MemElapses, mem_counts_now, mem_only_now};
 ghost use Rattle.hm_disk.specs.Memory.{new_disk, after_call, after_failure, after_failed_change};
@@ -37,11 +37,11 @@ impl Model for MemDisk {
 
     ghost Value = { MemView };
 
-    ghost use Rattle.hm_disk.specs.Fields.{view_of, IsSound};
+    ghost use Rattle.hm_disk.specs.Fields.{view_of, IsMemDisk};
 
     ghost view = { view_of };
 
-    ghost invariant = { IsSound };
+    ghost invariant = { IsMemDisk };
 }
 
 /// What a stop leaves.
@@ -218,7 +218,7 @@ impl Disk for MemDisk {
         ensures time { MemElapses self.old self.new }
         ensures fault { OnErr result (Rose self.old.faults self.new.faults) }
         ensures faults { self.old.faults ≤ self.new.faults }
-        ensures changes { Rises 1 self.old.changes self.new.changes }
+        ensures changes { RisesBy 1 self.old.changes self.new.changes }
     {
         raise(&mut self.changes);
         if next_call_fails(&mut self.calls, &self.fails) || bytes.len() as u64 > self.room - at {
@@ -239,12 +239,12 @@ impl Disk for MemDisk {
         ensures ok { OnOk result (self.new ≡ after_cut size self.old) }
         ensures err { OnErr result (self.new ≡ after_failed_change self.old) }
 
-        ensures part { Cut size self.old.bytes self.new.bytes }
-        ensures crash { Follows (Cut size) (mem_image self.old) (mem_image self.new) }
+        ensures part { CutOrWhole size self.old.bytes self.new.bytes }
+        ensures crash { Follows (CutOrWhole size) (mem_image self.old) (mem_image self.new) }
         ensures time { MemElapses self.old self.new }
         ensures fault { OnErr result (Rose self.old.faults self.new.faults) }
         ensures faults { self.old.faults ≤ self.new.faults }
-        ensures changes { Rises 1 self.old.changes self.new.changes }
+        ensures changes { RisesBy 1 self.old.changes self.new.changes }
     {
         raise(&mut self.changes);
         if next_call_fails(&mut self.calls, &self.fails) {

@@ -12,7 +12,7 @@ use Rattle.hm_model.specs.Journal.{back}
 use Rattle.hm_journal.specs.Stored.{IsJournal, frames_of, opened}
 use Rattle.hm_journal.specs.Judged.{IsFound}
 use Rattle.hm_journal.specs.View.{entries_in}
-use Rattle.hm_journal.proofs.Kept.{entries_are}
+use Rattle.hm_journal.proofs.Keeping.{entries_are}
 
 -- a journal that has begun is as it was opened
 pub opened_some : (sheets : List Sheet) (entries : List Entry) → back entries ≢ [] → entries ≡ opened sheets entries

@@ -1,7 +1,7 @@
 -- What the images of a disk hold that is opened.
 use Rattle.std.proofs.Common.{◌≡◌, ◌⊎◌, ℕ, ◌≤◌, List, [], ◌∷◌, length, refl, ap, ◌∙◌, sym, subst, inl, inr, ⊎_elim, arith, Result, Ok, Err}
 use Rattle.std.specs.Prelude.{IfErr, IfOk}
-use Rattle.hm_disk.specs.Disk.{LeavesOnly, Settles}
+use Rattle.hm_disk.specs.Disk.{LeavesOnly, LeavesThen}
 use Rattle.hm_disk.specs.declared.disk.Disk as Disk
 use Rattle.hm_disk.proofs.Moments.{started, weaker}
 use Rattle.hm_log.specs.Format.{Reads, BeforeOrAfter, HoldsFrames}
@@ -29,9 +29,9 @@ module _ {D : Type 0} (moment : D → ℕ) (left_since : D → ℕ → List ℕ 
   image_now old new P leaves c is = leaves.each c (counts new (moment old) c leaves.later is)
 
 module _ {D : Type 0} (moment : D → ℕ) (left_since : D → ℕ → List ℕ → Type 0) (image : D → List ℕ → Type 0) (only : (d : D) (c : List ℕ) → left_since d (moment d) c → image d c) where
-  -- what settled left at each moment what it could before, or what it can since
-  pub settled_all : (old new : D) (Q P : List ℕ → Type 0) → ((c : List ℕ) → image old c → Q c) → Settles moment left_since old new Q P → LeavesOnly moment left_since old new (λ c. Q c ⊎ P c)
-  settled_all old new Q P was run = record {
+  -- what an opening left at each moment: what it could before, or what it can since
+  pub then_all : (old new : D) (Q P : List ℕ → Type 0) → ((c : List ℕ) → image old c → Q c) → LeavesThen moment left_since old new Q P → LeavesOnly moment left_since old new (λ c. Q c ⊎ P c)
+  then_all old new Q P was run = record {
     later = omega (arith, run.from, run.to);
     each = λ c left. ⊎_elim (λ past. inl (was c (only old c past))) (λ now. now) (run.earlier (moment old) c (omega arith) left);
     before = λ t c le left. run.earlier t c le left;
@@ -69,7 +69,7 @@ gets_first sheets kept frames bytes none are keeps =
     let first : HoldsJournal sheets [] bytes = subst (λ (j : List Entry). HoldsJournal sheets j bytes) none keeps in
     ⊎_elim (λ reads. inl (subst (Reads bytes) empty reads)) (λ reads. inr (sym empty, reads)) first
 
--- what an opening left before it settled on these frames
+-- what an opening left before it came to these frames
 pub opening_first : (sheets : List Sheet) (seen : List ℕ) (before : List ℕ → Type 0) (frames : List (List ℕ)) → HoldsFrames seen frames
     → (c : List ℕ) → (before c ⊎ IsMaking seen c) ⊎ Reads c frames → IsOpening sheets seen before c
 opening_first sheets seen before frames opens c (inl (inl was)) = inl was
@@ -81,7 +81,7 @@ pub opening_then : (sheets : List Sheet) (seen : List ℕ) (before : List ℕ �
     → (c : List ℕ) → Reads c frames ⊎ GetsFirst sheets frames c → IsOpening sheets seen before c
 opening_then sheets seen before frames opens c more = inr (inr (frames, opens, more))
 
--- what an opening left that never settled
+-- what an opening left that never came to any
 pub opening_vain : (sheets : List Sheet) (seen : List ℕ) (before : List ℕ → Type 0) (c : List ℕ) → before c ⊎ Reopens seen c → IsOpening sheets seen before c
 opening_vain sheets seen before c (inl was) = inl was
 opening_vain sheets seen before c (inr (inl alike)) = inr (inr (alike.frames, inr alike.was, inl (alike.stays alike.frames alike.was)))

@@ -2,7 +2,7 @@ pub mod Spelled
 pub mod SameSheets
 pub mod Judging
 pub mod Valid
-pub mod Kept
+pub mod Keeping
 pub mod Refusing
 pub mod Places
 pub mod Images

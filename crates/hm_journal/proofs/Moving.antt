@@ -2,7 +2,7 @@
 use Rattle.std.proofs.Common.{◌≡◌, ◌≢◌, ◌⊎◌, ℕ, ◌+◌, ◌≤◌, List, [], ◌∷◌, ◌++◌, length, Option, Some, None, refl, sym, ap, ◌∙◌, subst, inl, inr, arith, length-append, append_assoc, append-nil}
 use Rattle.hm_ports.specs.Faults.{Rose}
 use Rattle.hm_disk.specs.Called.{IsCalled}
-use Rattle.hm_disk.specs.Disk.{LeavesOnly, Rises}
+use Rattle.hm_disk.specs.Disk.{LeavesOnly, RisesBy}
 use Rattle.hm_disk.specs.declared.disk.Disk as Disk
 use Rattle.hm_disk.proofs.Moments.{joined, started, weaker}
 use Rattle.hm_log.specs.Format.{BeforeOrAfter, Reads}
@@ -54,7 +54,7 @@ module _ {D Setting : Type 0} (d : Disk.Ghosts D Setting) (opened : Opened D) wh
   -- an entry more
   pub since_recorded : (old new : D) (entries : List Entry) (entry : Entry) → Since d opened old entries None None
       → (d.tells → LeavesOnly d.moment d.left_since old new (BeforeOrAfter (frames_of entries) (spelling entry)))
-      → Rises 2 (d.changes old) (d.changes new) → IsCalled d 2 old new → Since d opened new (entries ++ entry ∷ []) None None
+      → RisesBy 2 (d.changes old) (d.changes new) → IsCalled d 2 old new → Since d opened new (entries ++ entry ∷ []) None None
   since_recorded old new entries entry was run rises called =
       let longer = length-append entries (entry ∷ []) in
       record {
@@ -98,7 +98,7 @@ module _ {D Setting : Type 0} (d : Disk.Ghosts D Setting) (opened : Opened D) wh
   -- an entry more, of a journal that is going
   pub recorded_since : (old new : D) (entries grown : List Entry) (entry : Entry) (tail : Option Entry) (halted : Option Halt) → halted ≡ None → (tail ≢ None → halted ≡ Some halt_is.LogFault)
       → grown ≡ entries ++ entry ∷ [] → Since d opened old entries tail halted → (d.tells → LeavesOnly d.moment d.left_since old new (BeforeOrAfter (frames_of entries) (spelling entry)))
-      → Rises 2 (d.changes old) (d.changes new) → IsCalled d 2 old new → Since d opened new grown tail halted
+      → RisesBy 2 (d.changes old) (d.changes new) → IsCalled d 2 old new → Since d opened new grown tail halted
   recorded_since old new entries grown entry tail halted going failed more was run rises called =
       subst (λ (h : Option Halt). Since d opened new grown tail h) (sym going)
       (subst (λ (t : Option Entry). Since d opened new grown t None) (sym (no_tail tail halted failed going))

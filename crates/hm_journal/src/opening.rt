@@ -2,7 +2,7 @@
 ghost use Rattle.std.specs.Prelude.{◌≡◌, ◌≢◌, ◌⊎◌, ◌<◌, ◌≤◌, ◌+◌, List, ℕ, [], ◌∷◌, length, IsErrOf, IfOk, IfErr, OnOk, OnErr, MatchResult, All, None, false};
 ghost use Rattle.hm_ports.specs.Faults.{Rose};
 ghost use Rattle.hm_disk.specs.Called.{IsCalled};
-ghost use Rattle.hm_disk.specs.Disk.{LeavesOnly, Only, Settles};
+ghost use Rattle.hm_disk.specs.Disk.{LeavesOnly, Only, LeavesThen};
 ghost use Rattle.hm_log.specs.Format.{HoldsFrames, Reads, size_with};
 ghost use Rattle.hm_log.specs.Opening.{IsMaking, OnlyReads, Reopens};
 ghost use Rattle.hm_data.specs.declared.entry.Entry.{Entry as EntryValue};
@@ -150,7 +150,7 @@ fn open_log<D: Disk>(alloc: Global, disk: D) -> Result<(Log<D>, Frames), (D, Jou
     ensures bytes { IfOk result (λ r. r.0.bytes ≡ size_with r.1) }
     ensures live { IfOk result (λ r. r.0.stalled ≡ false) }
     ensures durable { D.tells → IfOk result (λ r. (c : List ℕ) → D.image r.0.disk c → Reads c r.1) }
-    ensures settles { D.tells → IfOk result (λ r. Settles D.moment D.left_since disk r.0.disk (λ c. D.image disk c ⊎ IsMaking (D.seen disk) c) (λ c. Reads c r.1)) }
+    ensures from_then_on { D.tells → IfOk result (λ r. LeavesThen D.moment D.left_since disk r.0.disk (λ c. D.image disk c ⊎ IsMaking (D.seen disk) c) (λ c. Reads c r.1)) }
     ensures why { D.tells → IfErr result (λ e. (sheets : List SheetValue) → Refuses sheets (D.seen disk) e.1) }
     ensures accepts { D.tells → (frames : List (List ℕ)) → HoldsFrames (D.seen disk) frames → MatchResult result (λ r. r.1 ≡ frames) (λ e. IsUnjudged e.1) }
     ensures fault { IfErr result (λ e. e.1 ≡ JournalWhy.Fault → Rose (D.faults disk) (D.faults e.0)) }
@@ -247,7 +247,7 @@ impl<D: Disk> Journal<D> {
         // What it gives.
         ensures journal { IfOk result (λ r. (old : List EntryValue) × IsJournal sheets.now old × (r.0.kept.entries ≡ opened sheets.now old)
             × (r.0.opened.count ≡ length old) × (D.tells → IsOnDisk sheets.now (D.seen disk) old
-            × Settles D.moment D.left_since disk r.0.opened.disk (λ c. D.image disk c ⊎ IsMaking (D.seen disk) c) (λ c. Reads c (frames_of old)))) }
+            × LeavesThen D.moment D.left_since disk r.0.opened.disk (λ c. D.image disk c ⊎ IsMaking (D.seen disk) c) (λ c. Reads c (frames_of old)))) }
         ensures state { IfOk result (λ r. r.1.entries ≡ r.0.kept.entries) }
         ensures fresh { IfOk result (λ r. (r.0.kept.next ≡ None) × (r.0.kept.tail ≡ None) × (r.0.kept.halted ≡ None)) }
         ensures limits { IfOk result (λ r. (r.0.kept.soft ≡ limits.soft) × (r.0.kept.hard ≡ limits.hard)) }

@@ -1,7 +1,7 @@
 -- What opening makes of a file that reads as frames.
 use Rattle.std.proofs.Common.{◌≡◌, ℕ, ◌+◌, ◌≤◌, List, [], ◌∷◌, ◌++◌, length, take, sym, ◌∙◌, ap, subst, arith, append_assoc, length-append}
 use Rattle.std.proofs.lemmas.List.{take_at}
-use Rattle.hm_disk.specs.Disk.{Cut}
+use Rattle.hm_disk.specs.Disk.{CutOrWhole}
 use Rattle.hm_disk.proofs.Splice.{cut_end}
 use Rattle.hm_log.specs.Format.{header, spelled, size_with, Reads, ReadsTo, IsWhole}
 use Rattle.hm_log.proofs.Listed.{frames_of-reads}
@@ -29,9 +29,9 @@ module _ (file : List ℕ) (at : ℕ) (frames : List (List ℕ)) (to : ReadsTo f
   pub read_fewer : length frames ≤ at
   read_fewer = omega (arith, to.place, length-append header (spelled frames), spelled_fewer frames)
 
-  pub cut_reads : (c : List ℕ) → Cut (at + 1) file c → Reads c frames
+  pub cut_reads : (c : List ℕ) → CutOrWhole (at + 1) file c → Reads c frames
   cut_reads c cut =
-      let end = cut_end (at + 1) (header ++ spelled frames ++ to.gate ∷ []) to.free c size (subst (λ (f : List ℕ). Cut (at + 1) f c) split cut) in
+      let end = cut_end (at + 1) (header ++ spelled frames ++ to.gate ∷ []) to.free c size (subst (λ (f : List ℕ). CutOrWhole (at + 1) f c) split cut) in
       record { gate = to.gate; free = end.0; shut = to.shut; spelling = end.1 ∙ append_assoc (header ++ spelled frames) (to.gate ∷ []) end.0; each = to.each }
 
   pub cut_whole : IsWhole (take (at + 1) file) at frames

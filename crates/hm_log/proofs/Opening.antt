@@ -1,7 +1,7 @@
 -- What each step of an opening leaves, from what the step before it has left.
 use Rattle.std.proofs.Common.{◌≡◌, ◌⊎◌, inl, inr, ℕ, ◌+◌, List, [], ◌∷◌, length, refl, sym, ◌∙◌, subst, arith}
-use Rattle.hm_disk.specs.Disk.{Torn, Cut, LeavesOnly, Settles}
-use Rattle.hm_disk.proofs.Moments.{weaker, joined, settled_now, stays_settled, settles_weaker, earlier_weaker}
+use Rattle.hm_disk.specs.Disk.{Torn, CutOrWhole, LeavesOnly, LeavesThen}
+use Rattle.hm_disk.proofs.Moments.{weaker, joined, then_now, then_stays, then_weaker, earlier_weaker}
 use Rattle.hm_log.specs.Format.{Reads, ReadsTo, IsWhole}
 use Rattle.hm_log.specs.Opening.{ReadsAlike, IsMaking, Reopens}
 use Rattle.hm_log.proofs.Ends.{one_list, read_reads, cut_reads}
@@ -22,11 +22,11 @@ empty [] is = refl
 empty (x ∷ l) is = absurd (omega arith)
 
 -- a cut to the closed gate, done or not
-pub alike : (file seen : List ℕ) (at : ℕ) (found : List (List ℕ)) → ReadsTo file at found → seen ≡ file → (c : List ℕ) → Cut (at + 1) seen c → ReadsAlike file c
+pub alike : (file seen : List ℕ) (at : ℕ) (found : List (List ℕ)) → ReadsTo file at found → seen ≡ file → (c : List ℕ) → CutOrWhole (at + 1) seen c → ReadsAlike file c
 alike file seen at found to same c cut = record {
   frames = found;
   was = read_reads file at found to;
-  stays = λ others reads. subst (λ (fs : List (List ℕ)). Reads c fs) (one_list file found others (read_reads file at found to) reads) (cut_reads file at found to c (subst (λ (s : List ℕ). Cut (at + 1) s c) same cut));
+  stays = λ others reads. subst (λ (fs : List (List ℕ)). Reads c fs) (one_list file found others (read_reads file at found to) reads) (cut_reads file at found to c (subst (λ (s : List ℕ). CutOrWhole (at + 1) s c) same cut));
 }
 
 -- the making of a new log, done or not
@@ -46,22 +46,22 @@ module _ {D : Type 0} (moment : D → ℕ) (left_since : D → ℕ → List ℕ 
       (weaker moment left_since mid new step (λ c. image c ⊎ Reopens file c) (λ c is. inr (so c is)) second)
 
   -- an opening that finds nothing to cut
-  pub settles_here : (P : List ℕ → Type 0) → P file → Settles moment left_since old mid image (λ c. c ≡ file) → Settles moment left_since old mid (λ c. image c ⊎ IsMaking file c) P
-  settles_here P is first =
+  pub then_here : (P : List ℕ → Type 0) → P file → LeavesThen moment left_since old mid image (λ c. c ≡ file) → LeavesThen moment left_since old mid (λ c. image c ⊎ IsMaking file c) P
+  then_here P is first =
       earlier_weaker moment left_since old mid image P (λ c. image c ⊎ IsMaking file c) (λ c was. inl was)
-      (settles_weaker moment left_since old mid image (λ c. c ≡ file) P (λ c same. subst P (sym same) is) first)
+      (then_weaker moment left_since old mid image (λ c. c ≡ file) P (λ c same. subst P (sym same) is) first)
 
   -- an opening that cuts
-  pub settles_cut : (P : List ℕ → Type 0) (step : List ℕ → Type 0) → P file → ((c : List ℕ) → step c → P c) → Settles moment left_since old mid image (λ c. c ≡ file) → LeavesOnly moment left_since mid new step
-      → Settles moment left_since old new (λ c. image c ⊎ IsMaking file c) P
-  settles_cut P step is so first second =
-      stays_settled moment left_since old mid new (λ c. image c ⊎ IsMaking file c) P (settles_here P is first) (weaker moment left_since mid new step P so second)
+  pub then_cut : (P : List ℕ → Type 0) (step : List ℕ → Type 0) → P file → ((c : List ℕ) → step c → P c) → LeavesThen moment left_since old mid image (λ c. c ≡ file) → LeavesOnly moment left_since mid new step
+      → LeavesThen moment left_since old new (λ c. image c ⊎ IsMaking file c) P
+  then_cut P step is so first second =
+      then_stays moment left_since old mid new (λ c. image c ⊎ IsMaking file c) P (then_here P is first) (weaker moment left_since mid new step P so second)
 
   -- an opening that makes a new log
-  pub settles_made : (P : List ℕ → Type 0) (step : List ℕ → Type 0) → ((c : List ℕ) → step c → IsMaking file c) → LeavesOnly moment left_since old mid image → LeavesOnly moment left_since mid new step
-      → ((c : List ℕ) → left_since new (moment new) c → P c) → Settles moment left_since old new (λ c. image c ⊎ IsMaking file c) P
-  settles_made P step so first second now =
-      settled_now moment left_since old new (λ c. image c ⊎ IsMaking file c) P
+  pub then_made : (P : List ℕ → Type 0) (step : List ℕ → Type 0) → ((c : List ℕ) → step c → IsMaking file c) → LeavesOnly moment left_since old mid image → LeavesOnly moment left_since mid new step
+      → ((c : List ℕ) → left_since new (moment new) c → P c) → LeavesThen moment left_since old new (λ c. image c ⊎ IsMaking file c) P
+  then_made P step so first second now =
+      then_now moment left_since old new (λ c. image c ⊎ IsMaking file c) P
       (joined moment left_since old mid new (λ c. image c ⊎ IsMaking file c)
       (weaker moment left_since old mid image (λ c. image c ⊎ IsMaking file c) (λ c is. inl is) first)
       (weaker moment left_since mid new step (λ c. image c ⊎ IsMaking file c) (λ c is. inr (so c is)) second))

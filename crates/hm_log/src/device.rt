@@ -2,7 +2,7 @@
 ghost use Rattle.std.specs.Prelude.{◌≡◌, ◌^◌, ◌≤◌, ◌<◌, List, ℕ, length, take, vec_len, IfOk, OnOk, OnErr, IsErrOf};
 ghost use Rattle.hm_ports.specs.Faults.{Rose};
 ghost use Rattle.hm_disk.specs.Called.{IsCalled};
-ghost use Rattle.hm_disk.specs.Disk.{written, Torn, Cut, Only, Rises, LeavesOnly, Settles};
+ghost use Rattle.hm_disk.specs.Disk.{written, Torn, CutOrWhole, Only, RisesBy, LeavesOnly, LeavesThen};
 ghost use Rattle.hm_log.specs.Opening.{IsUntouched};
 ghost use Rattle.hm_log.specs.declared.why.OpenWhy.TheVariants.{Fault, NotALog, BadFrame};
 
@@ -22,7 +22,7 @@ pub(crate) fn write_through<D: Disk>(disk: &mut D, at: u64, bytes: &[u8]) -> Res
     ensures any_moment { LeavesOnly D.moment D.left_since disk.old disk.new
         (λ c. Torn at (length bytes.now) (D.seen disk.old) c) }
     ensures fault { OnErr result (Rose (D.faults disk.old) (D.faults disk.new)) }
-    ensures changes { Rises 1 (D.changes disk.old) (D.changes disk.new) }
+    ensures changes { RisesBy 1 (D.changes disk.old) (D.changes disk.new) }
     ensures called { IsCalled D.Disk 1 disk.old disk.new }
 {
     disk.write_at(at, bytes)?;
@@ -34,12 +34,12 @@ pub(crate) fn trim<D: Disk>(disk: &mut D, size: u64) -> Result<(), Failed>
     requires place { D.tells → size ≤ length (D.seen disk.old) }
     requires only { Only (D.seen disk.old) (D.image disk.old) }
     ensures cut { D.tells → OnOk result (D.seen disk.new ≡ take size (D.seen disk.old)) }
-    ensures part { D.tells → Cut size (D.seen disk.old) (D.seen disk.new) }
+    ensures part { D.tells → CutOrWhole size (D.seen disk.old) (D.seen disk.new) }
     ensures durable { OnOk result (Only (D.seen disk.new) (D.image disk.new)) }
     ensures any_moment { LeavesOnly D.moment D.left_since disk.old disk.new
-        (λ c. Cut size (D.seen disk.old) c) }
+        (λ c. CutOrWhole size (D.seen disk.old) c) }
     ensures fault { OnErr result (Rose (D.faults disk.old) (D.faults disk.new)) }
-    ensures changes { Rises 1 (D.changes disk.old) (D.changes disk.new) }
+    ensures changes { RisesBy 1 (D.changes disk.old) (D.changes disk.new) }
     ensures called { IsCalled D.Disk 1 disk.old disk.new }
 {
     disk.cut(size)?;

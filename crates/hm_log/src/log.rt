@@ -2,7 +2,7 @@
 ghost use Rattle.std.specs.Prelude.{◌≡◌, ◌≢◌, ◌⊎◌, ◌+◌, ◌^◌, ◌≤◌, ◌<◌, ◌++◌, ◌∷◌, [], List, ℕ, length, take, vec_len, vec_capacity, false, true, All, IfOk, IfErr, OnOk, OnErr, MatchResult, IsErrOf};
 ghost use Rattle.hm_ports.specs.Faults.{Rose};
 ghost use Rattle.hm_disk.specs.Called.{IsCalled};
-ghost use Rattle.hm_disk.specs.Disk.{Only, Rises, LeavesOnly, Settles};
+ghost use Rattle.hm_disk.specs.Disk.{Only, RisesBy, LeavesOnly, LeavesThen};
 ghost use Rattle.hm_log.specs.Format.{laid, log_of, size_with, IsFrame, IsWhole, Reads, HoldsFrames, BeforeOrAfter, IsNotALog, IsBadFrame};
 ghost use Rattle.hm_log.specs.Opening.{IsMaking, Reopens, IsUntouched, OnlyReads};
 ghost use Rattle.hm_log.specs.declared.why.OpenWhy.TheVariants.{Fault, NotALog, BadFrame, Memory};
@@ -29,7 +29,7 @@ pub struct Log<D: Disk> {
 impl<D: Disk> Model for Log<D> {
     ghost use Rattle.std.specs.Prelude.{◌+◌, vec_capacity};
     ghost use Rattle.hm_log.specs.Format.{frames_of};
-    ghost use Rattle.hm_log.specs.View.{LogView, IsSound};
+    ghost use Rattle.hm_log.specs.View.{LogView, IsLog};
 
     ghost Value = { LogView D };
 
@@ -41,7 +41,7 @@ impl<D: Disk> Model for Log<D> {
       room = vec_capacity a.buffer;
     } };
 
-    ghost invariant = { λ a. IsSound D.tells (D.seen a.disk) (D.image a.disk) a.gate a.count a.stalled (vec_capacity a.buffer) };
+    ghost invariant = { λ a. IsLog D.tells (D.seen a.disk) (D.image a.disk) a.gate a.count a.stalled (vec_capacity a.buffer) };
 }
 
 impl<D: Disk> Log<D> {
@@ -67,13 +67,13 @@ impl<D: Disk> Log<D> {
         ensures made { D.tells → length (D.seen disk) ≡ 0 → IfOk result (λ r. D.seen r.0.disk ≡ log_of []) }
         ensures durable { D.tells → IfOk result (λ r. (c : List ℕ) → D.image r.0.disk c → Reads c r.1) }
         ensures any_moment { D.tells → MatchResult result
-            (λ r. Settles D.moment D.left_since disk r.0.disk
+            (λ r. LeavesThen D.moment D.left_since disk r.0.disk
             (λ c. D.image disk c ⊎ IsMaking (D.seen disk) c) (λ c. Reads c r.1))
             (λ e. LeavesOnly D.moment D.left_since disk e.0
             (λ c. D.image disk c ⊎ Reopens (D.seen disk) c)) }
 
         // When which error comes, and what it leaves.
-        ensures exact { D.tells → (frames : List (List ℕ)) → HoldsFrames (D.seen disk) frames →
+        ensures accepts { D.tells → (frames : List (List ℕ)) → HoldsFrames (D.seen disk) frames →
             MatchResult result (λ r. r.1 ≡ frames) (λ e. (e.1 ≡ Fault) ⊎ (e.1 ≡ Memory)) }
         ensures not_a_log { D.tells → (place : ℕ) →
             IfErr result (λ e. e.1 ≡ NotALog place → IsNotALog (D.seen disk) place) }
@@ -159,7 +159,7 @@ impl<D: Disk> Log<D> {
         ensures stalled { OnErr result (self.new.stalled ≡ true) }
 
         // The disk's counts and its setting.
-        ensures changes { OnOk result (Rises 2 (D.changes self.old.disk) (D.changes self.new.disk)) }
+        ensures changes { OnOk result (RisesBy 2 (D.changes self.old.disk) (D.changes self.new.disk)) }
         ensures called { IsCalled D.Disk 2 self.old.disk self.new.disk }
     {
         lay(&mut self.buffer, frame);
@@ -226,7 +226,7 @@ fn add<D: Disk>(disk: &mut D, gate: u64, bytes: &[u8]) -> Result<(), Failed>
         IsWhole (D.seen disk.old) gate frames → IsFrame frame → bytes.now ≡ laid frame ++ 45 ∷ [] →
         LeavesOnly D.moment D.left_since disk.old disk.new (BeforeOrAfter frames frame) }
     ensures fault { OnErr result (Rose (D.faults disk.old) (D.faults disk.new)) }
-    ensures changes { OnOk result (Rises 2 (D.changes disk.old) (D.changes disk.new)) }
+    ensures changes { OnOk result (RisesBy 2 (D.changes disk.old) (D.changes disk.new)) }
     ensures called { IsCalled D.Disk 2 disk.old disk.new }
 {
     write_through(disk, gate + 1, bytes)?;

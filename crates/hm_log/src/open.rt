@@ -2,7 +2,7 @@
 ghost use Rattle.std.specs.Prelude.{◌≡◌, ◌≢◌, ◌⊎◌, ◌+◌, ◌^◌, ◌≤◌, ◌<◌, List, ℕ, [], length, take, vec_capacity, All, IfOk, IfErr, OnOk, OnErr, IsErrOf};
 ghost use Rattle.hm_ports.specs.Faults.{Rose};
 ghost use Rattle.hm_disk.specs.Called.{IsCalled};
-ghost use Rattle.hm_disk.specs.Disk.{Only, LeavesOnly, Settles};
+ghost use Rattle.hm_disk.specs.Disk.{Only, LeavesOnly, LeavesThen};
 ghost use Rattle.hm_log.specs.Format.{log_of, size_with, IsFrame, Reads, HoldsFrames, IsWhole, IsNotALog, IsBadFrame};
 ghost use Rattle.hm_log.specs.Opening.{IsMaking, Reopens, IsUntouched};
 ghost use Rattle.hm_log.specs.declared.why.OpenWhy.TheVariants.{Fault, NotALog, BadFrame, Memory};
@@ -37,7 +37,7 @@ pub(crate) fn prepare<D: Disk>(alloc: Global, disk: &mut D) -> Result<Ready, Ope
     ensures small { IfOk result (λ r. (r.gate + 1 < 2 ^ 63) × (length r.frames ≤ r.gate)) }
     ensures buffer { IfOk result (λ r. 65541 ≤ vec_capacity r.buffer) }
     ensures durable { OnOk result (Only (D.seen disk.new) (D.image disk.new)) }
-    ensures settled { D.tells → IfOk result (λ r. Settles D.moment D.left_since disk.old disk.new
+    ensures from_then_on { D.tells → IfOk result (λ r. LeavesThen D.moment D.left_since disk.old disk.new
         (λ c. D.image disk.old c ⊎ IsMaking (D.seen disk.old) c) (λ c. Reads c r.frames)) }
     ensures any_moment { D.tells → OnErr result (LeavesOnly D.moment D.left_since disk.old disk.new
         (λ c. D.image disk.old c ⊎ Reopens (D.seen disk.old) c)) }

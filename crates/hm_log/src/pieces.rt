@@ -1,7 +1,7 @@
 //! Reading a log piece by piece, up to its closed gate.
 ghost use Rattle.std.specs.Prelude.{◌≡◌, ◌≢◌, ◌+◌, ◌-◌, ◌^◌, ◌≤◌, ◌<◌, [], List, ℕ, length, take, drop, min, false, true, All, IfOk, OnOk, OnErr, IsErrOf};
 ghost use Rattle.hm_ports.specs.Faults.{Rose};
-ghost use Rattle.hm_disk.specs.Disk.{Only, Settles};
+ghost use Rattle.hm_disk.specs.Disk.{Only, LeavesThen};
 ghost use Rattle.hm_log.specs.Format.{size_with, IsFrame, IsNotALog, IsBadFrame};
 ghost use Rattle.hm_log.specs.Opening.{OnlyReads};
 ghost use Rattle.hm_log.specs.Pieces.{EndsAt, StandsTo, IsShut, IsFound};
@@ -198,7 +198,7 @@ pub(crate) fn load<D: Disk>(alloc: Global, disk: &mut D) -> Result<Found, OpenWh
     ensures size { IfOk result (λ f. f.gate + 1 ≡ size_with f.frames) }
     ensures small { IfOk result (λ f. (f.gate + 1 < 2 ^ 63) × (length f.frames ≤ f.gate)) }
     ensures only { OnOk result (Only (D.seen disk.new) (D.image disk.new)) }
-    ensures settled { OnOk result (Settles D.moment D.left_since disk.old disk.new
+    ensures from_then_on { OnOk result (LeavesThen D.moment D.left_since disk.old disk.new
         (D.image disk.old) (λ c. c ≡ D.seen disk.old)) }
     ensures only_reads { OnlyReads D.Disk disk.old disk.new }
     ensures fault { IsErrOf result Fault → Rose (D.faults disk.old) (D.faults disk.new) }

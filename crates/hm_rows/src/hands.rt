@@ -1,5 +1,5 @@
 //! How often a run calls its handlers.
-use crate::play::{NONE, Played, RUN, devices_of, play_with, says};
+use crate::play::{NONE, Played, RUN, devices_of, others, play_with, says};
 use hm_data::{StepIn, StepOut};
 use hm_sheet::{Handler, Valid};
 use hm_tables::TableHands;
@@ -44,16 +44,19 @@ impl Handler for Counted {
 
 // A run of a settling, where each handler answers so many calls.
 fn play_counted(alloc: Global, left: u64) -> Result<Played, AllocError> {
-    let mut handlers: Vec<Box<dyn Handler>> = Vec::new(alloc);
+    let mut groups: Vec<Vec<Box<dyn Handler>>> = Vec::new(alloc);
     for _ in 0..17 {
         let tables = TableHands::new(alloc)?;
-        handlers.push(Box::new(alloc, Counted { tables, left })?)?;
+        let counted = Box::new(alloc, Counted { tables, left })?;
+        let (splits, transits, crashes) = others(alloc)?;
+        let handlers: [Box<dyn Handler>; 4] = [counted, splits, transits, crashes];
+        groups.push(Vec::from_array(alloc, handlers)?)?;
     }
     let script = b"namespace 1:1 shop\nsettle\n";
     play_with(
         alloc,
         devices_of(alloc, &RUN, script, b"", NONE)?,
-        handlers,
+        groups,
         None,
     )
 }

@@ -5,7 +5,7 @@ ghost use Rattle.hm_hall.specs.Recording.{CanBeRecorded};
 
 use crate::full::long_log;
 use crate::logs::{ADDS, CHECKS, NEW, SHOP, START, SUBMIT, gated};
-use crate::play::disk;
+use crate::play::{disk, others};
 use hm_data::{Entry, Request, Sheet};
 use hm_disk::MemDisk;
 use hm_hall::{Halt, RecordFault};
@@ -20,16 +20,17 @@ use std::test::Fail;
 // What recording an entry answers.
 type Recorded = Result<u64, RecordFault>;
 
-/// The sheets of the tables.
+/// The sheets with which a journal begins.
 pub fn sheets_of_tables(alloc: Global) -> Result<List<Sheet>, AllocError>
     ensures valid { IfOk result AreSheets }
 {
-    let mut handlers: Vec<Box<dyn Handler>> = Vec::new(alloc);
-    handlers.push(Box::new(alloc, TableHands::new(alloc)?)?)?;
-    let Ok(registry) = Registry::new(alloc, handlers) else {
+    let tables = Box::new(alloc, TableHands::new(alloc)?)?;
+    let (splits, transits, crashes) = others(alloc)?;
+    let handlers: [Box<dyn Handler>; 4] = [tables, splits, transits, crashes];
+    let Ok(registry) = Registry::new(alloc, Vec::from_array(alloc, handlers)?) else {
         return Err(AllocError);
     };
-    registry.sheets().copy(alloc)
+    registry.running_sheets().copy(alloc)
 }
 
 // Compares what checking this log answers, which leaves the disk's bytes.

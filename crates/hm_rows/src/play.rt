@@ -1,10 +1,13 @@
 //! A run over memory.
+use hm_crash::CrashHands;
 use hm_disk::MemDisk;
 use hm_journal::Limits;
 use hm_ports::{MemSink, MemSource};
 use hm_sheet::{Handler, Registry};
+use hm_split::SplitHands;
 use hm_tables::TableHands;
 use hm_top::{Ended, RunStatus, hands_agree, run, run_within};
+use hm_transit::TransitHands;
 use std::alloc::{AllocError, Global};
 use std::process::Abort;
 
@@ -83,18 +86,27 @@ fn runs_of(alloc: Global, hands: &[Registry]) -> Result<Vec<u64>, AllocError> {
     Ok(runs)
 }
 
-/// Runs with a registry for each of these handlers, and within these limits where there are any.
+/// Boxes that have the kinds that no handler of tables has.
+pub type Others = (Box<SplitHands>, Box<TransitHands>, Box<CrashHands>);
+
+pub fn others(alloc: Global) -> Result<Others, AllocError> {
+    Ok((
+        Box::new(alloc, SplitHands::new(alloc)?)?,
+        Box::new(alloc, TransitHands::new(alloc)?)?,
+        Box::new(alloc, CrashHands::new(alloc)?)?,
+    ))
+}
+
+/// Runs with a registry for each of these groups of handlers, and within these limits where there are any.
 pub fn play_with(
     alloc: Global,
     devices: Devices,
-    handlers: Vec<Box<dyn Handler>>,
+    groups: Vec<Vec<Box<dyn Handler>>>,
     limits: Option<Limits>,
 ) -> Result<Played, AllocError> {
     let mut hands = Vec::new(alloc);
-    for handler in handlers {
-        let mut one = Vec::new(alloc);
-        one.push(handler)?;
-        let Ok(registry) = Registry::new(alloc, one) else {
+    for handlers in groups {
+        let Ok(registry) = Registry::new(alloc, handlers) else {
             return Err(AllocError);
         };
         hands.push(registry)?;
@@ -136,17 +148,20 @@ pub fn play_with(
     })
 }
 
-// Runs with seventeen handlers of tables.
+// Runs with seventeen groups of handlers.
 fn play_tables(
     alloc: Global,
     devices: Devices,
     limits: Option<Limits>,
 ) -> Result<Played, AllocError> {
-    let mut handlers: Vec<Box<dyn Handler>> = Vec::new(alloc);
+    let mut groups: Vec<Vec<Box<dyn Handler>>> = Vec::new(alloc);
     for _ in 0..17 {
-        handlers.push(Box::new(alloc, TableHands::new(alloc)?)?)?;
+        let tables = Box::new(alloc, TableHands::new(alloc)?)?;
+        let (splits, transits, crashes) = others(alloc)?;
+        let handlers: [Box<dyn Handler>; 4] = [tables, splits, transits, crashes];
+        groups.push(Vec::from_array(alloc, handlers)?)?;
     }
-    play_with(alloc, devices, handlers, limits)
+    play_with(alloc, devices, groups, limits)
 }
 
 /// Runs a script over a log with much room behind it.

@@ -6,4 +6,6 @@ mod calls;
 #[cfg(test)]
 mod deeds;
 #[cfg(test)]
+mod reads;
+#[cfg(test)]
 mod stacks;

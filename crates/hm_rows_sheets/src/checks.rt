@@ -99,6 +99,32 @@ static MERGE_SPLITS: [Row; 1] = [row!(UpdateSplitMeta to 255, undone by Edits)];
 
 static TRANSIT_SHORT: [Row; 1] = [row!(GetAssignCandidate to 0, after)];
 
+// Only edits are undone.
+static SPLIT_KEPT: [Row; 6] = [
+    row!(CheckSplit to 1),
+    row!(CloseParent to 2),
+    row!(Layout to 3),
+    row!(UpdateSplitMeta to 4, undone by Edits),
+    row!(OpenDaughters to 5, after),
+    row!(Finish to 255, after),
+];
+
+static SPLIT_UNDONE: [Row; 2] = [
+    row!(CheckSplit to 1),
+    row!(CloseParent to 255, undone by Edits),
+];
+
+static FENCE_TWICE: [Row; 3] = [
+    row!(CallFence to 1, after),
+    row!(Settle to 255, after),
+    row!(Settle to 255, after),
+];
+
+static LAYOUT_UNDONE: [Row; 2] = [
+    row!(CallLayout to 1, undone by Sweep),
+    row!(SettleLayout to 255),
+];
+
 // The first fault of a sheet.
 fn found(alloc: Global, kind: u8, rows: &[Row]) -> Result<Option<SheetFault>, AllocError> {
     let rows = List::of(Vec::from_slice(alloc, rows)?);
@@ -107,7 +133,7 @@ fn found(alloc: Global, kind: u8, rows: &[Row]) -> Result<Option<SheetFault>, Al
 
 #[test]
 fn check_sheet_gives_the_first_fault(rt: HostRuntime) -> Result<(), Fail> {
-    let cases: [Case; 16] = [
+    let cases: [Case; 20] = [
         (1, &NAMESPACE, None),
         (1, &LOOPED, None),
         (11, &CRASH, None),
@@ -124,6 +150,10 @@ fn check_sheet_gives_the_first_fault(rt: HostRuntime) -> Result<(), Fail> {
         (9, &MERGE_SPLITS, fault!(0, 7)),
         (10, &TRANSIT_SHORT, fault!(0, 8)),
         (8, &SPLIT_EARLY, fault!(1, 8)),
+        (8, &SPLIT_KEPT, None),
+        (8, &SPLIT_UNDONE, fault!(1, 8)),
+        (25, &FENCE_TWICE, fault!(2, 8)),
+        (26, &LAYOUT_UNDONE, fault!(0, 8)),
     ];
     for (kind, rows, expected) in &cases {
         let fault = found(rt.alloc(), *kind, rows)?;

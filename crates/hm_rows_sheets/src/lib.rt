@@ -2,6 +2,22 @@
 #![tactic(auto)]
 
 #[cfg(test)]
+mod asks;
+#[cfg(test)]
+mod cases;
+#[cfg(test)]
 mod checks;
 #[cfg(test)]
+mod inputs;
+#[cfg(test)]
+mod names;
+#[cfg(test)]
+mod outputs;
+#[cfg(test)]
+mod parts;
+#[cfg(test)]
 mod runs;
+#[cfg(test)]
+mod steps;
+#[cfg(test)]
+mod words;

@@ -1,5 +1,5 @@
 -- One of several things is written over by one whose sheets are the same and whose count rose.
-use Rattle.std.proofs.Common.{◌≡◌, ℕ, zero, suc, ◌+◌, ◌-◌, ◌^◌, ◌<◌, ◌≤◌, List, [], ◌∷◌, ◌++◌, IfSome, map, set, length, get_or, slice_get, refl, ap, ◌∙◌, sym, arith, inl, inr, sum, Some, Bool, true, false, Result, Ok, Err, OnErr}
+use Rattle.std.proofs.Common.{◌≡◌, ℕ, zero, suc, ◌+◌, ◌-◌, ◌^◌, ◌<◌, List, [], ◌∷◌, ◌++◌, IfSome, map, set, length, get_or, slice_get, refl, ap, ◌∙◌, sym, arith, inl, inr, sum, Some, Bool, true, false, Result, Ok, Err, OnErr}
 use Rattle.std.proofs.lemmas.Grind.{common_steps}
 use Rattle.std.proofs.lemmas.Bool.{cases_lt}
 use Rattle.std.proofs.lemmas.Option.{slice_get-get_or}

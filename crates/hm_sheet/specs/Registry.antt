@@ -10,7 +10,11 @@ use Rattle.hm_sheet.specs.Words.{AreListed}
 abbrev pub runs_of : {X : Type 0} {F : X → Type 0} → Registry X F → ℕ
 runs_of registry = registry.runs
 
--- the sheets that it lists
+-- the sheets of all kinds
+abbrev pub whole_of : {X : Type 0} {F : X → Type 0} → Registry X F → List Sheet
+whole_of registry = registry.whole
+
+-- the sheets of the kinds that the master runs
 abbrev pub list_of : {X : Type 0} {F : X → Type 0} → Registry X F → List Sheet
 list_of registry = registry.list
 
@@ -19,7 +23,7 @@ module _ {X : Type 0} {F : X → Type 0} (hand : (x : X) → Ghosts (F x)) where
   abbrev pub sheets_of : Registry X F → List Sheet
   sheets_of registry = flat_map (λ h. (hand h.vtable).sheets_are h.value) registry.handlers.items
 
-  -- it has a sheet for each kind that the master runs, and lists these
+  -- it lists its sheets of the kinds that the master runs
   abbrev pub IsRegistry : Registry X F → Type 0
   IsRegistry registry = AreListed (sheets_of registry) (list_of registry)
 

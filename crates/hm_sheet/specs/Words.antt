@@ -1,9 +1,10 @@
 -- Counts, and why sheets make no registry.
 use Rattle.std.specs.Prelude.{ℕ, zero, suc, Bool, true, false, is_some, ◌+◌, ◌-◌, ◌^◌, ◌≤◌, ◌<◌, min, List, [], ◌∷◌, Some, None, map, sum, ◌⊎◌, Any, IsTrue, IsSome, ◌≡◌, ◌==◌, if◌then◌else◌}
 use Rattle.hm_data.specs.declared.sheet.Sheet.{Sheet}
-use Rattle.hm_model.specs.Kinds.{running_kinds, is_running_kind}
-use Rattle.hm_model.specs.Rules.{AreSheets}
+use Rattle.hm_model.specs.Kinds.{running_kinds}
 use Rattle.hm_model.specs.Sheets.{sheet_for}
+use Rattle.hm_model.specs.Validity.{AllValid}
+use Rattle.hm_sheet.specs.Own.{all_kinds, is_kind}
 use Rattle.hm_sheet.specs.declared.fault.RegistryFault.{RegistryFault}
 use Rattle.hm_sheet.specs.declared.fault.RegistryFault.TheVariants as fault_is
 
@@ -53,19 +54,27 @@ IsLowestTwice sheets kind = (1 < count_of sheets kind) × ((lower : ℕ) → low
 abbrev pub NoneTwice : List Sheet → Type 0
 NoneTwice sheets = (kind : ℕ) → kind < 256 → count_of sheets kind ≤ 1
 
--- the master runs the kind, which no sheet has, and every lower kind that it runs has one
+-- no sheet has the kind of procedures, and every lower one has a sheet
 abbrev pub IsLowestMissing : List Sheet → ℕ → Type 0
 IsLowestMissing sheets kind =
-    IsTrue (is_running_kind kind) × (sheet_for sheets kind ≡ None) × ((lower : ℕ) → lower < kind → IsTrue (is_running_kind lower) → IsSome (sheet_for sheets lower))
+    IsTrue (is_kind kind) × (sheet_for sheets kind ≡ None) × ((lower : ℕ) → lower < kind → IsTrue (is_kind lower) → IsSome (sheet_for sheets lower))
 
--- each kind that the master runs has a sheet
+-- each kind of procedures has a sheet
 abbrev pub HasAll : List Sheet → Type 0
-HasAll sheets = (kind : ℕ) → IsTrue (is_running_kind kind) → IsSome (sheet_for sheets kind)
+HasAll sheets = (kind : ℕ) → IsTrue (is_kind kind) → IsSome (sheet_for sheets kind)
 
--- the list has the sheet that all have of each kind that the master runs, in the order of the kinds
-pub record AreListed (all list : List Sheet) : Type 0 where
-  pub found : map Some list ≡ map (λ kind. sheet_for all kind) running_kinds
-  pub valid : AreSheets list
+-- the list has the sheet that all have of each of these kinds, in their order
+pub record AreSheetsOf (kinds : List ℕ) (all list : List Sheet) : Type 0 where
+  pub found : map Some list ≡ map (λ kind. sheet_for all kind) kinds
+  pub valid : (map (λ sheet. sheet.kind) list ≡ kinds) × AllValid list
+
+-- the list has the sheet of each kind of procedures
+abbrev pub AreWhole : List Sheet → List Sheet → Type 0
+AreWhole = AreSheetsOf all_kinds
+
+-- the list has the sheet of each kind that the master runs: a journal begins with it
+abbrev pub AreListed : List Sheet → List Sheet → Type 0
+AreListed = AreSheetsOf running_kinds
 
 -- why sheets make no registry. Memory runs out last.
 abbrev pub IsNoRegistry : List Sheet → RegistryFault → Type 0

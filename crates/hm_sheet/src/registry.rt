@@ -1,26 +1,27 @@
 ghost use Rattle.std.specs.Prelude.{◌≡◌, ◌+◌, ◌-◌, ◌^◌, ◌&&◌, not, min, map, is_none, IsSome, IfOk, IfErr, OnOk, OnErr, MatchOption, Some, option_copied};
-ghost use Rattle.std.specs.List.{flat_map};
-ghost use Rattle.hm_model.specs.Kinds.{is_running_kind as runs};
+ghost use Rattle.std.specs.List.{AllByRecursion, flat_map};
 ghost use Rattle.hm_model.specs.Sheets.{sheet_for as first_of};
 ghost use Rattle.hm_model.specs.Validity.{IsValid};
 ghost use Rattle.hm_model.specs.Evaluation.{CanRun, answer_of, is_step};
-ghost use Rattle.hm_sheet.specs.Registry.{IsRegistry, calls_of, list_of, runs_of, sheets_each, sheets_of, steps_of, undos_of};
-ghost use Rattle.hm_sheet.specs.Words.{CountRises, CountsRise, place_for, risen_if, risen_at_if, IsLowestTwice, NoneTwice, IsLowestMissing, HasAll, AreListed, IsNoRegistry};
+ghost use Rattle.hm_sheet.specs.Own.{is_kind as has};
+ghost use Rattle.hm_sheet.specs.Registry.{IsRegistry, calls_of, list_of, runs_of, sheets_each, sheets_of, steps_of, undos_of, whole_of};
+ghost use Rattle.hm_sheet.specs.Words.{CountRises, CountsRise, place_for, risen_if, risen_at_if, IsLowestTwice, NoneTwice, IsLowestMissing, HasAll, AreSheetsOf, AreWhole, IsNoRegistry};
 
 use crate::among::{count_of, place_of, sheet_for};
 use crate::fault::RegistryFault;
 use crate::handler::Handler;
-use crate::kinds::{is_running_kind, running_kinds};
+use crate::kinds::{all_kinds, is_kind, running_kinds};
 use crate::valid::Valid;
 use hm_data::{Sheet, StepIn, StepOut, Turn};
 use hm_names::{Copied, List};
 use std::alloc::{AllocError, Global};
 
-/// Boxed handlers that have a sheet for each kind that the master runs, the list of these sheets, and how often the
-/// handlers were run.
+/// Boxed handlers that have a sheet for each kind of procedures, lists of all these sheets and of those of the kinds
+/// that the master runs so far, and how often the handlers were run.
 #[derive(Drop)]
 pub struct Registry {
     handlers: Vec<Box<dyn Handler>>,
+    whole: List<Sheet>,
     list: List<Sheet>,
     runs: u64,
 }
@@ -39,14 +40,14 @@ fn lowest_twice(handlers: &[Box<dyn Handler>]) -> Option<u8>
     None
 }
 
-// The master runs the kind, and no sheet has it.
+// It is a kind of procedures, and no sheet has it.
 fn is_missing(handlers: &[Box<dyn Handler>], kind: u8) -> bool
-    ensures { result ≡ (runs kind && is_none (first_of (flat_map (λ h. sheets_are h) handlers.now) kind)) }
+    ensures { result ≡ (has kind && is_none (first_of (flat_map (λ h. sheets_are h) handlers.now) kind)) }
 {
-    is_running_kind(kind) && place_of(handlers, kind).is_none()
+    is_kind(kind) && place_of(handlers, kind).is_none()
 }
 
-// The lowest kind that the master runs and no sheet has.
+// The lowest kind of procedures that no sheet has.
 fn lowest_missing(handlers: &[Box<dyn Handler>]) -> Option<u8>
     ensures { MatchOption result
         (HasAll (flat_map (λ h. sheets_are h) handlers.now))
@@ -105,21 +106,25 @@ fn sheet_copy(alloc: Global, handlers: &[Box<dyn Handler>], kind: u8) -> Result<
     sheet_at(&handlers[place], kind).sheet().copy(alloc)
 }
 
-// Copies of the sheets of the kinds that the master runs so far, in the order of the kinds.
-fn running_copies(alloc: Global, handlers: &[Box<dyn Handler>]) -> Result<List<Sheet>, AllocError>
-    requires { HasAll (flat_map (λ h. sheets_are h) handlers.now) }
-    ensures { IfOk result (λ sheets. AreListed (flat_map (λ h. sheets_are h) handlers.now) sheets) }
+// Copies of the sheets of these kinds, in their order.
+fn copies(
+    alloc: Global,
+    handlers: &[Box<dyn Handler>],
+    kinds: &[u8],
+) -> Result<List<Sheet>, AllocError>
+    requires { AllByRecursion (λ kind. IsSome (first_of (flat_map (λ h. sheets_are h) handlers.now) kind)) kinds.now }
+    ensures { IfOk result (λ sheets. AreSheetsOf kinds.now (flat_map (λ h. sheets_are h) handlers.now) sheets) }
 {
     let mut sheets = Vec::new(alloc);
-    for kind in running_kinds() {
+    for kind in kinds {
         sheets.push(sheet_copy(alloc, handlers, *kind)?)?;
     }
     Ok(List::of(sheets))
 }
 
 impl Registry {
-    /// The registry of these handlers. No kind may have two sheets, and each kind that the master runs so far must have
-    /// one. What takes memory is the list of these sheets.
+    /// The registry of these handlers. No kind may have two sheets, and each kind of procedures must have one. What
+    /// takes memory are the lists of sheets.
     pub fn new(alloc: Global, handlers: Vec<Box<dyn Handler>>) -> Result<Registry, RegistryFault>
         ensures sheets { IfOk result (λ registry. sheets_of ⟦<dyn Handler as Handler>⟧ registry ≡ flat_map (λ h. sheets_are h) handlers.items) }
         ensures steps { IfOk result (λ registry. steps_of ⟦<dyn Handler as Handler>⟧ registry ≡ map (λ h. steps_are h) handlers.items) }
@@ -127,6 +132,7 @@ impl Registry {
         ensures runs { IfOk result (λ registry. runs_of registry ≡ 0) }
         ensures once { IfOk result (λ registry. NoneTwice (sheets_of ⟦<dyn Handler as Handler>⟧ registry)) }
         ensures lists { IfOk result (λ registry. IsRegistry ⟦<dyn Handler as Handler>⟧ registry) }
+        ensures whole { IfOk result (λ registry. AreWhole (sheets_of ⟦<dyn Handler as Handler>⟧ registry) (whole_of registry)) }
         ensures err { IfErr result (λ fault. IsNoRegistry (flat_map (λ h. sheets_are h) handlers.items) fault) }
     {
         if let Some(kind) = lowest_twice(&handlers) {
@@ -135,11 +141,15 @@ impl Registry {
         if let Some(kind) = lowest_missing(&handlers) {
             return Err(RegistryFault::Missing(kind));
         }
-        let Ok(list) = running_copies(alloc, &handlers) else {
+        let Ok(whole) = copies(alloc, &handlers, all_kinds()) else {
+            return Err(RegistryFault::Memory);
+        };
+        let Ok(list) = copies(alloc, &handlers, running_kinds()) else {
             return Err(RegistryFault::Memory);
         };
         Ok(Registry {
             handlers,
+            whole,
             list,
             runs: 0,
         })
@@ -151,6 +161,7 @@ impl Registry {
         requires { CanRun (sheets_of ⟦<dyn Handler as Handler>⟧ self.old) at.now }
         ensures out { OnOk result (answer_of (sheets_of ⟦<dyn Handler as Handler>⟧ self.old) at.now ≡ Some out.new) }
         ensures sheets { sheets_of ⟦<dyn Handler as Handler>⟧ self.new ≡ sheets_of ⟦<dyn Handler as Handler>⟧ self.old }
+        ensures whole { whole_of self.new ≡ whole_of self.old }
         ensures list { list_of self.new ≡ list_of self.old }
         ensures runs { OnOk result (runs_of self.new ≡ min (runs_of self.old + 1) (2 ^ 64 - 1)) }
         ensures steps { OnOk result (steps_of ⟦<dyn Handler as Handler>⟧ self.new ≡ risen_at_if (is_step at.now.turn)
@@ -199,8 +210,15 @@ impl Registry {
         }
     }
 
-    /// The sheets of the kinds that the master runs so far, in the order of the kinds.
+    /// The sheets of all kinds of procedures, in the order of the kinds.
     pub fn sheets(&self) -> &List<Sheet>
+        ensures { result.now ≡ whole_of self.now }
+    {
+        &self.whole
+    }
+
+    /// The sheets of the kinds that the master runs so far, in the order of the kinds: a journal begins with them.
+    pub fn running_sheets(&self) -> &List<Sheet>
         ensures { result.now ≡ list_of self.now }
     {
         &self.list

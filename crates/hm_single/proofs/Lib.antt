@@ -6,3 +6,14 @@ pub mod Kin
 pub mod Told
 pub mod Keeps
 pub mod All
+pub mod Placed
+pub mod Placing
+pub mod Unassigned
+pub mod SingleLive
+pub mod Makes
+pub mod Own
+pub mod Lines
+pub mod Tidy
+pub mod Tidies
+pub mod Calm
+pub mod Live

@@ -1,18 +1,24 @@
 -- What the calls about a region find, and who moves it.
-use Rattle.std.specs.Prelude.{◌≡◌, ℕ, ◌<◌, [], ◌∷◌, Option, Some, None, ◌⊎◌}
+use Rattle.std.specs.Prelude.{◌≡◌, ℕ, ◌<◌, [], ◌∷◌, Option, Some, None, true, ◌⊎◌}
 use Rattle.hm_names.specs.Region.{Region}
 use Rattle.hm_names.specs.Server.{Server}
+use Rattle.hm_names.specs.declared.range.KeyRange.{KeyRange}
 use Rattle.hm_data.specs.declared.args.Args.TheVariants as args_are
 use Rattle.hm_data.specs.declared.call.Peer.TheVariants as peer_is
 use Rattle.hm_data.specs.declared.call.Told.TheVariants as told_is
 use Rattle.hm_data.specs.declared.call.Verb.{Verb}
 use Rattle.hm_data.specs.declared.call.Verb.TheVariants as verb_is
 use Rattle.hm_data.specs.declared.entry.Entry.TheVariants as entry_is
-use Rattle.hm_model.specs.Answers.{report_of, row_of}
+use Rattle.hm_data.specs.declared.place.Goal.TheVariants as goal_is
+use Rattle.hm_model.specs.Answers.{is_stopped, last_answer, report_of, row_of}
+use Rattle.hm_model.specs.Catalog.{cat}
 use Rattle.hm_model.specs.Holding.{HoldsWith, IsFree}
 use Rattle.hm_model.specs.Journal.{Past}
+use Rattle.hm_model.specs.Places.{place_of}
+use Rattle.hm_model.specs.Ranges.{IsLiveWith}
 use Rattle.hm_model.specs.Reports.{verb_of, peer_of, last_call}
 use Rattle.hm_model.specs.Single.{IsOver, IsGone}
+use Rattle.hm_model.specs.TransitActs.{is_placed}
 use Rattle.hm_model.specs.Tree.{Node, node_of}
 use Rattle.hm_model.specs.Whereabouts.{moved_by}
 
@@ -20,11 +26,28 @@ use Rattle.hm_model.specs.Whereabouts.{moved_by}
 abbrev pub Moves : Past → ℕ → Region → Type 0
 Moves J p region = (node : Node) × (node_of J p ≡ Some node) × (moved_by node.args ≡ Some region)
 
+-- a procedure of a root's tree is a transit of the region
+abbrev pub MovesIn : Past → ℕ → Region → ℕ → Node → Type 0
+MovesIn J root region p node = (node_of J p ≡ Some node) × (node.root ≡ root) × (moved_by node.args ≡ Some region)
+
+-- a root's tree has transits of the region, all of them Unassigns that have ended
+abbrev pub AllUnassigned : Past → ℕ → Region → Type 0
+AllUnassigned J root region =
+    ((p : ℕ) × (node : Node) × MovesIn J root region p node)
+    × ((p : ℕ) (node : Node) → MovesIn J root region p node
+    → ((to : Option Server) × (node.args ≡ args_are.Transit region goal_is.Unassign to)) × (is_stopped (last_answer J p) ≡ true))
+
 -- a transit of the region has a step and hasn't ended, and this is the row that it runs next
 abbrev pub NextIs : Past → Region → ℕ → Type 0
 NextIs J region row =
     (p : ℕ) × (node : Node) × (node_of J p ≡ Some node) × (moved_by node.args ≡ Some region)
     × HoldsWith J [] p × (row_of J p node ≡ row)
+
+-- a procedure is to call a server about the region, or has called it
+abbrev pub CallsAbout : Past → ℕ → Region → Type 0
+CallsAbout J p region =
+    (node : Node) × (server : Server) × (node_of J p ≡ Some node)
+    × ((node.args ≡ args_are.AssignCall region server) ⊎ (node.args ≡ args_are.CloseCall region server))
 
 -- a call can't leave its region open at any server that isn't fenced: it failed to open, it closed, or its server is fenced
 abbrev pub IsVoidCall : Past → ℕ → Type 0
@@ -79,3 +102,7 @@ AllFree (entry_is.Report call told ∷ before) = AllFree before
 AllFree (entry_is.Up server ∷ before) = AllFree before
 AllFree (entry_is.Down server ∷ before) = AllFree before
 AllFree (entry_is.Abort pid ∷ before) = AllFree before
+
+-- each region that is open, or being opened or closed, is live
+abbrev pub PlacedAreLive : Past → Type 0
+PlacedAreLive J = (region : Region) → is_placed (place_of J region) ≡ true → (range : KeyRange) × IsLiveWith (cat J) region range

@@ -1,19 +1,28 @@
 -- What holds of the calls and the places of every legal journal.
-use Rattle.std.specs.Prelude.{◌≡◌, ℕ, ◌↔◌, ◌∷◌, Option, Some, true, ◌⊎◌, []}
+use Rattle.std.specs.Prelude.{◌≡◌, ◌≢◌, ℕ, ◌↔◌, ◌∷◌, Option, Some, None, true, false, ◌⊎◌, []}
 use Rattle.hm_names.specs.Region.{Region}
 use Rattle.hm_names.specs.Server.{Server}
 use Rattle.hm_names.specs.declared.pid.Pid.{Pid}
+use Rattle.hm_data.specs.declared.catalog.CatKey.TheVariants as key_is
+use Rattle.hm_data.specs.declared.catalog.CatRow.TheVariants as row_is
+use Rattle.hm_data.specs.declared.catalog.TableState.{TableState}
+use Rattle.hm_data.specs.declared.catalog.TableState.TheVariants as state_is
 use Rattle.hm_data.specs.declared.entry.Entry.TheVariants as entry_is
 use Rattle.hm_data.specs.declared.place.RegionState.TheVariants as place_is
 use Rattle.hm_data.specs.declared.step.StepOut.{StepOut}
+use Rattle.hm_model.specs.Answers.{is_stopped, last_answer}
+use Rattle.hm_model.specs.Catalog.{cat}
 use Rattle.hm_model.specs.Holding.{HoldsWith}
 use Rattle.hm_model.specs.Journal.{Past}
 use Rattle.hm_model.specs.Rules.{IsLegal}
+use Rattle.hm_model.specs.Single.{Single}
+use Rattle.hm_model.specs.Phase.{root_ended}
 use Rattle.hm_model.specs.Places.{place_of}
+use Rattle.hm_model.specs.Reads.{covers}
 use Rattle.hm_model.specs.Reports.{verb_of, last_call, is_about}
-use Rattle.hm_model.specs.Tree.{Node, node_of}
-use Rattle.hm_model.specs.TransitActs.{is_state}
-use Rattle.hm_single.specs.Calls.{Moves, NextIs, Finds, MayOpen, AllFree}
+use Rattle.hm_model.specs.Tree.{Node, node_of, root_of}
+use Rattle.hm_model.specs.TransitActs.{is_placed, is_state, may_open}
+use Rattle.hm_single.specs.Calls.{Moves, NextIs, AllUnassigned, CallsAbout, IsOpenedBy, IsVoid, Finds, MayOpen, AllFree, PlacedAreLive}
 
 -- the last call of a region is recorded, and is about it
 abbrev pub LastIsRecorded : Type 0
@@ -47,3 +56,54 @@ OpeningsAreSingle =
     (pid : Pid) (pick : Option Server) (out : StepOut) (before : Past)
     → IsLegal (entry_is.Step pid pick out ∷ before) → AllFree (entry_is.Step pid pick out ∷ before)
     → MayOpen before out.call
+
+-- a region that is open at a server was opened there by its last call
+abbrev pub OpenedAreTold : Type 0
+OpenedAreTold =
+    (J : Past) → IsLegal J → AllFree J → (region : Region) → is_state place_is.Opened (place_of J region) ≡ true
+    → (server : Server) × ((place_of J region).server ≡ Some server) × IsOpenedBy J (last_call J region) server
+
+-- a region without a place is held by no call: its last call can't leave it open, and who calls about it has stopped
+abbrev pub UnplacedAreFree : Type 0
+UnplacedAreFree =
+    (J : Past) → IsLegal J → AllFree J → (region : Region) → is_placed (place_of J region) ≡ false
+    → IsVoid J (last_call J region) × ((p : ℕ) → CallsAbout J p region → is_stopped (last_answer J p) ≡ true)
+
+-- a region that is neither open nor being opened or closed gets a server only where it is live, and its table is enabled or
+-- being enabled
+abbrev pub PlacedWhereLive : Type 0
+PlacedWhereLive =
+    (pid : Pid) (pick : Option Server) (out : StepOut) (before : Past)
+    → IsLegal (entry_is.Step pid pick out ∷ before) → AllFree (entry_is.Step pid pick out ∷ before)
+    → (region : Region) → is_placed (place_of before region) ≡ false → is_placed (place_of (entry_is.Step pid pick out ∷ before) region) ≡ true
+    → may_open (cat before (key_is.Table region.table)) (cat before (key_is.Region region)) ≡ true
+
+-- while a root that has a step and hasn't ended asks for a region alone, steps of other trees leave the region's place
+abbrev pub HeldPlacesStay : Type 0
+HeldPlacesStay =
+    (pid : Pid) (pick : Option Server) (out : StepOut) (before : Past)
+    → IsLegal (entry_is.Step pid pick out ∷ before) → AllFree (entry_is.Step pid pick out ∷ before)
+    → (root : ℕ) (top : Node) → node_of before root ≡ Some top → top.above ≡ [] → last_answer before root ≢ None → root_ended before root ≡ false
+    → (region : Region) → covers top.args (key_is.Region region) ≡ true
+    → (root_of before pid.0 ≡ root) ⊎ (place_of (entry_is.Step pid pick out ∷ before) region ≡ place_of before region)
+
+-- while a root that hasn't ended asks for a region alone, the region has no place once its Unassigns under the root have ended
+abbrev pub UnassignedAreUnplaced : Type 0
+UnassignedAreUnplaced =
+    (J : Past) → IsLegal J → AllFree J → (root : ℕ) (top : Node) → node_of J root ≡ Some top → top.above ≡ [] → root_ended J root ≡ false
+    → (region : Region) → covers top.args (key_is.Region region) ≡ true → AllUnassigned J root region → is_placed (place_of J region) ≡ false
+
+-- each region that is open, or being opened or closed, is live
+abbrev pub PlacedLive : Type 0
+PlacedLive = (J : Past) → IsLegal J → AllFree J → PlacedAreLive J
+
+-- and its table is there, and isn't disabled
+abbrev pub PlacedWhereOn : Type 0
+PlacedWhereOn =
+    (J : Past) → IsLegal J → AllFree J → (region : Region) → is_placed (place_of J region) ≡ true
+    → (state : TableState) × (version : ℕ) × (cat J (key_is.Table region.table) ≡ Some (row_is.Table state version)) × (state ≢ state_is.Disabled)
+
+-- no region is assigned while another opening of it, or of one of its table whose range overlaps its own, may still stand:
+-- whatever became of that one's row since
+abbrev pub SingleOverRanges : Type 0
+SingleOverRanges = (J : Past) → IsLegal J → AllFree J → Single J

@@ -1,5 +1,5 @@
 //! The laws.
-ghost use Rattle.hm_single.specs.Theorem.{LastIsRecorded, OneTransit, PlaceByRow, CallsFind, OpeningsAreSingle};
+ghost use Rattle.hm_single.specs.Theorem.{LastIsRecorded, OneTransit, PlaceByRow, CallsFind, OpeningsAreSingle, OpenedAreTold, UnplacedAreFree, PlacedWhereLive, HeldPlacesStay, UnassignedAreUnplaced, PlacedLive, PlacedWhereOn, SingleOverRanges};
 
 /// The last call about a region is recorded.
 pub fn last_calls_are_recorded()
@@ -16,4 +16,36 @@ pub fn one_transit()
 pub fn openings_are_single()
     ensures find { CallsFind }
     ensures single { OpeningsAreSingle }
+{}
+
+/// A region that is open at a server was opened there by its last call. One that is neither open nor being opened or
+/// closed is held by no call.
+pub fn places_are_told()
+    ensures opened { OpenedAreTold }
+    ensures unplaced { UnplacedAreFree }
+{}
+
+/// A region gets a server only while it is live, and its table is enabled or being enabled.
+pub fn live_regions_are_placed()
+    ensures { PlacedWhereLive }
+{}
+
+/// While a root that hasn't ended asks for a region alone, as a split, a merge and a table's disabling do, only its tree
+/// changes the region's place; and the region is neither open nor being opened or closed once its Unassigns under the root
+/// have ended.
+pub fn unassigned_are_unplaced()
+    ensures held { HeldPlacesStay }
+    ensures unplaced { UnassignedAreUnplaced }
+{}
+
+/// A region that is open, or being opened or closed, is live, and its table is there and isn't disabled.
+pub fn placed_are_live()
+    ensures live { PlacedLive }
+    ensures on { PlacedWhereOn }
+{}
+
+/// Single assignment over overlapping ranges: an opening finds over each earlier one of its region, and of each region of its
+/// table whose last range overlaps its own, live or not.
+pub fn openings_over_ranges_are_single()
+    ensures { SingleOverRanges }
 {}

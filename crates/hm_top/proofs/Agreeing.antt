@@ -6,7 +6,8 @@ use Rattle.std.proofs.lemmas.List.Elements.{All-map, All-more}
 use Rattle.hm_data.specs.declared.sheet.Sheet.{Sheet}
 use Rattle.hm_top.specs.Hands.{AreEqual, HandsAgree, first_sheets}
 
-first_is : {X : Type 0} (sheets : X → List Sheet) (hands : List X) (first : X) → 1 ≤ length hands → first ≡ get_or hands 0 first → first_sheets (map sheets hands) ≡ sheets first
+-- the first sheets are those of the first
+pub first_is : {X : Type 0} (sheets : X → List Sheet) (hands : List X) (first : X) → 1 ≤ length hands → first ≡ get_or hands 0 first → first_sheets (map sheets hands) ≡ sheets first
 first_is sheets [] first some is = absurd (omega (arith, some))
 first_is sheets (hand ∷ hands) first some is = ap sheets (sym is)
 

@@ -1,5 +1,5 @@
 -- What halts a run as full is an entry that would have passed the hard mark.
-use Rattle.std.proofs.Common.{◌≡◌, ℕ, List, [], ◌∷◌, ◌++◌, Option, Some, None, refl, sym, ap, ◌∙◌, subst}
+use Rattle.std.proofs.Common.{◌≡◌, ℕ, List, [], ◌∷◌, ◌++◌, Option, Some, None, refl, sym, ap, ◌∙◌, subst, inl, inr}
 use Rattle.std.specs.Prelude.{MatchOption}
 use Rattle.std.proofs.lemmas.Option.{none-some}
 use Rattle.hm_data.specs.declared.entry.Entry.{Entry}
@@ -10,11 +10,10 @@ use Rattle.hm_journal.specs.declared.limits.Limits.{Limits}
 use Rattle.hm_top.specs.declared.answer.Answer.{Answer}
 use Rattle.hm_top.specs.declared.answer.Answer.TheVariants as answer_is
 use Rattle.hm_script.specs.declared.command.Command.{Command}
-use Rattle.hm_script.specs.declared.command.Command.TheVariants as command_is
-use Rattle.hm_top.specs.Answer.{Answers, AnswersAt, submission}
+use Rattle.hm_top.specs.Answer.{Answers, AnswersAt}
 use Rattle.hm_top.specs.Standing.{Comes, Standing}
 use Rattle.hm_top.specs.Transcript.{Transcript}
-use Rattle.hm_top.proofs.Growth.{standing_added}
+use Rattle.hm_top.proofs.Growth.{GainsOrHalts, at_leaves, standing_added}
 
 -- behind some entries, which have so many bytes, an entry passes the mark
 abbrev pub IsPassed : ℕ → ℕ → Type 0
@@ -44,25 +43,17 @@ comes_full limits old new entry (Some (halt_is.JournalFull b)) same going c = (
       (old.journal, entry, same_bytes b bytes (sym (ap (λ (r : Recording). r.halted) c.0.3) ∙ full) ∙ c.0.2, subst (λ (l : Limits). Passes l.hard old.journal entry) same c.0.1),
 )
 
-at_full : (limits : Limits) (command : Command) (old : Standing) (answer : Answer) (new : Standing) → old.limits ≡ limits → old.halted ≡ None → AnswersAt command old answer new → IsFull limits new
-at_full limits (command_is.Namespace nonce ns) old (answer_is.Pid pid) new same going a = comes_full limits old new (submission nonce ns) None same going a.2
-at_full limits (command_is.Namespace nonce ns) old (answer_is.Repeated pid) new same going a = goes_on limits old new old.journal same going a.2
-at_full limits (command_is.Namespace nonce ns) old (answer_is.NonceClash pid) new same going a = goes_on limits old new old.journal same going a.2
-at_full limits (command_is.Namespace nonce ns) old (answer_is.JournalFull bytes) new same going a = goes_on limits old new old.journal same going a.2
-at_full limits (command_is.Namespace nonce ns) old (answer_is.Halted why) new same going a = comes_full limits old new (submission nonce ns) (Some why) same going a.1
-at_full limits command_is.Settle old (answer_is.Settled at) new same going a = goes_on limits old new (old.journal ++ a.0.worked.steps) same going a.0.worked.grown
-at_full limits command_is.Settle old (answer_is.Waiting at roots) new same going a = goes_on limits old new (old.journal ++ a.0.worked.steps) same going a.0.worked.grown
-at_full limits command_is.Settle old (answer_is.Halted why) new same going a =
-    let grown = a.worked.grown in
-    comes_full limits a.mid new a.next (Some why) (ap (λ (s : Standing). s.limits) grown ∙ same) (ap (λ (s : Standing). s.halted) grown ∙ going) a.halts
-at_full limits command_is.Procs old (answer_is.Table text) new same going a = goes_on limits old new old.journal same going a.1
-at_full limits command old answer new same going a = absurd a
+leaves_full : (limits : Limits) (command : Command) (old new : Standing) → old.limits ≡ limits → old.halted ≡ None → GainsOrHalts command old new → IsFull limits new
+leaves_full limits command old new same going (inl gains) = goes_on limits old new (old.journal ++ gains.0) same going gains.2
+leaves_full limits command old new same going (inr halts) =
+    let grown = halts.1.2 in
+    comes_full limits halts.0 new halts.2 (Some halts.3) (ap (λ (s : Standing). s.limits) grown ∙ same) (ap (λ (s : Standing). s.halted) grown ∙ going) halts.4
 
 answer_full : (limits : Limits) (command : Command) (old : Standing) (answer : Answer) (new : Standing) → IsFull limits old → Answers command old answer new → IsFull limits new
 answer_full limits command old answer new was a = by_halted old.halted refl a
   where
     by_halted : (halted : Option Halt) → old.halted ≡ halted → MatchOption halted (AnswersAt command old answer new) (λ why. (answer ≡ answer_is.Halted why) × (new ≡ old)) → IsFull limits new
-    by_halted None going at = at_full limits command old answer new was.0 going at
+    by_halted None going at = leaves_full limits command old new was.0 going (at_leaves command old answer new at)
     by_halted (Some why) is same = subst (IsFull limits) (sym same.1) was
 
 -- what answering leaves is full only so, where its start isn't halted

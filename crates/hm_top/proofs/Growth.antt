@@ -1,5 +1,5 @@
 -- What answers add to a journal, and what ran for it.
-use Rattle.std.proofs.Common.{◌≡◌, ◌+◌, List, [], ◌∷◌, ◌++◌, Option, Some, None, refl, sym, ap, ◌∙◌, inl, inr, append-nil, arith}
+use Rattle.std.proofs.Common.{◌≡◌, ◌⊎◌, ◌+◌, List, [], ◌∷◌, ◌++◌, Option, Some, None, refl, sym, ap, ◌∙◌, inl, inr, append-nil, arith}
 use Rattle.std.specs.Prelude.{MatchOption}
 use Rattle.hm_data.specs.declared.entry.Entry.{Entry}
 use Rattle.hm_data.specs.declared.entry.Entry.TheVariants as entry_is
@@ -34,25 +34,41 @@ abbrev pub Adds : Command → Standing → Standing → Type 0
 Adds command old new = (added : List Entry) × MayAdd command old added × (new.journal ≡ old.journal ++ added)
 
 -- the same where nothing halts the run
-abbrev AddsAt : Command → Standing → Standing → Type 0
+abbrev pub AddsAt : Command → Standing → Standing → Type 0
 AddsAt command old new = (added : List Entry) × MayAddAt command old added × (new.journal ≡ old.journal ++ added)
 
-none_at : (old new : Standing) → new.journal ≡ old.journal → new.journal ≡ old.journal ++ []
-none_at old new e = e ∙ sym (append-nil old.journal)
+-- and nothing but the journal is changed
+abbrev pub Gains : Command → Standing → Standing → Type 0
+Gains command old new = (added : List Entry) × MayAddAt command old added × (new ≡ record old { journal = old.journal ++ added })
 
-at_adds : (command : Command) (old : Standing) (answer : Answer) (new : Standing) → AnswersAt command old answer new → AddsAt command old new
-at_adds (command_is.Namespace nonce ns) old (answer_is.Pid pid) new a =
-    (submission nonce ns ∷ [], inr (a.0, a.2.0.1, refl), entry_added old new (submission nonce ns) a.2)
-at_adds (command_is.Namespace nonce ns) old (answer_is.Repeated pid) new a = ([], inl refl, none_at old new (ap (λ (s : Standing). s.journal) a.2))
-at_adds (command_is.Namespace nonce ns) old (answer_is.NonceClash pid) new a = ([], inl refl, none_at old new (ap (λ (s : Standing). s.journal) a.2))
-at_adds (command_is.Namespace nonce ns) old (answer_is.JournalFull bytes) new a = ([], inl refl, none_at old new (ap (λ (s : Standing). s.journal) a.2))
-at_adds (command_is.Namespace nonce ns) old (answer_is.Halted why) new a = ([], inl refl, none_at old new (halt_leaves old new (submission nonce ns) why a.1))
-at_adds command_is.Settle old (answer_is.Settled at) new a = (a.0.worked.steps, a.0.worked.are_steps, ap (λ (s : Standing). s.journal) a.0.worked.grown)
-at_adds command_is.Settle old (answer_is.Waiting at roots) new a = (a.0.worked.steps, a.0.worked.are_steps, ap (λ (s : Standing). s.journal) a.0.worked.grown)
-at_adds command_is.Settle old (answer_is.Halted why) new a =
-    (a.worked.steps, a.worked.are_steps, halt_leaves a.mid new a.next why a.halts ∙ ap (λ (s : Standing). s.journal) a.worked.grown)
-at_adds command_is.Procs old (answer_is.Table text) new a = ([], refl, none_at old new (ap (λ (s : Standing). s.journal) a.1))
-at_adds command old answer new a = absurd a
+-- that, and then the run may have halted at an entry
+abbrev pub GainsOrHalts : Command → Standing → Standing → Type 0
+GainsOrHalts command old new = Gains command old new ⊎ ((mid : Standing) × Gains command old mid × (entry : Entry) × (why : Halt) × Comes mid entry (Some why) new)
+
+-- nothing was added
+pub same_end : (at : Standing) → at ≡ record at { journal = at.journal ++ [] }
+same_end at = ap (λ (j : List Entry). record at { journal = j }) (sym (append-nil at.journal))
+
+-- what each answer leaves
+pub at_leaves : (command : Command) (old : Standing) (answer : Answer) (new : Standing) → AnswersAt command old answer new → GainsOrHalts command old new
+at_leaves (command_is.Namespace nonce ns) old (answer_is.Pid pid) new a =
+    inl (submission nonce ns ∷ [], inr (a.0, a.2.0.1, refl), standing_added old new (submission nonce ns) a.2)
+at_leaves (command_is.Namespace nonce ns) old (answer_is.Repeated pid) new a = inl ([], inl refl, a.2 ∙ same_end old)
+at_leaves (command_is.Namespace nonce ns) old (answer_is.NonceClash pid) new a = inl ([], inl refl, a.2 ∙ same_end old)
+at_leaves (command_is.Namespace nonce ns) old (answer_is.JournalFull bytes) new a = inl ([], inl refl, a.2 ∙ same_end old)
+at_leaves (command_is.Namespace nonce ns) old (answer_is.Halted why) new a = inr (old, ([], inl refl, same_end old), submission nonce ns, why, a.1)
+at_leaves command_is.Settle old (answer_is.Settled at) new a = inl (a.0.worked.steps, a.0.worked.are_steps, a.0.worked.grown)
+at_leaves command_is.Settle old (answer_is.Waiting at roots) new a = inl (a.0.worked.steps, a.0.worked.are_steps, a.0.worked.grown)
+at_leaves command_is.Settle old (answer_is.Halted why) new a = inr (a.mid, (a.worked.steps, a.worked.are_steps, a.worked.grown), a.next, why, a.halts)
+at_leaves command_is.Procs old (answer_is.Table text) new a = inl ([], refl, a.1 ∙ same_end old)
+at_leaves command old answer new a = absurd a
+
+adds_at : (command : Command) (old new : Standing) → GainsOrHalts command old new → AddsAt command old new
+adds_at command old new (inl gains) = (gains.0, gains.1, ap (λ (s : Standing). s.journal) gains.2)
+adds_at command old new (inr halts) = (halts.1.0, halts.1.1, halt_leaves halts.0 new halts.2 halts.3 halts.4 ∙ ap (λ (s : Standing). s.journal) halts.1.2)
+
+pub at_adds : (command : Command) (old : Standing) (answer : Answer) (new : Standing) → AnswersAt command old answer new → AddsAt command old new
+at_adds command old answer new a = adds_at command old new (at_leaves command old answer new a)
 
 -- what an answered command added
 pub answer_adds : (command : Command) (old : Standing) (answer : Answer) (new : Standing) → Answers command old answer new → Adds command old new
@@ -61,7 +77,7 @@ answer_adds command old answer new a = by_halted old.halted a
     by_halted : (halted : Option Halt) → MatchOption halted (AnswersAt command old answer new) (λ why. (answer ≡ answer_is.Halted why) × (new ≡ old))
         → (added : List Entry) × MatchOption halted (MayAddAt command old added) (λ why. added ≡ []) × (new.journal ≡ old.journal ++ added)
     by_halted None at = at_adds command old answer new at
-    by_halted (Some why) same = ([], refl, none_at old new (ap (λ (s : Standing). s.journal) same.1))
+    by_halted (Some why) same = ([], refl, ap (λ (s : Standing). s.journal) (same.1 ∙ same_end old))
 
 -- what the opening adds, which is no step
 pub opened_grows : (sheets : List Sheet) (old : List Entry) → (first : List Entry) × (opened sheets old ≡ old ++ first) × (steps_in first ≡ 0)

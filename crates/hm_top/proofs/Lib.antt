@@ -12,4 +12,5 @@ pub mod Registries
 pub mod Outcomes
 pub mod Complete
 pub mod Scripts
+pub mod Unanswered
 pub mod Runs

@@ -29,7 +29,7 @@ use Rattle.hm_top.specs.Hands.{Ran, SumRisesBy, sheets_used, steps_in}
 use Rattle.hm_top.specs.Ports.{DiskUse, HandsUse, SinkUse}
 use Rattle.hm_top.specs.Left.{IsLeft, IsNotOpened, IsSpared, StopsLeave}
 use Rattle.hm_top.specs.Run.{EndsBy, Run, WordsFit, before_line, session_of}
-use Rattle.hm_top.specs.Session.{AreAnswered, EndedBy, HasNoRoom, IsSilent, Outcome, Session, WasOpened}
+use Rattle.hm_top.specs.Session.{AreAnswered, EndedBy, IsSilent, Outcome, Session, WasOpened}
 use Rattle.hm_top.specs.Standing.{Standing, begun, recording, whole}
 use Rattle.hm_top.specs.Status.{last_line}
 use Rattle.hm_top.specs.Answering.{IsAnswering, Remains}
@@ -147,7 +147,7 @@ module _ (commands : List Command) (limits : Limits) (out : SinkUse) (disk : Dis
   spoken = record { given = λ read. read ≡ commands; said = before_line out; limits = limits; out = out; disk = disk; hands = hands; marks = marks }
 
   -- what was left of a journal that was opened
-  pub left_of : (old : List Entry) (new : Standing) → (disk.tells → IsOnDisk (sheets_used hands) disk.before old) → IsLegal (back (whole new)) → (disk.tells → AllStored disk.image_after (recording new))
+  pub left_of : (old : List Entry) (new : Standing) → (disk.tells → IsOnDisk (sheets_used hands) disk.before old) → IsLegal (back (whole new)) → (disk.tells → AllStored disk.stops.after (recording new))
       → (disk.tells → StopsLeave disk hands old new) → disk.called (1 + 2 * (length (whole new) - length old)) → (new.halted ≡ Some halt_is.LogFault → disk.failed) → Ran hands (opened (sheets_used hands) old) new.journal → IsLeft disk hands old new
   left_of old new held legal holds stops called cause ran =
       let first = opened_grows (sheets_used hands) old in

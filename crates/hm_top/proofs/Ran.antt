@@ -8,14 +8,13 @@ use Rattle.hm_hall.specs.declared.fault.Halt.{Halt}
 use Rattle.hm_model.specs.Journal.{back}
 use Rattle.hm_names.specs.declared.nonce.Nonce.{Nonce}
 use Rattle.hm_top.specs.declared.answer.Answer.{Answer}
-use Rattle.hm_top.specs.declared.answer.Answer.TheVariants as answer_is
 use Rattle.hm_script.specs.declared.command.Command.TheVariants as command_is
-use Rattle.hm_top.specs.Answer.{AnswersAt, submission}
+use Rattle.hm_top.specs.Answer.{AnswersAt, MayAddAt}
 use Rattle.hm_top.specs.Hands.{NoneFell, Ran, RunBy, SumRisesBy, steps_in}
 use Rattle.hm_top.specs.Ports.{HandsUse}
 use Rattle.hm_top.specs.Settling.{IsNextStep}
 use Rattle.hm_top.specs.Standing.{Comes, Standing}
-use Rattle.hm_top.proofs.Growth.{entry_added, halt_leaves, steps_more}
+use Rattle.hm_top.proofs.Growth.{at_adds, entry_added, halt_leaves, steps_more}
 use Rattle.hm_top.proofs.Steps.{one_next}
 
 none_fell_on : (a b c : List ℕ) → NoneFell a b → NoneFell b c → NoneFell a c
@@ -104,15 +103,17 @@ ran_step hands old new entry (Ok None) next run comes err =
 ran_step hands old new entry (Ok (Some why)) next run comes err = ran_idle hands old.journal new.journal (halt_leaves old new entry why comes) (run_less hands 1 run)
 ran_step hands old new entry (Err e) next run comes err = ran_idle hands old.journal new.journal (ap (λ (s : Standing). s.journal) err) (run_less hands 1 run)
 
+-- what a submission adds is no step
+no_step : (nonce : Nonce) (ns : List ℕ) (old : Standing) (added : List Entry) → MayAddAt (command_is.Namespace nonce ns) old added → steps_in added ≡ 0
+no_step nonce ns old added (inl none) = ap steps_in none
+no_step nonce ns old added (inr some) = ap steps_in some.2
+
 -- a submission runs nothing
 pub submit_ran : {E : Type 0} (nonce : Nonce) (ns : List ℕ) (old new : Standing) (r : Result Answer E) (hands : HandsUse) → RunBy hands 0 → IfOk r (λ answer. AnswersAt (command_is.Namespace nonce ns) old answer new) → OnErr r (new ≡ old)
     → Ran hands old.journal new.journal
-submit_ran nonce ns old new (Ok (answer_is.Pid pid)) hands run answers err = (submission nonce ns ∷ [], entry_added old new (submission nonce ns) answers.2, run)
-submit_ran nonce ns old new (Ok (answer_is.Repeated pid)) hands run answers err = ran_idle hands old.journal new.journal (ap (λ (s : Standing). s.journal) answers.2) run
-submit_ran nonce ns old new (Ok (answer_is.NonceClash pid)) hands run answers err = ran_idle hands old.journal new.journal (ap (λ (s : Standing). s.journal) answers.2) run
-submit_ran nonce ns old new (Ok (answer_is.JournalFull bytes)) hands run answers err = ran_idle hands old.journal new.journal (ap (λ (s : Standing). s.journal) answers.2) run
-submit_ran nonce ns old new (Ok (answer_is.Halted why)) hands run answers err = ran_idle hands old.journal new.journal (halt_leaves old new (submission nonce ns) why answers.1) run
-submit_ran nonce ns old new (Ok answer) hands run answers err = absurd answers
+submit_ran nonce ns old new (Ok answer) hands run answers err =
+    let adds = at_adds (command_is.Namespace nonce ns) old answer new answers in
+    (adds.0, adds.2, subst (RunBy hands) (sym (no_step nonce ns old adds.0 adds.1)) run)
 submit_ran nonce ns old new (Err fault) hands run answers err = ran_idle hands old.journal new.journal (ap (λ (s : Standing). s.journal) err) run
 
 -- a count that was raised rose by one, or stands at its end

@@ -9,6 +9,7 @@ use Rattle.hm_model.specs.Kinds.{running_kinds}
 use Rattle.hm_model.specs.Sheets.{sheet_for}
 use Rattle.hm_sheet.specs.Words.{AreListed}
 use Rattle.hm_top.specs.Hands.{AgreeOn, HandsAgree, first_sheets, listed, own_sheets}
+use Rattle.hm_top.proofs.Agreeing.{first_is as begins}
 
 module _ {R : Type 0} (f : R → List Sheet) (hands : List R) (agree : HandsAgree (map f hands)) where
   -- there is a first
@@ -17,11 +18,7 @@ module _ {R : Type 0} (f : R → List Sheet) (hands : List R) (agree : HandsAgre
 
   -- the first sheets are those of the first
   pub first_is : (x : R) → x ≡ get_or hands 0 x → first_sheets (map f hands) ≡ f x
-  first_is x = at hands some_hands
-    where
-      at : (rs : List R) → 0 < length rs → x ≡ get_or rs 0 x → first_sheets (map f rs) ≡ f x
-      at [] some e = absurd (omega arith)
-      at (r ∷ rs) some e = ap f (sym e)
+  first_is x = begins f hands x (let some = some_hands in omega arith)
 
   -- what all are the first is
   pub all_first : (P : R → Type 0) (x : R) → x ≡ get_or hands 0 x → All P hands → P x

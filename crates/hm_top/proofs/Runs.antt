@@ -3,9 +3,9 @@ use Rattle.std.proofs.Common.{◌≡◌, ◌≢◌, ◌⊎◌, ◌≤◌, ◌+�
 use Rattle.hm_ports.specs.Faults.{Rose}
 use Rattle.hm_ports.specs.declared.sink.Sink as Sink
 use Rattle.hm_disk.specs.Called.{IsCalled}
-use Rattle.hm_disk.specs.Disk.{LeavesOnly, Settles}
+use Rattle.hm_disk.specs.Disk.{LeavesOnly, LeavesThen}
 use Rattle.hm_disk.specs.declared.disk.Disk as Disk
-use Rattle.hm_disk.proofs.Moments.{settles_weaker, stays_settled}
+use Rattle.hm_disk.proofs.Moments.{then_weaker, then_stays}
 use Rattle.hm_log.specs.Format.{Reads}
 use Rattle.hm_log.specs.Opening.{IsMaking}
 use Rattle.hm_data.specs.declared.entry.Entry.{Entry}
@@ -72,18 +72,18 @@ module _ {D Setting : Type 0} (d : Disk.Ghosts D Setting) (sheets : List Sheet) 
   abbrev pub IsOpened : Type 0
   IsOpened =
       (old : List Entry) × IsJournal sheets old × (standing_of was ≡ begun limits sheets old) × (was.opened.count ≡ length old)
-      × (d.tells → IsOnDisk sheets (d.seen disk) old × Settles d.moment d.left_since disk was.opened.disk early (λ c. Reads c (frames_of old)))
+      × (d.tells → IsOnDisk sheets (d.seen disk) old × LeavesThen d.moment d.left_since disk was.opened.disk early (λ c. Reads c (frames_of old)))
 
   -- what each stop left since
   pub stops_leave : (at : Standing) (new : D) (opens : IsOpened) → ((more : List Entry) × (at.journal ≡ opens.0 ++ more))
       → (d.tells → LeavesOnly d.moment d.left_since was.opened.disk new (IsFront was.opened.count (whole at)))
-      → d.tells → Settles d.moment d.left_since disk new early (IsFront (length opens.0) (whole at))
+      → d.tells → LeavesThen d.moment d.left_since disk new early (IsFront (length opens.0) (whole at))
   stops_leave at new opens grown leaves told =
       let old = opens.0 in
       let all = whole at in
       let tail = tail_of at.journal at.tail in
-      stays_settled d.moment d.left_since disk was.opened.disk new early (IsFront (length old) all)
-      (settles_weaker d.moment d.left_since disk was.opened.disk early (λ c. Reads c (frames_of old)) (IsFront (length old) all)
+      then_stays d.moment d.left_since disk was.opened.disk new early (IsFront (length old) all)
+      (then_weaker d.moment d.left_since disk was.opened.disk early (λ c. Reads c (frames_of old)) (IsFront (length old) all)
       (λ c reads. record {
         front = old;
         rest = grown.0 ++ tail.0;

@@ -1,16 +1,15 @@
 -- How answering goes on.
 use Rattle.std.proofs.Common.{◌≡◌, ℕ, List, [], ◌∷◌, ◌++◌, length, Err, refl, sym, ap, ◌∙◌, append_assoc, append-nil, subst}
 use Rattle.std.proofs.lemmas.Grind.{flat_map-append}
-use Rattle.hm_data.specs.declared.entry.Entry.{Entry}
 use Rattle.hm_script.specs.declared.command.Command.{Command}
 use Rattle.hm_top.specs.declared.answer.Answer.{Answer}
 use Rattle.hm_top.specs.declared.status.EarlyEnd.TheVariants as early_is
-use Rattle.hm_top.specs.Answer.{answer_text, Answers, IsUnanswered, RunsOut}
+use Rattle.hm_top.specs.Answer.{answer_text, Answers, IsUnanswered, MayRunOut, RunsOut}
 use Rattle.hm_top.specs.Answering.{IsAnswering}
 use Rattle.hm_top.specs.Got.{IsPartOf, IsShort}
 use Rattle.hm_top.specs.Standing.{Standing}
 use Rattle.hm_top.specs.Transcript.{Transcript, text_of}
-use Rattle.hm_top.proofs.Growth.{answer_adds}
+use Rattle.hm_top.proofs.Growth.{answer_adds, same_end}
 
 -- one more command at the end
 transcript_more : (commands : List Command) (command : Command) (answer : Answer) (old mid new : Standing) (marks : List ℕ) (answers : List Answer)
@@ -66,9 +65,6 @@ pub record SoFar (tells : Type 0) (before after : List ℕ) (lines : List Answer
   pub transcript : Transcript commands old marks answers mid
   pub said : tells → after ≡ before ++ text_of (lines ++ answers)
 
-same_end : (at : Standing) → at ≡ record at { journal = at.journal ++ [] }
-same_end at = ap (λ (j : List Entry). record at { journal = j }) (sym (append-nil at.journal))
-
 module _ {tells : Type 0} {got0 got1 : List ℕ} {line : Answer} (old : Standing) {marks : List ℕ} (none : marks ≡ []) where
   -- the line of the opening wasn't said whole
   pub not_begun : (commands : List Command) → (tells → IsPartOf got0 got1 (answer_text line)) → IsAnswering tells got0 got1 (line ∷ []) (Err early_is.WriteFault) commands old marks old
@@ -103,7 +99,7 @@ module _ {tells : Type 0} {got0 got1 : List ℕ} {lines : List Answer} {commands
     transcript = so_far.transcript;
     said = so_far.said;
     unanswered = left.1;
-    remains = subst (λ l. RunsOut l mid left.1) (sym next) (left.0, left.2);
+    remains = subst (λ l. RunsOut l mid left.1) (sym next) (subst (MayRunOut command) left.3 left.0, left.2);
     grown = left.3;
   }
 

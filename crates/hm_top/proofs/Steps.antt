@@ -24,12 +24,11 @@ use Rattle.hm_model.proofs.Stages.{flat_all, simple_all}
 use Rattle.hm_state.specs.State.{IsFirst, IsInput}
 use Rattle.hm_top.specs.Answer.{AnswersAt}
 use Rattle.hm_top.specs.declared.answer.Answer.{Answer}
-use Rattle.hm_top.specs.declared.answer.Answer.TheVariants as answer_is
 use Rattle.hm_script.specs.declared.command.Command.TheVariants as command_is
 use Rattle.hm_top.specs.Hands.{AgreeOn, Serve, first_sheets, one_step}
 use Rattle.hm_top.specs.Settling.{AreSteps, IsNextStep, IsWorked}
 use Rattle.hm_top.specs.Standing.{Comes, Standing}
-use Rattle.hm_top.proofs.Growth.{halt_leaves, standing_added}
+use Rattle.hm_top.proofs.Growth.{at_adds, same_end, standing_added}
 
 -- what may go on makes a step: nothing is undone yet
 pub may_on : (J : Past) → IsLegal J → (p : ℕ) → IsAvailable J [] [] p → MayStep J p
@@ -102,7 +101,7 @@ steps_more at (first ∷ steps) entry are next within =
 
 -- no step yet
 pub worked_none : (at : Standing) → IsWorked at at
-worked_none at = record { steps = []; are_steps = tt; grown = ap (λ (j : List Entry). record at { journal = j }) (sym (append-nil at.journal)) }
+worked_none at = record { steps = []; are_steps = tt; grown = same_end at }
 
 -- a step that was added behind steps that were made
 pub worked_on : (old mid new : Standing) → IsWorked old mid → ((entry : Entry) × IsNextStep (back mid.journal) entry × Comes mid entry None new) → IsWorked old new
@@ -147,9 +146,7 @@ serve_on one other old new serve same sheets =
 -- whatever a settling answers, the journal begins with the same sheets
 pub settle_begun : {E : Type 0} (old new : Standing) (r : Result Answer E) → IfOk r (λ answer. AnswersAt command_is.Settle old answer new) → OnErr r (IsWorked old new)
     → sheets_of (back new.journal) ≡ sheets_of (back old.journal)
-settle_begun old new (Ok (answer_is.Settled at)) answers err = sheets_worked old new answers.0.worked
-settle_begun old new (Ok (answer_is.Waiting at roots)) answers err = sheets_worked old new answers.0.worked
-settle_begun old new (Ok (answer_is.Halted why)) answers err =
-    ap (λ (j : List Entry). sheets_of (back j)) (halt_leaves answers.mid new answers.next why answers.halts) ∙ sheets_worked old answers.mid answers.worked
-settle_begun old new (Ok answer) answers err = absurd answers
+settle_begun old new (Ok answer) answers err =
+    let adds = at_adds command_is.Settle old answer new answers in
+    ap (λ (j : List Entry). sheets_of (back j)) adds.2 ∙ sheets_all old adds.0 adds.1
 settle_begun old new (Err fault) answers err = sheets_worked old new err

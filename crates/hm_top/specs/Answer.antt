@@ -109,22 +109,22 @@ MayAddAt command old entries = entries ≡ []
 abbrev pub MayAdd : Command → Standing → List Entry → Type 0
 MayAdd command old entries = MatchOption old.halted (MayAddAt command old entries) (λ why. entries ≡ [])
 
--- Memory may run out for a command: nothing that is judged without any has its answer. So a submission isn't known, and
--- passes neither mark; what settling evaluates takes memory itself.
+-- memory may run out for a command here: a submission that is new and passes no mark, a settling that isn't at rest, a table
 abbrev pub MayRunOut : Command → Standing → Type 0
-MayRunOut (command_is.Namespace nonce ns) old = IsFree old nonce × Accepts (recording old) (submission nonce ns)
-MayRunOut command old = old.halted ≡ None
+MayRunOut (command_is.Namespace nonce ns) at = IsFree at nonce × Accepts (recording at) (submission nonce ns)
+MayRunOut command_is.Settle at = (at.halted ≡ None) × (IsAtRest (back at.journal) → ⊥)
+MayRunOut command at = at.halted ≡ None
 
 -- what a command may have recorded that memory left without an answer: a submission nothing, settling its steps
 abbrev pub MayLeave : Command → Standing → List Entry → Type 0
 MayLeave (command_is.Namespace nonce ns) old entries = entries ≡ []
 MayLeave command old entries = MayAddAt command old entries
 
--- memory ran out for the command, for which it may, and what was recorded for it was added
+-- what was recorded for the command was added, and there memory ran out, where it may
 abbrev pub IsUnanswered : Command → Standing → Standing → Type 0
-IsUnanswered command old new = MayRunOut command old × (entries : List Entry) × MayLeave command old entries × (new ≡ record old { journal = old.journal ++ entries })
+IsUnanswered command old new = MayRunOut command new × (entries : List Entry) × MayLeave command old entries × (new ≡ record old { journal = old.journal ++ entries })
 
--- memory ran out for the next of these commands, for which it may, and these entries were recorded for it
+-- these entries were recorded for the next of these commands, and behind them memory ran out, where it may
 abbrev pub RunsOut : List Command → Standing → List Entry → Type 0
 RunsOut [] old entries = ⊥
-RunsOut (command ∷ more) old entries = MayRunOut command old × MayLeave command old entries
+RunsOut (command ∷ more) old entries = MayRunOut command (record old { journal = old.journal ++ entries }) × MayLeave command old entries

@@ -1,5 +1,5 @@
 -- What answering commands in turn says and leaves, by how it ends.
-use Rattle.std.specs.Prelude.{◌≡◌, ℕ, List, [], ◌++◌, None, Result, Ok, Err}
+use Rattle.std.specs.Prelude.{◌≡◌, ℕ, List, [], ◌++◌, None, Result}
 use Rattle.hm_data.specs.declared.entry.Entry.{Entry}
 use Rattle.hm_top.specs.declared.answer.Answer.{Answer}
 use Rattle.hm_script.specs.declared.command.Command.{Command}
@@ -12,15 +12,13 @@ use Rattle.hm_top.specs.Got.{GotAnswers}
 use Rattle.hm_top.specs.Standing.{Standing}
 use Rattle.hm_top.specs.Transcript.{Transcript}
 
--- which commands a status leaves without an answer, and what was recorded for the next of them: none; some, where the sink
--- failed; some, for the next of which memory ran out
+-- what a status leaves without an answer: no command; some, the sink having failed; some, for the next of which memory ran out
 abbrev pub Remains : RunStatus → List Command → Standing → List Entry → Type 0
 Remains WriteFault rest at unanswered = unanswered ≡ []
 Remains Memory rest at unanswered = RunsOut rest at unanswered
 Remains status rest at unanswered = (rest ≡ []) × (unanswered ≡ [])
 
--- Behind these lines the first of these commands were answered in turn, from old on; the sink has of the lines and answers
--- what it has where it ends so. What was recorded for the next command is unanswered, and new is left.
+-- behind these lines the first of these commands were answered in turn, the sink has what it has where it ends so, and new is left
 pub record IsAnswering (tells : Type 0) (before after : List ℕ) (lines : List Answer) (ended : Result (Unit {0}) EarlyEnd) (commands : List Command) (old : Standing) (marks : List ℕ) (new : Standing) : Type 0 where
   pub answered : List Command
   pub rest : List Command

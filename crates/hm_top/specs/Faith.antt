@@ -29,8 +29,7 @@ DeedsApplied before =
     → (told : Told) → out.answer ≡ answer_is.Done told
     → (edits : List Edit) × (deed_of node.args (keys_of older) (serial older) ≡ Ok edits)
 
--- at each entry among these that ended a failed root, each key that its tree edited, and each that the root covers, had
--- the row that it had just before the root's first step
+-- where an entry among these ended a failed root, each key that its tree edited or it covers had the row of before its first step
 abbrev pub FailuresLeftAll : Past → Type 0
 FailuresLeftAll before =
     (newer older : Past) (entry : Entry) → before ≡ newer ++ entry ∷ older
@@ -39,9 +38,7 @@ FailuresLeftAll before =
     → (key : CatKey) → TreeEdits (entry ∷ older) r key ⊎ (covers node.args key ≡ true)
     → cat (entry ∷ older) key ≡ was (entry ∷ older) r key
 
--- It is legal; on each key that no unfinished procedure covers the catalog is that of the deeds of the roots that ended
--- well, one after another; each of these deeds applied, and those that failed left all as it was; no nonce is used
--- twice; and no two procedures that hold what they ask for conflict.
+-- legal; where nothing is busy as by the deeds of roots, one after another; all or nothing; a nonce once; no two holders conflict
 pub record KeepsFaith (before : Past) : Type 0 where
   pub legal : IsLegal before
   pub serial_is : (key : CatKey) → (IsBusy before key → ⊥) → cat before key ≡ serial before key

@@ -27,8 +27,7 @@ abbrev pub GotAnswers : (old new : List ℕ) → RunStatus → List Answer → T
 GotAnswers old new WriteFault answers = IsShort old new answers
 GotAnswers old new status answers = new ≡ old ++ text_of answers
 
--- What the sink got at the end of a run with this status: the text of the answers and the last line, which may lack a part
--- only where the sink's faults rose. Where the sink failed at an answer, that lacks a part, and no line follows.
+-- what the sink got in the end: the answers and the last line, which may lack a part where it failed; or less, failing at an answer
 abbrev pub Got : (rose : Type 0) (old new : List ℕ) → RunStatus → List Answer → Type 0
 Got rose old new Done answers = new ≡ old ++ text_of answers
 Got rose old new WriteFault answers = IsShort old new answers

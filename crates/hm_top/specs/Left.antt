@@ -17,19 +17,17 @@ use Rattle.hm_top.specs.Ports.{DiskUse, HandsUse}
 use Rattle.hm_top.specs.Standing.{Standing, recording, whole}
 
 module _ (disk : DiskUse) (hands : HandsUse) where
-  -- From some moment on each stop left a log of a front of the new journal with its tail, no shorter than the old journal. Up
-  -- to that moment it left what it could of the disk that was handed in, or the log of a new disk in the making.
+  -- up to some moment a stop left the disk handed in, or a log in the making, and then a front of the new no shorter than the old
   abbrev pub StopsLeave : List Entry → Standing → Type 0
-  StopsLeave old new = disk.leaves_then (λ bytes. disk.image_before bytes ⊎ IsMaking disk.before bytes) (IsFront (length old) (whole new))
+  StopsLeave old new = disk.stops.leave_then (λ bytes. disk.stops.before bytes ⊎ IsMaking disk.before bytes) (IsFront (length old) (whole new))
 
-  -- The disk held the old journal. It holds the new one, which begins so, behind which the tail may stand; each front of them
-  -- keeps faith. What stops left, changes and the setting are bound, the registries ran each step, and a log fault has a cause.
+  -- the disk held the old journal, and holds the new one, which begins so and keeps faith; what stops, counts and runs say of it
   pub record IsLeft (old : List Entry) (new : Standing) : Type 0 where
     pub added : List Entry
     pub longer : new.journal ≡ old ++ added
     pub faith : (mark : ℕ) → KeepsFaith (back (take mark (whole new)))
     pub held : disk.tells → IsOnDisk (sheets_used hands) disk.before old
-    pub holds : disk.tells → AllStored disk.image_after (recording new)
+    pub holds : disk.tells → AllStored disk.stops.after (recording new)
     pub stops : disk.tells → StopsLeave old new
     pub called : disk.called (1 + 2 * (length (whole new) - length old))
     pub ran : SumRisesBy (steps_in added) hands.runs_before hands.runs_after
@@ -37,15 +35,15 @@ module _ (disk : DiskUse) (hands : HandsUse) where
 
   -- each stop left what one in the middle of an opening may leave
   abbrev pub StopsInOpening : Type 0
-  StopsInOpening = disk.leaves_only (IsOpening (sheets_used hands) disk.before disk.image_before)
+  StopsInOpening = disk.stops.leave_only (IsOpening (sheets_used hands) disk.before disk.stops.before)
 
   -- an opening that failed spared the journal that the disk held
   abbrev pub IsSpared : Type 0
-  IsSpared = disk.called 3 × (disk.tells → Spares (sheets_used hands) disk.before disk.image_before disk.after disk.image_after × StopsInOpening)
+  IsSpared = disk.called 3 × (disk.tells → Spares (sheets_used hands) disk.before disk.stops.before disk.after disk.stops.after × StopsInOpening)
 
   -- the log wasn't opened, for this reason, and its frames are as they were
   abbrev pub IsNotOpened : JournalWhy → Type 0
-  IsNotOpened why = disk.called 3 × (disk.tells → Refuses (sheets_used hands) disk.before why × SameFrames disk.before disk.after disk.image_after × StopsInOpening)
+  IsNotOpened why = disk.called 3 × (disk.tells → Refuses (sheets_used hands) disk.before why × SameFrames disk.before disk.after disk.stops.after × StopsInOpening)
 
   -- a journal that the disk holds isn't refused
   abbrev pub AcceptsJournal : RunStatus → Type 0

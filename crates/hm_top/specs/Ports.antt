@@ -4,7 +4,7 @@ use Rattle.hm_ports.specs.Faults.{Rose}
 use Rattle.hm_ports.specs.declared.source.Source as Source
 use Rattle.hm_ports.specs.declared.sink.Sink as Sink
 use Rattle.hm_disk.specs.Called.{IsCalled}
-use Rattle.hm_disk.specs.Disk.{LeavesOnly, Settles}
+use Rattle.hm_disk.specs.Disk.{LeavesOnly, LeavesThen}
 use Rattle.hm_disk.specs.declared.disk.Disk as Disk
 use Rattle.hm_data.specs.declared.sheet.Sheet.{Sheet}
 use Rattle.hm_sheet.specs.declared.handler.Handler as Handler
@@ -19,6 +19,7 @@ pub record SourceUse : Type 1 where
   pub failed : Type 0
   pub untouched : Type 0
 
+-- what a call did with a source
 abbrev pub source_use : {S : Type 0} → Source.Ghosts S → S → S → SourceUse
 source_use source old new =
     record {
@@ -36,6 +37,7 @@ pub record SinkUse : Type 1 where
   pub after : List ℕ
   pub failed : Type 0
 
+-- what a call did with a sink
 abbrev pub sink_use : {K : Type 0} → Sink.Ghosts K → K → K → SinkUse
 sink_use sink old new =
     record {
@@ -45,31 +47,41 @@ sink_use sink old new =
       failed = Rose (sink.faults old) (sink.faults new);
     }
 
--- A disk: what it read as before and after, what a stop might leave before and may leave after, what each stop since has
--- left, what each left up to some moment and then from it on, that so many changes at most were counted and the setting
--- stayed, that a call failed, and that it is as handed in.
+-- stops of a disk: what one might leave before, may leave after, has left at each moment since, and up to some moment and then
+pub record StopUse : Type 1 where
+  pub before : List ℕ → Type 0
+  pub after : List ℕ → Type 0
+  pub leave_only : (List ℕ → Type 0) → Type 0
+  pub leave_then : (List ℕ → Type 0) → (List ℕ → Type 0) → Type 0
+
+-- what stops of a disk left through a call
+abbrev pub stop_use : {D Setting : Type 0} → Disk.Ghosts D Setting → D → D → StopUse
+stop_use disk old new =
+    record {
+      before = disk.image old;
+      after = disk.image new;
+      leave_only = LeavesOnly disk.moment disk.left_since old new;
+      leave_then = LeavesThen disk.moment disk.left_since old new;
+    }
+
+-- a disk: its bytes before and after, its stops, that it counted so many changes at most, that a call failed, and that it is as handed in
 pub record DiskUse : Type 1 where
   pub tells : Type 0
   pub before : List ℕ
   pub after : List ℕ
-  pub image_before : List ℕ → Type 0
-  pub image_after : List ℕ → Type 0
-  pub leaves_only : (List ℕ → Type 0) → Type 0
-  pub leaves_then : (List ℕ → Type 0) → (List ℕ → Type 0) → Type 0
+  pub stops : StopUse
   pub called : ℕ → Type 0
   pub failed : Type 0
   pub untouched : Type 0
 
+-- what a call did with a disk
 abbrev pub disk_use : {D Setting : Type 0} → Disk.Ghosts D Setting → D → D → DiskUse
 disk_use disk old new =
     record {
       tells = disk.tells;
       before = disk.seen old;
       after = disk.seen new;
-      image_before = disk.image old;
-      image_after = disk.image new;
-      leaves_only = LeavesOnly disk.moment disk.left_since old new;
-      leaves_then = Settles disk.moment disk.left_since old new;
+      stops = stop_use disk old new;
       called = λ most. IsCalled disk most old new;
       failed = Rose (disk.faults old) (disk.faults new);
       untouched = new ≡ old;
@@ -82,6 +94,7 @@ pub record HandsUse : Type 0 where
   pub runs_before : List ℕ
   pub runs_after : List ℕ
 
+-- what a call did with registries
 abbrev pub hands_use : {X : Type 0} {F : X → Type 0} → ((x : X) → Handler.Ghosts (F x)) → List (Registry X F) → List (Registry X F) → HandsUse
 hands_use hand old new =
     record {

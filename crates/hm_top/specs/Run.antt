@@ -88,8 +88,7 @@ module _ (run : Run) where
       → IsOnDisk (sheets_used hands) disk.before journal → ¬ script.failed → ¬ out.failed → ¬ disk.failed
       → (status ≡ Done) ⊎ (((bytes : ℕ) × (status ≡ JournalFull bytes)) ⊎ (status ≡ Memory))
 
-  -- Where memory ran out once these commands were read: in opening bytes that may be a log; or over a journal, for the marks of
-  -- commands, of which there are some; or for the next command, which needs memory.
+  -- where memory ran out for these commands: in opening what may be a log; over a journal, for their marks; or for the next of them
   abbrev pub RanOutOver : List Command → Type 0
   RanOutOver commands =
       (disk.tells → (place : ℕ) → IsNotALog disk.before place → ⊥)

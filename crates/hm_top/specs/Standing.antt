@@ -36,8 +36,7 @@ recorded_as at None = Ok (length at.journal)
 recorded_as at (Some halt_is.LogFault) = Err fault_is.LogFault
 recorded_as at (Some (halt_is.JournalFull bytes)) = Err (fault_is.JournalFull bytes)
 
--- From old this entry was recorded next, and stands in the journal; or its recording halted the run so, and a log fault has
--- it as the tail. The marks stay.
+-- this entry was recorded next, and stands in the journal; or that halted the run so, and at a log fault the entry is the tail
 abbrev pub Comes : Standing → Entry → Option Halt → Standing → Type 0
 Comes old entry halt new =
     Records (recording old) entry (recorded_as old halt) (recording new) × (new ≡ record old { journal = new.journal; tail = new.tail; halted = new.halted })

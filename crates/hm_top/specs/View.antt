@@ -26,13 +26,11 @@ standing_in kept =
 abbrev pub standing_of : {D : Type 0} → WorldView D → Standing
 standing_of world = standing_in world.kept
 
--- A run with this world may stand so: marks, journal, tail and halt are the world's. What only the lines of a run will know
--- is a part of a standing that this leaves free; there is none yet.
+-- a run with this world may stand so; what only the lines of a run know is a part that this leaves free, and there is none yet
 abbrev pub Fits : {D : Type 0} → WorldView D → Standing → Type 0
 Fits world at = standing_of world ≡ at
 
--- The state is that of the recorded entries, which are a legal journal that has begun and have spellings. The entry whose
--- recording failed may stand behind them, and there is none while nothing halts the run.
+-- the state is that of the entries, which are legal, begun and spelled; a tail may stand behind them, and none while nothing halts
 pub record IsWorld (entries : List Entry) (kept : Recording) : Type 0 where
   pub same : entries ≡ kept.entries
   pub legal : IsLegal (back kept.entries)
@@ -41,8 +39,7 @@ pub record IsWorld (entries : List Entry) (kept : Recording) : Type 0 where
   pub tailless : kept.halted ≡ None → kept.tail ≡ None
   pub tail_allowed : IfSome kept.tail (Allowed (back kept.entries))
 
--- The disk that a run left which stood so: what it holds, what was done to it since its journal was opened, and that the
--- journal with its tail is legal.
+-- the disk that such a run left: what it holds, what was done to it since its journal was opened, and that its journal is legal
 pub record IsLeftBy {D Setting : Type 0} (disk : Disk.Ghosts D Setting) (opened : Opened D) (at : Standing) (new : D) : Type 0 where
   pub stored : disk.tells → AllStored (disk.image new) (recording at)
   pub since : Since disk opened new at.journal at.tail at.halted

@@ -160,7 +160,7 @@ fn converse<D: Disk, K: Sink>(
     ensures later { K.faults out.old ≤ K.faults out.new }
     ensures run_by { RunBy (hands_use ⟦<dyn Handler as Handler>⟧ hands.old.items hands.new.items) 0 }
 {
-    let sheets = hands[0].sheets();
+    let sheets = hands[0].running_sheets();
     let world = match World::open(alloc, disk, sheets.as_slice(), limits) {
         Ok(world) => world,
         Err((disk, why)) => return (status_of(why), disk),

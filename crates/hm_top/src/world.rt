@@ -2,7 +2,7 @@
 ghost use Rattle.std.specs.Prelude.{◌≡◌, ◌≢◌, ◌⊎◌, ◌+◌, ◌≤◌, ◌↔◌, List, [], ℕ, length, map, All, IfOk, IfErr, IfSome, IfNone, OnOk, OnErr, MatchOption, MatchResult, IsTrue, Some, None};
 ghost use Rattle.hm_ports.specs.Faults.{Rose};
 ghost use Rattle.hm_disk.specs.Called.{IsCalled};
-ghost use Rattle.hm_disk.specs.Disk.{LeavesOnly, Settles};
+ghost use Rattle.hm_disk.specs.Disk.{LeavesOnly, LeavesThen};
 ghost use Rattle.hm_log.specs.Format.{Reads};
 ghost use Rattle.hm_log.specs.Opening.{IsMaking};
 ghost use Rattle.hm_data.specs.declared.entry.Entry.{Entry as EntryValue};
@@ -123,7 +123,7 @@ impl<D: Disk> World<D> {
         requires hard { 65551 ≤ limits.hard }
         ensures journal { IfOk result (λ world. (old : List EntryValue) × IsJournal sheets.now old × (standing_of world ≡ begun limits sheets.now old)
             × (world.opened.count ≡ length old) × (D.tells → IsOnDisk sheets.now (D.seen disk) old
-            × Settles D.moment D.left_since disk world.opened.disk (λ c. D.image disk c ⊎ IsMaking (D.seen disk) c) (λ c. Reads c (frames_of old)))) }
+            × LeavesThen D.moment D.left_since disk world.opened.disk (λ c. D.image disk c ⊎ IsMaking (D.seen disk) c) (λ c. Reads c (frames_of old)))) }
         ensures sheets { IfOk result (λ world. begun_with (back world.kept.entries) ≡ sheets.now) }
         ensures why { D.tells → IfErr result (λ e. Refuses sheets.now (D.seen disk) e.1) }
         ensures accepts { D.tells → (journal : List EntryValue) → IsOnDisk sheets.now (D.seen disk) journal → IfErr result (λ e. IsUnjudged e.1) }
@@ -355,6 +355,7 @@ impl<D: Disk> World<D> {
         requires hands { Serve (map (sheets_of ⟦<dyn Handler as Handler>⟧) hands.old.items) self.old.kept.entries }
         ensures answers { IfOk result (λ answer. AnswersAt CommandValue.Settle (standing_of self.old) answer (standing_of self.new)) }
         ensures err { OnErr result (IsWorked (standing_of self.old) (standing_of self.new)) }
+        ensures last { OnErr result (MayRunOut CommandValue.Settle (standing_of self.new)) }
         ensures opened { self.new.opened ≡ self.old.opened }
         ensures ran { Ran (hands_use ⟦<dyn Handler as Handler>⟧ hands.old.items hands.new.items) self.old.kept.entries self.new.kept.entries }
     {

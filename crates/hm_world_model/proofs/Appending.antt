@@ -54,14 +54,18 @@ module _ (entry : Entry) (J : Past) (history : IsHistory (entry ∷ J)) (o : Out
       → ((s : Server) → is_fenced (entry ∷ J) s ≡ true → o.storage.fenced s ≡ true) → Safe (entry ∷ J) o
   safe_behind recorded done held fences = record {
     history = history;
-    sent_is = λ call h. call_now entry J legal call (safe.sent_is call h);
-    made_is = λ report h. let k = safe.made_is report h in (made_now report.call.0 report.told k.0, peer_same entry J legal report.call.0 k.0.verb k.0.called ∙ k.1);
-    recorded = recorded;
-    stored = λ id told h. let k = safe.stored id told h in (made_now id.0 told k.0, peer_same entry J legal id.0 k.0.verb k.0.called ∙ k.1);
-    named = safe.named;
-    served_is = λ s a r last run h. let k = safe.served_is s a r last run h in (calls_now entry J legal last.id.0 r s k.0, fit_now entry J legal last.id.0 k.0.0 last.told k.0.1 k.1);
-    done = done;
-    held = held;
+    calls = record {
+      sent_is = λ call h. call_now entry J legal call (safe.calls.sent_is call h);
+      made_is = λ report h. let k = safe.calls.made_is report h in (made_now report.call.0 report.told k.0, peer_same entry J legal report.call.0 k.0.verb k.0.called ∙ k.1);
+      recorded = recorded;
+      stored = λ id told h. let k = safe.calls.stored id told h in (made_now id.0 told k.0, peer_same entry J legal id.0 k.0.verb k.0.called ∙ k.1);
+    };
+    servers = record {
+      named = safe.servers.named;
+      served_is = λ s a r last run h. let k = safe.servers.served_is s a r last run h in (calls_now entry J legal last.id.0 r s k.0, fit_now entry J legal last.id.0 k.0.0 last.told k.0.1 k.1);
+      done = done;
+      held = held;
+    };
     fences_are = fences;
   }
 
@@ -75,16 +79,16 @@ module _ (entry : Entry) (J : Past) (history : IsHistory (entry ∷ J)) (o : Out
   pub safe_calm : ((p : ℕ) → verb_of (entry ∷ J) p ≡ verb_of J p) → ((p : ℕ) → report_of (entry ∷ J) p ≡ report_of J p) → ((r : Region) → last_call (entry ∷ J) r ≡ last_call J r)
       → ((s : Server) → is_fenced (entry ∷ J) s ≡ is_fenced J s) → Safe (entry ∷ J) o
   safe_calm verbs reports lasts fences = safe_behind
-      (λ p told h. made_now p told (safe.recorded p told (sym (reports p) ∙ h)))
-      (λ p r s a to run other_last. safe.done p r s a (calls_back entry J legal p to.0 r s (sym (verbs p) ∙ to.1) to) (run.0, sym (fences s) ∙ run.1) (λ e. other_last (lasts r ∙ e)))
-      (λ r s a run h. held_now r (lasts r) s a (safe.held r s a (run.0, sym (fences s) ∙ run.1) h))
+      (λ p told h. made_now p told (safe.calls.recorded p told (sym (reports p) ∙ h)))
+      (λ p r s a to run other_last. safe.servers.done p r s a (calls_back entry J legal p to.0 r s (sym (verbs p) ∙ to.1) to) (run.0, sym (fences s) ∙ run.1) (λ e. other_last (lasts r ∙ e)))
+      (λ r s a run h. held_now r (lasts r) s a (safe.servers.held r s a (run.0, sym (fences s) ∙ run.1) h))
       (λ s h. safe.fences_are s (sym (fences s) ∙ h))
 
 -- a report that was made
 module _ (call : Pid) (told : Told) (J : Past) (history : IsHistory (entry_is.Report call told ∷ J)) (o : Outside) (safe : Safe J o) (true_report : IsMade o call told) where
   made_of : Made J o call.0 told
   made_of =
-      let k = (safe.made_is true_report.0 true_report.1).0 in
+      let k = (safe.calls.made_is true_report.0 true_report.1).0 in
       subst (λ t. Made J o call.0 t) true_report.3 (subst (λ (c : Pid). Made J o c.0 true_report.0.told) true_report.2 k)
 
   unfenced : (s : Server) → is_fenced (entry_is.Report call told ∷ J) s ≡ false → is_fenced J s ≡ false
@@ -93,7 +97,7 @@ module _ (call : Pid) (told : Told) (J : Past) (history : IsHistory (entry_is.Re
   report_recorded : (p : ℕ) (t : Told) → report_of (entry_is.Report call told ∷ J) p ≡ Some t → Made J o p t
   report_recorded p t h = elim (cases_eq p call.0) [
     | inl e ↦ subst (λ n. Made J o n t) (sym e) (subst (Made J o call.0) (same_Some told t (sym (cond-true (p == call.0) (Some told) (report_of J p) (eq-eqb p call.0 e)) ∙ h)) made_of)
-    | inr differs ↦ safe.recorded p t (sym (cond-false (p == call.0) (Some told) (report_of J p) (ne_eqb p call.0 differs)) ∙ h)
+    | inr differs ↦ safe.calls.recorded p t (sym (cond-false (p == call.0) (Some told) (report_of J p) (ne_eqb p call.0 differs)) ∙ h)
   ]
 
   fenced_by : (s : Server) → fences_if (node_of J call.0) s ≡ true → o.storage.fenced s ≡ true
@@ -111,15 +115,15 @@ module _ (call : Pid) (told : Told) (J : Past) (history : IsHistory (entry_is.Re
   pub safe_report : Safe (entry_is.Report call told ∷ J) o
   safe_report = safe_behind (entry_is.Report call told) J history o safe
       (λ p t h. made_now (entry_is.Report call told) J history o safe p t (report_recorded p t h))
-      (λ p r s a to run other_last. safe.done p r s a (calls_back (entry_is.Report call told) J (legal_of (entry_is.Report call told ∷ J) history) p to.0 r s to.1 to) (run.0, unfenced s run.1) other_last)
-      (λ r s a run h. held_now (entry_is.Report call told) J history o safe r refl s a (safe.held r s a (run.0, unfenced s run.1) h))
+      (λ p r s a to run other_last. safe.servers.done p r s a (calls_back (entry_is.Report call told) J (legal_of (entry_is.Report call told ∷ J) history) p to.0 r s to.1 to) (run.0, unfenced s run.1) other_last)
+      (λ r s a run h. held_now (entry_is.Report call told) J history o safe r refl s a (safe.servers.held r s a (run.0, unfenced s run.1) h))
       report_fences
 
 -- what is told of a call whose server runs and isn't fenced
 module _ (J : Past) (o : Outside) (safe : Safe J o) where
   pub told_served : (p : ℕ) (r : Region) (s : Server) (a : Actor) (told : Told) → report_of J p ≡ Some told → CallsTo J p r s → o.actors s ≡ Some a
       → (last : Served) × (a.last r ≡ Some last) × ((p < last.id.0) ⊎ ((p ≡ last.id.0) × (told ≡ last.told)))
-  told_served p r s a told h to run = (safe.recorded p told h).told_by r s to a run
+  told_served p r s a told h to run = (safe.calls.recorded p told h).told_by r s to a run
 
   pub reported_served : (p : ℕ) (r : Region) (s : Server) (a : Actor) (told : Told) → report_of J p ≡ Some told → CallsTo J p r s → o.actors s ≡ Some a → HasServed a r p
   reported_served p r s a told h to run = (let k = told_served p r s a told h to run in (k.0, k.1, le k.0.id.0 k.2))
@@ -205,10 +209,10 @@ module _ (pid : Pid) (pick : Option Server) (out : StepOut) (J : Past) (history 
           reported_served J o safe p r s a told_is.Opened (ap (report_of J) (sym own) ∙ f.3.3) to run.0
 
       by : (l : Option ℕ) → last_call J r ≡ l → HasServed a r p
-      by None e = safe.done p r s a to run (λ is. none-some p (sym e ∙ is))
+      by None e = safe.servers.done p r s a to run (λ is. none-some p (sym e ∙ is))
       by (Some q) e = elim (cases_eq q p) [
         | inl own ↦ by_touch (e ∙ ap Some own) (touch pid.0 out.call r (last_call J r))
-        | inr differs ↦ safe.done p r s a to run (λ is. differs (same_Some q p (sym e ∙ is)))
+        | inr differs ↦ safe.servers.done p r s a to run (λ is. differs (same_Some q p (sym e ∙ is)))
       ]
 
   done_now : (p : ℕ) (r : Region) (s : Server) (a : Actor) → CallsTo (entry ∷ J) p r s → Runs (entry ∷ J) o s a → last_call (entry ∷ J) r ≢ Some p → HasServed a r p
@@ -226,7 +230,7 @@ module _ (pid : Pid) (pick : Option Server) (out : StepOut) (J : Past) (history 
       (last_made pid pick out J r (verb_is.CloseRegion r) is refl, verb, v.3 ∙ ap (λ (n : Node). Some (peer_in n.args)) same_node ∙ ap (λ x. Some (peer_in x)) args)
 
   held_step : (r : Region) (s : Server) (a : Actor) → Runs (entry ∷ J) o s a → holds a r ≡ true → HeldBy (entry ∷ J) a r s
-  held_step r s a run h = by (touch pid.0 out.call r (last_call J r)) (safe.held r s a run h)
+  held_step r s a run h = by (touch pid.0 out.call r (last_call J r)) (safe.servers.held r s a run h)
     where
       not_closed : (q : ℕ) → verb_of J q ≡ Some (verb_is.CloseRegion r) → report_of J q ≡ Some told_is.Opened → ⊥
       not_closed q v told = let k = reports_fit J step_legal.0 q told_is.Opened told in false≢true (ap (λ x. fits_verb x told_is.Opened) (same_verb J q (verb_is.CloseRegion r) k.0 v k.1) ∙ k.2)
@@ -245,7 +249,7 @@ module _ (pid : Pid) (pick : Option Server) (out : StepOut) (J : Past) (history 
       ])
 
   pub safe_step : Safe (entry ∷ J) o
-  safe_step = safe_behind entry J history o safe (λ p told h. made_now entry J history o safe p told (safe.recorded p told h)) done_now held_step safe.fences_are
+  safe_step = safe_behind entry J history o safe (λ p told h. made_now entry J history o safe p told (safe.calls.recorded p told h)) done_now held_step safe.fences_are
 
 -- an entry that may come next, a report only where it was made
 pub safe_append : (entry : Entry) (J : Past) → IsHistory (entry ∷ J) → (o : Outside) → Safe J o → IsTrueReport o entry → Safe (entry ∷ J) o

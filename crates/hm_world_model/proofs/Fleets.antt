@@ -4,7 +4,7 @@ use Rattle.std.proofs.lemmas.List.{length-reverse, reverse-reverse}
 use Rattle.hm_data.specs.declared.entry.Entry.{Entry}
 use Rattle.hm_model.specs.Journal.{Past, back}
 use Rattle.hm_model.proofs.Prefixes.{back-cut}
-use Rattle.hm_world_model.specs.Events.{Stop, stopped}
+use Rattle.hm_world_model.specs.Events.{Ends, Stop, stopped}
 use Rattle.hm_world_model.specs.Fleets.{FitsTheFirst, ResumedIsKept, ResumedIsStopped}
 use Rattle.hm_world_model.specs.Safe.{IsKept}
 use Rattle.hm_world_model.specs.World.{first, whole}
@@ -49,4 +49,4 @@ resumed_stopped w past f =
 pub resumed_kept : ResumedIsKept
 resumed_kept w past kept f =
     let e : length past ≡ f.0 = ap length f.3 ∙ first_length f.0 (whole w) f.2 in
-    subst IsKept (sym (resumed_stopped w past f)) (subst (λ k. IsKept (stopped w k)) (sym e) (event_keeps w (Stop f.0) kept (f.1, f.2)))
+    subst IsKept (sym (resumed_stopped w past f)) (subst (λ k. IsKept (stopped w k)) (sym e) (event_keeps w (Ends (Stop f.0)) kept (f.1, f.2)))

@@ -51,25 +51,25 @@ module _ (J : Past) (o : Outside) (safe : Safe J o) (actors : Server → Option 
 
   named_from : (t : Server) (c : Actor) → actors t ≡ Some c → c.name ≡ t
   named_from t c run = elim (from t c run) [
-    | was before is name last ↦ name ∙ safe.named t before is
+    | was before is name last ↦ name ∙ safe.servers.named t before is
     | began none name nothing ↦ name
   ]
 
   served_from : (t : Server) (c : Actor) (q : Region) (last : Served) → actors t ≡ Some c → c.last q ≡ Some last → CallsTo J last.id.0 q t × FitsCall J last.id.0 last.told
   served_from t c q last run is = elim (from t c run) [
-    | was before ran name same ↦ safe.served_is t before q last ran (sym (same q) ∙ is)
+    | was before ran name same ↦ safe.servers.served_is t before q last ran (sym (same q) ∙ is)
     | began none name nothing ↦ absurd (none-some last (sym (nothing q) ∙ is))
   ]
 
   done_from : (p : ℕ) (q : Region) (t : Server) (c : Actor) → CallsTo J p q t → Runs J other t c → last_call J q ≢ Some p → HasServed c q p
   done_from p q t c calls run other_last = elim (from t c run.0) [
-    | was before is name last ↦ let k = safe.done p q t before calls (is, run.1) other_last in (k.0, last q ∙ k.1, k.2)
+    | was before is name last ↦ let k = safe.servers.done p q t before calls (is, run.1) other_last in (k.0, last q ∙ k.1, k.2)
     | began none name nothing ↦ absurd (none p q calls)
   ]
 
   held_from : (q : Region) (t : Server) (c : Actor) → Runs J other t c → holds c q ≡ true → HeldBy J c q t
   held_from q t c run h = elim (from t c run.0) [
-    | was before is name last ↦ let k = safe.held q t before (is, run.1) (ap holds_if (sym (last q)) ∙ h) in (k.0, last q ∙ k.1, k.2, k.3)
+    | was before is name last ↦ let k = safe.servers.held q t before (is, run.1) (ap holds_if (sym (last q)) ∙ h) in (k.0, last q ∙ k.1, k.2, k.3)
     | began none name nothing ↦ absurd (false≢true (sym (ap holds_if (nothing q)) ∙ h))
   ]
 
@@ -78,33 +78,37 @@ module _ (J : Past) (o : Outside) (safe : Safe J o) (actors : Server → Option 
       → ((id : Pid) (told : Told) → storage.answer id ≡ Some told → Made J other id.0 told × (peer_of J id.0 ≡ Some peer_is.Storage)) → Safe J other
   safe_from sent_now made_now stored_now = record {
     history = safe.history;
-    sent_is = sent_now;
-    made_is = made_now;
-    recorded = λ p told h. made_from p told (safe.recorded p told h);
-    stored = stored_now;
-    named = named_from;
-    served_is = served_from;
-    done = done_from;
-    held = held_from;
+    calls = record {
+      sent_is = sent_now;
+      made_is = made_now;
+      recorded = λ p told h. made_from p told (safe.calls.recorded p told h);
+      stored = stored_now;
+    };
+    servers = record {
+      named = named_from;
+      served_is = served_from;
+      done = done_from;
+      held = held_from;
+    };
     fences_are = λ t h. more t (safe.fences_are t h);
   }
 
   pub made_old : (report : ReportMsg) → IsIn report o.reports → Made J other report.call.0 report.told × (peer_of J report.call.0 ≡ Some report.from)
-  made_old report h = let k = safe.made_is report h in (made_from report.call.0 report.told k.0, k.1)
+  made_old report h = let k = safe.calls.made_is report h in (made_from report.call.0 report.told k.0, k.1)
 
   pub stored_old : (id : Pid) (told : Told) → o.storage.answer id ≡ Some told → Made J other id.0 told × (peer_of J id.0 ≡ Some peer_is.Storage)
-  stored_old id told h = let k = safe.stored id told h in (made_from id.0 told k.0, k.1)
+  stored_old id told h = let k = safe.calls.stored id told h in (made_from id.0 told k.0, k.1)
 
 -- only the servers change
 module _ (J : Past) (o : Outside) (safe : Safe J o) (actors : Server → Option Actor) (from : (t : Server) (c : Actor) → actors t ≡ Some c → From J o t c) where
   pub safe_manned : Safe J (record o { actors = actors })
-  safe_manned = safe_from J o safe actors o.storage o.sent o.reports from (λ t h. h) safe.sent_is
+  safe_manned = safe_from J o safe actors o.storage o.sent o.reports from (λ t h. h) safe.calls.sent_is
       (made_old J o safe actors o.storage o.sent o.reports from (λ t h. h)) (stored_old J o safe actors o.storage o.sent o.reports from (λ t h. h))
 
 pub safe_send : (J : Past) (o : Outside) (call : Call) → Safe J o → call_of J call.id.0 ≡ Some call → Safe J (with_sent o call)
 safe_send J o call safe is =
     safe_from J o safe o.actors o.storage (o.sent ++ call ∷ []) o.reports (same_actors J o) (λ t h. h)
-    (λ c h. elim (in_pushed c call o.sent h) [ inl e ↦ subst (λ (x : Call). call_of J x.id.0 ≡ Some x) (sym e) is | inr old ↦ safe.sent_is c old ])
+    (λ c h. elim (in_pushed c call o.sent h) [ inl e ↦ subst (λ (x : Call). call_of J x.id.0 ≡ Some x) (sym e) is | inr old ↦ safe.calls.sent_is c old ])
     (made_old J o safe o.actors o.storage (o.sent ++ call ∷ []) o.reports (same_actors J o) (λ t h. h))
     (stored_old J o safe o.actors o.storage (o.sent ++ call ∷ []) o.reports (same_actors J o) (λ t h. h))
 
@@ -138,7 +142,7 @@ pub safe_arm : (J : Past) (o : Outside) (peer : Peer) (n : ℕ) → Safe J o →
 safe_arm J o (peer_is.Server s) n safe = safe_manned J o safe (set_actor o.actors s (option_map (refusing n) (o.actors s))) (from_armed J o s n)
 safe_arm J o peer_is.Storage n safe =
     let storage = record o.storage { refusals = n } in
-    safe_from J o safe o.actors storage o.sent o.reports (same_actors J o) (λ t h. h) safe.sent_is
+    safe_from J o safe o.actors storage o.sent o.reports (same_actors J o) (λ t h. h) safe.calls.sent_is
     (made_old J o safe o.actors storage o.sent o.reports (same_actors J o) (λ t h. h))
     (stored_old J o safe o.actors storage o.sent o.reports (same_actors J o) (λ t h. h))
 

@@ -1,5 +1,9 @@
 pub mod Facts
+pub mod Apart
+pub mod Claiming
 pub mod Servers
+pub mod Births
+pub mod Lineage
 pub mod Known
 pub mod From
 pub mod Serving
@@ -12,3 +16,8 @@ pub mod Points
 pub mod Fleets
 pub mod Progress
 pub mod Measure
+pub mod Raising
+pub mod Clashing
+pub mod Going
+pub mod Resting
+pub mod Idle

@@ -3,7 +3,7 @@ use Rattle.std.proofs.Common.{◌≡◌, ◌≢◌, ℕ, ◌+◌, ◌<◌, ◌�
 use Rattle.std.specs.List.{list_any}
 use Rattle.std.specs.declared.cmp.Ordering.{Ordering}
 use Rattle.std.specs.declared.cmp.Ordering.TheVariants.{Less, Equal, Greater}
-use Rattle.std.proofs.lemmas.Bool.{and_left, and_parts, and_right, cases_Bool, cases_eq, cond-true, eq-eqb, false≢true, ne_eqb, not_from_true, or_left, or_right}
+use Rattle.std.proofs.lemmas.Bool.{and_left, and_parts, and_right, cases_Bool, cases_eq, cond-false, cond-true, eq-eqb, false≢true, ne_eqb, not_from_true, or_left, or_right}
 use Rattle.std.proofs.lemmas.List.{length-append}
 use Rattle.std.proofs.lemmas.List.Folds.{list_any-append}
 use Rattle.std.proofs.lemmas.Option.{none-some, same_Some}
@@ -18,21 +18,23 @@ use Rattle.hm_data.specs.declared.call.Told.TheVariants as told_is
 use Rattle.hm_data.specs.declared.call.Verb.{Verb}
 use Rattle.hm_data.specs.declared.call.Verb.TheVariants as verb_is
 use Rattle.hm_model.specs.Actors.{Actor, Served, Service, Storage, age, closing, fence_in, lay_in, once_more, opening, refuse_in, reported, serve_by, serve_verb, store_by, store_verb, stored}
+use Rattle.hm_model.specs.Answers.{report_of}
 use Rattle.hm_model.specs.Counts.{count_below}
 use Rattle.hm_model.specs.Fleet.{same_server}
 use Rattle.hm_model.specs.Locks.{IsIn}
-use Rattle.hm_model.specs.Reports.{is_settled, peer_if, peer_of, verb_of}
+use Rattle.hm_model.specs.Phase.{ended}
+use Rattle.hm_model.specs.Reports.{is_reported, is_settled, peer_if, peer_of, verb_of}
 use Rattle.hm_model.specs.Tree.{Node, made, node_of}
 use Rattle.hm_model.proofs.Counting.{count_less, count_same}
 use Rattle.hm_model.proofs.Trees.{grown_all, is_there}
-use Rattle.hm_world_model.specs.Events.{Deliver, Ignore, Send, happens}
+use Rattle.hm_world_model.specs.Events.{Deliver, Hear, Ignore, Send, Travels, happens}
 use Rattle.hm_world_model.specs.Measure.{CarryingGoesOn, IsNearer, is_to_send, runs_if, travels}
 use Rattle.hm_world_model.specs.Outside.{Outside, answer_by, answer_of_actor, behind_call, deliver_by, delivered, report_to, runs, with_report}
 use Rattle.hm_world_model.specs.Runs.{May}
 use Rattle.hm_world_model.specs.Safe.{IsKept}
 use Rattle.hm_world_model.specs.World.{World}
 use Rattle.hm_world_model.proofs.Facts.{cases_server, legal_of, parts_of, set_other}
-use Rattle.hm_world_model.proofs.Points.{safe_past}
+use Rattle.hm_world_model.proofs.Tails.{safe_past}
 use Rattle.hm_world_model.proofs.Progress.{open_answered}
 
 -- a report that comes of a call is of it
@@ -143,7 +145,7 @@ module _ (w : World) (kept : IsKept w) where
   count test = count_below test (made w.past + 1)
 
   -- a call is delivered
-  module _ (call : Call) (may : May w (Deliver call)) where
+  module _ (call : Call) (may : May w (Travels (Deliver call))) where
     abbrev rest : List Call
     rest = may.1.0
 
@@ -160,34 +162,34 @@ module _ (w : World) (kept : IsKept w) where
     wire_own p own = ap (list_any (λ c. c.id.0 == p)) may.1.1 ∙ or_left (call.id.0 == p) (list_any (λ c. c.id.0 == p) rest) (eq-eqb call.id.0 p own)
 
     parts : (peer_of w.past call.id.0 ≡ Some call.peer) × (verb_of w.past call.id.0 ≡ Some call.verb)
-    parts = parts_of w.past call ((safe_past w kept).sent_is call there)
+    parts = parts_of w.past call ((safe_past w kept).calls.sent_is call there)
 
     -- behind it the call isn't to be sent
-    own_off : is_to_send (happens w (Deliver call)) call.id.0 ≡ false
+    own_off : is_to_send (happens w (Travels (Deliver call))) call.id.0 ≡ false
     own_off = elim (cases_Bool (runs w.outside call.peer)) [
       | inr gone ↦ and_left (runs_if (delivered w.outside call) (peer_of w.past call.id.0)) _ (runs_if_on w.outside call (peer_of w.past call.id.0) ∙ ap (runs_if w.outside) parts.0 ∙ gone)
       | inl run ↦ elim (cases_Bool (is_settled w.past call.id.0)) [
         | inl settled ↦ and_right (runs_if (delivered w.outside call) (peer_of w.past call.id.0)) _ (and_left (not (is_settled w.past call.id.0)) _ (not_from_true (is_settled w.past call.id.0) settled))
         | inr is_open ↦
-            let a = open_answered w kept call ((safe_past w kept).sent_is call there, is_open) run in
-            stays_off (runs_if (delivered w.outside call) (peer_of w.past call.id.0)) (not (is_settled w.past call.id.0)) (travels (happens w (Deliver call)) call.id.0)
+            let a = open_answered w kept call ((safe_past w kept).calls.sent_is call there, is_open) run in
+            stays_off (runs_if (delivered w.outside call) (peer_of w.past call.id.0)) (not (is_settled w.past call.id.0)) (travels (happens w (Travels (Deliver call))) call.id.0)
             (or_right (list_any (λ c. c.id.0 == call.id.0) (drop 1 w.wire)) _ (waits_own call.id.0 w.waiting (report_to w.outside call) a.0 a.1 (ap (λ (x : Pid). x.0) a.2)))
       ]
     ]
 
-    deliver_same : (p : ℕ) → is_to_send (happens w (Deliver call)) p ≡ is_to_send w p
+    deliver_same : (p : ℕ) → is_to_send (happens w (Travels (Deliver call))) p ≡ is_to_send w p
     deliver_same p = elim (cases_eq call.id.0 p) [
-      | inl own ↦ subst (λ x. is_to_send (happens w (Deliver call)) x ≡ false) own own_off
+      | inl own ↦ subst (λ x. is_to_send (happens w (Travels (Deliver call))) x ≡ false) own own_off
           ∙ sym (stays_off (runs_if w.outside (peer_of w.past p)) (not (is_settled w.past p)) (travels w p) (or_left (list_any (λ c. c.id.0 == p) w.wire) _ (wire_own p own)))
       | inr differs ↦
-          ap (λ b. b && (not (is_settled w.past p) && not (travels (happens w (Deliver call)) p))) (runs_if_on w.outside call (peer_of w.past p))
+          ap (λ b. b && (not (is_settled w.past p) && not (travels (happens w (Travels (Deliver call))) p))) (runs_if_on w.outside call (peer_of w.past p))
           ∙ ap (λ b. runs_if w.outside (peer_of w.past p) && (not (is_settled w.past p) && not (b || list_any (λ report. report.call.0 == p) (with_report w.waiting (report_to w.outside call))))) (wire_same p differs)
           ∙ ap (λ b. runs_if w.outside (peer_of w.past p) && (not (is_settled w.past p) && not (list_any (λ c. c.id.0 == p) w.wire || b))) (waits_other p w.waiting (report_to w.outside call) call.id (report_of_it w.outside call) differs)
     ]
 
-    deliver_nearer : IsNearer w (Deliver call)
+    pub deliver_nearer : IsNearer w (Travels (Deliver call))
     deliver_nearer =
-        let same : count (is_to_send (happens w (Deliver call))) ≡ count (is_to_send w) = count_same (made w.past + 1) (is_to_send (happens w (Deliver call))) (is_to_send w) (λ q lt. deliver_same q) in
+        let same : count (is_to_send (happens w (Travels (Deliver call)))) ≡ count (is_to_send w) = count_same (made w.past + 1) (is_to_send (happens w (Travels (Deliver call)))) (is_to_send w) (λ q lt. deliver_same q) in
         let shorter : length (drop 1 w.wire) + 1 ≡ length w.wire = ap (λ l. length (drop 1 l) + 1) may.1.1 ∙ sym (ap length may.1.1 ∙ one_more rest) in
         omega (arith, same, shorter, report_length w.waiting (report_to w.outside call))
       where
@@ -195,19 +197,19 @@ module _ (w : World) (kept : IsKept w) where
         one_more l = omega arith
 
   -- a call that is to be sent is sent
-  module _ (call : Call) (may : May w (Send call)) (wanted : is_to_send w call.id.0 ≡ true) where
-    now_off : is_to_send (happens w (Send call)) call.id.0 ≡ false
-    now_off = stays_off (runs_if w.outside (peer_of w.past call.id.0)) (not (is_settled w.past call.id.0)) (travels (happens w (Send call)) call.id.0)
+  module _ (call : Call) (may : May w (Travels (Send call))) (wanted : is_to_send w call.id.0 ≡ true) where
+    now_off : is_to_send (happens w (Travels (Send call))) call.id.0 ≡ false
+    now_off = stays_off (runs_if w.outside (peer_of w.past call.id.0)) (not (is_settled w.past call.id.0)) (travels (happens w (Travels (Send call))) call.id.0)
         (or_left (list_any (λ c. c.id.0 == call.id.0) (w.wire ++ call ∷ [])) _ (list_any-append (λ c. c.id.0 == call.id.0) w.wire (call ∷ []) ∙ or_right (list_any (λ c. c.id.0 == call.id.0) w.wire) ((call.id.0 == call.id.0) || false) (or_left (call.id.0 == call.id.0) false (eq-eqb call.id.0 call.id.0 refl))))
 
-    runs_same : (peer : Option Peer) → runs_if (happens w (Send call)).outside peer ≡ runs_if w.outside peer
+    runs_same : (peer : Option Peer) → runs_if (happens w (Travels (Send call))).outside peer ≡ runs_if w.outside peer
     runs_same None = refl
     runs_same (Some (peer_is.Server s)) = refl
     runs_same (Some peer_is.Storage) = refl
 
-    sent_same : (p : ℕ) → p ≢ call.id.0 → is_to_send w p ≡ is_to_send (happens w (Send call)) p
+    sent_same : (p : ℕ) → p ≢ call.id.0 → is_to_send w p ≡ is_to_send (happens w (Travels (Send call))) p
     sent_same p differs =
-        sym (ap (λ b. b && (not (is_settled w.past p) && not (travels (happens w (Send call)) p))) (runs_same (peer_of w.past p))
+        sym (ap (λ b. b && (not (is_settled w.past p) && not (travels (happens w (Travels (Send call))) p))) (runs_same (peer_of w.past p))
         ∙ ap (λ b. runs_if w.outside (peer_of w.past p) && (not (is_settled w.past p) && not (b || list_any (λ report. report.call.0 == p) w.waiting)))
         (list_any-append (λ c. c.id.0 == p) w.wire (call ∷ []) ∙ ap (λ b. list_any (λ c. c.id.0 == p) w.wire || (b || false)) (ne_eqb call.id.0 p (λ e. differs (sym e))) ∙ or_none (list_any (λ c. c.id.0 == p) w.wire)))
       where
@@ -230,16 +232,16 @@ module _ (w : World) (kept : IsKept w) where
         by_peer None e h = absurd (false≢true h)
         by_peer (Some peer) e h = by_node (node_of w.past call.id.0) refl (λ none. none-some peer (sym none ∙ e))
 
-    send_nearer : IsNearer w (Send call)
+    pub send_nearer : IsNearer w (Travels (Send call))
     send_nearer =
-        let less : count (is_to_send w) ≡ count (is_to_send (happens w (Send call))) + 1 = count_less (made w.past + 1) (is_to_send w) (is_to_send (happens w (Send call))) call.id.0 made_there (λ q lt ne. sent_same q ne) wanted now_off in
+        let less : count (is_to_send w) ≡ count (is_to_send (happens w (Travels (Send call)))) + 1 = count_less (made w.past + 1) (is_to_send w) (is_to_send (happens w (Travels (Send call)))) call.id.0 made_there (λ q lt ne. sent_same q ne) wanted now_off in
         omega (arith, less, length-append w.wire (call ∷ []))
 
   -- a report of a settled call is ignored
-  module _ (report : ReportMsg) (may : May w (Ignore report)) (settled : is_settled w.past report.call.0 ≡ true) where
-    ignore_same : (p : ℕ) → is_to_send (happens w (Ignore report)) p ≡ is_to_send w p
+  module _ (report : ReportMsg) (may : May w (Travels (Ignore report))) (settled : is_settled w.past report.call.0 ≡ true) where
+    ignore_same : (p : ℕ) → is_to_send (happens w (Travels (Ignore report))) p ≡ is_to_send w p
     ignore_same p = elim (cases_eq report.call.0 p) [
-      | inl own ↦ off (happens w (Ignore report)).outside (not (travels (happens w (Ignore report)) p)) own ∙ sym (off w.outside (not (travels w p)) own)
+      | inl own ↦ off (happens w (Travels (Ignore report))).outside (not (travels (happens w (Travels (Ignore report))) p)) own ∙ sym (off w.outside (not (travels w p)) own)
       | inr differs ↦
           ap (λ b. runs_if w.outside (peer_of w.past p) && (not (is_settled w.past p) && not (list_any (λ c. c.id.0 == p) w.wire || b)))
           (ap (λ l. list_any (λ r. r.call.0 == p) (drop 1 l)) may.1.1 ∙ ap (λ b. b || list_any (λ r. r.call.0 == p) may.1.0) (sym (ne_eqb report.call.0 p differs)) ∙ ap (list_any (λ r. r.call.0 == p)) (sym may.1.1))
@@ -248,9 +250,37 @@ module _ (w : World) (kept : IsKept w) where
         off : (o : Outside) (b : Bool) → report.call.0 ≡ p → (runs_if o (peer_of w.past p) && (not (is_settled w.past p) && b)) ≡ false
         off o b own = and_right (runs_if o (peer_of w.past p)) (not (is_settled w.past p) && b) (and_left (not (is_settled w.past p)) b (not_from_true (is_settled w.past p) (ap (is_settled w.past) (sym own) ∙ settled)))
 
-    ignore_nearer : IsNearer w (Ignore report)
+    pub ignore_nearer : IsNearer w (Travels (Ignore report))
     ignore_nearer =
-        let same : count (is_to_send (happens w (Ignore report))) ≡ count (is_to_send w) = count_same (made w.past + 1) (is_to_send (happens w (Ignore report))) (is_to_send w) (λ q lt. ignore_same q) in
+        let same : count (is_to_send (happens w (Travels (Ignore report)))) ≡ count (is_to_send w) = count_same (made w.past + 1) (is_to_send (happens w (Travels (Ignore report)))) (is_to_send w) (λ q lt. ignore_same q) in
+        let shorter : length (drop 1 w.waiting) + 1 ≡ length w.waiting = ap (λ l. length (drop 1 l) + 1) may.1.1 ∙ sym (ap length may.1.1 ∙ one_more may.1.0) in
+        omega (arith, same, shorter)
+      where
+        one_more : (l : List ReportMsg) → length (report ∷ l) ≡ length l + 1
+        one_more l = omega arith
+
+  -- a report is recorded
+  module _ (report : ReportMsg) (may : May w (Travels (Hear report))) where
+    heard_settled : is_settled (happens w (Travels (Hear report))).past report.call.0 ≡ true
+    heard_settled = or_left (is_reported (happens w (Travels (Hear report))).past report.call.0) (ended (happens w (Travels (Hear report))).past report.call.0)
+        (ap is_some (cond-true (report.call.0 == report.call.0) (Some report.told) (report_of w.past report.call.0) (eq-eqb report.call.0 report.call.0 refl)))
+
+    hear_same : (p : ℕ) → is_to_send (happens w (Travels (Hear report))) p ≡ is_to_send w p
+    hear_same p = elim (cases_eq report.call.0 p) [
+      | inl own ↦
+          and_right (runs_if w.outside (peer_of (happens w (Travels (Hear report))).past p)) _ (and_left (not (is_settled (happens w (Travels (Hear report))).past p)) _ (not_from_true (is_settled (happens w (Travels (Hear report))).past p) (ap (is_settled (happens w (Travels (Hear report))).past) (sym own) ∙ heard_settled)))
+          ∙ sym (stays_off (runs_if w.outside (peer_of w.past p)) (not (is_settled w.past p)) (travels w p)
+          (or_right (list_any (λ c. c.id.0 == p) w.wire) _ (ap (list_any (λ r. r.call.0 == p)) may.1.1 ∙ or_left (report.call.0 == p) (list_any (λ r. r.call.0 == p) may.1.0) (eq-eqb report.call.0 p own))))
+      | inr differs ↦
+          ap (λ b. runs_if w.outside (peer_of w.past p) && (not (is_some b || ended w.past p) && not (travels (happens w (Travels (Hear report))) p)))
+          (cond-false (p == report.call.0) (Some report.told) (report_of w.past p) (ne_eqb p report.call.0 (λ e. differs (sym e))))
+          ∙ ap (λ b. runs_if w.outside (peer_of w.past p) && (not (is_settled w.past p) && not (list_any (λ c. c.id.0 == p) w.wire || b)))
+          (ap (λ l. list_any (λ r. r.call.0 == p) (drop 1 l)) may.1.1 ∙ ap (λ b. b || list_any (λ r. r.call.0 == p) may.1.0) (sym (ne_eqb report.call.0 p differs)) ∙ ap (list_any (λ r. r.call.0 == p)) (sym may.1.1))
+    ]
+
+    pub hear_nearer : IsNearer w (Travels (Hear report))
+    hear_nearer =
+        let same : count (is_to_send (happens w (Travels (Hear report)))) ≡ count (is_to_send w) = count_same (made w.past + 1) (is_to_send (happens w (Travels (Hear report)))) (is_to_send w) (λ q lt. hear_same q) in
         let shorter : length (drop 1 w.waiting) + 1 ≡ length w.waiting = ap (λ l. length (drop 1 l) + 1) may.1.1 ∙ sym (ap length may.1.1 ∙ one_more may.1.0) in
         omega (arith, same, shorter)
       where
@@ -258,4 +288,4 @@ module _ (w : World) (kept : IsKept w) where
         one_more l = omega arith
 
 pub carrying_goes_on : CarryingGoesOn
-carrying_goes_on w kept = (deliver_nearer w kept, send_nearer w kept, ignore_nearer w kept)
+carrying_goes_on w kept = (deliver_nearer w kept, send_nearer w kept, hear_nearer w kept, ignore_nearer w kept)

@@ -28,9 +28,10 @@ use Rattle.hm_world_model.specs.History.{IsHistory}
 use Rattle.hm_world_model.specs.Outside.{Outside, nobody}
 use Rattle.hm_world_model.specs.Runs.{IsRun, after}
 use Rattle.hm_world_model.specs.Safe.{HeldBy, IsKept, Safe}
-use Rattle.hm_world_model.specs.Twice.{EventsKeep, Holds, KeptIsNeverTwice, NeverTwice, OpenedIsKept, Twice}
+use Rattle.hm_world_model.specs.Twice.{EventsKeep, Holds, KeptIsNeverTwice, NeverClash, NeverTwice, OpenedIsKept, Twice}
 use Rattle.hm_world_model.specs.World.{World, opened, shown_storage, whole}
 use Rattle.hm_world_model.proofs.Facts.{legal_of, node_called, one_server, same_verb, verb_now}
+use Rattle.hm_world_model.proofs.Apart.{apart_opened}
 use Rattle.hm_world_model.proofs.Tails.{event_keeps, within_whole}
 
 fence_told : (s : Server) (t : Told) → fits_verb (verb_is.Fence s) t ≡ true → (told_number t == told_number told_is.Fenced) ≡ true
@@ -65,7 +66,7 @@ module _ (entry : Entry) (J : Past) (legal : IsLegal (entry ∷ J)) (p : ℕ) (t
   verb_before : report_of J p ≡ Some told → verb_of J p ≡ Some (verb_is.Fence s)
   verb_before h = let v = reports_fit J legal.0 p told h in v.1 ∙ ap Some (same_verb (entry ∷ J) p v.0 (verb_is.Fence s) (verb_now entry J legal p v.0 v.1) verb)
 
-reported_fence : (J : Past) → IsLegal J → (p : ℕ) (told : Told) (s : Server) → report_of J p ≡ Some told → verb_of J p ≡ Some (verb_is.Fence s) → is_fenced J s ≡ true
+pub reported_fence : (J : Past) → IsLegal J → (p : ℕ) (told : Told) (s : Server) → report_of J p ≡ Some told → verb_of J p ≡ Some (verb_is.Fence s) → is_fenced J s ≡ true
 reported_fence [] legal p told s h v = absurd (none-some told h)
 reported_fence (entry_is.Start sheets ∷ J) legal p told s h v = reported_fence J legal.0 p told s h (verb_before (entry_is.Start sheets) J legal p told s v h)
 reported_fence (entry_is.Submit nonce request ∷ J) legal p told s h v = reported_fence J legal.0 p told s h (verb_before (entry_is.Submit nonce request) J legal p told s v h)
@@ -91,20 +92,24 @@ reported_fence (entry_is.Abort pid ∷ J) legal p told s h v = reported_fence J 
 safe_opened : (J : Past) → IsHistory J → Safe J (nobody (shown_storage J))
 safe_opened J history = record {
   history = history;
-  sent_is = λ call h. absurd h;
-  made_is = λ report h. absurd h;
-  recorded = λ p told h. let f = reports_fit J (legal_of J history) p told h in record {
-    verb = f.0;
-    called = f.1;
-    fits = f.2;
-    told_by = λ r s to a run. absurd (none-some a run);
-    fenced = λ s e. reported_fence J (legal_of J history) p told s h (f.1 ∙ ap Some e);
+  calls = record {
+    sent_is = λ call h. absurd h;
+    made_is = λ report h. absurd h;
+    recorded = λ p told h. let f = reports_fit J (legal_of J history) p told h in record {
+      verb = f.0;
+      called = f.1;
+      fits = f.2;
+      told_by = λ r s to a run. absurd (none-some a run);
+      fenced = λ s e. reported_fence J (legal_of J history) p told s h (f.1 ∙ ap Some e);
+    };
+    stored = λ id told h. absurd (none-some told h);
   };
-  stored = λ id told h. absurd (none-some told h);
-  named = λ s a run. absurd (none-some a run);
-  served_is = λ s a r last run. absurd (none-some a run);
-  done = λ p r s a to run. absurd (none-some a run.0);
-  held = λ r s a run. absurd (none-some a run.0);
+  servers = record {
+    named = λ s a run. absurd (none-some a run);
+    served_is = λ s a r last run. absurd (none-some a run);
+    done = λ p r s a to run. absurd (none-some a run.0);
+    held = λ r s a run. absurd (none-some a run.0);
+  };
   fences_are = λ s h. h;
 }
 
@@ -114,6 +119,7 @@ opened_kept J history = record {
   tailless = λ e. refl;
   wire_is = λ call h. absurd h;
   waiting_is = λ report h. absurd h;
+  apart = apart_opened J history;
   tails = λ n h. let zero_is : n ≡ 0 = omega (arith, h) in rw zero_is (safe_opened J history);
 }
 
@@ -129,7 +135,7 @@ module _ (J : Past) (o : Outside) (safe : Safe J o) where
   unfenced_of s free = false_from_ne_true (is_fenced J s) (λ fenced. true≢false (sym (safe.fences_are s fenced) ∙ free))
 
   pub held_last : (r : Region) (s : Server) → Holds o s r → (p : ℕ) × (last_call J r ≡ Some p) × (peer_of J p ≡ Some (peer_is.Server s))
-  held_last r s h = last_server h.0 r s (safe.held r s h.0 (h.1, unfenced_of s h.3) h.2)
+  held_last r s h = last_server h.0 r s (safe.servers.held r s h.0 (h.1, unfenced_of s h.3) h.2)
 
   pub not_twice : Twice o → ⊥
   not_twice h =
@@ -143,6 +149,9 @@ kept_never_twice w kept h = not_twice (whole w) w.outside (kept.tails 0 (within_
 pub kept_after : (w : World) → IsKept w → (events : List Event) → IsRun w events → IsKept (after w events)
 kept_after w kept [] run = kept
 kept_after w kept (event ∷ before) run = event_keeps (after w before) event (kept_after w kept before run.0) run.1
+
+pub never_clash_is : NeverClash
+never_clash_is J history events run = (kept_after (opened J) (opened_kept J history) events run).apart.none_clash
 
 pub never_twice_is : NeverTwice
 never_twice_is J history events run h = kept_never_twice (after (opened J) events) (kept_after (opened J) (opened_kept J history) events run) h

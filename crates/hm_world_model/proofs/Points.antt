@@ -4,30 +4,34 @@ use Rattle.std.proofs.lemmas.Bool.{and_from, cases_Bool, and_parts}
 use Rattle.std.proofs.lemmas.Option.{same_Some}
 use Rattle.hm_names.specs.Region.{Region}
 use Rattle.hm_names.specs.Server.{Server}
+use Rattle.hm_names.specs.declared.range.KeyRange.{KeyRange}
 use Rattle.hm_data.specs.declared.answer.Answer.{Answer}
 use Rattle.hm_data.specs.declared.answer.Answer.TheVariants as answer_is
 use Rattle.hm_data.specs.declared.call.Peer.TheVariants as peer_is
 use Rattle.hm_data.specs.declared.call.Verb.TheVariants as verb_is
-use Rattle.hm_data.specs.declared.entry.Entry.{Entry}
 use Rattle.hm_data.specs.declared.place.Place.{Place}
 use Rattle.hm_data.specs.declared.place.RegionState.{RegionState}
 use Rattle.hm_data.specs.declared.place.RegionState.TheVariants as place_is
 use Rattle.hm_model.specs.Actors.{Actor, holds}
 use Rattle.hm_model.specs.Answers.{last_answer}
+use Rattle.hm_model.specs.Catalog.{cat}
 use Rattle.hm_model.specs.Fleet.{same_server}
 use Rattle.hm_model.specs.Journal.{Past}
 use Rattle.hm_model.specs.Places.{is_at, is_the_server, place_of}
+use Rattle.hm_model.specs.Ranges.{IsLiveWith}
 use Rattle.hm_model.specs.Reports.{last_call, peer_of}
 use Rattle.hm_model.specs.TransitActs.{is_placed}
 use Rattle.hm_model.specs.Tree.{Node, node_of}
 use Rattle.hm_model.proofs.NameTies.{same_server-refl}
+use Rattle.hm_cover.proofs.Never.{never_overlap}
 use Rattle.hm_single.specs.Calls.{IsOpenedBy, IsVoid}
 use Rattle.hm_single.proofs.All.{kept_all, one_transit_is, place_by_row}
+use Rattle.hm_single.proofs.Live.{all_live}
 use Rattle.hm_single.proofs.Stage.{StageFor, child_of_step, work_of}
 use Rattle.hm_single.proofs.Transit.{AtRest, AtRow, Calls, at_place}
 use Rattle.hm_world_model.specs.Outside.{Outside}
-use Rattle.hm_world_model.specs.Overlaps.{AreApart, KeptIsNeverTwiceOver, NeverTwiceOver, TwiceOver}
-use Rattle.hm_world_model.specs.Points.{HasLiveRow, HeldAreLive, IsShut, MayHold, Points, PointsHold}
+use Rattle.hm_world_model.specs.Overlaps.{KeptIsNeverTwiceOver, NeverTwiceOver, TwiceOver}
+use Rattle.hm_world_model.specs.Points.{HeldAreLive, IsShut, MayHold, Points, PointsHold}
 use Rattle.hm_world_model.specs.Runs.{after}
 use Rattle.hm_world_model.specs.Safe.{CallsTo, IsKept, Runs, Safe}
 use Rattle.hm_world_model.specs.Twice.{Holds}
@@ -39,13 +43,13 @@ use Rattle.hm_world_model.proofs.Ranges.{live_apart}
 use Rattle.hm_world_model.proofs.Opening.{held_last, kept_after, last_server, opened_kept, unfenced_of}
 use Rattle.hm_world_model.proofs.Serving.{unserved_last}
 use Rattle.hm_world_model.proofs.Servers.{not_up}
-use Rattle.hm_world_model.proofs.Tails.{AllTails, newer_of}
+use Rattle.hm_world_model.proofs.Tails.{newer_of, safe_past}
 
 module _ (J : Past) (o : Outside) (safe : Safe J o) where
   -- the last call of a region that may be held is this server's, and isn't void
   last_of : (r : Region) (s : Server) (a : Actor) → Runs J o s a → MayHold J a r s
       → ((p : ℕ) × (last_call J r ≡ Some p) × (peer_of J p ≡ Some (peer_is.Server s))) × (IsVoid J (last_call J r) → ⊥)
-  last_of r s a run (inl held) = let h = safe.held r s a run held in (last_server J o safe a r s h, λ void. void_held J o safe r s a run void h)
+  last_of r s a run (inl held) = let h = safe.servers.held r s a run held in (last_server J o safe a r s h, λ void. void_held J o safe r s a run void h)
   last_of r s a run (inr call) =
       let to : CallsTo J call.0 r s = (verb_is.AssignRegion r, call.1, refl, call.2) in
       let l = unserved_last J o safe call.0 r s a to run call.3 in
@@ -121,31 +125,38 @@ module _ (J : Past) (o : Outside) (safe : Safe J o) where
 
   closed_at : (r : Region) (p : ℕ) → last_call J r ≡ Some p → IsShut J p → (s : Server) (a : Actor) → Runs J o s a → holds a r ≡ false
   closed_at r p last shut s a run = elim (cases_Bool (holds a r)) [
-    | inl held ↦ absurd (void_held J o safe r s a run (shut_void r p last shut) (safe.held r s a run held))
+    | inl held ↦ absurd (void_held J o safe r s a run (shut_void r p last shut) (safe.servers.held r s a run held))
     | inr free ↦ free
   ]
 
   pub points : Points J o
   points = record {
-    served = λ p r s a to other_last run. safe.done p r s a to run other_last;
-    never_again = λ p r s to allowed. uncalled J (legal_of J safe.history) s (not_up J s (newer_of J s allowed)) p r to;
-    alone = λ r s a run may. (last_of r s a run may).0;
-    closed = closed_at;
-    sent = safe.sent_is;
-    fenced = safe.fences_are;
-    placed = placed_at;
-    transit = λ r p q. one_transit_is J (legal_of J safe.history) (free_of J safe.history) r p q;
-    rows = λ r. place_by_row J (legal_of J safe.history) (free_of J safe.history) r;
+    calls = record {
+      served = λ p r s a to other_last run. safe.servers.done p r s a to run other_last;
+      never_again = λ p r s to allowed. uncalled J (legal_of J safe.history) s (not_up J s (newer_of J s allowed)) p r to;
+      sent = safe.calls.sent_is;
+      fenced = safe.fences_are;
+    };
+    holders = record { alone = λ r s a run may. (last_of r s a run may).0; closed = closed_at; placed = placed_at };
+    transits = record {
+      single = λ r p q. one_transit_is J (legal_of J safe.history) (free_of J safe.history) r p q;
+      rows = λ r. place_by_row J (legal_of J safe.history) (free_of J safe.history) r;
+    };
+    rows = record { live = all_live J (legal_of J safe.history) (free_of J safe.history); apart = never_overlap J (legal_of J safe.history) };
   }
 
   -- a region that is held is placed
   placed_is : (r : Region) (s : Server) (a : Actor) → Runs J o s a → holds a r ≡ true → is_placed (place_of J r) ≡ true
   placed_is r s a run held = (and_parts (is_placed (place_of J r)) (is_the_server s (place_of J r).server) (placed_at r s a run (inl held))).0
 
-  pub never_over : AreApart J → TwiceOver J o → ⊥
-  never_over apart h =
-      let live_of : (r : Region) (s : Server) → Holds o s r → HasLiveRow J r = λ r s x. apart.0 r (placed_is r s x.0 (x.1, unfenced_of J o safe s x.3) x.2) in
-      let same_region : h.0 ≡ h.1 = live_apart J apart.1 h.0 h.1 (live_of h.0 h.2 h.6) (live_of h.1 h.3 h.7) h.4 in
+  -- and live
+  pub held_at : (r : Region) (s : Server) (a : Actor) → Runs J o s a → holds a r ≡ true → (range : KeyRange) × IsLiveWith (cat J) r range
+  held_at r s a run held = all_live J (legal_of J safe.history) (free_of J safe.history) r (placed_is r s a run held)
+
+  pub never_over : TwiceOver J o → ⊥
+  never_over h =
+      let live_of : (r : Region) (s : Server) → Holds o s r → (range : KeyRange) × IsLiveWith (cat J) r range = λ r s x. held_at r s x.0 (x.1, unfenced_of J o safe s x.3) x.2 in
+      let same_region : h.0 ≡ h.1 = live_apart J (never_overlap J (legal_of J safe.history)) h.0 h.1 (live_of h.0 h.2 h.6) (live_of h.1 h.3 h.7) h.4 in
       elim h.5 [
         | inl servers ↦
             let one = held_last J o safe h.0 h.2 h.6 in
@@ -162,21 +173,10 @@ pub points_hold : PointsHold
 points_hold w kept k low high = points (first k (whole w)) w.outside (safe_first w kept k low high)
 
 pub held_live : HeldAreLive
-held_live w kept k low high live r s a run held = live r (placed_is (first k (whole w)) w.outside (safe_first w kept k low high) r s a run held)
-
--- the journal without its tail
-pub safe_past : (w : World) → IsKept w → Safe w.past w.outside
-safe_past w kept = by w.tail refl kept.tails
-  where
-    within : w.durable ≤ length w.past
-    within = kept.within
-
-    by : (t : Option Entry) → w.tail ≡ t → AllTails t w.past w.durable w.outside → Safe w.past w.outside
-    by None e all = all 0 (omega (arith, within))
-    by (Some entry) e all = all 1 (omega (arith, within))
+held_live w kept k low high r s a run held = held_at (first k (whole w)) w.outside (safe_first w kept k low high) r s a run held
 
 pub kept_never_over : KeptIsNeverTwiceOver
-kept_never_over w kept apart h = never_over w.past w.outside (safe_past w kept) apart h
+kept_never_over w kept h = never_over w.past w.outside (safe_past w kept) h
 
 pub never_twice_over_is : NeverTwiceOver
-never_twice_over_is J history events run apart h = kept_never_over (after (opened J) events) (kept_after (opened J) (opened_kept J history) events run) apart h
+never_twice_over_is J history events run h = kept_never_over (after (opened J) events) (kept_after (opened J) (opened_kept J history) events run) h

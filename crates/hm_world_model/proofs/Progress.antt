@@ -41,8 +41,8 @@ use Rattle.hm_world_model.specs.Outside.{Outside, answer_by, answer_of_actor, ru
 use Rattle.hm_world_model.specs.Progress.{EarlierHaveEnded, OpenIsAnswered, ReportsAreHeard}
 use Rattle.hm_world_model.specs.Safe.{CallsTo, Safe}
 use Rattle.hm_world_model.proofs.Facts.{Touch, closes, free_of, history_before, last_made, legal_of, node_called, not_storage, opens, parts_of, region_peer, same, same_verb, touch, verb_was}
-use Rattle.hm_world_model.proofs.Known.{known_all, peer_called}
-use Rattle.hm_world_model.proofs.Points.{safe_past}
+use Rattle.hm_world_model.proofs.Known.{caller_below, peer_called}
+use Rattle.hm_world_model.proofs.Tails.{safe_past}
 
 -- who has made a call and goes on awaits the answer
 calls_last : (J : Past) (q : ℕ) (t : Server) (last : Option ℕ) (Before : Type 0) (verb : Verb) → verb_of J q ≡ Some verb → (o : Option Answer) → CallerAt verb (verb_of J q) o → is_stopped o ≡ false → Calls J q t last Before o → last ≡ Some q
@@ -115,7 +115,7 @@ module _ (J : Past) (history : IsHistory J) (p : ℕ) (r : Region) (s : Server) 
   ended_is : ended J p ≡ is_stopped (last_answer J p)
   ended_is =
       let v = node_called J (legal_of J history) p to.0 to.1 in
-      let below = ((known_all J (legal_of J history)).nodes p v.0 s v.1 (peer_called v.0.args s (same_Some (peer_in v.0.args) (peer_is.Server s) (sym v.3 ∙ to.3)))).1 in
+      let below = caller_below J (legal_of J history) p v.0 s v.1 (peer_called v.0.args s (same_Some (peer_in v.0.args) (peer_is.Server s) (sym v.3 ∙ to.3))) in
       ap (ended_node J p) v.1 ∙ cond-false (is_top v.0.above) (root_ended J p) (is_stopped (last_answer J p)) below
 
   ended_unless : (last : ℕ) → last_call J r ≡ Some last → p ≢ last → ended J p ≡ true
@@ -136,7 +136,7 @@ module _ (J : Past) (o : Outside) (safe : Safe J o) (id : Pid) (unended : ended 
   module _ (r : Region) (s : Server) (a : Actor) (run : o.actors s ≡ Some a) (to : CallsTo J id.0 r s) (service : Service) where
     not_later : (last : Served) → a.last r ≡ Some last → id.0 < last.id.0 → ⊥
     not_later last is lt =
-        let theirs = (safe.served_is s a r last run is).0 in
+        let theirs = (safe.servers.served_is s a r last run is).0 in
         let q = ids J safe.history last.id.0 r theirs.0 theirs.1 theirs.2 in
         let le = q.2 in
         elim (cases_eq id.0 q.0) [
@@ -217,7 +217,7 @@ open_answered w kept call is_open there =
 pub reports_heard : ReportsAreHeard
 reports_heard w kept report there unsettled =
     let safe = safe_past w kept in
-    let made = safe.made_is report there in
+    let made = safe.calls.made_is report there in
     let parts = or_parts (is_reported w.past report.call.0) (ended w.past report.call.0) unsettled in (
       ((λ none. none-some made.0.verb (sym none ∙ made.0.called)), unreported (report_of w.past report.call.0) parts.0, parts.1),
       (λ verb called. ap (λ v. fits_verb v report.told) (same_verb w.past report.call.0 verb made.0.verb called made.0.called) ∙ made.0.fits),

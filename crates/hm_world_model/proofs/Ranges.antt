@@ -1,6 +1,6 @@
 -- The range of a region is that of its row, where it has one.
-use Rattle.std.proofs.Common.{◌≡◌, ◌≢◌, List, [], ◌∷◌, ◌&&◌, true, false, cond, Option, Some, None, is_some, refl, ap, sym, ◌∙◌, subst, inl, inr}
-use Rattle.std.proofs.lemmas.Bool.{and_left, and_parts, cond-false, cond-true, false≢true, or_cases, true≢false}
+use Rattle.std.proofs.Common.{◌≡◌, ◌≢◌, List, [], ◌∷◌, ◌&&◌, true, false, cond, Option, Some, is_some, refl, ap, sym, ◌∙◌, subst, inl, inr}
+use Rattle.std.proofs.lemmas.Bool.{and_left, and_parts, cond-false, cond-true, or_cases, true≢false}
 use Rattle.std.proofs.lemmas.Option.{none-some}
 use Rattle.hm_names.specs.Ranges.{overlaps}
 use Rattle.hm_names.specs.Region.{Region}
@@ -8,19 +8,15 @@ use Rattle.hm_names.specs.declared.range.KeyRange.{KeyRange}
 use Rattle.hm_names.specs.declared.table.TableName.{TableName}
 use Rattle.hm_data.specs.declared.catalog.CatKey.TheVariants as key_is
 use Rattle.hm_data.specs.declared.catalog.CatRow.{CatRow}
-use Rattle.hm_data.specs.declared.catalog.CatRow.TheVariants as row_is
 use Rattle.hm_data.specs.declared.catalog.Edit.{Edit}
-use Rattle.hm_data.specs.declared.catalog.Status.{Status}
-use Rattle.hm_data.specs.declared.catalog.Status.TheVariants as status_is
 use Rattle.hm_data.specs.declared.entry.Entry.TheVariants as entry_is
 use Rattle.hm_model.specs.Catalog.{cat, edited}
 use Rattle.hm_model.specs.Journal.{Past}
 use Rattle.hm_model.specs.Keys.{same_key, same_region, same_table}
 use Rattle.hm_model.specs.Ranges.{IsLiveWith, NoneOverlap}
-use Rattle.hm_model.specs.RowsSaid.{is_live_status, range_in, same_status, status_in}
+use Rattle.hm_model.specs.RowsSaid.{range_in}
 use Rattle.hm_model.specs.Single.{overlap_if, range_of, ranged, ranged_by, touches}
 use Rattle.hm_model.proofs.KeyTests.{cases_key, same_region-is, same_table-is}
-use Rattle.hm_world_model.specs.Points.{HasLiveRow}
 use Rattle.hm_world_model.proofs.Facts.{cases_region}
 
 -- a range is known where a row gives it
@@ -56,23 +52,9 @@ row_gives (entry_is.Up server ∷ J) r x h = row_gives J r x h
 row_gives (entry_is.Down server ∷ J) r x h = row_gives J r x h
 row_gives (entry_is.Abort pid ∷ J) r x h = row_gives J r x h
 
--- a live row has a range
-live_status : (status : Status) → same_status status status_is.Live ≡ true → status ≡ status_is.Live
-live_status status_is.Live h = refl
-live_status status h = absurd (false≢true h)
-
-live_with : (J : Past) (r : Region) → HasLiveRow J r → (range : KeyRange) × IsLiveWith (cat J) r range
-live_with J r h = by (cat J (key_is.Region r)) refl h
-  where
-    by : (row : Option CatRow) → cat J (key_is.Region r) ≡ row → is_live_status (status_in row) ≡ true → (range : KeyRange) × IsLiveWith (cat J) r range
-    by None e live = absurd (false≢true live)
-    by (Some row_is.Ns) e live = absurd (false≢true live)
-    by (Some (row_is.Table state version)) e live = absurd (false≢true live)
-    by (Some (row_is.Region range status parents)) e live = (range, (parents, e ∙ ap (λ s. Some (row_is.Region range s parents)) (live_status status live)))
-
 -- live regions that touch are one, where those of each table don't overlap
-pub live_apart : (J : Past) → ((table : TableName) → NoneOverlap (cat J) table) → (a b : Region) → HasLiveRow J a → HasLiveRow J b → touches J a b ≡ true → a ≡ b
-live_apart J none a b live_a live_b touch = elim (or_cases (same_region a b) (same_table a.table b.table && overlap_if (range_of J a) (range_of J b)) touch) [
+pub live_apart : (J : Past) → ((table : TableName) → NoneOverlap (cat J) table) → (a b : Region) → ((range : KeyRange) × IsLiveWith (cat J) a range) → ((range : KeyRange) × IsLiveWith (cat J) b range) → touches J a b ≡ true → a ≡ b
+live_apart J none a b one other touch = elim (or_cases (same_region a b) (same_table a.table b.table && overlap_if (range_of J a) (range_of J b)) touch) [
   | inl same ↦ same_region-is a b same
   | inr over ↦ elim (cases_region a b) [
     | inl same ↦ same.1
@@ -82,8 +64,6 @@ live_apart J none a b live_a live_b touch = elim (or_cases (same_region a b) (sa
   where
     apart : a ≢ b → (same_table a.table b.table ≡ true) × (overlap_if (range_of J a) (range_of J b) ≡ true) → ⊥
     apart differs over =
-        let one = live_with J a live_a in
-        let other = live_with J b live_b in
         let range_a : range_of J a ≡ Some one.0 = row_gives J a one.0 (ap range_in one.1.1) in
         let range_b : range_of J b ≡ Some other.0 = row_gives J b other.0 (ap range_in other.1.1) in
         let overlap : overlaps one.0 other.0 ≡ true = sym (ap (λ x. overlap_if x (range_of J b)) range_a ∙ ap (overlap_if (Some one.0)) range_b) ∙ over.1 in

@@ -42,10 +42,10 @@ pub unserved_last : (J : Past) (o : Outside) → Safe J o → (p : ℕ) (r : Reg
 unserved_last J o safe p r s a calls runs unserved = by (last_call J r) refl
   where
     by : (l : Option ℕ) → last_call J r ≡ l → l ≡ Some p
-    by None e = absurd (unserved (safe.done p r s a calls runs (λ is. none-some p (sym e ∙ is))))
+    by None e = absurd (unserved (safe.servers.done p r s a calls runs (λ is. none-some p (sym e ∙ is))))
     by (Some q) e = elim (cases_eq q p) [
       | inl same ↦ ap Some same
-      | inr differs ↦ absurd (unserved (safe.done p r s a calls runs (λ is. differs (same_Some q p (sym e ∙ is)))))
+      | inr differs ↦ absurd (unserved (safe.servers.done p r s a calls runs (λ is. differs (same_Some q p (sym e ∙ is)))))
     ]
 
 -- a server has the answer, or has gone on to later calls
@@ -146,36 +146,36 @@ module _ (J : Past) (o : Outside) (safe : Safe J o) (r : Region) (s : Server) (i
   }
 
   peer_here : peer_of J id.0 ≡ Some (peer_is.Server a.name)
-  peer_here = calls.3 ∙ ap (λ x. Some (peer_is.Server x)) (sym (safe.named s a is))
+  peer_here = calls.3 ∙ ap (λ x. Some (peer_is.Server x)) (sym (safe.servers.named s a is))
 
   made_changed : (report : ReportMsg) → IsIn report changed.reports → Made J changed report.call.0 report.told × (peer_of J report.call.0 ≡ Some report.from)
   made_changed report h = elim (in_pushed report (reported a id service.told) o.reports h) [
     | inl new ↦ subst (λ (x : ReportMsg). Made J changed x.call.0 x.told × (peer_of J x.call.0 ≡ Some x.from)) (sym new) (made_here, peer_here)
-    | inr old ↦ let k = safe.made_is report old in (made_more report.call.0 report.told k.0, k.1)
+    | inr old ↦ let k = safe.calls.made_is report old in (made_more report.call.0 report.told k.0, k.1)
   ]
 
   served_b : (q : Region) (last : Served) → b.last q ≡ Some last → CallsTo J last.id.0 q s × FitsCall J last.id.0 last.told
   served_b q last h = elim (cases_region r q) [
     | inl same ↦ subst (λ (x : Served). CallsTo J x.id.0 q s × FitsCall J x.id.0 x.told) (same_Some now last (sym (here_at q same.1) ∙ h)) (subst (λ x. CallsTo J id.0 x s) same.1 calls, fit)
-    | inr differs ↦ safe.served_is s a q last is (sym (last_there q differs.0) ∙ h)
+    | inr differs ↦ safe.servers.served_is s a q last is (sym (last_there q differs.0) ∙ h)
   ]
 
   served_changed : (t : Server) (c : Actor) (q : Region) (last : Served) → changed.actors t ≡ Some c → c.last q ≡ Some last → CallsTo J last.id.0 q t × FitsCall J last.id.0 last.told
   served_changed t c q last run h = elim (who t c run) [
     | inl same ↦ subst (λ x. CallsTo J last.id.0 q x × FitsCall J last.id.0 last.told) same.0 (served_b q last (ap (λ (x : Actor). x.last q) same.1 ∙ h))
-    | inr other ↦ safe.served_is t c q last other.1 h
+    | inr other ↦ safe.servers.served_is t c q last other.1 h
   ]
 
   named_changed : (t : Server) (c : Actor) → changed.actors t ≡ Some c → c.name ≡ t
   named_changed t c run = elim (who t c run) [
-    | inl same ↦ ap (λ (x : Actor). x.name) (sym same.1) ∙ safe.named s a is ∙ same.0
-    | inr other ↦ safe.named t c other.1
+    | inl same ↦ ap (λ (x : Actor). x.name) (sym same.1) ∙ safe.servers.named s a is ∙ same.0
+    | inr other ↦ safe.servers.named t c other.1
   ]
 
   done_changed : (p : ℕ) (q : Region) (t : Server) (c : Actor) → CallsTo J p q t → Runs J changed t c → last_call J q ≢ Some p → HasServed c q p
   done_changed p q t c to run other_last = elim (who t c run.0) [
-    | inl same ↦ subst (λ x. HasServed x q p) same.1 (served_more q p (safe.done p q t a to (ran t same.0, run.1) other_last))
-    | inr other ↦ safe.done p q t c to (other.1, run.1) other_last
+    | inl same ↦ subst (λ x. HasServed x q p) same.1 (served_more q p (safe.servers.done p q t a to (ran t same.0, run.1) other_last))
+    | inr other ↦ safe.servers.done p q t c to (other.1, run.1) other_last
   ]
 
   held_b : is_fenced J s ≡ false → (q : Region) → holds b q ≡ true → HeldBy J b q s
@@ -185,7 +185,7 @@ module _ (J : Past) (o : Outside) (safe : Safe J o) (r : Region) (s : Server) (i
         let l = unserved_last J o safe id.0 r s a calls (is, free) (unserved_new a r id.0 new) in
         subst (λ x. HeldBy J b x s) same.1 (now, last_here, f.0, inl (l, f.1, calls.3))
     | inr differs ↦
-        let k = safe.held q s a (is, free) (ap holds_if (sym (last_there q differs.0)) ∙ h) in
+        let k = safe.servers.held q s a (is, free) (ap holds_if (sym (last_there q differs.0)) ∙ h) in
         (k.0, last_there q differs.0 ∙ k.1, k.2, k.3)
   ]
 
@@ -194,20 +194,24 @@ module _ (J : Past) (o : Outside) (safe : Safe J o) (r : Region) (s : Server) (i
     | inl same ↦
         let free : is_fenced J s ≡ false = ap (is_fenced J) same.0 ∙ run.1 in
         subst (λ x. HeldBy J x q t) same.1 (subst (λ x. HeldBy J b q x) same.0 (held_b free q (ap (λ (x : Actor). holds x q) same.1 ∙ h)))
-    | inr other ↦ safe.held q t c (other.1, run.1) h
+    | inr other ↦ safe.servers.held q t c (other.1, run.1) h
   ]
 
   pub safe_changed : Safe J changed
   safe_changed = record {
     history = safe.history;
-    sent_is = safe.sent_is;
-    made_is = made_changed;
-    recorded = λ p told h. made_more p told (safe.recorded p told h);
-    stored = λ i told h. let k = safe.stored i told h in (made_more i.0 told k.0, k.1);
-    named = named_changed;
-    served_is = served_changed;
-    done = done_changed;
-    held = held_changed;
+    calls = record {
+      sent_is = safe.calls.sent_is;
+      made_is = made_changed;
+      recorded = λ p told h. made_more p told (safe.calls.recorded p told h);
+      stored = λ i told h. let k = safe.calls.stored i told h in (made_more i.0 told k.0, k.1);
+    };
+    servers = record {
+      named = named_changed;
+      served_is = served_changed;
+      done = done_changed;
+      held = held_changed;
+    };
     fences_are = safe.fences_are;
   }
 
@@ -230,7 +234,7 @@ module _ (J : Past) (o : Outside) (safe : Safe J o) (r : Region) (s : Server) (i
   told_again last l same = record {
     verb = calls.0;
     called = calls.1;
-    fits = (safe.served_is s a r last is l).1 calls.0 (ap (verb_of J) same ∙ calls.1);
+    fits = (safe.servers.served_is s a r last is l).1 calls.0 (ap (verb_of J) same ∙ calls.1);
     told_by = λ q t to c run.
         let e : s ≡ t = one_server (peer_of J id.0) s t calls.3 to.3 in
         let f : r ≡ q = same_Some r q (sym calls.2 ∙ ap region_called (same_verb J id.0 calls.0 to.0 calls.1 to.1) ∙ to.2) in
@@ -246,10 +250,10 @@ module _ (J : Past) (o : Outside) (safe : Safe J o) (r : Region) (s : Server) (i
       let reports = o.reports ++ reported a id last.told ∷ [] in
       let actors = set_actor o.actors s (Some a) in
       let same : last.id.0 ≡ id.0 = sym (nat_cmp_equal id.0 last.id.0 h) in
-      safe_from J o safe actors storage o.sent reports from_same (λ t k. k) safe.sent_is
+      safe_from J o safe actors storage o.sent reports from_same (λ t k. k) safe.calls.sent_is
       (λ report k. elim (in_pushed report (reported a id last.told) o.reports k) [
         | inl new ↦ subst (λ (x : ReportMsg). Made J (record o { actors = actors; reports = reports }) x.call.0 x.told × (peer_of J x.call.0 ≡ Some x.from)) (sym new)
-            (made_from J o safe actors storage o.sent reports from_same (λ t k. k) id.0 last.told (told_again last l same), calls.3 ∙ ap (λ x. Some (peer_is.Server x)) (sym (safe.named s a is)))
+            (made_from J o safe actors storage o.sent reports from_same (λ t k. k) id.0 last.told (told_again last l same), calls.3 ∙ ap (λ x. Some (peer_is.Server x)) (sym (safe.servers.named s a is)))
         | inr old ↦ made_old J o safe actors storage o.sent reports from_same (λ t k. k) report old
       ])
       (stored_old J o safe actors storage o.sent reports from_same (λ t k. k))
@@ -272,7 +276,7 @@ module _ (J : Past) (o : Outside) (safe : Safe J o) (r : Region) (s : Server) (i
   not_held : verb_of J id.0 ≡ Some (verb_is.AssignRegion r) → CallsTo J id.0 r s → IsNew (a.last r) id.0 → is_fenced J s ≡ false → holds a r ≡ true → ⊥
   not_held verb calls new free held =
       let l = unserved_last J o safe id.0 r s a calls (is, free) (unserved_new a r id.0 new) in
-      let k = safe.held r s a (is, free) held in
+      let k = safe.servers.held r s a (is, free) held in
       elim k.3 [
         | inl own ↦ unserved_new a r id.0 new (k.0, k.1, le_same k.0.id.0 (same_Some id.0 k.0.id.0 (sym l ∙ own.0)))
         | inr q ↦ open_close (same_verb J id.0 (verb_is.AssignRegion r) (verb_is.CloseRegion r) verb (ap (verb_of J) (same_Some id.0 q.0 (sym l ∙ q.2.0)) ∙ q.2.1))

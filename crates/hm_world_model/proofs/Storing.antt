@@ -39,10 +39,10 @@ module _ (J : Past) (o : Outside) (safe : Safe J o) (id : Pid) (verb : Verb) (ca
   safe_again : (told : Told) → o.storage.answer id ≡ Some told → Safe J (record o { storage = o.storage; reports = o.reports ++ stored id told ∷ [] })
   safe_again told h =
       let reports = o.reports ++ stored id told ∷ [] in
-      safe_from J o safe o.actors o.storage o.sent reports (same_actors J o) (λ t k. k) safe.sent_is
+      safe_from J o safe o.actors o.storage o.sent reports (same_actors J o) (λ t k. k) safe.calls.sent_is
       (λ report k. elim (in_pushed report (stored id told) o.reports k) [
         | inl new ↦ subst (λ (x : ReportMsg). Made J (record o { reports = reports }) x.call.0 x.told × (peer_of J x.call.0 ≡ Some x.from)) (sym new)
-            (made_from J o safe o.actors o.storage o.sent reports (same_actors J o) (λ t k. k) id.0 told (safe.stored id told h).0, peer)
+            (made_from J o safe o.actors o.storage o.sent reports (same_actors J o) (λ t k. k) id.0 told (safe.calls.stored id told h).0, peer)
         | inr old ↦ made_old J o safe o.actors o.storage o.sent reports (same_actors J o) (λ t k. k) report old
       ])
       (stored_old J o safe o.actors o.storage o.sent reports (same_actors J o) (λ t k. k))
@@ -55,7 +55,7 @@ module _ (J : Past) (o : Outside) (safe : Safe J o) (id : Pid) (verb : Verb) (ca
         let reports = o.reports ++ stored id told ∷ [] in
         let storage = answered id told behind in
         let made = made_stored told storage reports fits fences in
-        safe_from J o safe o.actors storage o.sent reports (same_actors J o) more safe.sent_is
+        safe_from J o safe o.actors storage o.sent reports (same_actors J o) more safe.calls.sent_is
         (λ report k. elim (in_pushed report (stored id told) o.reports k) [
           | inl new ↦ subst (λ (x : ReportMsg). Made J (record o { storage = storage; reports = reports }) x.call.0 x.told × (peer_of J x.call.0 ≡ Some x.from)) (sym new) (made, peer)
           | inr old ↦ made_old J o safe o.actors storage o.sent reports (same_actors J o) more report old
@@ -73,7 +73,7 @@ module _ (J : Past) (o : Outside) (safe : Safe J o) (id : Pid) (verb : Verb) (ca
 
 module _ (J : Past) (o : Outside) (safe : Safe J o) (id : Pid) (peer : peer_of J id.0 ≡ Some peer_is.Storage) where
   as_it_was : Safe J (record o { storage = o.storage; reports = o.reports })
-  as_it_was = safe_from J o safe o.actors o.storage o.sent o.reports (same_actors J o) (λ t k. k) safe.sent_is
+  as_it_was = safe_from J o safe o.actors o.storage o.sent o.reports (same_actors J o) (λ t k. k) safe.calls.sent_is
       (made_old J o safe o.actors o.storage o.sent o.reports (same_actors J o) (λ t k. k))
       (stored_old J o safe o.actors o.storage o.sent o.reports (same_actors J o) (λ t k. k))
 

@@ -13,14 +13,17 @@ use Rattle.hm_model.specs.Fleet.{came_up, has_newer}
 use Rattle.hm_model.specs.Journal.{Past}
 use Rattle.hm_model.specs.Locks.{IsIn}
 use Rattle.hm_model.specs.Reports.{call_of}
-use Rattle.hm_model.specs.Rules.{Allowed}
-use Rattle.hm_world_model.specs.Events.{Event, Submit, Claim, Commit, GiveUp, Flush, Send, Deliver, DeliverAgain, Hear, Ignore, HearAgain, Lose, Repeat, Start, Die, Expire, Abort, Arm, Fault, Full, Stop, happens, with_older_down}
+use Rattle.hm_model.specs.Rules.{Allowed, IsLegal}
+use Rattle.hm_world_model.specs.Events.{Abort, Arm, Claim, Commit, Deliver, DeliverAgain, Die, Ends, Event, Expire, Fault, Flush, Full, GiveUp, Hear, HearAgain, Ignore, Lives, Lose, Repeat, Send, Start, Stop, Submit, Travels, Works, happens, with_older_down}
 use Rattle.hm_world_model.specs.History.{Follows, IsHistory}
 use Rattle.hm_world_model.specs.Outside.{Outside, answer_by, deliver_by, delivered, report_to, started, with_report, with_sent, armed}
 use Rattle.hm_world_model.specs.Runs.{GoesOn, IsTrueReport, IsWork, May, MayEnter, MayStart}
 use Rattle.hm_world_model.specs.Safe.{IsKept, Safe}
-use Rattle.hm_world_model.specs.World.{Claimed, Halt, LogFault, JournalFull, World, first, whole, with_tail}
+use Rattle.hm_world_model.specs.World.{Claimed, Halt, LogFault, JournalFull, World, claimed_pids, first, whole, with_tail}
+use Rattle.hm_world_model.specs.Claims.{IsApart}
+use Rattle.hm_world_model.proofs.Apart.{apart_on, apart_opened}
 use Rattle.hm_world_model.proofs.Appending.{safe_append}
+use Rattle.hm_world_model.proofs.Claiming.{apart_claim, apart_commit, apart_give_up, apart_plain}
 use Rattle.hm_world_model.proofs.Facts.{allowed_of, call_now, history_before, history_on, in_both, in_pushed, legal_of, pushed_new, pushed_old}
 use Rattle.hm_world_model.proofs.From.{safe_arm, safe_die, safe_send, safe_start}
 use Rattle.hm_world_model.proofs.Known.{uncalled}
@@ -122,6 +125,17 @@ delivered_sent : (o : Outside) (call : Call) (peer : Peer) → (deliver_by o cal
 delivered_sent o call (peer_is.Server s) = refl
 delivered_sent o call peer_is.Storage = refl
 
+-- the journal without its tail
+pub safe_past : (w : World) → IsKept w → Safe w.past w.outside
+safe_past w kept = by w.tail refl kept.tails
+  where
+    within : w.durable ≤ length w.past
+    within = kept.within
+
+    by : (t : Option Entry) → w.tail ≡ t → AllTails t w.past w.durable w.outside → Safe w.past w.outside
+    by None e all = all 0 (omega (arith, within))
+    by (Some entry) e all = all 1 (omega (arith, within))
+
 module _ (w : World) (kept : IsKept w) where
   abbrev d : ℕ
   d = w.durable
@@ -137,7 +151,7 @@ module _ (w : World) (kept : IsKept w) where
 
   -- what is delivered
   deliver_tails : (call : Call) → IsIn call w.outside.sent → AllTails w.tail w.past d (delivered w.outside call)
-  deliver_tails call there n h = let safe = kept.tails n h in safe_deliver (drop n (whole w)) w.outside safe call (safe.sent_is call there)
+  deliver_tails call there n h = let safe = kept.tails n h in safe_deliver (drop n (whole w)) w.outside safe call (safe.calls.sent_is call there)
 
   deliver_wire : (call : Call) (c : Call) → IsIn c w.wire → IsIn c (delivered w.outside call).sent
   deliver_wire call c h = subst (IsIn c) (sym (delivered_sent w.outside call call.peer)) (kept.wire_is c h)
@@ -173,6 +187,15 @@ module _ (w : World) (kept : IsKept w) where
   stop_within : (k : ℕ) → k ≤ length (whole w) → k ≤ length (first k (whole w))
   stop_within k high = omega (arith, high, length-drop (length (whole w) - k) (whole w))
 
+  legal_here : IsLegal w.past
+  legal_here = legal_of w.past (safe_past w kept).history
+
+  legal_next : (entry : Entry) → MayEnter w entry → IsLegal (entry ∷ w.past)
+  legal_next entry may = (legal_here, allowed_of entry w.past may.1)
+
+  apart_stopped : (k : ℕ) → d ≤ k → k ≤ length (whole w) → IsApart (first k (whole w)) [] []
+  apart_stopped k low high = apart_opened (first k (whole w)) (kept.tails (length (whole w) - k) (omega (arith, low, high))).history
+
 one_longer : (entry : Entry) (past : Past) (d : ℕ) → d ≤ length past → d ≤ length (entry ∷ past)
 one_longer entry past d h = omega (arith, h)
 
@@ -180,74 +203,85 @@ halted_not : (h : Halt) → Some h ≡ None → ⊥
 halted_not h e = none-some h (sym e)
 
 pub event_keeps : (w : World) (event : Event) → IsKept w → May w event → IsKept (happens w event)
-event_keeps w (Submit nonce request) k may = record { within = one_longer (entry_is.Submit nonce request) w.past w.durable k.within; tailless = k.tailless; wire_is = k.wire_is; waiting_is = k.waiting_is; tails = entered w k (entry_is.Submit nonce request) may tt }
-event_keeps w (Claim claim) k may = record { within = k.within; tailless = k.tailless; wire_is = k.wire_is; waiting_is = k.waiting_is; tails = k.tails }
-event_keeps w (Commit claim entry) k may = record { within = one_longer entry w.past w.durable k.within; tailless = k.tailless; wire_is = k.wire_is; waiting_is = k.waiting_is; tails = entered w k entry may.2 (work_true w.past claim w.outside entry may.1) }
-event_keeps w (GiveUp claim) k may = record { within = k.within; tailless = k.tailless; wire_is = k.wire_is; waiting_is = k.waiting_is; tails = k.tails }
-event_keeps w Flush k may = record {
-  within = omega arith;
+event_keeps w (Works (Submit nonce request)) k may = record { within = one_longer (entry_is.Submit nonce request) w.past w.durable k.within; tailless = k.tailless; wire_is = k.wire_is; waiting_is = k.waiting_is; apart = apart_plain w k.apart (legal_here w k) (entry_is.Submit nonce request) (legal_next w k (entry_is.Submit nonce request) may) tt; tails = entered w k (entry_is.Submit nonce request) may tt }
+event_keeps w (Works (Claim claim)) k may = record { within = k.within; tailless = k.tailless; wire_is = k.wire_is; waiting_is = k.waiting_is; apart = apart_claim w k.apart (legal_here w k) claim may; tails = k.tails }
+event_keeps w (Works (Commit claim entry)) k may = record { within = one_longer entry w.past w.durable k.within; tailless = k.tailless; wire_is = k.wire_is; waiting_is = k.waiting_is; apart = apart_commit w k.apart (legal_here w k) claim entry (legal_next w k entry may.2) may; tails = entered w k entry may.2 (work_true w.past claim w.outside entry may.1) }
+event_keeps w (Works (GiveUp claim)) k may = record { within = k.within; tailless = k.tailless; wire_is = k.wire_is; waiting_is = k.waiting_is; apart = apart_give_up w k.apart (legal_here w k) claim; tails = k.tails }
+event_keeps w (Works (Flush n)) k may = record {
+  within = may.2;
   tailless = k.tailless;
   wire_is = k.wire_is;
   waiting_is = k.waiting_is;
-  tails = λ n h. k.tails n (let a = k.within in omega (arith, h, a));
+  apart = k.apart;
+  tails = λ m h. k.tails m (let a = may.1 in omega (arith, h, a));
 }
-event_keeps w (Send call) k may = record {
+event_keeps w (Travels (Send call)) k may = record {
   within = k.within;
   tailless = k.tailless;
   wire_is = λ c h. elim (in_pushed c call w.wire h) [ inl e ↦ subst (λ x. IsIn x (w.outside.sent ++ call ∷ [])) (sym e) (pushed_new call w.outside.sent) | inr old ↦ pushed_old c call w.outside.sent (k.wire_is c old) ];
   waiting_is = k.waiting_is;
+  apart = k.apart;
   tails = with_tails w k w.past (with_sent w.outside call) may.0 (λ n h. safe_send (drop n w.past) w.outside call (calm_tails w k may.0 n h) (sent_tail w.past w.durable w.outside (calm_tails w k may.0) call may.1 n h));
 }
-event_keeps w (Deliver call) k may = record {
+event_keeps w (Travels (Deliver call)) k may = record {
   within = k.within;
   tailless = k.tailless;
   wire_is = λ c h. deliver_wire w k call c (in_dropped c w.wire h);
   waiting_is = deliver_waiting w k call;
+  apart = k.apart;
   tails = deliver_tails w k call (k.wire_is call (in_first call w.wire may.1.0 may.1.1));
 }
-event_keeps w (DeliverAgain call) k may = record { within = k.within; tailless = k.tailless; wire_is = deliver_wire w k call; waiting_is = deliver_waiting w k call; tails = deliver_tails w k call may.1 }
-event_keeps w (Hear report) k may = record {
+event_keeps w (Travels (DeliverAgain call)) k may = record { within = k.within; tailless = k.tailless; wire_is = deliver_wire w k call; waiting_is = deliver_waiting w k call; apart = k.apart; tails = deliver_tails w k call may.1 }
+event_keeps w (Travels (Hear report)) k may = record {
   within = one_longer (entry_is.Report report.call report.told) w.past w.durable k.within;
   tailless = k.tailless;
   wire_is = k.wire_is;
   waiting_is = λ r h. k.waiting_is r (in_dropped r w.waiting h);
+  apart = apart_plain w k.apart (legal_here w k) (entry_is.Report report.call report.told) (legal_next w k (entry_is.Report report.call report.told) may.0.0) tt;
   tails = heard w k report may.0.0 (k.waiting_is report (in_first report w.waiting may.1.0 may.1.1));
 }
-event_keeps w (Ignore report) k may = record { within = k.within; tailless = k.tailless; wire_is = k.wire_is; waiting_is = λ r h. k.waiting_is r (in_dropped r w.waiting h); tails = k.tails }
-event_keeps w (HearAgain report) k may = record { within = one_longer (entry_is.Report report.call report.told) w.past w.durable k.within; tailless = k.tailless; wire_is = k.wire_is; waiting_is = k.waiting_is; tails = heard w k report may.0.0 may.1 }
-event_keeps w Lose k may = record { within = k.within; tailless = k.tailless; wire_is = λ c h. absurd h; waiting_is = λ r h. absurd h; tails = k.tails }
-event_keeps w Repeat k may = record {
+event_keeps w (Travels (Ignore report)) k may = record { within = k.within; tailless = k.tailless; wire_is = k.wire_is; waiting_is = λ r h. k.waiting_is r (in_dropped r w.waiting h); apart = k.apart; tails = k.tails }
+event_keeps w (Travels (HearAgain report)) k may = record { within = one_longer (entry_is.Report report.call report.told) w.past w.durable k.within; tailless = k.tailless; wire_is = k.wire_is; waiting_is = k.waiting_is; apart = apart_plain w k.apart (legal_here w k) (entry_is.Report report.call report.told) (legal_next w k (entry_is.Report report.call report.told) may.0.0) tt; tails = heard w k report may.0.0 may.1 }
+event_keeps w (Travels Lose) k may = record { within = k.within; tailless = k.tailless; wire_is = λ c h. absurd h; waiting_is = λ r h. absurd h; apart = k.apart; tails = k.tails }
+event_keeps w (Travels Repeat) k may = record {
   within = k.within;
   tailless = k.tailless;
   wire_is = λ c h. elim (in_both c w.wire w.outside.sent h) [ inl old ↦ k.wire_is c old | inr again ↦ again ];
   waiting_is = λ r h. elim (in_both r w.waiting w.outside.reports h) [ inl old ↦ k.waiting_is r old | inr again ↦ again ];
+  apart = k.apart;
   tails = k.tails;
 }
-event_keeps w (Start server older) k may = record { within = up_within older; tailless = tailless_of older; wire_is = wire_of older; waiting_is = waiting_of older; tails = tails_of older may }
+event_keeps w (Lives (Start server older)) k may = record { within = up_within older; tailless = tailless_of older; wire_is = wire_of older; waiting_is = waiting_of older; apart = apart_of older may; tails = tails_of older may }
   where
-    up_within : (x : Option Server) → (happens w (Start server x)).durable ≤ length (happens w (Start server x)).past
+    up_within : (x : Option Server) → (happens w (Lives (Start server x))).durable ≤ length (happens w (Lives (Start server x))).past
     up_within None = one_longer (entry_is.Up server) w.past w.durable k.within
     up_within (Some o) = one_longer (entry_is.Up server) (entry_is.Down o ∷ w.past) w.durable (one_longer (entry_is.Down o) w.past w.durable k.within)
 
-    tailless_of : (x : Option Server) → (happens w (Start server x)).halted ≡ None → (happens w (Start server x)).tail ≡ None
+    tailless_of : (x : Option Server) → (happens w (Lives (Start server x))).halted ≡ None → (happens w (Lives (Start server x))).tail ≡ None
     tailless_of None = k.tailless
     tailless_of (Some o) = k.tailless
 
-    wire_of : (x : Option Server) (c : Call) → IsIn c (happens w (Start server x)).wire → IsIn c w.outside.sent
+    wire_of : (x : Option Server) (c : Call) → IsIn c (happens w (Lives (Start server x))).wire → IsIn c w.outside.sent
     wire_of None c h = k.wire_is c h
     wire_of (Some o) c h = k.wire_is c h
 
-    waiting_of : (x : Option Server) (r : ReportMsg) → IsIn r (happens w (Start server x)).waiting → IsIn r w.outside.reports
+    waiting_of : (x : Option Server) (r : ReportMsg) → IsIn r (happens w (Lives (Start server x))).waiting → IsIn r w.outside.reports
     waiting_of None r h = k.waiting_is r h
     waiting_of (Some o) r h = k.waiting_is r h
 
-    tails_of : (x : Option Server) → MayStart w server x → (n : ℕ) → n + (happens w (Start server x)).durable ≤ length (whole (happens w (Start server x))) → Safe (drop n (whole (happens w (Start server x)))) (started w.outside server)
+    apart_of : (x : Option Server) → MayStart w server x → IsApart (happens w (Lives (Start server x))).past (happens w (Lives (Start server x))).taken (claimed_pids (happens w (Lives (Start server x))))
+    apart_of None m = apart_plain w k.apart (legal_here w k) (entry_is.Up server) (legal_next w k (entry_is.Up server) m) tt
+    apart_of (Some o) m =
+        let down = legal_next w k (entry_is.Down o) m.1 in
+        apart_on (entry_is.Up server) (entry_is.Down o ∷ w.past) (down, m.2.0) w.taken (claimed_pids w) (apart_plain w k.apart (legal_here w k) (entry_is.Down o) down tt) tt
+
+    tails_of : (x : Option Server) → MayStart w server x → (n : ℕ) → n + (happens w (Lives (Start server x))).durable ≤ length (whole (happens w (Lives (Start server x)))) → Safe (drop n (whole (happens w (Lives (Start server x))))) (started w.outside server)
     tails_of None m = start_tails w k server None m
     tails_of (Some o) m = start_tails w k server (Some o) m
-event_keeps w (Die server) k may = record { within = k.within; tailless = k.tailless; wire_is = k.wire_is; waiting_is = k.waiting_is; tails = λ n h. safe_die (drop n (whole w)) w.outside server (k.tails n h) }
-event_keeps w (Expire server) k may = record { within = one_longer (entry_is.Down server) w.past w.durable k.within; tailless = k.tailless; wire_is = k.wire_is; waiting_is = k.waiting_is; tails = entered w k (entry_is.Down server) may tt }
-event_keeps w (Abort pid) k may = record { within = one_longer (entry_is.Abort pid) w.past w.durable k.within; tailless = k.tailless; wire_is = k.wire_is; waiting_is = k.waiting_is; tails = entered w k (entry_is.Abort pid) may tt }
-event_keeps w (Arm peer count) k may = record { within = k.within; tailless = k.tailless; wire_is = armed_wire peer; waiting_is = armed_waiting peer; tails = λ n h. safe_arm (drop n (whole w)) w.outside peer count (k.tails n h) }
+event_keeps w (Lives (Die server)) k may = record { within = k.within; tailless = k.tailless; wire_is = k.wire_is; waiting_is = k.waiting_is; apart = k.apart; tails = λ n h. safe_die (drop n (whole w)) w.outside server (k.tails n h) }
+event_keeps w (Works (Expire server)) k may = record { within = one_longer (entry_is.Down server) w.past w.durable k.within; tailless = k.tailless; wire_is = k.wire_is; waiting_is = k.waiting_is; apart = apart_plain w k.apart (legal_here w k) (entry_is.Down server) (legal_next w k (entry_is.Down server) may) tt; tails = entered w k (entry_is.Down server) may tt }
+event_keeps w (Works (Abort pid)) k may = record { within = one_longer (entry_is.Abort pid) w.past w.durable k.within; tailless = k.tailless; wire_is = k.wire_is; waiting_is = k.waiting_is; apart = apart_plain w k.apart (legal_here w k) (entry_is.Abort pid) (legal_next w k (entry_is.Abort pid) may) tt; tails = entered w k (entry_is.Abort pid) may tt }
+event_keeps w (Lives (Arm peer count)) k may = record { within = k.within; tailless = k.tailless; wire_is = armed_wire peer; waiting_is = armed_waiting peer; apart = k.apart; tails = λ n h. safe_arm (drop n (whole w)) w.outside peer count (k.tails n h) }
   where
     armed_wire : (p : Peer) (c : Call) → IsIn c w.wire → IsIn c (armed w.outside p count).sent
     armed_wire (peer_is.Server s) c h = k.wire_is c h
@@ -256,13 +290,14 @@ event_keeps w (Arm peer count) k may = record { within = k.within; tailless = k.
     armed_waiting : (p : Peer) (r : ReportMsg) → IsIn r w.waiting → IsIn r (armed w.outside p count).reports
     armed_waiting (peer_is.Server s) r h = k.waiting_is r h
     armed_waiting peer_is.Storage r h = k.waiting_is r h
-event_keeps w (Fault None) k may = record { within = k.within; tailless = λ e. absurd (halted_not LogFault e); wire_is = k.wire_is; waiting_is = k.waiting_is; tails = calm_tails w k may }
-event_keeps w (Fault (Some entry)) k may = record {
+event_keeps w (Ends (Fault None)) k may = record { within = k.within; tailless = λ e. absurd (halted_not LogFault e); wire_is = k.wire_is; apart = k.apart; waiting_is = k.waiting_is; tails = calm_tails w k may }
+event_keeps w (Ends (Fault (Some entry))) k may = record {
   within = k.within;
   tailless = λ e. absurd (halted_not LogFault e);
   wire_is = k.wire_is;
   waiting_is = k.waiting_is;
+  apart = k.apart;
   tails = recorded w.past w.durable w.outside k.within (calm_tails w k may.0.0) entry may.0.1 may.1;
 }
-event_keeps w Full k may = record { within = k.within; tailless = λ e. absurd (halted_not JournalFull e); wire_is = k.wire_is; waiting_is = k.waiting_is; tails = k.tails }
-event_keeps w (Stop n) k may = record { within = stop_within w k n may.1; tailless = λ e. refl; wire_is = k.wire_is; waiting_is = k.waiting_is; tails = stop_tails w k n may.0 may.1 }
+event_keeps w (Ends Full) k may = record { within = k.within; tailless = λ e. absurd (halted_not JournalFull e); wire_is = k.wire_is; waiting_is = k.waiting_is; apart = k.apart; tails = k.tails }
+event_keeps w (Ends (Stop n)) k may = record { within = stop_within w k n may.1; tailless = λ e. refl; wire_is = k.wire_is; waiting_is = k.waiting_is; apart = apart_stopped w k n may.0 may.1; tails = stop_tails w k n may.0 may.1 }

@@ -1,5 +1,5 @@
 -- What may happen to a world, and what it does.
-use Rattle.std.specs.Prelude.{ℕ, List, [], ◌∷◌, ◌++◌, length, drop, Option, Some, None, Bool, not, ◌==◌, is_some, if◌then◌else◌}
+use Rattle.std.specs.Prelude.{ℕ, List, [], ◌∷◌, ◌++◌, drop, Option, Some, None, Bool, not, ◌==◌, is_some, if◌then◌else◌}
 use Rattle.std.specs.List.{filter}
 use Rattle.hm_names.specs.Server.{Server}
 use Rattle.hm_names.specs.declared.nonce.Nonce.{Nonce}
@@ -14,29 +14,45 @@ use Rattle.hm_model.specs.Answers.{last_answer}
 use Rattle.hm_world_model.specs.Outside.{armed, delivered, died, report_to, started, with_report, with_sent}
 use Rattle.hm_world_model.specs.World.{Claimed, LogFault, JournalFull, World, first, whole}
 
--- events. One that is refused, or finds nothing to do, changes nothing and isn't told.
+-- what a master does by itself. An event that is refused, or finds nothing to do, changes nothing and isn't told.
+pub data Work : Type 0 where
+  Submit : (nonce : Nonce) (request : Request) → Work
+  Claim : (claim : Claimed) → Work
+  Commit : (claim : Claimed) (entry : Entry) → Work  -- the step, or the undo, of a claimed procedure
+  GiveUp : (claim : Claimed) → Work
+  Flush : (k : ℕ) → Work  -- the first k entries are durable
+  Expire : (server : Server) → Work
+  Abort : (pid : Pid) → Work
+
+-- what becomes of calls and reports
+pub data Travel : Type 0 where
+  Send : (call : Call) → Travel
+  Deliver : (call : Call) → Travel  -- the oldest on the wire, which leaves it
+  DeliverAgain : (call : Call) → Travel  -- any that was ever sent
+  Hear : (report : ReportMsg) → Travel  -- the oldest that waits, which is recorded and waits no longer
+  Ignore : (report : ReportMsg) → Travel  -- the same, which isn't recorded
+  HearAgain : (report : ReportMsg) → Travel  -- any that was ever made
+  Lose : Travel
+  Repeat : Travel
+
+-- what becomes of the servers and the storage
+pub data Life : Type 0 where
+  Start : (server : Server) (older : Option Server) → Life  -- with the older one of its host and port that is live
+  Die : (server : Server) → Life
+  Arm : (peer : Peer) (count : ℕ) → Life
+
+-- what ends a master
+pub data End : Type 0 where
+  Fault : (tail : Option Entry) → End
+  Full : End
+  Stop : (k : ℕ) → End
+
+-- events
 pub data Event : Type 0 where
-  Submit : (nonce : Nonce) (request : Request) → Event
-  Claim : (claim : Claimed) → Event
-  Commit : (claim : Claimed) (entry : Entry) → Event  -- the step, or the undo, of a claimed procedure
-  GiveUp : (claim : Claimed) → Event
-  Flush : Event
-  Send : (call : Call) → Event
-  Deliver : (call : Call) → Event  -- the oldest on the wire, which leaves it
-  DeliverAgain : (call : Call) → Event  -- any that was ever sent
-  Hear : (report : ReportMsg) → Event  -- the oldest that waits, which is recorded and waits no longer
-  Ignore : (report : ReportMsg) → Event  -- the same, which isn't recorded
-  HearAgain : (report : ReportMsg) → Event  -- any that was ever made
-  Lose : Event
-  Repeat : Event
-  Start : (server : Server) (older : Option Server) → Event  -- with the older one of its host and port that is live
-  Die : (server : Server) → Event
-  Expire : (server : Server) → Event
-  Abort : (pid : Pid) → Event
-  Arm : (peer : Peer) (count : ℕ) → Event
-  Fault : (tail : Option Entry) → Event
-  Full : Event
-  Stop : (k : ℕ) → Event
+  Works : Work → Event
+  Travels : Travel → Event
+  Lives : Life → Event
+  Ends : End → Event
 
 -- an entry is recorded
 abbrev pub with_entry : World → Entry → World
@@ -69,28 +85,44 @@ abbrev pub stopped : World → ℕ → World
 stopped w k =
     record w { past = first k (whole w); tail = None; durable = k; taken = []; claimed = []; halted = None }
 
+-- the world behind a master's work
+abbrev pub worked : World → Work → World
+worked w (Submit nonce request) = with_entry w (entry_is.Submit nonce request)
+worked w (Claim claim) = record w { taken = claim.pid ∷ w.taken; claimed = claim ∷ w.claimed }
+worked w (Commit claim entry) = record (with_entry w entry) { claimed = unclaimed w.claimed claim.pid }
+worked w (GiveUp claim) =
+    record w { taken = untaken (is_some (last_answer w.past claim.pid)) w.taken claim.pid; claimed = unclaimed w.claimed claim.pid }
+worked w (Flush k) = record w { durable = k }
+worked w (Expire server) = with_entry w (entry_is.Down server)
+worked w (Abort pid) = with_entry w (entry_is.Abort pid)
+
+-- the world behind what becomes of calls and reports
+abbrev pub travelled : World → Travel → World
+travelled w (Send call) = record w { wire = w.wire ++ call ∷ []; outside = with_sent w.outside call }
+travelled w (Deliver call) = record (with_delivered w call) { wire = drop 1 w.wire }
+travelled w (DeliverAgain call) = with_delivered w call
+travelled w (Hear report) = record (with_heard w report) { waiting = drop 1 w.waiting }
+travelled w (Ignore report) = record w { waiting = drop 1 w.waiting }
+travelled w (HearAgain report) = with_heard w report
+travelled w Lose = record w { wire = []; waiting = [] }
+travelled w Repeat = record w { wire = w.wire ++ w.outside.sent; waiting = w.waiting ++ w.outside.reports }
+
+-- the world behind what becomes of the servers and the storage
+abbrev pub lived : World → Life → World
+lived w (Start server older) =
+    record (with_entry (with_older_down older w) (entry_is.Up server)) { outside = started w.outside server }
+lived w (Die server) = record w { outside = died w.outside server }
+lived w (Arm peer count) = record w { outside = armed w.outside peer count }
+
+-- the world behind what ends a master
+abbrev pub ended_by : World → End → World
+ended_by w (Fault tail) = record w { tail = tail; halted = Some LogFault }
+ended_by w Full = record w { halted = Some JournalFull }
+ended_by w (Stop k) = stopped w k
+
 -- the world behind an event
 abbrev pub happens : World → Event → World
-happens w (Submit nonce request) = with_entry w (entry_is.Submit nonce request)
-happens w (Claim claim) = record w { taken = claim.pid ∷ w.taken; claimed = claim ∷ w.claimed }
-happens w (Commit claim entry) = record (with_entry w entry) { claimed = unclaimed w.claimed claim.pid }
-happens w (GiveUp claim) =
-    record w { taken = untaken (is_some (last_answer w.past claim.pid)) w.taken claim.pid; claimed = unclaimed w.claimed claim.pid }
-happens w Flush = record w { durable = length w.past }
-happens w (Send call) = record w { wire = w.wire ++ call ∷ []; outside = with_sent w.outside call }
-happens w (Deliver call) = record (with_delivered w call) { wire = drop 1 w.wire }
-happens w (DeliverAgain call) = with_delivered w call
-happens w (Hear report) = record (with_heard w report) { waiting = drop 1 w.waiting }
-happens w (Ignore report) = record w { waiting = drop 1 w.waiting }
-happens w (HearAgain report) = with_heard w report
-happens w Lose = record w { wire = []; waiting = [] }
-happens w Repeat = record w { wire = w.wire ++ w.outside.sent; waiting = w.waiting ++ w.outside.reports }
-happens w (Start server older) =
-    record (with_entry (with_older_down older w) (entry_is.Up server)) { outside = started w.outside server }
-happens w (Die server) = record w { outside = died w.outside server }
-happens w (Expire server) = with_entry w (entry_is.Down server)
-happens w (Abort pid) = with_entry w (entry_is.Abort pid)
-happens w (Arm peer count) = record w { outside = armed w.outside peer count }
-happens w (Fault tail) = record w { tail = tail; halted = Some LogFault }
-happens w Full = record w { halted = Some JournalFull }
-happens w (Stop k) = stopped w k
+happens w (Works work) = worked w work
+happens w (Travels travel) = travelled w travel
+happens w (Lives life) = lived w life
+happens w (Ends end) = ended_by w end

@@ -3,6 +3,7 @@ pub mod Outside
 pub mod World
 pub mod Events
 pub mod Runs
+pub mod Claims
 pub mod Safe
 pub mod Twice
 pub mod Points
@@ -10,3 +11,4 @@ pub mod Overlaps
 pub mod Fleets
 pub mod Progress
 pub mod Measure
+pub mod Rest

@@ -8,13 +8,14 @@ use Rattle.hm_data.specs.declared.call.Told.{Told}
 use Rattle.hm_data.specs.declared.entry.Entry.{Entry}
 use Rattle.hm_data.specs.declared.entry.Entry.TheVariants as entry_is
 use Rattle.hm_model.specs.Fleet.{same_address}
+use Rattle.hm_model.specs.Holding.{IsFree}
 use Rattle.hm_model.specs.Journal.{Past}
 use Rattle.hm_model.specs.Locks.{IsIn}
 use Rattle.hm_model.specs.Picks.{PicksRight}
 use Rattle.hm_model.specs.Reports.{call_of, peer_of}
 use Rattle.hm_model.specs.Rest.{IsAvailable}
 use Rattle.hm_model.specs.Tree.{root_of}
-use Rattle.hm_world_model.specs.Events.{Event, Submit, Claim, Commit, GiveUp, Flush, Send, Deliver, DeliverAgain, Hear, Ignore, HearAgain, Lose, Repeat, Start, Die, Expire, Abort, Arm, Fault, Full, Stop, happens}
+use Rattle.hm_world_model.specs.Events.{End, Event, Life, Travel, Work, Works, Travels, Lives, Ends, Submit, Claim, Commit, GiveUp, Flush, Expire, Abort, Send, Deliver, DeliverAgain, Hear, Ignore, HearAgain, Lose, Repeat, Start, Die, Arm, Fault, Full, Stop, happens}
 use Rattle.hm_world_model.specs.History.{Follows}
 use Rattle.hm_world_model.specs.Outside.{Outside, runs}
 use Rattle.hm_world_model.specs.World.{Claimed, World, claimed_pids, durable_part, whole}
@@ -71,31 +72,48 @@ MayStart w server (Some older) =
     (same_address server older ≡ true) × MayEnter w (entry_is.Down older)
     × Follows (entry_is.Down older ∷ w.past) (entry_is.Up server)
 
+-- a master may work so
+abbrev pub MayWork : World → Work → Type 0
+MayWork w (Submit nonce request) = MayEnter w (entry_is.Submit nonce request)
+MayWork w (Claim claim) =
+    GoesOn w × IsAvailable w.past w.taken (claimed_pids w) claim.pid × IsFree w.past w.taken claim.pid
+    × PicksRight w.past claim.pid claim.pick
+MayWork w (Commit claim entry) = IsIn claim w.claimed × IsWork w.past claim entry × MayEnter w entry
+MayWork w (GiveUp claim) = IsIn claim w.claimed
+MayWork w (Flush k) = GoesOn w × (w.durable ≤ k) × (k ≤ length w.past)
+MayWork w (Expire server) = MayEnter w (entry_is.Down server)
+MayWork w (Abort pid) = MayEnter w (entry_is.Abort pid)
+
+-- calls and reports may travel so
+abbrev pub MayTravel : World → Travel → Type 0
+MayTravel w (Send call) =
+    GoesOn w × (call_of (durable_part w) call.id.0 ≡ Some call) × (runs w.outside call.peer ≡ true)
+MayTravel w (Deliver call) = GoesOn w × ((rest : List Call) × (w.wire ≡ call ∷ rest))
+MayTravel w (DeliverAgain call) = GoesOn w × IsIn call w.outside.sent
+MayTravel w (Hear report) = MayHear w report × ((rest : List ReportMsg) × (w.waiting ≡ report ∷ rest))
+MayTravel w (Ignore report) = GoesOn w × ((rest : List ReportMsg) × (w.waiting ≡ report ∷ rest)) × (MayHear w report → ⊥)
+MayTravel w (HearAgain report) = MayHear w report × IsIn report w.outside.reports
+MayTravel w Lose = Unit {0}
+MayTravel w Repeat = GoesOn w
+
+-- so may servers and the storage
+abbrev pub MayLive : World → Life → Type 0
+MayLive w (Start server older) = MayStart w server older
+MayLive w (Die server) = runs w.outside (peer_is.Server server) ≡ true
+MayLive w (Arm peer count) = GoesOn w × (runs w.outside peer ≡ true)
+
+-- a master may end so
+abbrev pub MayEnd : World → End → Type 0
+MayEnd w (Fault tail) = MayLeave w tail
+MayEnd w Full = GoesOn w
+MayEnd w (Stop k) = (w.durable ≤ k) × (k ≤ length (whole w))
+
 -- an event may come. While the master is halted only those that need nothing recorded: giving up, loss, death, a stop.
 abbrev pub May : World → Event → Type 0
-May w (Submit nonce request) = MayEnter w (entry_is.Submit nonce request)
-May w (Claim claim) =
-    GoesOn w × IsAvailable w.past w.taken (claimed_pids w) claim.pid × PicksRight w.past claim.pid claim.pick
-May w (Commit claim entry) = IsIn claim w.claimed × IsWork w.past claim entry × MayEnter w entry
-May w (GiveUp claim) = IsIn claim w.claimed
-May w Flush = GoesOn w
-May w (Send call) =
-    GoesOn w × (call_of (durable_part w) call.id.0 ≡ Some call) × (runs w.outside call.peer ≡ true)
-May w (Deliver call) = GoesOn w × ((rest : List Call) × (w.wire ≡ call ∷ rest))
-May w (DeliverAgain call) = GoesOn w × IsIn call w.outside.sent
-May w (Hear report) = MayHear w report × ((rest : List ReportMsg) × (w.waiting ≡ report ∷ rest))
-May w (Ignore report) = GoesOn w × ((rest : List ReportMsg) × (w.waiting ≡ report ∷ rest)) × (MayHear w report → ⊥)
-May w (HearAgain report) = MayHear w report × IsIn report w.outside.reports
-May w Lose = Unit {0}
-May w Repeat = GoesOn w
-May w (Start server older) = MayStart w server older
-May w (Die server) = runs w.outside (peer_is.Server server) ≡ true
-May w (Expire server) = MayEnter w (entry_is.Down server)
-May w (Abort pid) = MayEnter w (entry_is.Abort pid)
-May w (Arm peer count) = GoesOn w × (runs w.outside peer ≡ true)
-May w (Fault tail) = MayLeave w tail
-May w Full = GoesOn w
-May w (Stop k) = (w.durable ≤ k) × (k ≤ length (whole w))
+May w (Works work) = MayWork w work
+May w (Travels travel) = MayTravel w travel
+May w (Lives life) = MayLive w life
+May w (Ends end) = MayEnd w end
 
 -- a world behind events, of which the newest stands first
 abbrev pub after : World → List Event → World

@@ -17,9 +17,10 @@ use Rattle.hm_model.specs.Journal.{Past}
 use Rattle.hm_model.specs.Locks.{IsIn}
 use Rattle.hm_model.specs.Reports.{call_of, fits_verb, last_call, peer_of, region_called, verb_of}
 use Rattle.hm_model.specs.Rules.{FitsCall}
+use Rattle.hm_world_model.specs.Claims.{IsApart}
 use Rattle.hm_world_model.specs.History.{IsHistory}
 use Rattle.hm_world_model.specs.Outside.{Outside}
-use Rattle.hm_world_model.specs.World.{World, whole}
+use Rattle.hm_world_model.specs.World.{World, claimed_pids, whole}
 
 -- a procedure called the server about the region
 abbrev pub CallsTo : Past → ℕ → Region → Server → Type 0
@@ -61,15 +62,19 @@ HeldBy J actor region server =
     × (IsLast J region last.id.0 (verb_is.AssignRegion region) server
     ⊎ ((q : ℕ) × (last.id.0 < q) × IsLast J region q (verb_is.CloseRegion region) server))
 
--- what a journal and what is outside keep. Of what is served: it was called here, and the answer fits.
-pub record Safe (J : Past) (o : Outside) : Type 0 where
-  pub history : IsHistory J
+-- what calls and answers keep: what was sent is recorded; what was made, what is recorded as told, and what the storage keeps
+-- are answers of whom was called
+pub record CallsSafe (J : Past) (o : Outside) : Type 0 where
   pub sent_is : (call : Call) → IsIn call o.sent → call_of J call.id.0 ≡ Some call
   pub made_is : (report : ReportMsg) → IsIn report o.reports
       → Made J o report.call.0 report.told × (peer_of J report.call.0 ≡ Some report.from)
   pub recorded : (p : ℕ) (told : Told) → report_of J p ≡ Some told → Made J o p told
   pub stored : (id : Pid) (told : Told) → o.storage.answer id ≡ Some told
       → Made J o id.0 told × (peer_of J id.0 ≡ Some peer_is.Storage)
+
+-- what servers keep: what one served it was called for here, and its answer fits; of each region it served all calls but the
+-- last, or is fenced, and holds it by its last call alone
+pub record ServersSafe (J : Past) (o : Outside) : Type 0 where
   pub named : (server : Server) (actor : Actor) → o.actors server ≡ Some actor → actor.name ≡ server
   pub served_is : (server : Server) (actor : Actor) (region : Region) (last : Served)
       → o.actors server ≡ Some actor → actor.last region ≡ Some last
@@ -78,13 +83,20 @@ pub record Safe (J : Past) (o : Outside) : Type 0 where
       → CallsTo J p region server → Runs J o server actor → last_call J region ≢ Some p → HasServed actor region p
   pub held : (region : Region) (server : Server) (actor : Actor)
       → Runs J o server actor → holds actor region ≡ true → HeldBy J actor region server
+
+-- what a journal and what is outside keep
+pub record Safe (J : Past) (o : Outside) : Type 0 where
+  pub history : IsHistory J
+  pub calls : CallsSafe J o
+  pub servers : ServersSafe J o
   pub fences_are : (server : Server) → is_fenced J server ≡ true → o.storage.fenced server ≡ true
 
 -- a world keeps it for each length of its journal, with the tail, that a stop may leave. Only a halted one has a tail; what
--- is on the wire was sent, and what waits was reported.
+-- is on the wire was sent, and what waits was reported; no two that hold conflict.
 pub record IsKept (w : World) : Type 0 where
   pub within : w.durable ≤ length w.past
   pub tailless : w.halted ≡ None → w.tail ≡ None
   pub wire_is : (call : Call) → IsIn call w.wire → IsIn call w.outside.sent
   pub waiting_is : (report : ReportMsg) → IsIn report w.waiting → IsIn report w.outside.reports
+  pub apart : IsApart w.past w.taken (claimed_pids w)
   pub tails : (n : ℕ) → n + w.durable ≤ length (whole w) → Safe (drop n (whole w)) w.outside

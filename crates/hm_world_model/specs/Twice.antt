@@ -3,6 +3,7 @@ use Rattle.std.specs.Prelude.{◌≡◌, ◌≢◌, List, Some, true, false}
 use Rattle.hm_names.specs.Region.{Region}
 use Rattle.hm_names.specs.Server.{Server}
 use Rattle.hm_model.specs.Actors.{Actor, holds}
+use Rattle.hm_model.specs.Holding.{NoneClash}
 use Rattle.hm_model.specs.Journal.{Past}
 use Rattle.hm_world_model.specs.Events.{Event, happens}
 use Rattle.hm_world_model.specs.History.{IsHistory}
@@ -35,3 +36,9 @@ KeptIsNeverTwice = (w : World) → IsKept w → Twice w.outside → ⊥
 -- after every list of events no region is held twice
 abbrev pub NeverTwice : Type 0
 NeverTwice = (J : Past) → IsHistory J → (events : List Event) → IsRun (opened J) events → Twice (after (opened J) events).outside → ⊥
+
+-- no two procedures that hold conflict, after every list of events
+abbrev pub NeverClash : Type 0
+NeverClash =
+    (J : Past) → IsHistory J → (events : List Event) → IsRun (opened J) events
+    → NoneClash (after (opened J) events).past (after (opened J) events).taken

@@ -1,10 +1,11 @@
 //! The laws.
 ghost use Rattle.hm_world_model.specs.Fleets.{FitsTheFirst, ResumedIsKept, ResumedIsStopped};
-ghost use Rattle.hm_world_model.specs.Measure.{CarryingGoesOn};
+ghost use Rattle.hm_world_model.specs.Measure.{CarryingGoesOn, CarryingIsPossible, CarryingStays};
 ghost use Rattle.hm_world_model.specs.Overlaps.{KeptIsNeverTwiceOver, NeverTwiceOver};
 ghost use Rattle.hm_world_model.specs.Progress.{EarlierHaveEnded, OpenIsAnswered, ReportsAreHeard};
 ghost use Rattle.hm_world_model.specs.Points.{HeldAreLive, PointsHold};
-ghost use Rattle.hm_world_model.specs.Twice.{EventsKeep, KeptIsNeverTwice, NeverTwice, OpenedIsKept};
+ghost use Rattle.hm_world_model.specs.Rest.{IdleIsEnded, StillIsEnded};
+ghost use Rattle.hm_world_model.specs.Twice.{EventsKeep, KeptIsNeverTwice, NeverClash, NeverTwice, OpenedIsKept};
 
 /// What is kept of a world: a master that opens a journal has it, and each event keeps it.
 pub fn worlds_are_kept()
@@ -12,14 +13,15 @@ pub fn worlds_are_kept()
     ensures events { EventsKeep }
 {}
 
-/// After every list of events no region is held by two running servers that aren't fenced.
+/// After every list of events no region is held by two running servers that aren't fenced, and no two procedures that hold what
+/// they ask for conflict, those that were claimed too.
 pub fn never_twice()
     ensures kept { KeptIsNeverTwice }
     ensures never { NeverTwice }
+    ensures locks { NeverClash }
 {}
 
-/// Nor are two regions of one table whose ranges overlap, by two such servers or by one, where the regions of the journal are
-/// apart.
+/// Nor are two regions of one table whose ranges overlap, by two such servers or by one.
 pub fn never_twice_over()
     ensures kept { KeptIsNeverTwiceOver }
     ensures never { NeverTwiceOver }
@@ -47,8 +49,18 @@ pub fn calls_are_answered()
     ensures heard { ReportsAreHeard }
 {}
 
-/// There is less to carry behind each call that is delivered, each that is sent where it is to be sent, and each report of a
-/// settled call that is ignored.
+/// There is less to carry behind each call that is delivered, each that is sent where it is to be sent, each report that is
+/// recorded, and each of a settled call that is ignored. An entry adds no more than the call that it records, and a flush
+/// nothing. While anything is left, some of it can be carried.
 pub fn carrying_goes_on()
-    ensures { CarryingGoesOn }
+    ensures nearer { CarryingGoesOn }
+    ensures stays { CarryingStays }
+    ensures possible { CarryingIsPossible }
+{}
+
+/// Where a server is live, each call to a live one and to the storage is settled and no procedure can go on, none is unfinished:
+/// locks never wait in a circle. So it is where each live server runs and nothing is left to carry.
+pub fn rest_is_the_end()
+    ensures still { StillIsEnded }
+    ensures idle { IdleIsEnded }
 {}

@@ -8,5 +8,5 @@ mod laws;
 
 pub use laws::{
     calls_are_answered, carrying_goes_on, fleets_fit, never_twice, never_twice_over, points_hold,
-    worlds_are_kept,
+    rest_is_the_end, worlds_are_kept,
 };

@@ -8,12 +8,15 @@ ghost use Rattle.hm_top.specs.Status.{status_code};
 ghost use Rattle.hm_top.specs.Words.{misfit_of};
 ghost use Rattle.hmaster.specs.Program.{Fits};
 
+use hm_crash::CrashHands;
 use hm_disk::{Disk, FileDisk, MemDisk};
 use hm_ports::{StdSink, StdSource, write_all};
 use hm_sheet::{Handler, Registry};
+use hm_split::SplitHands;
 use hm_tables::TableHands;
 use hm_top::{RunStatus, hands_agree, log_path, run};
-use std::alloc::AllocError;
+use hm_transit::TransitHands;
+use std::alloc::{AllocError, Global};
 use std::process::ExitCode;
 use std::{env, io};
 
@@ -26,23 +29,19 @@ fn program_words(rt: &HostRuntime) -> Result<Vec<String>, AllocError> {
     }
 }
 
-// Runs the script on standard input over a disk, with a registry for each of these handlers. It runs nothing where they
+// Runs the script on standard input over a disk, with a registry for each group of handlers. It runs nothing where they
 // don't agree; those that `run_over` makes are all alike.
 fn run_with<D: Disk>(
     rt: &HostRuntime,
     words: &[String],
     disk: D,
-    handlers: Vec<Box<dyn Handler>>,
+    groups: Vec<Vec<Box<dyn Handler>>>,
 ) -> RunStatus
     ensures { Fits (misfit_of (map string_bytes words.now)) result }
 {
     let mut hands = Vec::new(rt.alloc());
-    for handler in handlers {
-        let mut one = Vec::new(rt.alloc());
-        let Ok(()) = one.push(handler) else {
-            return RunStatus::Memory;
-        };
-        let Ok(registry) = Registry::new(rt.alloc(), one) else {
+    for handlers in groups {
+        let Ok(registry) = Registry::new(rt.alloc(), handlers) else {
             return RunStatus::Memory;
         };
         let Ok(()) = hands.push(registry) else {
@@ -57,23 +56,42 @@ fn run_with<D: Disk>(
     run(rt.alloc(), words, &mut script, &mut out, disk, hands).status
 }
 
-// Runs the script on standard input over a disk, with a handler for the caller and one for each of sixteen workers.
+// Boxes that have, together, each kind of procedures.
+type Boxes = (
+    Box<TableHands>,
+    Box<SplitHands>,
+    Box<TransitHands>,
+    Box<CrashHands>,
+);
+
+fn boxes(alloc: Global) -> Result<Boxes, AllocError> {
+    Ok((
+        Box::new(alloc, TableHands::new(alloc)?)?,
+        Box::new(alloc, SplitHands::new(alloc)?)?,
+        Box::new(alloc, TransitHands::new(alloc)?)?,
+        Box::new(alloc, CrashHands::new(alloc)?)?,
+    ))
+}
+
+// Runs the script on standard input over a disk, with a group of handlers for the caller and one for each of sixteen
+// workers.
 fn run_over<D: Disk>(rt: &HostRuntime, words: &[String], disk: D) -> RunStatus
     ensures { Fits (misfit_of (map string_bytes words.now)) result }
 {
-    let mut handlers: Vec<Box<dyn Handler>> = Vec::new(rt.alloc());
+    let mut groups: Vec<Vec<Box<dyn Handler>>> = Vec::new(rt.alloc());
     for _ in 0..17 {
-        let Ok(tables) = TableHands::new(rt.alloc()) else {
+        let Ok((tables, splits, transits, crashes)) = boxes(rt.alloc()) else {
             return RunStatus::Memory;
         };
-        let Ok(handler) = Box::new(rt.alloc(), tables) else {
+        let handlers: [Box<dyn Handler>; 4] = [tables, splits, transits, crashes];
+        let Ok(handlers) = Vec::from_array(rt.alloc(), handlers) else {
             return RunStatus::Memory;
         };
-        let Ok(()) = handlers.push(handler) else {
+        let Ok(()) = groups.push(handlers) else {
             return RunStatus::Memory;
         };
     }
-    run_with(rt, words, disk, handlers)
+    run_with(rt, words, disk, groups)
 }
 
 // Says that the log's file can't be opened. As every last line, it is tried once.

@@ -4,7 +4,7 @@ use Rattle.std.proofs.lemmas.List.Elements.{All-push}
 use Rattle.hm_sheet.specs.Words.{AreListed}
 use Rattle.hmaster.proofs.run_with.Goals as goal
 
-pub loop-handler-preserved : goal.loop-handler-preserved
-loop-handler-preserved g c =
+pub loop-handlers-preserved : goal.loop-handlers-preserved
+loop-handlers-preserved g c =
     let Made = λ (r : _). AreListed (flat_map (λ h. (goal.Handler-dyn g (h.vtable, h.value)).sheets_are h.value) r.handlers.items) r.list in
-    subst (All Made) (sym c.in-Ok-push.ensures.items) (All-push Made c.loop-handler.hands.items c.in-Ok-new.registry c.loop-handler.invariant c.in-Ok-new.ensures.lists)
+    subst (All Made) (sym c.in-Ok-push.ensures.items) (All-push Made _ _ c.loop-handlers.invariant c.in-Ok.ensures.lists)

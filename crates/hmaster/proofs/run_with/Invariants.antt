@@ -3,6 +3,6 @@ use Rattle.std.specs.List.{flat_map}
 use Rattle.hm_sheet.specs.Words.{AreListed}
 use Rattle.hmaster.proofs.run_with.Given as goal
 
-abbrev pub invariant-loop-handler : goal.invariant-loop-handler
-invariant-loop-handler g l =
+abbrev pub invariant-loop-handlers : goal.invariant-loop-handlers
+invariant-loop-handlers g l =
     All (λ r. AreListed (flat_map (λ h. (goal.Handler-dyn g (h.vtable, h.value)).sheets_are h.value) r.handlers.items) r.list) l.hands.items

@@ -4,7 +4,7 @@ use Rattle.hm_journal.proofs.Refusing.{log_refuses, log_unjudged}
 use Rattle.hm_journal.proofs.opening.open_log.Goals as goal
 
 pub returns-in-Err-clause-accepts : goal.returns-in-Err-clause-accepts
-returns-in-Err-clause-accepts g c tells frames opens = subst IsUnjudged (sym c.why_of.ensures) (log_unjudged c.in-Err.why (c.in-Err.ensures.exact tells frames opens))
+returns-in-Err-clause-accepts g c tells frames opens = subst IsUnjudged (sym c.why_of.ensures) (log_unjudged c.in-Err.why (c.in-Err.ensures.accepts tells frames opens))
 
 pub returns-in-Err-clause-why : goal.returns-in-Err-clause-why
 returns-in-Err-clause-why g c tells sheets =

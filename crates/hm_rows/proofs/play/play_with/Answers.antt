@@ -4,7 +4,7 @@ use Rattle.std.proofs.lemmas.List.Elements.{All-push}
 use Rattle.hm_sheet.specs.Words.{AreListed}
 use Rattle.hm_rows.proofs.play.play_with.Goals as goal
 
-pub loop-handler-preserved : goal.loop-handler-preserved
-loop-handler-preserved g c =
+pub loop-handlers-preserved : goal.loop-handlers-preserved
+loop-handlers-preserved g c =
     let Made = λ (r : _). AreListed (flat_map (λ h. (goal.Handler-dyn g (h.vtable, h.value)).sheets_are h.value) r.handlers.items) r.list in
-    subst (All Made) (sym c.in_ok-push-2.ensures.items) (All-push Made c.loop-handler.hands.items c.in-Ok.registry c.loop-handler.invariant c.in-Ok.ensures.lists)
+    subst (All Made) (sym c.in_ok-push.ensures.items) (All-push Made _ _ c.loop-handlers.invariant c.in-Ok.ensures.lists)

@@ -1,4 +1,4 @@
-use Rattle.std.proofs.Common.{◌≡◌, ◌++◌, ◌∙◌, ap, map}
+use Rattle.std.proofs.Common.{◌++◌, ◌∙◌, ap, map}
 use Rattle.hm_model.specs.Lists.{exact_rows}
 use Rattle.hm_sheet.specs.Lines.{line_of}
 use Rattle.hm_sheet.specs.Own.{in_turn}

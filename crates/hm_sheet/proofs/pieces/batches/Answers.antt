@@ -1,4 +1,4 @@
-use Rattle.std.proofs.Common.{arith, length, map, ◌<◌, ◌≡◌, sym, ap}
+use Rattle.std.proofs.Common.{arith, length, map, ◌<◌, ap}
 use Rattle.std.proofs.lemmas.Grind.{common_steps}
 use Rattle.hm_data.specs.declared.args.Child.TheVariants as child_is
 use Rattle.hm_names.specs.Region.{Region}

@@ -1,10 +1,9 @@
-use Rattle.std.proofs.Common.{◌≡◌, ◌≢◌, ◌+◌, [], length, Ok, Err, refl, sym, ap, ◌∙◌, subst, inl, inr, map, arith}
+use Rattle.std.proofs.Common.{◌≡◌, ◌≢◌, [], length, Ok, Err, refl, sym, ap, ◌∙◌, subst, inl, inr, map, arith}
 use Rattle.std.specs.List.{flat_map}
 use Rattle.std.proofs.lemmas.Grind.{common_steps}
 use Rattle.hm_journal.specs.Stored.{IsOnDisk}
 use Rattle.hm_journal.specs.Verdict.{IsUnjudged}
 use Rattle.hm_journal.specs.declared.why.JournalWhy.{JournalWhy}
-use Rattle.hm_script.specs.declared.command.Command.{Command}
 use Rattle.hm_sheet.specs.Words.{AreListed}
 use Rattle.hm_top.specs.declared.status.LogWhy.{LogWhy}
 use Rattle.hm_top.specs.declared.status.RunStatus.TheVariants.{LogFault, LogRefused, Memory}
@@ -32,7 +31,7 @@ answer_all-requires-clause-hands g c =
     let hands = c.args.hands.now.items in
     let one = c.index.result.now in
     let list = all_first f hands c.requires.agree (λ (r : _). AreListed (f r) r.list) one c.index.ensures c.requires.each in
-    let opened = c.in-Ok.ensures.sheets ∙ c.as_slice.ensures ∙ c.sheets-sheets.ensures in
+    let opened = c.in-Ok.ensures.sheets ∙ c.as_slice.ensures ∙ c.running_sheets-sheets.ensures in
     let first : first_sheets (map f hands) ≡ f one = first_is f hands c.requires.agree one c.index.ensures in
     record {
       agree = c.requires.agree;
@@ -42,7 +41,7 @@ answer_all-requires-clause-hands g c =
 pub returns-in-Ok-answer_all-clause-outcome : goal.returns-in-Ok-answer_all-clause-outcome
 returns-in-Ok-answer_all-clause-outcome g c =
     let f = λ (r : _). flat_map (λ h. (goal.Handler-dyn g (h.vtable, h.value)).sheets_are h.value) r.handlers.items in
-    let listed = used_are f (λ (r : _). r.list) c.args.hands.now.items c.requires.agree c.requires.each c.index.result.now c.index.ensures c.as_slice.result.now (c.as_slice.ensures ∙ c.sheets-sheets.ensures) in
+    let listed = used_are f (λ (r : _). r.list) c.args.hands.now.items c.requires.agree c.requires.each c.index.result.now c.index.ensures c.as_slice.result.now (c.as_slice.ensures ∙ c.running_sheets-sheets.ensures) in
     let opened = c.in-Ok.ensures in
     let answered = c.in-Ok-answer_all.ensures in
     converse_answered g.D.Disk c.args.commands.items c.args.limits (sink_use g.K.Sink c.args.out.now c.answer_all.new.out) c.args.disk c.into_disk-in-Ok-answer_all.result _ c.answer_all.new.marks.items c.as_slice.result.now listed c.status_of_halt.result
@@ -55,7 +54,7 @@ returns-in-Ok-answer_all-clause-run_by g c = run_less _ _ c.in-Ok-answer_all.ens
 pub returns-in-Err-answer_all-clause-outcome : goal.returns-in-Err-answer_all-clause-outcome
 returns-in-Err-answer_all-clause-outcome g c =
     let f = λ (r : _). flat_map (λ h. (goal.Handler-dyn g (h.vtable, h.value)).sheets_are h.value) r.handlers.items in
-    let listed = used_are f (λ (r : _). r.list) c.args.hands.now.items c.requires.agree c.requires.each c.index.result.now c.index.ensures c.as_slice.result.now (c.as_slice.ensures ∙ c.sheets-sheets.ensures) in
+    let listed = used_are f (λ (r : _). r.list) c.args.hands.now.items c.requires.agree c.requires.each c.index.result.now c.index.ensures c.as_slice.result.now (c.as_slice.ensures ∙ c.running_sheets-sheets.ensures) in
     let opened = c.in-Ok.ensures in
     let early = c.in-Err-answer_all.ensures.early in
     converse_answered g.D.Disk c.args.commands.items c.args.limits (sink_use g.K.Sink c.args.out.now c.answer_all.new.out) c.args.disk c.in-Err-answer_all.disk _ c.answer_all.new.marks.items c.as_slice.result.now listed c.status_of_end.result
@@ -68,7 +67,7 @@ returns-in-Err-answer_all-clause-run_by g c = run_less _ _ c.in-Err-answer_all.e
 pub returns-in_default-clause-outcome : goal.returns-in_default-clause-outcome
 returns-in_default-clause-outcome g c =
     let f = λ (r : _). flat_map (λ h. (goal.Handler-dyn g (h.vtable, h.value)).sheets_are h.value) r.handlers.items in
-    let listed = used_are f (λ (r : _). r.list) c.args.hands.now.items c.requires.agree c.requires.each c.index.result.now c.index.ensures c.as_slice.result.now (c.as_slice.ensures ∙ c.sheets-sheets.ensures) in
+    let listed = used_are f (λ (r : _). r.list) c.args.hands.now.items c.requires.agree c.requires.each c.index.result.now c.index.ensures c.as_slice.result.now (c.as_slice.ensures ∙ c.running_sheets-sheets.ensures) in
     let opened = c.in-Ok.ensures in
     let some : c.args.commands.items ≢ [] = λ none. (let empty : length c.args.commands.items ≡ 0 = ap length none in grind (arith, common_steps)) in
     converse_full g.D.Disk c.args.commands.items c.args.limits (sink_use g.K.Sink c.args.out.now c.args.out.now) c.args.disk c.into_disk.result _ c.reserve.new.self.items c.as_slice.result.now listed Memory
@@ -80,7 +79,7 @@ returns-in_default-clause-run_by g c = run_none _ _
 pub returns-in-Err-clause-outcome : goal.returns-in-Err-clause-outcome
 returns-in-Err-clause-outcome g c =
     let f = λ (r : _). flat_map (λ h. (goal.Handler-dyn g (h.vtable, h.value)).sheets_are h.value) r.handlers.items in
-    let listed = used_are f (λ (r : _). r.list) c.args.hands.now.items c.requires.agree c.requires.each c.index.result.now c.index.ensures c.as_slice.result.now (c.as_slice.ensures ∙ c.sheets-sheets.ensures) in
+    let listed = used_are f (λ (r : _). r.list) c.args.hands.now.items c.requires.agree c.requires.each c.index.result.now c.index.ensures c.as_slice.result.now (c.as_slice.ensures ∙ c.running_sheets-sheets.ensures) in
     let failed = c.in-Err.ensures in
     converse_unopened g.D.Disk c.args.commands.items c.args.limits (sink_use g.K.Sink c.args.out.now c.args.out.now) c.args.disk c.in-Err.disk _ c.args.marks.now.items c.as_slice.result.now listed c.status_of.result
     c.in-Err.why c.status_of.ensures c.requires.fresh failed.why failed.fault failed.same failed.spared failed.any_moment failed.called (λ told. refl)
@@ -91,6 +90,6 @@ returns-in-Err-clause-run_by g c = run_none _ _
 pub returns-in-Err-clause-accepts : goal.returns-in-Err-clause-accepts
 returns-in-Err-clause-accepts g c told journal on why is =
     let f = λ (r : _). flat_map (λ h. (goal.Handler-dyn g (h.vtable, h.value)).sheets_are h.value) r.handlers.items in
-    let listed = used_are f (λ (r : _). r.list) c.args.hands.now.items c.requires.agree c.requires.each c.index.result.now c.index.ensures c.as_slice.result.now (c.as_slice.ensures ∙ c.sheets-sheets.ensures) in
+    let listed = used_are f (λ (r : _). r.list) c.args.hands.now.items c.requires.agree c.requires.each c.index.result.now c.index.ensures c.as_slice.result.now (c.as_slice.ensures ∙ c.running_sheets-sheets.ensures) in
     let unjudged : IsUnjudged c.in-Err.why = c.in-Err.ensures.accepts told journal (subst (λ s. IsOnDisk s (g.D.Disk.seen c.args.disk) journal) listed on) in
     unrefused c.in-Err.why why unjudged (sym c.status_of.ensures ∙ is)

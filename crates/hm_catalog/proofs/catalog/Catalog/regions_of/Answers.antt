@@ -1,7 +1,7 @@
-use Rattle.std.proofs.Common.{◌∙◌}
-use Rattle.hm_catalog.proofs.Ahead.{regions_by}
+use Rattle.std.proofs.Common.{ap, ◌∙◌}
+use Rattle.hm_catalog.specs.Spans.{regions_in}
+use Rattle.hm_catalog.proofs.Spans.{regions_found}
 use Rattle.hm_catalog.proofs.catalog.Catalog.regions_of.Goals as goal
 
 pub returns : goal.returns
-returns c =
-    rw (← c.self.view_is) (c.new.ensures ∙ regions_by _ c.in_order.ensures.same c.args.table.now c.self.inside.pairs.pairs c.iter_from.result c.in_order.ensures.order c.iter_from.ensures)
+returns c = c.new.ensures ∙ ap regions_in c.rows_of.ensures ∙ regions_found c.args.table.now c.args.self.now.rows

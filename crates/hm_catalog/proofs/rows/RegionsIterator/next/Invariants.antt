@@ -1,10 +1,9 @@
-use Rattle.std.proofs.Common.{◌≡◌, ◌+◌, [], length, if◌then◌else◌}
-use Rattle.hm_catalog.specs.Kept.{regions_ahead}
+use Rattle.std.proofs.Common.{◌≡◌, length}
+use Rattle.hm_catalog.specs.Spans.{regions_in}
 use Rattle.hm_catalog.proofs.rows.RegionsIterator.next.Given as goal
 
-abbrev pub invariant-loop-self : goal.invariant-loop-self
-invariant-loop-self l =
-    (if l.self-inside.ended then [] else regions_ahead l.self-inside.table.now l.self-inside.pairs) ≡ l.fn.self
+abbrev pub invariant-loop-key : goal.invariant-loop-key
+invariant-loop-key l = regions_in l.self-inside.rows ≡ l.fn.self
 
-abbrev pub decreases-loop-self : goal.decreases-loop-self
-decreases-loop-self l = if l.self-inside.ended then 0 else length l.self-inside.pairs + 1
+abbrev pub decreases-loop-key : goal.decreases-loop-key
+decreases-loop-key l = length l.self-inside.rows

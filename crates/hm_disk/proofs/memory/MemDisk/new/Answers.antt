@@ -1,5 +1,5 @@
 use Rattle.std.proofs.Common.{rules}
-use Rattle.hm_disk.proofs.Kept.{kept_new}
+use Rattle.hm_disk.proofs.Calls.{kept_new}
 use Rattle.hm_disk.proofs.memory.MemDisk.new.Goals as goal
 
 pub invariant_of-result : goal.invariant_of-result

@@ -6,7 +6,7 @@ use Rattle.hm_disk.specs.Chosen.{chosen}
 use Rattle.hm_disk.specs.declared.memory.Choice.{Choice}
 use Rattle.hm_disk.specs.declared.memory.Choice.TheVariants.{Synced, AsRead, Fill}
 use Rattle.hm_disk.proofs.Filled.{length-filled}
-use Rattle.hm_disk.proofs.Kept.{kept_new}
+use Rattle.hm_disk.proofs.Calls.{kept_new}
 use Rattle.hm_disk.proofs.memory.MemDisk.stop.Goals as goal
 
 -- each choice is an image

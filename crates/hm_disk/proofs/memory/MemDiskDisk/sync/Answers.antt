@@ -1,5 +1,5 @@
 use Rattle.std.proofs.Common.{rules, refl}
-use Rattle.hm_disk.proofs.Kept.{kept_as, kept_sync}
+use Rattle.hm_disk.proofs.Calls.{kept_as, kept_sync}
 use Rattle.hm_disk.proofs.memory.MemDiskDisk.sync.Goals as goal
 
 pub invariant_of-self-2 : goal.invariant_of-self-2

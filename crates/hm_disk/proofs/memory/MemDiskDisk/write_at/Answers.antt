@@ -3,7 +3,7 @@ use Rattle.hm_disk.specs.Disk.{Torn}
 use Rattle.hm_disk.specs.Memory.{MemView, mem_image}
 use Rattle.hm_disk.specs.Fields.{view_of}
 use Rattle.hm_disk.proofs.Splice.{torn_same}
-use Rattle.hm_disk.proofs.Kept.{kept_as, kept_write, write_follows}
+use Rattle.hm_disk.proofs.Calls.{kept_as, kept_write, write_follows}
 use Rattle.hm_disk.proofs.memory.MemDiskDisk.write_at.Goals as goal
 
 pub returns-then-next_call_fails-clause-crash : goal.returns-then-next_call_fails-clause-crash

@@ -1,13 +1,13 @@
 use Rattle.std.proofs.Common.{◌⊎◌, ◌∙◌, ap, arith, sym, subst, inl, inr, ⊎_elim}
 use Rattle.std.proofs.lemmas.Result.{IfOk-weaker, IfErr-weaker, MatchResult-from_both}
 use Rattle.hm_disk.specs.Called.{IsCalled}
-use Rattle.hm_disk.specs.Disk.{Settles}
+use Rattle.hm_disk.specs.Disk.{LeavesThen}
 use Rattle.hm_disk.proofs.Moments.{joined, weaker}
 use Rattle.hm_log.specs.Format.{HoldsFrames, Reads}
 use Rattle.hm_log.specs.Opening.{IsMaking}
 use Rattle.hm_journal.specs.Opened.{Opened}
 use Rattle.hm_journal.specs.Stored.{GetsFirst, IsOpening, frames_of, opened}
-use Rattle.hm_journal.proofs.Images.{opening_first, opening_then, opening_vain, settled_all}
+use Rattle.hm_journal.proofs.Images.{opening_first, opening_then, opening_vain, then_all}
 use Rattle.hm_journal.proofs.Moving.{called_more, called_then}
 use Rattle.hm_journal.proofs.Refusing.{not_refused, of_kinds, refuses_by, same_entries}
 use Rattle.hm_journal.proofs.journal.Journal.open.Goals as goal
@@ -28,9 +28,9 @@ returns-in-Ok-clause-journal g c =
       ap (λ (o : Opened _). o.count) journal.4,
       λ tells. (
         record { opens = subst (HoldsFrames seen) (sym journal.2) (c.in-Ok.ensures.opens tells); is = journal.1 },
-        subst (λ fs. Settles d.moment d.left_since disk r.0.opened.disk (λ bytes. d.image disk bytes ⊎ IsMaking seen bytes) (λ bytes. Reads bytes fs)) (sym journal.2)
-            (subst (λ e. Settles d.moment d.left_since disk e (λ bytes. d.image disk bytes ⊎ IsMaking seen bytes) (λ bytes. Reads bytes frames)) (sym (ap (λ (o : Opened _). o.disk) journal.4))
-            (c.in-Ok.ensures.settles tells)),
+        subst (λ fs. LeavesThen d.moment d.left_since disk r.0.opened.disk (λ bytes. d.image disk bytes ⊎ IsMaking seen bytes) (λ bytes. Reads bytes fs)) (sym journal.2)
+            (subst (λ e. LeavesThen d.moment d.left_since disk e (λ bytes. d.image disk bytes ⊎ IsMaking seen bytes) (λ bytes. Reads bytes frames)) (sym (ap (λ (o : Opened _). o.disk) journal.4))
+            (c.in-Ok.ensures.from_then_on tells)),
       ),
     ))
     c.of_frames.ensures.journal
@@ -72,7 +72,7 @@ returns-in-Ok-clause-any_moment g c tells =
     (λ e run.
     joined d.moment d.left_since c.args.disk mid e.0 (IsOpening sheets seen image)
     (weaker d.moment d.left_since c.args.disk mid (λ bytes. (image bytes ⊎ IsMaking seen bytes) ⊎ Reads bytes frames) (IsOpening sheets seen image) (opening_first sheets seen image frames opens)
-    (settled_all d.moment d.left_since d.image g.met.D.Disk.only_now c.args.disk mid (λ bytes. image bytes ⊎ IsMaking seen bytes) (λ bytes. Reads bytes frames) (λ bytes was. inl was) (c.in-Ok.ensures.settles tells)))
+    (then_all d.moment d.left_since d.image g.met.D.Disk.only_now c.args.disk mid (λ bytes. image bytes ⊎ IsMaking seen bytes) (λ bytes. Reads bytes frames) (λ bytes was. inl was) (c.in-Ok.ensures.from_then_on tells)))
     (weaker d.moment d.left_since mid e.0 (λ bytes. Reads bytes frames ⊎ GetsFirst sheets frames bytes) (IsOpening sheets seen image) (opening_then sheets seen image frames opens) run))
     (c.of_frames.ensures.any_moment tells)
 

@@ -1,6 +1,6 @@
 use Rattle.std.proofs.Common.{ap}
 use Rattle.hm_journal.specs.View.{JournalView}
-use Rattle.hm_journal.proofs.Kept.{readied}
+use Rattle.hm_journal.proofs.Keeping.{readied}
 use Rattle.hm_journal.proofs.journal.Journal.ready.Goals as goal
 
 pub returns-clause-kept : goal.returns-clause-kept

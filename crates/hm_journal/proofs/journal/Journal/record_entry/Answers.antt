@@ -6,7 +6,7 @@ use Rattle.hm_hall.specs.declared.fault.RecordFault.TheVariants as fault_is
 use Rattle.hm_hall.specs.Recording.{Records}
 use Rattle.hm_journal.specs.View.{JournalView, entries_in, entry_of, kept_of}
 use Rattle.hm_journal.proofs.Moving.{failed_since, recorded_since}
-use Rattle.hm_journal.proofs.Kept.{entries_more, entry_in_is, failed_records, finds_ready, found_next, full_records, is_frame, kept_failed, kept_recorded, leaves_entry, left_now, logs, on_err, on_ok, ready_frame, ready_passes, recorded}
+use Rattle.hm_journal.proofs.Keeping.{entries_more, entry_in_is, failed_records, finds_ready, found_next, full_records, is_frame, kept_failed, kept_recorded, leaves_entry, left_now, logs, on_err, on_ok, ready_frame, ready_passes, recorded}
 use Rattle.hm_journal.proofs.journal.Journal.record_entry.Goals as goal
 
 pub returns-in_default-into_frame-clause-records : goal.returns-in_default-into_frame-clause-records

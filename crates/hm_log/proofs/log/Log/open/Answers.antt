@@ -23,11 +23,11 @@ invariant_of-log g c =
 pub returns-in-Ok-clause-frames : goal.returns-in-Ok-clause-frames
 returns-in-Ok-clause-frames g c tells = frames_of-reads _ _ (whole_reads _ _ _ (c.in-Ok.ensures.whole tells))
 
-pub returns-in-Ok-clause-exact : goal.returns-in-Ok-clause-exact
-returns-in-Ok-clause-exact g c tells frames opens = opens_once (g.D.Disk.seen c.args.disk) frames c.in-Ok.field-0.frames opens (search rules)
+pub returns-in-Ok-clause-accepts : goal.returns-in-Ok-clause-accepts
+returns-in-Ok-clause-accepts g c tells frames opens = opens_once (g.D.Disk.seen c.args.disk) frames c.in-Ok.field-0.frames opens (search rules)
 
-pub returns-in-Err-clause-exact : goal.returns-in-Err-clause-exact
-returns-in-Err-clause-exact g c tells frames opens =
+pub returns-in-Err-clause-accepts : goal.returns-in-Err-clause-accepts
+returns-in-Err-clause-accepts g c tells frames opens =
     refused_once c.in-Err.why (g.D.Disk.seen c.args.disk) frames opens (search rules) (search rules)
 
 pub returns-in-Err-clause-memory : goal.returns-in-Err-clause-memory

@@ -8,6 +8,8 @@ use Rattle.hm_top.specs.View.{standing_of}
 use Rattle.hm_top.proofs.Growth.{standing_added}
 use Rattle.hm_top.proofs.Ran.{ran_idle, ran_on, run_none}
 use Rattle.hm_top.proofs.Steps.{serve_on, sheets_worked, worked_none, worked_on}
+use Rattle.hm_top.proofs.Pieces.{on_err}
+use Rattle.hm_top.proofs.Unanswered.{may_in_step}
 use Rattle.hm_top.proofs.world.World.settle.Goals as goal
 
 pub loop-pid-init : goal.loop-pid-init
@@ -34,6 +36,10 @@ loop-pid-preserved g c =
       opened = c.step.ensures.opened ∙ c.loop-pid.invariant.opened;
       ran = ran_on c.args.self.now.kept.entries was.kept.entries new.kept.entries _ _ _ _ _ _ c.loop-pid.invariant.ran c.step.ensures.ran;
     }
+
+pub returns-in_err-why-clause-last : goal.returns-in_err-why-clause-last
+returns-in_err-why-clause-last g c =
+    on_err _ (may_in_step (standing_of c.loop-pid.self) (standing_of c.step.new.self) c.in-Some.pid.0 c.loop-pid.invariant.going c.in-Some.ensures.available c.in_err-why.ensures.err)
 
 pub returns-in_err-why-clause-ran : goal.returns-in_err-why-clause-ran
 returns-in_err-why-clause-ran g c =

@@ -1,0 +1,13 @@
+-- Each cost is met by a root of a journal that is worked by hand.
+use Rattle.hm_costs.proofs.MetCreated.{created, created_played, creates_table}
+use Rattle.hm_costs.proofs.MetDisabled.{disabled, disabled_played, disables_table}
+use Rattle.hm_costs.proofs.MetDeleted.{creates_namespace, deleted, deleted_played, deletes_table, drops_namespace, modifies_table}
+use Rattle.hm_costs.proofs.MetMoved.{enables_table, moved, moved_played, moves_region}
+use Rattle.hm_costs.proofs.MetMerged.{merged, merged_played, merges_regions, splits_region}
+use Rattle.hm_costs.proofs.MetUndone.{opens_again, sweeps_layout, undone, undone_played}
+use Rattle.hm_costs.proofs.MetCrashed.{crashed, crashed_played, crashes}
+use Rattle.hm_costs.specs.Met.{CostsAreMet}
+
+pub costs_are_met_is : CostsAreMet
+costs_are_met_is =
+    ((deleted, deleted_played, 12, creates_namespace), ((deleted, deleted_played, 13, drops_namespace), ((created, created_played, 1, creates_table), ((deleted, deleted_played, 10, deletes_table), ((moved, moved_played, 9, enables_table), ((disabled, disabled_played, 6, disables_table), ((deleted, deleted_played, 9, modifies_table), ((merged, merged_played, 6, splits_region), ((merged, merged_played, 14, merges_regions), ((moved, moved_played, 12, moves_region), ((crashed, crashed_played, 6, crashes), ((undone, undone_played, 11, opens_again), ((undone, undone_played, 10, sweeps_layout), tt)))))))))))))

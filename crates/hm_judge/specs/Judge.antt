@@ -1,0 +1,38 @@
+-- What is said of an entry that is judged.
+use Rattle.std.specs.Prelude.{◌≡◌, ℕ, List, [], ◌∷◌}
+use Rattle.hm_data.specs.declared.entry.Entry.{Entry}
+use Rattle.hm_data.specs.declared.entry.Entry.TheVariants as entry_is
+use Rattle.hm_model.specs.Journal.{Past}
+use Rattle.hm_model.specs.Rules.{Breaks, rules}
+use Rattle.hm_judge.specs.declared.why.NotAllowed.{NotAllowed}
+use Rattle.hm_judge.specs.declared.why.NotAllowed.TheVariants as not_allowed
+
+-- the rule is that a step, or what undoes one, is as it was evaluated: to judge it takes memory
+abbrev pub IsEvaluation : Entry → ℕ → Type 0
+IsEvaluation (entry_is.Start sheets) rule = ⊥
+IsEvaluation (entry_is.Submit nonce request) rule = ⊥
+IsEvaluation (entry_is.Step pid pick out) rule = rule ≡ 8
+IsEvaluation (entry_is.Undo pid row out) rule = rule ≡ 10
+IsEvaluation (entry_is.Report call told) rule = ⊥
+IsEvaluation (entry_is.Up server) rule = ⊥
+IsEvaluation (entry_is.Down server) rule = ⊥
+IsEvaluation (entry_is.Abort pid) rule = ⊥
+
+-- no rule that is judged without memory refuses the entry
+abbrev pub IsUnrefused : Past → Entry → Type 0
+IsUnrefused before entry = (rule : ℕ) → Breaks before entry rule → IsEvaluation entry rule
+
+-- why an entry isn't allowed: the lowest rule that it breaks; or memory ran out in its evaluation, and no rule before that
+-- refuses it
+abbrev pub IsWhy : Past → Entry → NotAllowed → Type 0
+IsWhy before entry (not_allowed.Rule number) = Breaks before entry number
+IsWhy before entry not_allowed.Memory = ((rule : ℕ) × IsEvaluation entry rule) × IsUnrefused before entry
+
+-- each of numbered rules holds that is judged without memory
+abbrev pub AllHoldBut : Entry → List (ℕ × Type 0) → Type 0
+AllHoldBut entry [] = Unit {0}
+AllHoldBut entry ((number, rule) ∷ more) = ((IsEvaluation entry number → ⊥) → rule) × AllHoldBut entry more
+
+-- all rules of an entry hold, its evaluation aside
+abbrev pub HoldsBut : Past → Entry → Type 0
+HoldsBut before entry = AllHoldBut entry (rules before entry)

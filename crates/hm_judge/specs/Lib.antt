@@ -1,0 +1,4 @@
+pub mod Judge
+pub mod Picks
+pub mod Reports
+pub mod Aborts

@@ -1,0 +1,57 @@
+-- All that is kept, behind an entry.
+use Rattle.std.proofs.Common.{◌≡◌, ◌≢◌, ℕ, ◌+◌, ◌≤◌, List, [], ◌∷◌, length, min, None, refl, ap, sym, ◌∙◌, arith}
+use Rattle.std.proofs.lemmas.Option.{none-some}
+use Rattle.hm_names.specs.Order.{nonce_cmp, table_cmp}
+use Rattle.hm_data.specs.declared.sheet.Sheet.{Sheet}
+use Rattle.hm_data.specs.declared.entry.Entry.{Entry}
+use Rattle.hm_data.specs.declared.entry.Entry.TheVariants as entry_is
+use Rattle.hm_model.specs.Journal.{Past}
+use Rattle.hm_model.specs.Rules.{IsLegal}
+use Rattle.hm_model.specs.Sheets.{sheets_of}
+use Rattle.hm_model.specs.Tree.{made, pid_of}
+use Rattle.hm_index.specs.Index.{find}
+use Rattle.hm_catalog.specs.Rows.{rows_in}
+use Rattle.hm_procedures.specs.Kept.{args_made}
+use Rattle.hm_undo.specs.Stacks.{Stacks, steps_of}
+use Rattle.hm_records.specs.Records.{AreRecords, Beside, count_if}
+
+-- the sheets of a journal that has begun stay
+pub sheets_stay : (entry : Entry) (J : Past) → IsLegal (entry ∷ J) → J ≢ [] → sheets_of (entry ∷ J) ≡ sheets_of J
+sheets_stay (entry_is.Start sheets) J legal begun = absurd (begun legal.1.0.0)
+sheets_stay (entry_is.Submit nonce request) J legal begun = refl
+sheets_stay (entry_is.Step pid pick out) J legal begun = refl
+sheets_stay (entry_is.Undo pid row out) J legal begun = refl
+sheets_stay (entry_is.Report call told) J legal begun = refl
+sheets_stay (entry_is.Up server) J legal begun = refl
+sheets_stay (entry_is.Down server) J legal begun = refl
+sheets_stay (entry_is.Abort pid) J legal begun = refl
+
+-- how many procedures an entry makes
+pub made_count : (J : Past) (entry : Entry) → length (args_made J entry) ≡ made (entry ∷ [])
+made_count J (entry_is.Start sheets) = refl
+made_count J (entry_is.Submit nonce request) = refl
+made_count J (entry_is.Step pid pick out) = omega arith
+made_count J (entry_is.Undo pid row out) = omega arith
+made_count J (entry_is.Report call told) = refl
+made_count J (entry_is.Up server) = refl
+made_count J (entry_is.Down server) = refl
+made_count J (entry_is.Abort pid) = refl
+
+-- the least of two numbers that fall by no more than a number
+pub least_within : (k a b a' b' : ℕ) → a ≤ a' + k → b ≤ b' + k → min a b ≤ min a' b' + k
+least_within k a b a' b' le le' = omega arith
+
+-- what is kept behind the start
+pub starts : (sheets : List Sheet) (beside : Beside) → beside.rows ≡ rows_in [] → beside.stacks ≡ [] → beside.places ≡ [] → beside.servers ≡ [] → beside.nonces ≡ [] → beside.drawn_ids ≡ []
+    → beside.sheets ≡ sheets → beside.running ≡ None → AreRecords (entry_is.Start sheets ∷ []) beside
+starts sheets beside rows stacks places servers nonces drawn_ids sheets_is running = record {
+  begun = λ e. cc;
+  rows_are = rows;
+  stacks_tell = λ root on. ap (λ (l : Stacks). steps_of l root) stacks;
+  places_are = places;
+  servers_are = servers;
+  nonces_are = λ nonce. ap (λ l. find nonce_cmp l nonce) nonces;
+  drawn_are = λ table. ap (λ l. count_if (find table_cmp l table)) drawn_ids;
+  sheets_are = sheets_is;
+  running_is = λ p. (λ way. absurd (way.1 refl), λ is. absurd (none-some (pid_of p) (sym running ∙ is)));
+}

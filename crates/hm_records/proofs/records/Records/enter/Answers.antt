@@ -1,0 +1,57 @@
+use Rattle.std.proofs.Common.{◌≡◌, ℕ, ◌+◌, ◌≤◌, ◌∷◌, length, ap, sym, subst, ◌∙◌, arith}
+use Rattle.hm_data.specs.declared.entry.Entry.{Entry}
+use Rattle.hm_model.specs.Journal.{Past}
+use Rattle.hm_model.specs.Rules.{IsLegal}
+use Rattle.hm_undo.specs.Laws.{Tells}
+use Rattle.hm_records.specs.Parts.{size_of}
+use Rattle.hm_records.specs.Records.{AreRecords, Beside, IsRunning, RecordsView, is_open}
+use Rattle.hm_records.proofs.Whole.{least_within, made_count, sheets_stay}
+use Rattle.hm_records.proofs.records.Records.enter.Goals as goal
+
+pub invariant_of-self : goal.invariant_of-self
+invariant_of-self c =
+    let J : Past = c.self.inside.procedures.past in
+    let entry : Entry = c.args.entry.now in
+    let same : J ≡ c.args.self.now.past = ap (λ (v : RecordsView). v.past) c.self.view_is in
+    let legal : IsLegal (entry ∷ J) = subst (λ (l : Past). IsLegal (entry ∷ l)) (sym same) c.requires.legal in
+    let after : c.enter_tree.new.procedures.past ≡ entry ∷ J = c.enter_tree.ensures.past in
+    let beside : Beside = record {
+      rows = c.set_rows.new.catalog.rows;
+      stacks = c.enter_tree.new.stack.stacks;
+      places = c.set_place.new.places.places;
+      servers = c.set_servers.new.servers.servers;
+      nonces = c.add_nonce.new.nonces.pairs;
+      drawn_ids = c.count_ids.new.drawn.pairs;
+      sheets = c.self.inside.sheets.items;
+      running = c.running_behind-self-inside.result;
+    } in
+    subst (λ (l : Past). AreRecords l beside) (sym after) (record {
+      begun = λ e. cc;
+      rows_are = c.set_rows.ensures.rows;
+      stacks_tell = subst (λ (l : Past). Tells (is_open l) l c.enter_tree.new.stack.stacks) after c.enter_tree.ensures.tells;
+      places_are = c.set_place.ensures.places;
+      servers_are = c.set_servers.ensures.servers;
+      nonces_are = c.add_nonce.ensures.nonces;
+      drawn_are = c.count_ids.ensures.drawn;
+      sheets_are = c.self.invariant.sheets_are ∙ sym (sheets_stay entry J legal c.self.invariant.begun);
+      running_is = subst (λ (l : Past). IsRunning l c.running_behind-self-inside.result) after (c.running_behind-self-inside.ensures J entry after c.tree_of-tree.ensures c.self.invariant.running_is);
+    })
+
+pub returns-clause-spare : goal.returns-clause-spare
+returns-clause-spare c =
+    let f = c.self.inside in
+    let J : Past = c.args.self.now.past in
+    let entry : Entry = c.args.entry.now in
+    let made_is = ap length c.requires.parts.made ∙ made_count J entry in
+    let edits_are = ap length c.requires.parts.edits in
+    let size : ℕ = size_of entry in
+    let procedures : f.procedures.spare ≤ c.enter_tree.new.procedures.spare + size = omega (arith, c.enter_tree.ensures.procedure_spare, made_is) in
+    let catalog : f.catalog.spare ≤ c.set_rows.new.catalog.spare + size = omega (arith, c.set_rows.ensures.spare, edits_are) in
+    let stack : f.stack.spare ≤ c.enter_tree.new.stack.spare + size = omega (arith, c.enter_tree.ensures.step_spare) in
+    let places : f.places.spare ≤ c.set_place.new.places.spare + size = omega (arith, c.set_place.ensures.spare) in
+    let servers : f.servers.spare ≤ c.set_servers.new.servers.spare + size = omega (arith, c.set_servers.ensures.spare) in
+    let nonces : f.nonces.spare ≤ c.add_nonce.new.nonces.spare + size = omega (arith, c.add_nonce.ensures.spare) in
+    let drawn : f.drawn.spare ≤ c.count_ids.new.drawn.spare + size = omega (arith, c.count_ids.ensures.spare) in
+    let least = least_within size in
+    let all = least _ _ _ _ (least _ _ _ _ procedures catalog) (least _ _ _ _ (least _ _ _ _ stack places) (least _ _ _ _ servers (least _ _ _ _ nonces drawn))) in
+    rw (sym (ap (λ (v : RecordsView). v.spare) c.self.view_is)) all

@@ -1,0 +1,26 @@
+use Rattle.std.proofs.Common.{◌≡◌, List, [], ◌∷◌, None, refl, ap, sym, subst, ◌∙◌}
+use Rattle.hm_data.specs.declared.entry.Entry.{Entry}
+use Rattle.hm_data.specs.declared.entry.Entry.TheVariants as entry_is
+use Rattle.hm_data.specs.declared.sheet.Sheet.{Sheet}
+use Rattle.hm_model.specs.Journal.{Past}
+use Rattle.hm_records.specs.Records.{AreRecords, Beside}
+use Rattle.hm_records.proofs.Whole.{starts}
+use Rattle.hm_records.proofs.records.Records.start.Goals as goal
+
+pub invariant_of-result : goal.invariant_of-result
+invariant_of-result c =
+    let sheets : List Sheet = c.args.sheets.items in
+    let past_is : c.enter.new.self.past ≡ entry_is.Start sheets ∷ [] =
+    c.enter.ensures.past ∙ ap (λ (e : Entry). e ∷ c.in_ok-procedures.procedures.past) c.requires.starts ∙ ap (λ (l : Past). entry_is.Start sheets ∷ l) c.in_ok-procedures.ensures in
+    let beside : Beside = record {
+      rows = c.in_ok-start.field-0.rows;
+      stacks = c.in_ok-new.field-0.stacks;
+      places = c.in_ok-new-2.field-0.places;
+      servers = c.in_ok-new-3.field-0.servers;
+      nonces = c.in_ok-new-4.field-0.pairs;
+      drawn_ids = c.in_ok-new-5.field-0.pairs;
+      sheets = sheets;
+      running = None;
+    } in
+    subst (λ (l : Past). AreRecords l beside) (sym past_is)
+    (starts sheets beside c.in_ok-start.ensures c.in_ok-new.ensures c.in_ok-new-2.ensures c.in_ok-new-3.ensures c.in_ok-new-4.ensures c.in_ok-new-5.ensures refl refl)

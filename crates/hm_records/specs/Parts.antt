@@ -1,0 +1,113 @@
+-- What is kept of an entry, and how much room it needs.
+use Rattle.std.specs.Prelude.{◌≡◌, ℕ, ◌+◌, ◌==◌, List, [], ◌∷◌, length, Option, Some, None, Bool, true, false, if◌then◌else◌}
+use Rattle.std.specs.List.{list_any}
+use Rattle.hm_names.specs.Server.{Server}
+use Rattle.hm_names.specs.declared.nonce.Nonce.{Nonce}
+use Rattle.hm_names.specs.declared.table.TableName.{TableName}
+use Rattle.hm_data.specs.declared.args.Child.{Child}
+use Rattle.hm_data.specs.declared.args.Child.TheVariants as child_is
+use Rattle.hm_data.specs.declared.catalog.Edit.{Edit}
+use Rattle.hm_data.specs.declared.entry.Entry.{Entry}
+use Rattle.hm_data.specs.declared.entry.Entry.TheVariants as entry_is
+use Rattle.hm_model.specs.Journal.{Past}
+use Rattle.hm_model.specs.Kinds.{table_of_request}
+use Rattle.hm_model.specs.Tree.{made, new_ids}
+use Rattle.hm_places.specs.Laws.{placed_now}
+use Rattle.hm_procedures.specs.Kept.{args_made}
+use Rattle.hm_undo.specs.Laws.{leaves_undo, next_step}
+use Rattle.hm_undo.specs.declared.slot.Step.{Step}
+use Rattle.hm_records.specs.declared.parts.Parts.{Parts}
+
+-- the edits of an entry
+abbrev pub edits_of : Entry → List Edit
+edits_of (entry_is.Start sheets) = []
+edits_of (entry_is.Submit nonce request) = []
+edits_of (entry_is.Step pid pick out) = out.edits
+edits_of (entry_is.Undo pid row out) = out.edits
+edits_of (entry_is.Report call told) = []
+edits_of (entry_is.Up server) = []
+edits_of (entry_is.Down server) = []
+edits_of (entry_is.Abort pid) = []
+
+-- the step that an entry leaves to be undone
+abbrev pub step_left : Past → Entry → Option Step
+step_left before (entry_is.Start sheets) = None
+step_left before (entry_is.Submit nonce request) = None
+step_left before (entry_is.Step pid pick out) = if leaves_undo before pid out then Some (next_step before pid out) else None
+step_left before (entry_is.Undo pid row out) = None
+step_left before (entry_is.Report call told) = None
+step_left before (entry_is.Up server) = None
+step_left before (entry_is.Down server) = None
+step_left before (entry_is.Abort pid) = None
+
+-- the nonce that an entry uses: one whose number is 0 is none
+abbrev pub nonce_used : Entry → Option Nonce
+nonce_used (entry_is.Start sheets) = None
+nonce_used (entry_is.Submit nonce request) = if nonce.number == 0 then None else Some nonce
+nonce_used (entry_is.Step pid pick out) = None
+nonce_used (entry_is.Undo pid row out) = None
+nonce_used (entry_is.Report call told) = None
+nonce_used (entry_is.Up server) = None
+nonce_used (entry_is.Down server) = None
+nonce_used (entry_is.Abort pid) = None
+
+-- a table with a number of ids, where there are any
+abbrev pub counted_for : Option TableName → ℕ → Option (TableName × ℕ)
+counted_for None count = None
+counted_for (Some table) count = if count == 0 then None else Some (table, count)
+
+-- the table for which an entry draws region ids, and how many
+abbrev pub ids_drawn : Entry → Option (TableName × ℕ)
+ids_drawn (entry_is.Start sheets) = None
+ids_drawn (entry_is.Submit nonce request) = counted_for (table_of_request request) (new_ids request)
+ids_drawn (entry_is.Step pid pick out) = None
+ids_drawn (entry_is.Undo pid row out) = None
+ids_drawn (entry_is.Report call told) = None
+ids_drawn (entry_is.Up server) = None
+ids_drawn (entry_is.Down server) = None
+ids_drawn (entry_is.Abort pid) = None
+
+-- the server that comes up
+abbrev pub comes_up : Entry → Option Server
+comes_up (entry_is.Start sheets) = None
+comes_up (entry_is.Submit nonce request) = None
+comes_up (entry_is.Step pid pick out) = None
+comes_up (entry_is.Undo pid row out) = None
+comes_up (entry_is.Report call told) = None
+comes_up (entry_is.Up server) = Some server
+comes_up (entry_is.Down server) = None
+comes_up (entry_is.Abort pid) = None
+
+-- the children that an entry asks for
+abbrev pub children_asked : Entry → List Child
+children_asked (entry_is.Start sheets) = []
+children_asked (entry_is.Submit nonce request) = []
+children_asked (entry_is.Step pid pick out) = out.children
+children_asked (entry_is.Undo pid row out) = out.followers
+children_asked (entry_is.Report call told) = []
+children_asked (entry_is.Up server) = []
+children_asked (entry_is.Down server) = []
+children_asked (entry_is.Abort pid) = []
+
+-- a child is a transit of the number 0, which no region has
+abbrev pub is_of_none : Child → Bool
+is_of_none (child_is.Transits table ids goal) = list_any (λ id. id == 0) ids
+is_of_none (child_is.One args) = false
+
+-- an entry asks for a transit of the number 0
+abbrev pub AsksForNone : Entry → Type 0
+AsksForNone entry = list_any is_of_none (children_asked entry) ≡ true
+
+-- all that is kept of an entry
+pub record AreParts (before : Past) (entry : Entry) (parts : Parts) : Type 0 where
+  pub made : parts.made ≡ args_made before entry
+  pub edits : parts.edits ≡ edits_of entry
+  pub step : parts.step ≡ step_left before entry
+  pub nonce : parts.nonce ≡ nonce_used entry
+  pub ids : parts.ids ≡ ids_drawn entry
+  pub up : parts.up ≡ comes_up entry
+  pub placed : parts.placed ≡ placed_now before entry
+
+-- how much room an entry needs: one more for each edit, and for each procedure that it makes
+abbrev pub size_of : Entry → ℕ
+size_of entry = 1 + length (edits_of entry) + made (entry ∷ [])

@@ -1,0 +1,118 @@
+//! The region ids that were drawn for tables.
+ghost use Rattle.std.specs.Prelude.{◌≡◌, ◌+◌, ◌≤◌, ◌∷◌, IfOk};
+ghost use Rattle.std.specs.Option.{option_copied};
+ghost use Rattle.hm_names.specs.Order.{table_cmp};
+ghost use Rattle.hm_index.specs.Index.{find};
+ghost use Rattle.hm_model.specs.Kinds.{table_of_first as first_table, table_of_request as requested_table};
+ghost use Rattle.hm_model.specs.Rules.{IsLegal};
+ghost use Rattle.hm_model.specs.Tree.{first_of as first_id, new_ids as ids_of};
+ghost use Rattle.hm_records.specs.Parts.{ids_drawn as drawn_by};
+ghost use Rattle.hm_records.specs.Records.{AreDrawn, count_if};
+
+use crate::records::Records;
+use hm_data::{Entry, Request};
+use hm_index::Index;
+use hm_names::{Copied, RegionName, TableName};
+use hm_procedures::Procedures;
+use std::alloc::{AllocError, Global};
+
+// The table of the first of some regions.
+fn table_of_first(regions: &[RegionName]) -> Option<&TableName>
+    ensures { option_copied result ≡ first_table regions.now }
+{
+    match regions {
+        [] => None,
+        [first, ..] => Some(&first.table),
+    }
+}
+
+// The table of a request: its own, or its region's.
+fn table_of_request(request: &Request) -> Option<&TableName>
+    ensures { option_copied result ≡ requested_table request.now }
+{
+    match request {
+        Request::CreateNamespace { ns: _ } | Request::DropNamespace { ns: _ } => None,
+        Request::CreateTable { table, keys: _ } => Some(table),
+        Request::DeleteTable { table } => Some(table),
+        Request::EnableTable { table } => Some(table),
+        Request::DisableTable { table } => Some(table),
+        Request::ModifyTable { table, version: _ } => Some(table),
+        Request::SplitRegion { region, key: _ } => Some(&region.table),
+        Request::MergeRegions { regions } => table_of_first(regions.as_slice()),
+        Request::Move { region, to: _ } => Some(&region.table),
+    }
+}
+
+// How many region ids a request draws.
+fn new_ids(request: &Request) -> u64
+    ensures { result ≡ ids_of request.now }
+{
+    match request {
+        Request::CreateTable { table: _, keys } => keys.as_slice().len() as u64 + 1,
+        Request::SplitRegion { region: _, key: _ } => 2,
+        Request::MergeRegions { regions: _ } => 1,
+        _ => 0,
+    }
+}
+
+// The lowest region id not yet drawn for the table of a request, and 1 where it has none.
+pub(crate) fn first_of(records: &Records, request: &Request) -> u64
+    ensures { result ≡ first_id records.now.past (requested_table request.now) }
+{
+    match table_of_request(request) {
+        Some(table) => {
+            let _legal = records.procedures();
+            records.drawn(table) + 1
+        }
+        None => 1,
+    }
+}
+
+// The table for which an entry draws region ids, and how many.
+pub(crate) fn ids_drawn(
+    alloc: Global,
+    entry: &Entry,
+) -> Result<Option<(TableName, u64)>, AllocError>
+    ensures { IfOk result (λ ids. ids ≡ drawn_by entry.now) }
+{
+    let Entry::Submit { nonce: _, request } = entry else {
+        return Ok(None);
+    };
+    let count = new_ids(request);
+    match table_of_request(request) {
+        Some(table) if count != 0 => Ok(Some((table.copy(alloc)?, count))),
+        _ => Ok(None),
+    }
+}
+
+// How many were drawn, by what is kept.
+pub(crate) fn drawn_in(drawn: &Index<TableName, u64>, table: &TableName) -> u64
+    ensures { result ≡ count_if (find table_cmp drawn.now.pairs table.now) }
+{
+    match drawn.get(table) {
+        Some(count) => *count,
+        None => 0,
+    }
+}
+
+// Takes in the ids that an entry draws.
+pub(crate) fn count_ids(
+    drawn: &mut Index<TableName, u64>,
+    past: &Procedures,
+    entry: &Entry,
+    ids: Option<(TableName, u64)>,
+)
+    requires legal { IsLegal (entry.now ∷ past.now.past) }
+    requires drawn { AreDrawn past.now.past drawn.old.pairs }
+    requires ids { ids ≡ drawn_by entry.now }
+    requires room { 1 ≤ drawn.old.spare }
+    ensures drawn { AreDrawn (entry.now ∷ past.now.past) drawn.new.pairs }
+    ensures spare { drawn.old.spare ≤ drawn.new.spare + 1 }
+    ensures room { drawn.new.room ≡ drawn.old.room }
+{
+    let Some((table, count)) = ids else {
+        return;
+    };
+    let before = drawn_in(drawn, &table);
+    drawn.set(table, before + count);
+}

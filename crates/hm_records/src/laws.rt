@@ -1,0 +1,8 @@
+//! What entries ask for: laws, as functions that do nothing.
+ghost use Rattle.hm_records.specs.Laws.{NoneAskForNone};
+
+/// While the master runs only requests for namespaces: an entry that may follow asks for no transit of the number 0, so that it
+/// can be prepared.
+pub fn entries_ask_for_regions()
+    ensures { NoneAskForNone }
+{}

@@ -1,0 +1,18 @@
+//! What a journal says, kept so that nothing is searched for: its procedures, catalog, steps to undo, places and servers, the
+//! procedures of nonces, and the region ids that were drawn. Each entry is taken in at the cost of what it holds and touches.
+#![tactic(auto)]
+
+mod fleet;
+mod ids;
+pub mod laws;
+mod made;
+mod nonces;
+mod parts;
+mod records;
+mod regions;
+mod rows;
+mod running;
+mod steps;
+
+pub use parts::Parts;
+pub use records::Records;

@@ -1,0 +1,214 @@
+//! The records of a journal.
+ghost use Rattle.std.specs.Prelude.{◌≡◌, ◌≢◌, ◌+◌, ◌≤◌, [], ◌∷◌, IfOk, IfSome, MatchOption, OnOk};
+ghost use Rattle.std.specs.Option.{option_map};
+ghost use Rattle.hm_model.specs.Nonces.{by_nonce};
+ghost use Rattle.hm_model.specs.Rules.{AreSheets, IsLegal};
+ghost use Rattle.hm_model.specs.Sheets.{sheets_of};
+ghost use Rattle.hm_model.specs.Tree.{drawn, pid_of};
+ghost use Rattle.hm_catalog.specs.Rows.{rows_in};
+ghost use Rattle.hm_places.specs.Laws.{places_of, standings_of};
+ghost use Rattle.hm_undo.specs.Laws.{Tells};
+ghost use Rattle.hm_records.specs.Parts.{AreParts, AsksForNone, size_of};
+ghost use Rattle.hm_records.specs.Records.{IsRunning, is_open};
+
+use crate::fleet::set_servers;
+use crate::ids::{count_ids, drawn_in};
+use crate::nonces::add_nonce;
+use crate::parts::{Parts, parts_of};
+use crate::regions::set_place;
+use crate::rows::set_rows;
+use crate::running::running_behind;
+use crate::steps::{enter_tree, tree_of};
+use hm_catalog::Catalog;
+use hm_data::Entry;
+use hm_index::Index;
+use hm_names::{List, Nonce, Pid, TableName};
+use hm_places::{Places, Servers};
+use hm_procedures::Procedures;
+use hm_sheet::Valid;
+use hm_undo::Stack;
+use std::alloc::{AllocError, Global};
+use std::marker::Model;
+
+/// What a legal journal that has begun says. Contracts see the journal, back from its newest entry, and for how much more
+/// there is room.
+#[derive(Drop)]
+pub struct Records {
+    procedures: Procedures,
+    catalog: Catalog,
+    stack: Stack,
+    places: Places,
+    servers: Servers,
+    nonces: Index<Nonce, Pid>,
+    // How many region ids were drawn for a table.
+    drawn: Index<TableName, u64>,
+    sheets: Vec<Valid>,
+    // The root that has a step and hasn't ended.
+    running: Option<Pid>,
+}
+
+impl Model for Records {
+    ghost use Rattle.std.specs.Prelude.{◌+◌, min};
+    ghost use Rattle.hm_records.specs.Records.{AreRecords, RecordsView};
+
+    ghost Value = { RecordsView };
+
+    ghost view = { λ s. record { past = s.procedures.past; spare = min (min s.procedures.spare s.catalog.spare) (min (min s.stack.spare s.places.spare) (min s.servers.spare (min s.nonces.spare s.drawn.spare))); room = s.procedures.room + s.catalog.room + (s.stack.room + s.places.room) + (s.servers.room + (s.nonces.room + s.drawn.room)) } };
+
+    ghost invariant = { λ s. AreRecords s.procedures.past (record { rows = s.catalog.rows; stacks = s.stack.stacks; places = s.places.places; servers = s.servers.servers; nonces = s.nonces.pairs; drawn_ids = s.drawn.pairs; sheets = s.sheets.items; running = s.running }) };
+}
+
+impl Records {
+    /// What the journal says whose only entry is the start with these sheets.
+    pub fn start(alloc: Global, entry: &Entry, sheets: Vec<Valid>) -> Result<Records, AllocError>
+        requires starts { entry.now ≡ Entry.Start sheets.items }
+        requires sheets { AreSheets sheets.items }
+        ensures { IfOk result (λ records. records.past ≡ entry.now ∷ []) }
+    {
+        let mut procedures = Procedures::new(alloc)?;
+        procedures.enter(entry, List::of(Vec::new(alloc)), true);
+        Ok(Records {
+            procedures,
+            catalog: Catalog::start(alloc)?,
+            stack: Stack::new(alloc)?,
+            places: Places::new(alloc)?,
+            servers: Servers::new(alloc)?,
+            nonces: Index::new(alloc)?,
+            drawn: Index::new(alloc)?,
+            sheets,
+            running: None,
+        })
+    }
+
+    /// Its procedures, as they stand.
+    pub fn procedures(&self) -> &Procedures
+        ensures past { result.now.past ≡ self.now.past }
+        ensures begun { self.now.past ≢ [] }
+        ensures legal { IsLegal self.now.past }
+    {
+        let _last = self.procedures.last_pid();
+        &self.procedures
+    }
+
+    /// The rows of the catalog.
+    pub fn catalog(&self) -> &Catalog
+        ensures { result.now.rows ≡ rows_in self.now.past }
+    {
+        &self.catalog
+    }
+
+    /// The steps that may be undone, of each root that hasn't ended.
+    pub fn stack(&self) -> &Stack
+        ensures { Tells (is_open self.now.past) self.now.past result.now.stacks }
+    {
+        &self.stack
+    }
+
+    /// The places of regions.
+    pub fn places(&self) -> &Places
+        ensures { result.now.places ≡ places_of self.now.past }
+    {
+        &self.places
+    }
+
+    /// The servers that ever came up.
+    pub fn servers(&self) -> &Servers
+        ensures { result.now.servers ≡ standings_of self.now.past }
+    {
+        &self.servers
+    }
+
+    /// The sheets that the journal began with.
+    pub fn sheets(&self) -> &[Valid]
+        ensures { result.now ≡ sheets_of self.now.past }
+    {
+        self.sheets.as_slice()
+    }
+
+    /// The procedure that was made under a nonce; none under one whose number is 0.
+    pub fn by_nonce(&self, nonce: &Nonce) -> Option<Pid>
+        ensures { result ≡ option_map pid_of (by_nonce self.now.past nonce.now) }
+    {
+        self.nonces.get(nonce).copied()
+    }
+
+    /// How many region ids were drawn for a table.
+    pub fn drawn(&self, table: &TableName) -> u64
+        ensures { result ≡ drawn self.now.past table.now }
+    {
+        drawn_in(&self.drawn, table)
+    }
+
+    /// The root that has a step and hasn't ended.
+    pub fn running(&self) -> Option<Pid>
+        ensures { IsRunning self.now.past result }
+    {
+        self.running
+    }
+
+    // Makes room for so many more of each.
+    fn reserve(&mut self, alloc: Global, count: u64) -> Result<(), AllocError>
+        ensures past { self.new.past ≡ self.old.past }
+        ensures room { OnOk result (count ≤ self.new.spare) }
+        ensures kept { self.old.spare ≤ self.new.spare }
+    {
+        self.procedures.reserve(alloc, count)?;
+        self.catalog.reserve(alloc, count)?;
+        self.stack.reserve(alloc, count)?;
+        self.places.reserve(alloc, count)?;
+        self.servers.reserve(alloc, count)?;
+        self.nonces.reserve(alloc, count as usize)?;
+        self.drawn.reserve(alloc, count as usize)
+    }
+
+    /// Makes what is kept of an entry, and room for it. There is none where the entry asks for a transit of the number 0, which
+    /// no region has.
+    pub fn prepare(&mut self, alloc: Global, entry: &Entry) -> Result<Option<Parts>, AllocError>
+        ensures past { self.new.past ≡ self.old.past }
+        ensures parts { IfOk result (λ parts. MatchOption parts (AsksForNone entry.now) (AreParts self.old.past entry.now)) }
+        ensures room { IfOk result (λ parts. IfSome parts (λ parts. size_of entry.now ≤ self.new.spare)) }
+        ensures kept { self.old.spare ≤ self.new.spare }
+    {
+        let Some(parts) = parts_of(alloc, self, entry)? else {
+            return Ok(None);
+        };
+        self.reserve(alloc, parts.size())?;
+        Ok(Some(parts))
+    }
+
+    /// Takes in an entry that may follow. It takes no memory.
+    pub fn enter(&mut self, entry: &Entry, parts: Parts)
+        requires legal { IsLegal (entry.now ∷ self.old.past) }
+        requires parts { AreParts self.old.past entry.now parts }
+        requires room { size_of entry.now ≤ self.old.spare }
+        ensures past { self.new.past ≡ entry.now ∷ self.old.past }
+        ensures spare { self.old.spare ≤ self.new.spare + size_of entry.now }
+        ensures room { self.new.room ≡ self.old.room }
+    {
+        let Parts {
+            made,
+            edits,
+            step,
+            nonce,
+            ids,
+            up,
+            placed,
+        } = parts;
+        let past = &self.procedures;
+        let tree = tree_of(past, entry);
+        set_rows(&mut self.catalog, past, entry, edits);
+        set_place(&mut self.places, past, entry, placed);
+        set_servers(&mut self.servers, past, entry, up);
+        add_nonce(&mut self.nonces, past, entry, nonce);
+        count_ids(&mut self.drawn, past, entry, ids);
+        enter_tree(
+            &mut self.procedures,
+            &mut self.stack,
+            entry,
+            tree,
+            made,
+            step,
+        );
+        self.running = running_behind(&self.procedures, tree, self.running);
+    }
+}

@@ -1,0 +1,11 @@
+mod Going
+mod Rows
+mod Calls
+mod Entering
+mod Picking
+mod Staying
+mod Others
+mod Stepping
+mod Undoing
+mod Uses
+mod Settled

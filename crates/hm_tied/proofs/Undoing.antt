@@ -1,0 +1,157 @@
+-- What an undo leaves to do.
+use Rattle.std.proofs.Common.{List, None, Some, ap, cond, false, inl, inr, is_none, is_some, refl, subst, sym, true, ℕ, ◌==◌, ◌∙◌, ◌∷◌, ◌≡◌, ◌≢◌, ◌⊎◌}
+use Rattle.std.proofs.lemmas.Bool.{cases_Bool, cases_eq, eq-eqb, eqb-true, false≢true, or_left, or_parts, or_right, true≢false}
+use Rattle.std.proofs.lemmas.Option.{none-some, same_Some}
+use Rattle.hm_names.specs.declared.pid.Pid.{Pid}
+use Rattle.hm_data.specs.declared.args.Args.{Args}
+use Rattle.hm_data.specs.declared.entry.Entry.TheVariants as entry_is
+use Rattle.hm_data.specs.declared.step.StepOut.{StepOut}
+use Rattle.hm_model.specs.Answers.{is_stopped, last_answer}
+use Rattle.hm_model.specs.Apart.{tree_of}
+use Rattle.hm_model.specs.Inputs.{undoes}
+use Rattle.hm_model.specs.Journal.{Past}
+use Rattle.hm_model.specs.Locks.{IsIn}
+use Rattle.hm_model.specs.Phase.{all_stopped, cause, ended, ended_node, root_ended}
+use Rattle.hm_model.specs.Rules.{IsLegal, IsLatest}
+use Rattle.hm_model.specs.Tree.{Node, is_root_in, is_top, node_of, root_of}
+use Rattle.hm_model.specs.Undo.{is_empty, stack}
+use Rattle.hm_model.specs.Whereabouts.{moved_by}
+use Rattle.hm_model.proofs.Forest.{forest_all, top_is, top_is_own}
+use Rattle.hm_model.proofs.Grown.{nodes_stay}
+use Rattle.hm_model.proofs.Trees.{grown_all, some_of}
+use Rattle.hm_tied.specs.Calls.{Unclaims}
+use Rattle.hm_tied.specs.Tied.{CanGo, IsCalm, IsOpen, LacksPick}
+use Rattle.hm_tied.specs.Entries.{UndoOwes, alters, has_edits, is_new, undo_debts}
+use Rattle.hm_tied.proofs.Entering.{Changes, changed}
+use Rattle.hm_tied.proofs.Going.{calm_stopped, ready_runs, run_last, top_or_below, undo_facts, undo_open, unfailed, unstepped_open}
+use Rattle.hm_tied.proofs.Picking.{SeesSame, place_same}
+use Rattle.hm_tied.proofs.Staying.{SameCalls, below_none, lacks_after, same_calm, same_go, same_tree, same_undoes}
+use Rattle.hm_tied.proofs.Stepping.{rows_same}
+
+module _ (pid : Pid) (row : ℕ) (out : StepOut) (J : Past) (legal : IsLegal (entry_is.Undo pid row out ∷ J)) where
+  abbrev after : Past
+  after = entry_is.Undo pid row out ∷ J
+
+  abbrev root : ℕ
+  root = root_of J pid.0
+
+  latest : IsLatest J pid.0 row
+  latest = legal.1.1.0.1
+
+  facts : (is_top ((latest.0).above) ≡ true) × (is_some (cause J root) ≡ true) × (all_stopped J root ≡ true) × (is_empty (stack J root) ≡ false)
+  facts = undo_facts J root latest.0 latest.2
+
+  root_open : IsOpen J root
+  root_open = (
+    (λ none. none-some latest.0 (sym none ∙ latest.1)),
+    ap (ended_node J root) latest.1 ∙ ap (λ b. cond b (root_ended J root) (is_stopped (last_answer J root))) facts.0 ∙ undo_open J root latest.0 latest.2,
+  )
+
+  begun : last_answer J root ≢ None
+  begun none = false≢true (ap is_some (sym (unfailed J legal.0 root none)) ∙ facts.1)
+
+  calls : SameCalls J after
+  calls = record { reports = λ q. refl; fenced = λ s e. e }
+
+  stay : (q : ℕ) (x : Node) → node_of J q ≡ Some x → node_of after q ≡ Some x
+  stay = nodes_stay (entry_is.Undo pid row out) J legal
+
+  -- a root of another number is of another tree
+  other_root : (q : ℕ) (x : Node) → node_of J q ≡ Some x → q ≢ root → is_top x.above ≡ true → x.root ≢ tree_of J (entry_is.Undo pid row out)
+  other_root q x is differs top same = differs (sym (top_is_own J (forest_all J legal.0) q x is (top_is x.above top)) ∙ same)
+
+  -- whoever is below the root has stopped
+  below_is : (q : ℕ) (x : Node) → node_of J q ≡ Some x → x.root ≡ root → q ≢ root → (is_top x.above ≡ false) × (is_stopped (last_answer J q) ≡ true)
+  below_is q x is of differs = (
+    elim (top_or_below x.above) [ inl top ↦ absurd (other_root q x is differs top of) | inr below ↦ below.0 ],
+    calm_stopped J legal.0 root q x is of differs facts.2,
+  )
+
+  ends : (q : ℕ) (x : Node) → node_of J q ≡ Some x → (ended after q ≡ ended J q) ⊎ ((q == root) ≡ true)
+  ends q x is = elim (cases_eq q root) [
+    | inl own ↦ inr (eq-eqb q root own)
+    | inr differs ↦ elim (cases_eq x.root root) [
+      | inr other ↦ (let tree = same_tree (entry_is.Undo pid row out) J legal q x is other in inl (tree.ends q x is refl))
+      | inl of ↦ inl (
+          ap (ended_node after q) (stay q x is) ∙ ap (λ b. cond b (root_ended after q) (is_stopped (last_answer J q))) (below_is q x is of differs).0
+          ∙ sym (ap (ended_node J q) is ∙ ap (λ b. cond b (root_ended J q) (is_stopped (last_answer J q))) (below_is q x is of differs).0)
+          )
+    ]
+  ]
+
+  stopped_stays : (q : ℕ) (x : Node) → node_of J q ≡ Some x → x.root ≡ root → q ≢ root → CanGo after q → ⊥
+  stopped_stays q x is of differs (inl may) =
+      true≢false (sym (below_is q x is of differs).1 ∙ (run_last after legal q may.0 may.1 (ready_runs after q may.0 may.2)).0)
+  stopped_stays q x is of differs (inr undo) =
+      let same : undo.0 ≡ x = same_Some undo.0 x (sym undo.1 ∙ stay q x is) in
+      true≢false (sym (ap (λ (n : Node). is_top n.above) (sym same) ∙ (undo_facts after q undo.0 undo.2).0) ∙ (below_is q x is of differs).0)
+
+  goes : (q : ℕ) (x : Node) → node_of J q ≡ Some x → CanGo after q → CanGo J q ⊎ ((q == root) ≡ true)
+  goes q x is go = elim (cases_eq q root) [
+    | inl own ↦ inr (eq-eqb q root own)
+    | inr differs ↦ elim (cases_eq x.root root) [
+      | inr other ↦ inl (same_go (entry_is.Undo pid row out) J legal q x is other calls go)
+      | inl of ↦ absurd (stopped_stays q x is of differs go)
+    ]
+  ]
+
+  calm_on : (q : ℕ) (x : Node) → node_of J q ≡ Some x → q ≢ root → IsCalm J q → IsCalm after q
+  calm_on q x is differs calm top =
+      let at_top : is_top x.above ≡ true = ap is_root_in (sym (stay q x is)) ∙ top in
+      same_calm (entry_is.Undo pid row out) J legal q x is (other_root q x is differs at_top) calm top
+
+  none_on : (q : ℕ) (x : Node) → node_of J q ≡ Some x → q ≢ root → undoes J q x ≡ false → undoes after q x ≡ false
+  none_on q x is differs none = elim (top_or_below x.above) [
+    | inr below ↦ below_none after q x below.0
+    | inl top ↦ same_undoes (entry_is.Undo pid row out) J legal q x is (other_root q x is differs top) ∙ none
+  ]
+
+  sees : (q : ℕ) (args : Args) → has_edits out.edits ≡ false → SeesSame J after q args
+  sees q args editless = record {
+    sheets = refl;
+    last = refl;
+    aborted = refl;
+    rows = rows_same J out.edits args editless;
+    place = place_same J after (λ region. refl) (moved_by args);
+    fenced = λ s e. e;
+    live = refl;
+  }
+
+  lacks_still : (q : ℕ) → q ≢ root → (lack : LacksPick J q) → IsCalm J q → (LacksPick after q × IsCalm after q) ⊎ (alters out ≡ true)
+  lacks_still q differs lack calm = elim (cases_Bool (alters out)) [
+    | inl on ↦ inr on
+    | inr off ↦ inl (
+      lacks_after (entry_is.Undo pid row out) J legal q lack (none_on q lack.0 lack.1 differs lack.2, sees q (let x = lack.0 in x.args) (or_parts (has_edits out.edits) (is_some out.place) off).0),
+      calm_on q lack.0 lack.1 differs calm,
+    )
+  ]
+
+  pub undo_changes : (claimed left_claimed : List ℕ) → IsIn root claimed → Unclaims root claimed left_claimed → Changes J after claimed left_claimed (undo_debts J root out)
+  undo_changes claimed left_claimed mine less = record {
+    stays = stay;
+    fresh = λ q none. let fresh = (grown_all J legal.0).unmade q none in (fresh, unstepped_open after legal q fresh);
+    made = λ q none some. or_left (is_new J q) (q == root) (ap (λ o. is_none o) none);
+    ends = λ q some. let x = some_of (node_of J q) some in ends q x.0 x.1;
+    were = λ q e. subst (IsOpen J) (sym (eqb-true q root e)) root_open;
+    fewer = λ q among. ((less q).0 among).0;
+    free = λ q apart. elim (cases_eq q root) [
+      | inl own ↦ inr (or_right (is_new J q) (q == root) (eq-eqb q root own))
+      | inr differs ↦ inl (λ among. apart ((less q).1 (among, differs)))
+    ];
+    lasting = λ q among e. ((less q).0 among).1 (eqb-true q root e);
+    calm = λ q some among. (let x = some_of (node_of J q) some in calm_on q x.0 x.1 ((less q).0 among).1);
+    held = λ q h. elim h [
+      | inl some ↦ inl some
+      | inr among ↦ elim (cases_eq q root) [ inl own ↦ inl (subst (λ n. last_answer J n ≢ None) (sym own) begun) | inr differs ↦ inr ((less q).1 (among, differs)) ]
+    ];
+    holds = λ q some h. elim h [ inl step ↦ inl step | inr among ↦ inr ((less q).0 among).0 ];
+    lasts = λ q apart. refl;
+    goes = λ q some go. let x = some_of (node_of J q) some in goes q x.0 x.1 go;
+    owes = λ q some go. (let x = some_of (node_of J q) some in elim (goes q x.0 x.1 go) [ inl was ↦ inl (inl was) | inr on ↦ inr (or_right (is_new J q) (q == root) on) ]);
+    picks = λ q apart lack calm. lacks_still q (λ own. apart (subst (λ n. IsIn n claimed) (sym own) mine)) lack calm;
+  }
+
+pub undo_owes : UndoOwes
+undo_owes pid row out J number_of roster claimed rows legal tied mine less enlists =
+    changed J (entry_is.Undo pid row out ∷ J) legal number_of roster claimed rows (undo_debts J (root_of J pid.0) out) tied
+    (undo_changes pid row out J legal roster.claimed claimed mine less) enlists

@@ -1,0 +1,124 @@
+-- What each kind of entry leaves to do: laws.
+use Rattle.std.specs.Prelude.{◌≡◌, ◌≢◌, ℕ, List, [], ◌∷◌, Option, Some, None, Bool, true, false, not, ◌==◌, ◌&&◌, ◌||◌, is_none, is_some}
+use Rattle.hm_names.specs.Server.{Server}
+use Rattle.hm_names.specs.declared.nonce.Nonce.{Nonce}
+use Rattle.hm_names.specs.declared.pid.Pid.{Pid}
+use Rattle.hm_data.specs.declared.call.Told.{Told}
+use Rattle.hm_data.specs.declared.catalog.Edit.{Edit}
+use Rattle.hm_data.specs.declared.entry.Entry.TheVariants as entry_is
+use Rattle.hm_data.specs.declared.request.Request.{Request}
+use Rattle.hm_data.specs.declared.step.StepOut.{StepOut}
+use Rattle.hm_locks.specs.Book.{Row, row_of}
+use Rattle.hm_model.specs.Inputs.{fenced_if}
+use Rattle.hm_model.specs.Journal.{Past}
+use Rattle.hm_model.specs.Locks.{IsIn, asks}
+use Rattle.hm_model.specs.Phase.{is_parent}
+use Rattle.hm_model.specs.Rules.{IsLegal}
+use Rattle.hm_model.specs.Tree.{Node, node_of, root_of}
+use Rattle.hm_tied.specs.Tied.{Debts, IsTied, IsTiedBut, Roster, called_in, no_debts}
+use Rattle.hm_tied.specs.Calls.{Unclaims}
+
+-- the row of a procedure, if it is there, as it is new
+abbrev pub row_made : ℕ → Option Node → Option Row
+row_made p None = None
+row_made p (Some node) = Some (record { pid = p; above = node.above; asks = asks node.args; holds = false })
+
+-- those that an entry makes are enlisted, and the rows of all others are left
+pub record Enlists (before after : Past) (old new : List Row) : Type 0 where
+  pub kept : (p : ℕ) → node_of before p ≢ None → row_of new p ≡ row_of old p
+  pub made : (p : ℕ) → node_of before p ≡ None → row_of new p ≡ row_made p (node_of after p)
+
+-- it is made by the next entry, if it is made
+abbrev pub is_new : Past → ℕ → Bool
+is_new before p = is_none (node_of before p)
+
+-- the procedure of a step, its parent and its root
+abbrev pub touched : ℕ → Node → ℕ → Bool
+touched p node q = (q == p) || (is_parent q node.above || (q == node.root))
+
+-- there are edits
+abbrev pub has_edits : List Edit → Bool
+has_edits [] = false
+has_edits (edit ∷ edits) = true
+
+-- what was answered changes rows or places, so that a step may need no server to be picked any more
+abbrev pub alters : StepOut → Bool
+alters out = has_edits out.edits || is_some out.place
+
+-- a step: what it made is owed; it, its parent and its root may go on; it and its root may end
+abbrev pub step_debts : Past → ℕ → Node → StepOut → Debts
+step_debts before p node out = record {
+  owed = λ q. is_new before q || touched p node q;
+  slack = touched p node;
+  over = λ q. (q == p) || (q == node.root);
+  late = alters out;
+}
+
+abbrev pub StepOwes : Type 0
+StepOwes =
+    (pid : Pid) (pick : Option Server) (out : StepOut) (J : Past) (number_of : Option Server → ℕ) (roster : Roster) (claimed : List ℕ) (rows : List Row) (node : Node)
+    → IsLegal (entry_is.Step pid pick out ∷ J) → IsTied J number_of roster → IsIn pid.0 roster.claimed → node_of J pid.0 ≡ Some node
+    → Unclaims pid.0 roster.claimed claimed → Enlists J (entry_is.Step pid pick out ∷ J) roster.rows rows
+    → IsTiedBut (entry_is.Step pid pick out ∷ J) number_of (record { claimed = claimed; lists = roster.lists; rows = rows }) (step_debts J pid.0 node out)
+
+-- an undo: its followers and its root are owed, the root may go on or end
+abbrev pub undo_debts : Past → ℕ → StepOut → Debts
+undo_debts before root out = record {
+  owed = λ q. is_new before q || (q == root);
+  slack = λ q. q == root;
+  over = λ q. q == root;
+  late = alters out;
+}
+
+abbrev pub UndoOwes : Type 0
+UndoOwes =
+    (pid : Pid) (row : ℕ) (out : StepOut) (J : Past) (number_of : Option Server → ℕ) (roster : Roster) (claimed : List ℕ) (rows : List Row)
+    → IsLegal (entry_is.Undo pid row out ∷ J) → IsTied J number_of roster → IsIn (root_of J pid.0) roster.claimed
+    → Unclaims (root_of J pid.0) roster.claimed claimed → Enlists J (entry_is.Undo pid row out ∷ J) roster.rows rows
+    → IsTiedBut (entry_is.Undo pid row out ∷ J) number_of (record { claimed = claimed; lists = roster.lists; rows = rows }) (undo_debts J (root_of J pid.0) out)
+
+-- a root that is made is owed; behind a server that went down those that were set aside are looked at
+abbrev pub root_debts : Past → Bool → Debts
+root_debts before late = record no_debts { owed = is_new before; late = late }
+
+abbrev pub SubmitOwes : Type 0
+SubmitOwes =
+    (nonce : Nonce) (request : Request) (J : Past) (number_of : Option Server → ℕ) (roster : Roster) (rows : List Row)
+    → IsLegal (entry_is.Submit nonce request ∷ J) → IsTied J number_of roster → Enlists J (entry_is.Submit nonce request ∷ J) roster.rows rows
+    → IsTiedBut (entry_is.Submit nonce request ∷ J) number_of (record roster { rows = rows }) (root_debts J false)
+
+abbrev pub DownOwes : Type 0
+DownOwes =
+    (server : Server) (J : Past) (number_of : Option Server → ℕ) (roster : Roster) (rows : List Row)
+    → IsLegal (entry_is.Down server ∷ J) → IsTied J number_of roster → Enlists J (entry_is.Down server ∷ J) roster.rows rows
+    → IsTiedBut (entry_is.Down server ∷ J) number_of (record roster { rows = rows }) (root_debts J true)
+
+-- the server that a procedure calls is fenced by a report alone
+abbrev pub is_fenced_by : Past → Past → Option Node → Bool
+is_fenced_by before after node = fenced_if after (called_in node) && not (fenced_if before (called_in node))
+
+-- a report: the one that called may go on, and those whose calls went to a server that it fences
+abbrev pub report_debts : Past → Past → ℕ → Debts
+report_debts before after call =
+    record no_debts { slack = λ q. (q == call) || is_fenced_by before after (node_of before q) }
+
+abbrev pub ReportOwes : Type 0
+ReportOwes =
+    (call : Pid) (told : Told) (J : Past) (number_of : Option Server → ℕ) (roster : Roster)
+    → IsLegal (entry_is.Report call told ∷ J) → IsTied J number_of roster
+    → IsTiedBut (entry_is.Report call told ∷ J) number_of roster (report_debts J (entry_is.Report call told ∷ J) call.0)
+
+-- those set aside may go on
+abbrev pub late_debts : Debts
+late_debts = record no_debts { late = true }
+
+abbrev pub UpOwes : Type 0
+UpOwes =
+    (server : Server) (J : Past) (number_of : Option Server → ℕ) (roster : Roster)
+    → IsLegal (entry_is.Up server ∷ J) → IsTied J number_of roster → IsTiedBut (entry_is.Up server ∷ J) number_of roster late_debts
+
+-- an abort: whoever is aborted needs no server at a row before the point
+abbrev pub AbortOwes : Type 0
+AbortOwes =
+    (pid : Pid) (J : Past) (number_of : Option Server → ℕ) (roster : Roster)
+    → IsLegal (entry_is.Abort pid ∷ J) → IsTied J number_of roster → IsTiedBut (entry_is.Abort pid ∷ J) number_of roster late_debts

@@ -1,0 +1,5 @@
+pub mod Tied
+pub mod Calls
+pub mod Entries
+pub mod Uses
+pub mod Settled

@@ -1,0 +1,113 @@
+-- What a tied state tells, and how it begins, goes on and is done: laws.
+use Rattle.std.specs.Prelude.{◌≡◌, ◌≢◌, ℕ, ◌+◌, ◌<◌, ◌≤◌, List, [], ◌∷◌, Option, Some, None, true, ◌↔◌}
+use Rattle.hm_names.specs.Server.{Server}
+use Rattle.hm_names.specs.declared.pid.Pid.{Pid}
+use Rattle.hm_data.specs.declared.args.Args.TheVariants as args_are
+use Rattle.hm_data.specs.declared.call.Told.{Told}
+use Rattle.hm_data.specs.declared.entry.Entry.TheVariants as entry_is
+use Rattle.hm_locks.specs.Book.{AreChanged, IsEnlisted, IsFree, NoneClash, Row, above_child, above_in, new_row, row_of}
+use Rattle.hm_locks.specs.Laws.{IsBookOf}
+use Rattle.hm_model.specs.Fleet.{came_up}
+use Rattle.hm_model.specs.Holding.{IsFree as IsFreeIn, NoneClash as NoneClashIn}
+use Rattle.hm_model.specs.Journal.{Past}
+use Rattle.hm_model.specs.Locks.{asks}
+use Rattle.hm_model.specs.Rules.{IsLegal}
+use Rattle.hm_model.specs.Tree.{Node, made, node_of}
+use Rattle.hm_sched.specs.Queues.{IsReady, Stands, members}
+use Rattle.hm_sched.specs.declared.queue.Queue.{Queue}
+use Rattle.hm_tied.specs.Tied.{Debts, IsOpen, IsTied, IsTiedBut, Roster, called_in, no_debts}
+use Rattle.hm_tied.specs.Entries.{Enlists, is_fenced_by, row_made}
+
+-- where no two that hold clash in the book, no two conflict that hold in the journal with the claimed
+abbrev pub NoneClashTies : Type 0
+NoneClashTies =
+    (J : Past) (number_of : Option Server → ℕ) (roster : Roster) → IsTied J number_of roster
+    → NoneClash roster.rows → NoneClashIn J roster.claimed
+
+-- who is free in the book is free in the journal with the claimed
+abbrev pub FreeTies : Type 0
+FreeTies =
+    (J : Past) (number_of : Option Server → ℕ) (roster : Roster) (p : ℕ) → IsTied J number_of roster
+    → IsOpen J p → IsFree roster.rows p ↔ IsFreeIn J roster.claimed p
+
+-- who is ready is enlisted
+abbrev pub ReadyAreEnlisted : Type 0
+ReadyAreEnlisted =
+    (J : Past) (number_of : Option Server → ℕ) (roster : Roster) → IsTied J number_of roster
+    → (q : ℕ) → IsReady roster.lists q → IsEnlisted roster.rows q
+
+-- who is enlisted or stands in a list was made
+abbrev pub KnownAreMade : Type 0
+KnownAreMade =
+    (J : Past) (number_of : Option Server → ℕ) (roster : Roster) (debts : Debts) → IsLegal J → IsTiedBut J number_of roster debts
+    → (q : ℕ) → (IsEnlisted roster.rows q → q ≤ made J) × (Stands roster.lists q → q ≤ made J)
+
+-- room for more changes nothing
+abbrev pub RoomTies : Type 0
+RoomTies =
+    (J : Past) (number_of : Option Server → ℕ) (roster : Roster) (debts : Debts) (lists : List (List ℕ))
+    → IsTiedBut J number_of roster debts → ((k : Queue) → members lists k ≡ members roster.lists k)
+    → IsTiedBut J number_of (record roster { lists = lists }) debts
+
+-- nor do the numbers of servers that never came up
+abbrev pub NumbersTie : Type 0
+NumbersTie =
+    (J : Past) (number_of more_of : Option Server → ℕ) (roster : Roster) (debts : Debts) → IsLegal J → IsTiedBut J number_of roster debts
+    → more_of None ≡ number_of None → ((server : Server) → came_up J server ≡ true → more_of (Some server) ≡ number_of (Some server))
+    → IsTiedBut J more_of roster debts
+
+-- what is left to do is among what others say, and the same may have ended
+pub record AreAmong (debts more : Debts) : Type 0 where
+  pub owed : (q : ℕ) → debts.owed q ≡ true → more.owed q ≡ true
+  pub slack : (q : ℕ) → debts.slack q ≡ true → more.slack q ≡ true
+  pub over : (q : ℕ) → debts.over q ≡ more.over q
+  pub late : debts.late ≡ true → more.late ≡ true
+
+-- more may be said to be left to do; so where nobody is left, nothing is
+abbrev pub DebtsMayRise : Type 0
+DebtsMayRise =
+    (J : Past) (number_of : Option Server → ℕ) (roster : Roster) (debts more : Debts)
+    → IsTiedBut J number_of roster debts → AreAmong debts more → IsTiedBut J number_of roster more
+
+-- at the start nobody is claimed or stands in a list, and everybody is owed
+abbrev pub OpeningOwes : Type 0
+OpeningOwes =
+    (J : Past) (number_of : Option Server → ℕ) (lists : List (List ℕ)) (rows : List Row)
+    → IsBookOf J [] rows → ((p : ℕ) → IsEnlisted rows p ↔ IsOpen J p) → ((k : Queue) → members lists k ≡ [])
+    → IsTiedBut J number_of (record { claimed = []; lists = lists; rows = rows }) (record no_debts { owed = λ q. true })
+
+-- a report fences one server alone, that of its call
+abbrev pub FencesOne : Type 0
+FencesOne =
+    (call : Pid) (told : Told) (J : Past) (p : ℕ) → is_fenced_by J (entry_is.Report call told ∷ J) (node_of J p) ≡ true
+    → (node : Node) × (server : Server) × (node_of J call.0 ≡ Some node) × (node.args ≡ args_are.FenceCall server)
+    × (called_in (node_of J p) ≡ Some server)
+
+-- those below a number are enlisted of those that an entry makes
+pub record EnlistsBelow (before after : Past) (old new : List Row) (n : ℕ) : Type 0 where
+  pub kept : (p : ℕ) → node_of before p ≢ None → row_of new p ≡ row_of old p
+  pub made : (p : ℕ) → node_of before p ≡ None → p < n → row_of new p ≡ row_made p (node_of after p)
+  pub rest : (p : ℕ) → node_of before p ≡ None → n ≤ p → row_of new p ≡ None
+
+-- they are enlisted one after another
+abbrev pub EnlistingBegins : Type 0
+EnlistingBegins =
+    (J after : Past) (number_of : Option Server → ℕ) (roster : Roster) → IsLegal J → IsLegal after → IsTied J number_of roster
+    → EnlistsBelow J after roster.rows roster.rows (made J + 1)
+
+abbrev pub EnlistingGoesOn : Type 0
+EnlistingGoesOn =
+    (J after : Past) (old rows new : List Row) (n : ℕ) (node : Node) (parent : Option Pid)
+    → EnlistsBelow J after old rows n → node_of J n ≡ None → node_of after n ≡ Some node → above_child rows parent ≡ node.above
+    → AreChanged rows n (Some (new_row rows n parent (asks node.args))) new
+    → EnlistsBelow J after old new (n + 1)
+
+abbrev pub EnlistingEnds : Type 0
+EnlistingEnds =
+    (J after : Past) (old new : List Row) → IsLegal after → EnlistsBelow J after old new (made after + 1) → Enlists J after old new
+
+-- the row of one that hasn't ended tells its ancestors
+abbrev pub AncestorsAreTold : Type 0
+AncestorsAreTold =
+    (J : Past) (number_of : Option Server → ℕ) (roster : Roster) (p : ℕ) (node : Node) → IsTied J number_of roster
+    → IsOpen J p → node_of J p ≡ Some node → above_in (row_of roster.rows p) ≡ node.above

@@ -1,0 +1,134 @@
+//! The laws.
+ghost use Rattle.hm_tied.specs.Calls.{ClaimTies, EndOwes, GiveBackTies, GiveUpOwes, JoinOwes, KeepOnOwes, NextOwes, OverIsLess, OwedIsLess, ReadyAreAvailable, SlackIsLess, WakeAllOwes, WakeHeldOwes, WakeOwes};
+ghost use Rattle.hm_tied.specs.Entries.{AbortOwes, DownOwes, ReportOwes, StepOwes, SubmitOwes, UndoOwes, UpOwes};
+ghost use Rattle.hm_tied.specs.Settled.{FenceSettles, OneSettles, OwedIsTold, ReportSettles};
+ghost use Rattle.hm_tied.specs.Uses.{AncestorsAreTold, DebtsMayRise, EnlistingBegins, EnlistingEnds, EnlistingGoesOn, FencesOne, FreeTies, KnownAreMade, NoneClashTies, NumbersTie, OpeningOwes, ReadyAreEnlisted, RoomTies};
+
+/// Whoever is available is ready, where nothing is left to do.
+pub fn available_are_ready()
+    ensures { ReadyAreAvailable }
+{}
+
+/// Whom `next` gives is owed.
+pub fn nexts_owe()
+    ensures { NextOwes }
+{}
+
+/// Who was given and can go on may be claimed.
+pub fn claims_tie()
+    ensures { ClaimTies }
+{}
+
+/// Who was given and isn't claimed holds again what it held before.
+pub fn giving_back_ties()
+    ensures { GiveBackTies }
+{}
+
+/// Whose claim ends without a commit is owed: without a step it gives its locks back and wakes those who waited for them, with
+/// one it keeps them.
+pub fn keeping_on_owes()
+    ensures up { GiveUpOwes }
+    ensures on { KeepOnOwes }
+{}
+
+/// Who becomes ready, is suspended or set aside is owed no longer.
+pub fn joins_owe()
+    ensures { JoinOwes }
+{}
+
+/// Who needs no call isn't owed.
+pub fn less_is_owed()
+    ensures owed { OwedIsLess }
+    ensures slack { SlackIsLess }
+    ensures over { OverIsLess }
+{}
+
+/// What the wake-ups settle.
+pub fn wakes_owe()
+    ensures one { WakeOwes }
+    ensures all { WakeAllOwes }
+    ensures held { WakeHeldOwes }
+{}
+
+/// Who has ended leaves its list and the book, and those who waited for it are woken.
+pub fn ends_owe()
+    ensures { EndOwes }
+{}
+
+/// Behind a step its children, its procedure, the parent and the root are looked at, and those that wait for a server where rows
+/// or places changed.
+pub fn steps_owe()
+    ensures { StepOwes }
+{}
+
+/// Behind an undo its followers and the root are looked at, and those that wait for a server where rows changed.
+pub fn undos_owe()
+    ensures { UndoOwes }
+{}
+
+/// A root that was made is to become ready; behind a server that went down those that wait for one are looked at.
+pub fn roots_owe()
+    ensures submit { SubmitOwes }
+    ensures down { DownOwes }
+{}
+
+/// Behind a report the one that called is woken, and those whose calls went to a server that the report fences.
+pub fn reports_owe()
+    ensures { ReportOwes }
+{}
+
+/// Behind a server that came those that wait for one are looked at.
+pub fn servers_owe()
+    ensures { UpOwes }
+{}
+
+/// Behind an abort those that wait for a server are looked at: whoever is aborted needs none at a row before the point.
+pub fn aborts_owe()
+    ensures { AbortOwes }
+{}
+
+/// What a tied lock book tells of the journal.
+pub fn books_tell()
+    ensures none { NoneClashTies }
+    ensures free { FreeTies }
+    ensures ready { ReadyAreEnlisted }
+    ensures made { KnownAreMade }
+    ensures above { AncestorsAreTold }
+{}
+
+/// Room for more procedures, and numbers for more servers, change nothing.
+pub fn room_ties()
+    ensures lists { RoomTies }
+    ensures numbers { NumbersTie }
+{}
+
+/// More may be said to be left to do than is; so where the tests name nobody any more, nothing is left.
+pub fn debts_rise()
+    ensures { DebtsMayRise }
+{}
+
+/// Behind an opening everybody is owed.
+pub fn openings_owe()
+    ensures { OpeningOwes }
+{}
+
+/// A report fences the server of its call alone, so that one wake-up finds all whose calls went there.
+pub fn fences_one()
+    ensures { FencesOne }
+{}
+
+/// What an entry makes is enlisted one after another, before the entry.
+pub fn enlisting_ties()
+    ensures begins { EnlistingBegins }
+    ensures goes_on { EnlistingGoesOn }
+    ensures ends { EnlistingEnds }
+{}
+
+/// Where nothing is left to do: of the owed those alone are that are busy and stand nowhere; behind one call for one that was
+/// owed; and behind the wake-ups of a report.
+pub fn debts_settle()
+    ensures told { OwedIsTold }
+    ensures one { OneSettles }
+    ensures report { ReportSettles }
+    ensures fence { FenceSettles }
+{}
