@@ -1,5 +1,5 @@
 -- The rows of keys that stand together are found from where they begin, up to the first key that isn't one.
-use Rattle.std.proofs.Common.{Bor, MatchOption, if◌then◌else◌, is_some, ◌||◌, ◌≡◌, ◌≢◌, ℕ, [], ◌∷◌, Bool, true, false, ◌&&◌, Option, Some, None, refl, inl, inr, arith, ap, sym, ◌∙◌, subst}
+use Rattle.std.proofs.Common.{Bor, MatchOption, if◌then◌else◌, is_some, ◌||◌, ◌≡◌, ◌≢◌, ℕ, List, [], ◌∷◌, Bool, true, false, ◌&&◌, Option, Some, None, refl, inl, inr, arith, ap, sym, ◌∙◌, subst}
 use Rattle.std.specs.List.{list_any}
 use Rattle.std.specs.Ordering.{nat_cmp, ordering_then}
 use Rattle.std.specs.declared.cmp.Ordering.{Ordering}
@@ -7,7 +7,7 @@ use Rattle.std.specs.declared.cmp.Ordering.TheVariants.{Less, Equal, Greater}
 use Rattle.std.proofs.lemmas.Bool.{cond-true, cond-false, cases_Bool}
 use Rattle.std.proofs.lemmas.Bool.Decides.{nat_tests}
 use Rattle.std.proofs.lemmas.Cmp.{ranked}
-use Rattle.hm_names.specs.Order.{table_cmp}
+use Rattle.hm_names.specs.Order.{bytes_cmp, table_cmp}
 use Rattle.hm_names.specs.declared.table.TableName.{TableName}
 use Rattle.hm_data.proofs.KeyOrder.{keys_total}
 use Rattle.hm_data.specs.Keys.{key_cmp}
@@ -22,6 +22,7 @@ use Rattle.hm_model.specs.RowsSaid.{Rows, all_among}
 use Rattle.hm_model.proofs.KeyTests.{same_table-is, same_table-refl, table_cmp-is}
 use Rattle.hm_index.specs.Index.{or_more, pairs_from}
 use Rattle.hm_catalog.specs.Kept.{Pairs, is_region_of, keys_kept, present, rows_ahead}
+use Rattle.hm_catalog.specs.Regions.{first_region, is_region}
 use Rattle.hm_catalog.specs.Spans.{in_span, is_from, low_of, regions_in, rows_of}
 use Rattle.hm_catalog.specs.declared.span.Span.{Span}
 use Rattle.hm_catalog.specs.declared.span.Span.TheVariants as span_is
@@ -120,6 +121,29 @@ number_gap table first count (key_is.Region k) (key_is.Region q) on off less = e
         let turned : Greater ≡ Less = sym (ap (λ o. ordering_then o (nat_cmp k.id q.id)) greater) ∙ less in
         cc
 
+-- all regions stand together
+not_below : (bytes : List ℕ) → bytes_cmp bytes [] ≢ Less
+not_below [] e = cc
+not_below (b ∷ bytes) e = cc
+
+all_below : (k : CatKey) → key_cmp k (key_is.Region first_region) ≡ Less → is_region k ≡ false
+all_below (key_is.Ns ns) e = refl
+all_below (key_is.Table table) e = refl
+all_below (key_is.Region region) e = by (bytes_cmp region.table.ns []) refl (bytes_cmp region.table.qualifier []) refl e
+  where
+    by : (o : Ordering) → bytes_cmp region.table.ns [] ≡ o → (u : Ordering) → bytes_cmp region.table.qualifier [] ≡ u
+        → ordering_then (ordering_then o u) (nat_cmp region.id 0) ≡ Less → true ≡ false
+    by Less is u same less = absurd (not_below region.table.ns is)
+    by Greater is u same less = cc
+    by Equal is Less same less = absurd (not_below region.table.qualifier same)
+    by Equal is Greater same less = cc
+    by Equal is Equal same less = let lower = ranked region.id 0 Less (sym less) in absurd (omega (arith, lower))
+
+all_gap : (k q : CatKey) → key_cmp k (key_is.Region first_region) ≢ Less → is_region k ≡ false → key_cmp k q ≡ Less → is_region q ≡ false
+all_gap (key_is.Ns ns) q on off less = absurd (on refl)
+all_gap (key_is.Table table) q on off less = absurd (on refl)
+all_gap (key_is.Region region) q on off less = cc
+
 module _ (cmp : CatKey → CatKey → Ordering) (alike : cmp ≡ key_cmp) where
   -- the rows of keys that stand together
   pub span_by : (span : Span) (pairs shown : Pairs) (low : CatKey) → AreInOrder (keys_kept pairs) → low ≡ low_of span → shown ≡ pairs_from cmp pairs low → rows_ahead (in_span span) shown ≡ rows_of (in_span span) (present pairs)
@@ -129,6 +153,7 @@ module _ (cmp : CatKey → CatKey → Ordering) (alike : cmp ≡ key_cmp) where
       by : (s : Span) → rows_ahead (in_span s) (pairs_from key_cmp pairs (low_of s)) ≡ rows_of (in_span s) (present pairs)
       by (span_is.Tables ns) = rows_from (in_span (span_is.Tables ns)) (low_of (span_is.Tables ns)) (table_below ns.now) (table_gap ns.now) pairs order
       by (span_is.Regions table) = rows_from (in_span (span_is.Regions table)) (low_of (span_is.Regions table)) (region_below table.now) (region_gap table.now) pairs order
+      by span_is.AllRegions = rows_from (in_span span_is.AllRegions) (low_of span_is.AllRegions) all_below all_gap pairs order
       by (span_is.Numbers table first count) = rows_from (in_span (span_is.Numbers table first count)) (low_of (span_is.Numbers table first count)) (number_below table.now first count) (number_gap table.now first count) pairs order
 
 -- whether a row's key passes, by the first of the rows whose keys do

@@ -9,6 +9,7 @@ use Rattle.hm_data.specs.declared.catalog.CatRow.{CatRow}
 use Rattle.hm_model.specs.Catalog.{keep}
 use Rattle.hm_model.specs.Keys.{same_table}
 use Rattle.hm_model.specs.RowsSaid.{Rows}
+use Rattle.hm_catalog.specs.Regions.{first_region}
 use Rattle.hm_catalog.specs.declared.name.Name.{Name}
 use Rattle.hm_catalog.specs.declared.name.Name.TheVariants as name_is
 
@@ -25,13 +26,14 @@ present ((key, row) ∷ more) = keep true key row (present more)
 abbrev pub keys_kept : Pairs → List CatKey
 keys_kept pairs = map (λ pair. pair.0) pairs
 
--- the key that a name stands for; a namespace's tables, and a table's regions from number 0 on, begin at keys that nothing has
+-- the key that a name stands for; a namespace's tables, a table's regions from number 0 on, and all regions begin at keys that nothing has
 abbrev pub key_of : Name → CatKey
 key_of (name_is.Ns ns) = key_is.Ns ns.now
 key_of (name_is.Table table) = key_is.Table table.now
 key_of (name_is.Region region) = key_is.Region region.now
 key_of (name_is.FirstTable ns) = key_is.Table (record { ns = ns.now; qualifier = [] })
 key_of (name_is.RegionsFrom table id) = key_is.Region (record { table = table.now; id = id })
+key_of name_is.FirstRegion = key_is.Region first_region
 
 -- the row of the first of pairs, where its key ties with this one
 abbrev pub first_tied : CatKey → Pairs → Option CatRow

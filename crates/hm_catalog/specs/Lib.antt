@@ -1,3 +1,4 @@
+pub mod Regions
 pub mod Rows
 pub mod Kept
 pub mod Spans

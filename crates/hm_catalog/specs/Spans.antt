@@ -6,6 +6,7 @@ use Rattle.hm_data.specs.declared.catalog.CatKey.TheVariants as key_is
 use Rattle.hm_model.specs.Reads.{is_region_in}
 use Rattle.hm_model.specs.RowsSaid.{Rows, is_table_in}
 use Rattle.hm_catalog.specs.Kept.{is_region_of}
+use Rattle.hm_catalog.specs.Regions.{first_region, is_region}
 use Rattle.hm_catalog.specs.declared.span.Span.{Span}
 use Rattle.hm_catalog.specs.declared.span.Span.TheVariants as span_is
 
@@ -17,12 +18,14 @@ is_from first count id = nat_le first id && nat_lt id (first + count)
 abbrev pub in_span : Span → CatKey → Bool
 in_span (span_is.Tables ns) key = is_table_in ns.now key
 in_span (span_is.Regions table) key = is_region_of table.now key
+in_span span_is.AllRegions key = is_region key
 in_span (span_is.Numbers table first count) key = is_region_in table.now (is_from first count) key
 
 -- where they begin
 abbrev pub low_of : Span → CatKey
 low_of (span_is.Tables ns) = key_is.Table (record { ns = ns.now; qualifier = [] })
 low_of (span_is.Regions table) = key_is.Region (record { table = table.now; id = 0 })
+low_of span_is.AllRegions = key_is.Region first_region
 low_of (span_is.Numbers table first count) = key_is.Region (record { table = table.now; id = first })
 
 -- the rows whose keys pass a test

@@ -2,6 +2,7 @@
 ghost use Rattle.std.specs.Prelude.{◌≡◌, []};
 ghost use Rattle.std.specs.Ordering.{nat_cmp};
 ghost use Rattle.hm_data.specs.Keys.{key_cmp};
+ghost use Rattle.hm_catalog.specs.Regions.{first_region};
 
 use hm_data::CatKey;
 use hm_data::laws::keys_order_by_name;
@@ -20,6 +21,8 @@ pub enum Name<'a> {
     FirstTable(&'a Ns),
     /// Where the regions of a table begin that have this number or a higher one.
     RegionsFrom(&'a TableName, u64),
+    /// Where all regions begin.
+    FirstRegion,
 }
 
 impl<'a> Sought<CatKey> for Name<'a> {
@@ -44,6 +47,7 @@ impl<'a> Sought<CatKey> for Name<'a> {
             CatKey::Region(region) => match self {
                 Name::Region(other) => region.cmp(other),
                 Name::RegionsFrom(table, id) => after_number(region, table, *id),
+                Name::FirstRegion => after_tables(region),
                 _ => Ordering::Greater,
             },
         }
@@ -65,4 +69,15 @@ fn after_number(region: &RegionName, table: &TableName, id: u64) -> Ordering
 {
     names_order_by_parts();
     region.table.cmp(table).then(region.id.cmp(&id))
+}
+
+// How a region compares with the place where all regions begin.
+fn after_tables(region: &RegionName) -> Ordering
+    ensures { result ≡ key_cmp (CatKey.Region region.now) (CatKey.Region first_region) }
+{
+    names_order_by_parts();
+    let table = &region.table;
+    let ns = table.ns.as_bytes().cmp(b"".as_slice());
+    let qualifier = table.qualifier.as_bytes().cmp(b"".as_slice());
+    ns.then(qualifier).then(region.id.cmp(&0))
 }

@@ -17,6 +17,8 @@ pub enum Span<'a> {
     Tables(&'a Ns),
     /// Those of a table's regions.
     Regions(&'a TableName),
+    /// Those of all regions.
+    AllRegions,
     /// Those of a table's regions with one of so many numbers, from the first on.
     Numbers {
         table: &'a TableName,
@@ -32,6 +34,7 @@ impl<'a> Span<'a> {
         match self {
             Span::Tables(ns) => Name::FirstTable(ns),
             Span::Regions(table) => Name::RegionsFrom(table, 0),
+            Span::AllRegions => Name::FirstRegion,
             Span::Numbers {
                 table,
                 first,
@@ -52,6 +55,7 @@ impl<'a> Span<'a> {
             CatKey::Region(region) => match self {
                 Span::Tables(_) => false,
                 Span::Regions(table) => region.table == **table,
+                Span::AllRegions => true,
                 Span::Numbers {
                     table,
                     first,

@@ -1,5 +1,5 @@
 -- No two roots that hold ask for what clashes, since each step is free of those who hold.
-use Rattle.std.proofs.Common.{◌≡◌, ◌≢◌, ℕ, List, [], ◌∷◌, Bool, true, false, ◌||◌, Option, Some, refl, ap, sym, ◌∙◌, subst, inl, inr, ◌⊎◌}
+use Rattle.std.proofs.Common.{◌≡◌, ◌≢◌, ℕ, List, [], ◌∷◌, Bool, true, false, ◌||◌, Option, refl, ap, sym, ◌∙◌, subst, inl, inr, ◌⊎◌}
 use Rattle.std.proofs.lemmas.Bool.{cases_eq}
 use Rattle.hm_names.specs.Server.{Server}
 use Rattle.hm_names.specs.declared.pid.Pid.{Pid}
@@ -9,24 +9,18 @@ use Rattle.hm_data.specs.declared.step.StepOut.{StepOut}
 use Rattle.hm_model.specs.Answers.{last_answer}
 use Rattle.hm_model.specs.Holding.{InConflict}
 use Rattle.hm_model.specs.Journal.{Past}
-use Rattle.hm_model.specs.Locks.{AsksClash, Clash, IsAbove, IsIn, asks}
+use Rattle.hm_model.specs.Locks.{Clash, asks}
 use Rattle.hm_model.specs.Rules.{IsLegal}
-use Rattle.hm_model.specs.Tree.{Node, node_of, root_in, root_of}
+use Rattle.hm_model.specs.Tree.{Node, root_in, root_of}
 use Rattle.hm_model.specs.declared.lock.Ask.{Ask}
 use Rattle.hm_model.proofs.LegalSteps.{ready_stops}
 use Rattle.hm_model.proofs.Trees.{grown_all, step_of}
-use Rattle.hm_costs.proofs.Free.{step_free}
-use Rattle.hm_costs.proofs.Tops.{TopHolds, TopIs, caused_begun, held, held_or, holds_with, root_begun, step_open, undo_facts, undo_open}
+use Rattle.hm_model.proofs.Free.{step_free}
+use Rattle.hm_model.proofs.Tops.{TopHolds, TopIs, caused_begun, held, held_or, holds_with, root_begun, step_open, tops_conflict, undo_facts, undo_open}
 
 -- no two roots that hold ask for what clashes
 abbrev pub Apart : Past → Type 0
 Apart J = (s t : ℕ) (x y : Node) → TopHolds J s x → TopHolds J t y → s ≢ t → Clash (asks x.args) (asks y.args) → ⊥
-
-not_above : (J : Past) (s : ℕ) (x : Node) → TopIs J s x → (q : ℕ) → IsAbove q (node_of J s) → ⊥
-not_above J s x top q up = subst (IsIn q) top.1 (subst (IsAbove q) top.0 up)
-
-conflict : (J : Past) (p s : ℕ) (x y : Node) → TopIs J p x → TopIs J s y → p ≢ s → Clash (asks x.args) (asks y.args) → InConflict J p s
-conflict J p s x y p_is s_is differs clash = (differs, (not_above J s y s_is p, not_above J p x p_is s, subst (λ o. AsksClash o (node_of J s)) (sym p_is.0) (subst (AsksClash (Some x)) (sym s_is.0) clash)))
 
 or_turned : (a b : Bool) → (a || b) ≡ true → (b || a) ≡ true
 or_turned true true h = refl
@@ -42,8 +36,8 @@ apart_step pid pick out J legal apart s t x y h k differs clash = by (held_or pi
   where
     by : TopHolds J s x ⊎ ((s ≡ pid.0) × TopIs J s x) → TopHolds J t y ⊎ ((t ≡ pid.0) × TopIs J t y) → ⊥
     by (inl a) (inl b) = apart s t x y a b differs clash
-    by (inl a) (inr b) = step_free pid pick out J legal s (holds_with J s x a) (subst (λ p. InConflict J p s) b.0 (conflict J t s y x b.1 a.0 (λ e. differs (sym e)) (clash_turned (asks x.args) (asks y.args) clash)))
-    by (inr a) (inl b) = step_free pid pick out J legal t (holds_with J t y b) (subst (λ p. InConflict J p t) a.0 (conflict J s t x y a.1 b.0 differs clash))
+    by (inl a) (inr b) = step_free pid pick out J legal s (holds_with J s x a) (subst (λ p. InConflict J p s) b.0 (tops_conflict J t s y x b.1 a.0 (λ e. differs (sym e)) (clash_turned (asks x.args) (asks y.args) clash)))
+    by (inr a) (inl b) = step_free pid pick out J legal t (holds_with J t y b) (subst (λ p. InConflict J p t) a.0 (tops_conflict J s t x y a.1 b.0 differs clash))
     by (inr a) (inr b) = differs (a.0 ∙ sym b.0)
 
 apart_same : (entry : Entry) (J : Past) → IsLegal (entry ∷ J) → ((s : ℕ) → last_answer (entry ∷ J) s ≡ last_answer J s) → Apart J → Apart (entry ∷ J)
@@ -69,7 +63,7 @@ step_apart pid pick out J legal top top_is q y h other clash =
       | inr below ↦
           let begun = root_begun J legal.0 pid.0 step.node step.node_is (ready_stops J pid.0 step.node (last_answer J pid.0) step.ready) (λ e. below (e ∙ sym root)) in
           apart_all J legal.0 (root_of J pid.0) q top y (top_is, (λ none. begun (ap (last_answer J) (sym root) ∙ none)), step_open pid pick out J legal) h (λ e. other (sym e)) clash
-      | inl mine ↦ step_free pid pick out J legal q (holds_with J q y h) (subst (λ p. InConflict J p q) (sym mine) (conflict J (root_of J pid.0) q top y top_is h.0 (λ e. other (sym e)) clash))
+      | inl mine ↦ step_free pid pick out J legal q (holds_with J q y h) (subst (λ p. InConflict J p q) (sym mine) (tops_conflict J (root_of J pid.0) q top y top_is h.0 (λ e. other (sym e)) clash))
     ]
 
 -- nor with the root of one in which a step is undone

@@ -1,27 +1,24 @@
 -- The kinds are priced, so each tree that nothing disturbs is within its cost.
-use Rattle.std.proofs.Common.{◌⊎◌}
-use Rattle.hm_costs.proofs.At.{IsFreshCrash, at_crash}
-use Rattle.hm_costs.proofs.Counted.{lost_same}
+use Rattle.std.proofs.Common.{◌⊎◌, ◌&&◌, ◌≡◌, ℕ, ◌+◌, ◌≤◌, List, [], ◌∷◌, ◌++◌, length, Bool, true, false, ◌==◌, cond, Option, Some, None, is_some, refl, ap, sym, ◌∙◌, subst, arith, inl, inr}
+use Rattle.hm_costs.proofs.At.{IsFreshCrash, at_crash, At, Fresh, IsFreshArgs, at_calls, at_lined, at_moves, call_due, left, start_call, start_lined, start_transit, IsIdle, CallGoes}
+use Rattle.hm_costs.proofs.Counted.{lost_same, cost_same, first_counted}
 use Rattle.hm_costs.proofs.Live.{dead_stays, down_dead}
 use Rattle.hm_costs.proofs.Lost.{CrashDue, at_listed, moving_due}
 use Rattle.hm_costs.proofs.RegionsLeave.{within_stays}
-use Rattle.hm_model.specs.Costs.{regions_lost}
+use Rattle.hm_model.specs.Costs.{regions_lost, cost}
 use Rattle.hm_model.specs.Places.{at_server, load}
-use Rattle.hm_model.specs.Tree.{root_node}
-use Rattle.hm_model.proofs.Trees.{is_there}
+use Rattle.hm_model.specs.Tree.{root_node, Node, is_root_in, is_top, made, node_of, root_in, submitted}
+use Rattle.hm_model.proofs.Trees.{is_there, Grown, grown_all, new_child, node_same, le_or_lt, some_of, step_of, at_top}
 use Rattle.hm_data.specs.declared.request.Request.{Request}
-use Rattle.hm_model.specs.Kinds.{request_kind}
+use Rattle.hm_model.specs.Kinds.{request_kind, kind_of}
 use Rattle.hm_costs.proofs.CrashPaid.{crash_paid}
 use Rattle.hm_model.specs.Whereabouts.{crashed_in}
-use Rattle.hm_model.specs.Reports.{fits_verb}
+use Rattle.hm_model.specs.Reports.{fits_verb, verb_of}
 use Rattle.hm_model.specs.Fleet.{fences_by, fences_if, is_fenced}
 use Rattle.hm_data.specs.Numbers.{told_number}
 use Rattle.hm_data.specs.declared.call.Told.TheVariants as told_is
 use Rattle.hm_model.proofs.NameTies.{same_server-refl}
-use Rattle.std.proofs.lemmas.Bool.{and_from, or_left, or_right}
-use Rattle.std.proofs.Common.{◌&&◌}
-use Rattle.std.proofs.Common.{◌≡◌, ℕ, ◌+◌, ◌≤◌, List, [], ◌∷◌, ◌++◌, length, Bool, true, false, ◌==◌, cond, Option, Some, None, is_some, refl, ap, sym, ◌∙◌, subst, arith, inl, inr}
-use Rattle.std.proofs.lemmas.Bool.{cases_eq, cond-false, cond-true, eq-eqb, false≢true, ne_eqb, true≢false}
+use Rattle.std.proofs.lemmas.Bool.{and_from, or_left, or_right, cases_eq, cond-false, cond-true, eq-eqb, false≢true, ne_eqb, true≢false}
 use Rattle.std.proofs.lemmas.Option.{none-some, same_Some}
 use Rattle.hm_names.specs.Server.{Server}
 use Rattle.hm_names.specs.declared.pid.Pid.{Pid}
@@ -38,26 +35,18 @@ use Rattle.hm_data.specs.declared.place.Goal.TheVariants as goal_is
 use Rattle.hm_data.specs.declared.request.Request.TheVariants as request_is
 use Rattle.hm_data.specs.declared.step.StepOut.{StepOut}
 use Rattle.hm_model.specs.Answers.{done_with, is_aborted, is_stopped, last_answer, report_of}
-use Rattle.hm_model.specs.Costs.{cost}
 use Rattle.hm_model.specs.Entries.{IsQuiet, is_refusal}
 use Rattle.hm_model.specs.Journal.{Past}
 use Rattle.hm_model.specs.Phase.{cause, ended, ended_node, root_ended}
-use Rattle.hm_model.specs.Reports.{verb_of}
 use Rattle.hm_model.specs.Rules.{IsLegal}
-use Rattle.hm_model.specs.Tree.{Node, is_root_in, is_top, made, node_of, root_in, submitted}
 use Rattle.hm_model.specs.Verbs.{verb_in}
 use Rattle.hm_model.proofs.Forest.{forest_all}
 use Rattle.hm_model.proofs.LegalSteps.{ready_stops}
 use Rattle.hm_model.proofs.StepDoes.{CallerAt, calls as calls_part, crash as crash_part, lined as lined_part, moves as moves_part, part_of}
-use Rattle.hm_model.proofs.Trees.{Grown, grown_all, new_child, node_same, le_or_lt, some_of, step_of}
 use Rattle.hm_costs.specs.Theorem.{CostBound}
-use Rattle.hm_costs.proofs.At.{At, Fresh, IsFreshArgs, at_calls, at_lined, at_moves, call_due, left, start_call, start_lined, start_transit}
 use Rattle.hm_costs.proofs.CallPaid.{call_paid}
-use Rattle.hm_costs.proofs.Counted.{cost_same, first_counted}
-use Rattle.hm_costs.proofs.At.{IsIdle}
 use Rattle.hm_model.specs.Inputs.{rows_read}
 use Rattle.hm_model.specs.Lists.{lines_of}
-use Rattle.hm_model.specs.Kinds.{kind_of}
 use Rattle.hm_model.specs.RowsSaid.{all_among, is_live_status, live_among, status_in}
 use Rattle.hm_costs.proofs.Dead.{follower_fresh, live_unfenced}
 use Rattle.hm_costs.proofs.LinedPaid.{lined_paid}
@@ -67,9 +56,8 @@ use Rattle.hm_costs.proofs.Spend.{price}
 use Rattle.hm_costs.proofs.Stays.{all_stays}
 use Rattle.hm_costs.proofs.GoesOn.{sound_all}
 use Rattle.hm_costs.proofs.TransitPaid.{transit_paid}
-use Rattle.hm_costs.proofs.Trees.{ended_by, quiet_unaborted, step_root}
-use Rattle.hm_model.proofs.Trees.{at_top}
-use Rattle.hm_costs.proofs.At.{CallGoes}
+use Rattle.hm_model.proofs.RootTrees.{ended_by, step_root}
+use Rattle.hm_costs.proofs.Trees.{quiet_unaborted}
 
 -- a new root is one of these
 new_fresh : (entry : Entry) (J : Past) → IsLegal (entry ∷ J) → (r : ℕ) (top : Node) → node_of J r ≡ None → node_of (entry ∷ J) r ≡ Some top → top.above ≡ [] → Fresh (entry ∷ J) r top

@@ -1,6 +1,6 @@
 -- Steps of procedures that make a call are paid for.
-use Rattle.std.proofs.Common.{◌≡◌, ℕ, ◌+◌, ◌≤◌, List, ◌∷◌, true, false, not, Option, Some, None, refl, ap, sym, ◌∙◌, subst, arith, inl, inr, slice_get}
-use Rattle.std.proofs.lemmas.Bool.{cases_Bool, cond-false, false≢true, true≢false}
+use Rattle.std.proofs.Common.{◌≡◌, ℕ, ◌+◌, ◌≤◌, ◌∷◌, true, false, not, Option, Some, None, refl, ap, sym, ◌∙◌, subst, arith, inl, inr, slice_get}
+use Rattle.std.proofs.lemmas.Bool.{cases_Bool, cond-false, false≢true, true≢false, and_left}
 use Rattle.std.proofs.lemmas.Option.{none-some, same_Some}
 use Rattle.hm_names.specs.Server.{Server}
 use Rattle.hm_names.specs.declared.pid.Pid.{Pid}
@@ -18,14 +18,14 @@ use Rattle.hm_data.specs.declared.entry.Entry.TheVariants as entry_is
 use Rattle.hm_data.specs.declared.sheet.Row.{Row}
 use Rattle.hm_data.specs.declared.step.StepOut.{StepOut}
 use Rattle.hm_model.specs.Acts.{act_answer}
-use Rattle.hm_model.specs.Answers.{failing, is_aborted, is_stopped, last_answer, report_of, row_of, row_after}
+use Rattle.hm_model.specs.Answers.{failing, is_aborted, is_stopped, last_answer, report_of, row_of, row_after, no_row}
 use Rattle.hm_model.specs.CallActs.{layout_told, settle_layout}
 use Rattle.hm_model.specs.Entries.{is_refusal}
 use Rattle.hm_model.specs.Evaluation.{is_cut_off, row_answer}
 use Rattle.hm_model.specs.Fleet.{is_fenced, is_live}
 use Rattle.hm_model.specs.Inputs.{fenced_if, step_input}
 use Rattle.hm_model.specs.Journal.{Past}
-use Rattle.hm_model.specs.Kinds.{kind_of}
+use Rattle.hm_model.specs.Kinds.{kind_of, first_row_of}
 use Rattle.hm_model.specs.Lists.{exact_rows, fixed}
 use Rattle.hm_model.specs.Outs.{calls, fails, given}
 use Rattle.hm_model.specs.Reports.{fits_verb, verb_of}
@@ -35,24 +35,15 @@ use Rattle.hm_model.specs.Verbs.{verb_in}
 use Rattle.hm_model.specs.Whereabouts.{called_by}
 use Rattle.hm_model.proofs.CallSteps.{CallOut, Ending, is_laying}
 use Rattle.hm_model.proofs.LegalSteps.{StepFacts, ready_stops}
-use Rattle.hm_model.proofs.StepDoes.{CallerAt, Does}
+use Rattle.hm_model.proofs.StepDoes.{exact_row_is, CallerAt, Does}
 use Rattle.hm_model.proofs.Trees.{Grown, answer_now, does_of, grown_all, step_of}
-use Rattle.hm_costs.proofs.At.{At, CallAt, CallGoes, at_calls, call_due}
+use Rattle.hm_costs.proofs.At.{At, CallAt, CallGoes, at_calls, call_due, Fresh}
 use Rattle.hm_costs.proofs.Prices.{IsPaid}
 use Rattle.hm_costs.proofs.Spend.{price}
 use Rattle.hm_costs.proofs.Sums.{total}
-use Rattle.hm_model.proofs.ExactRows.{exact_is}
 use Rattle.hm_names.specs.Region.{Region}
 use Rattle.hm_data.specs.declared.call.Verb.TheVariants as verb_is
-use Rattle.std.proofs.lemmas.Bool.{and_left}
-use Rattle.hm_model.specs.Kinds.{first_row_of}
 use Rattle.hm_model.specs.Wanted.{layout_of}
-use Rattle.hm_model.specs.Answers.{no_row}
-use Rattle.hm_costs.proofs.At.{Fresh}
-
--- the row of a kind of exact rows
-pub exact_row_is : (J : Past) (p : ℕ) (pick : Option Server) (out : StepOut) (step : StepFacts J p pick out) (kind : ℕ) → kind_of step.node.args ≡ kind → (first : Row) (more : List Row) → exact_rows kind ≡ first ∷ more → slice_get (exact_rows kind) (row_of J p step.node) ≡ Some step.row
-exact_row_is J p pick out step kind e first more is = ap (λ l. slice_get l (row_of J p step.node)) (is ∙ sym (exact_is step.sheet step.valid kind (step.of_kind ∙ e) first more is)) ∙ step.row_is
 
 pub due_some : (last : Option Answer) (report : Option Told) → is_stopped last ≡ false → 1 ≤ call_due last report
 due_some None report runs = omega arith

@@ -6,8 +6,12 @@ use Rattle.hm_costs.proofs.MetMoved.{enables_table, moved, moved_played, moves_r
 use Rattle.hm_costs.proofs.MetMerged.{merged, merged_played, merges_regions, splits_region}
 use Rattle.hm_costs.proofs.MetUndone.{opens_again, sweeps_layout, undone, undone_played}
 use Rattle.hm_costs.proofs.MetCrashed.{crashed, crashed_played, crashes}
+use Rattle.hm_costs.proofs.MetCreatedTwo as two_created
+use Rattle.hm_costs.proofs.MetDisabledTwo as two_disabled
+use Rattle.hm_costs.proofs.MetEnabledTwo as two_enabled
+use Rattle.hm_costs.proofs.MetCrashedTwo as two_crashed
 use Rattle.hm_costs.specs.Met.{CostsAreMet}
 
 pub costs_are_met_is : CostsAreMet
 costs_are_met_is =
-    ((deleted, deleted_played, 12, creates_namespace), ((deleted, deleted_played, 13, drops_namespace), ((created, created_played, 1, creates_table), ((deleted, deleted_played, 10, deletes_table), ((moved, moved_played, 9, enables_table), ((disabled, disabled_played, 6, disables_table), ((deleted, deleted_played, 9, modifies_table), ((merged, merged_played, 6, splits_region), ((merged, merged_played, 14, merges_regions), ((moved, moved_played, 12, moves_region), ((crashed, crashed_played, 6, crashes), ((undone, undone_played, 11, opens_again), ((undone, undone_played, 10, sweeps_layout), tt)))))))))))))
+    ((deleted, deleted_played, 12, creates_namespace), ((deleted, deleted_played, 13, drops_namespace), ((created, created_played, 1, creates_table), ((deleted, deleted_played, 10, deletes_table), ((moved, moved_played, 9, enables_table), ((disabled, disabled_played, 6, disables_table), ((deleted, deleted_played, 9, modifies_table), ((merged, merged_played, 6, splits_region), ((merged, merged_played, 14, merges_regions), ((moved, moved_played, 12, moves_region), ((crashed, crashed_played, 6, crashes), ((undone, undone_played, 11, opens_again), ((undone, undone_played, 10, sweeps_layout), ((two_created.created, two_created.created_played, 1, two_created.creates_table), ((two_enabled.enabled, two_enabled.enabled_played, 13, two_enabled.enables_table), ((two_disabled.disabled, two_disabled.disabled_played, 8, two_disabled.disables_table), ((two_crashed.crashed, two_crashed.crashed_played, 8, two_crashed.crashes), tt)))))))))))))))))

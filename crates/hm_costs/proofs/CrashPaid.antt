@@ -38,10 +38,12 @@ use Rattle.hm_model.specs.Whereabouts.{crashed_in, moved_by}
 use Rattle.hm_model.proofs.LegalSteps.{ReadyBy, StepFacts}
 use Rattle.hm_model.proofs.Trees.{Grown, answer_now, child_stopped, does_of, grown_all, node_new, step_of}
 use Rattle.hm_costs.proofs.At.{At, CrashAt, Fresh, at_crash}
-use Rattle.hm_costs.proofs.CallPaid.{exact_row_is}
+use Rattle.hm_model.proofs.StepDoes.{exact_row_is}
 use Rattle.hm_costs.proofs.LinedPaid.{child_at}
 use Rattle.hm_costs.proofs.Live.{dead_stays}
-use Rattle.hm_costs.proofs.Lost.{CrashDue, Moving, Within, at_listed, at_most, at_order, both_lengths, drop_length, moving_due, listed_at, take_or_drop, transit_made}
+use Rattle.hm_costs.proofs.Lost.{CrashDue, Moving, Within, at_listed, at_most, both_lengths, drop_length, moving_due, listed_at, take_or_drop}
+use Rattle.hm_model.proofs.InOrder.{at_order}
+use Rattle.hm_model.proofs.Listed.{transit_made}
 use Rattle.hm_costs.proofs.Prices.{AllAt, IsPaid}
 use Rattle.hm_costs.proofs.Spend.{AreChildren, is_child_at, price, transits_spent}
 use Rattle.hm_costs.proofs.Sums.{total}
@@ -156,7 +158,7 @@ module _ (pid : Pid) (pick : Option Server) (out : StepOut) (J : Past) (legal : 
               λ y here. elim (take_or_drop y 64 (at_server J server) (at_listed J server y (ap (is_at server) (sym (places_stay y)) ∙ here))) [
                 | inr dropped ↦ inl dropped
                 | inl taken ↦
-                    let m = transit_made y (take 64 (at_server J server)) taken in
+                    let m = transit_made goal_is.Assign y (take 64 (at_server J server)) taken in
                     let there = made_node m.0 (args_are.Transit y goal_is.Assign None) (ap (λ c. slice_get (args_in c) m.0) children ∙ m.1) in
                     inr (made J + m.0 + 1, there, ap is_stopped (new_unstepped pid pick out J legal me is_me (made J + m.0 + 1) (omega arith)).0)
               ],

@@ -1,6 +1,6 @@
 -- Each server that is fenced, or is to be, is dead.
-use Rattle.std.proofs.Common.{◌≡◌, ℕ, zero, suc, ◌+◌, ◌-◌, ◌==◌, List, [], ◌∷◌, ◌++◌, Bool, true, false, map, Option, Some, None, refl, ap, sym, ◌∙◌, subst, inl, inr, ◌⊎◌, slice_get, option_map}
-use Rattle.std.proofs.lemmas.Bool.{cases_eq, cond-false, cond-true, eq-eqb, false≢true, ne_eqb, true≢false}
+use Rattle.std.proofs.Common.{◌≡◌, ℕ, zero, suc, ◌+◌, ◌-◌, ◌==◌, List, [], ◌∷◌, ◌++◌, Bool, true, false, map, Option, Some, None, refl, ap, sym, ◌∙◌, subst, inl, inr, ◌⊎◌, slice_get, option_map, is_some, nat_lt}
+use Rattle.std.proofs.lemmas.Bool.{cases_eq, cond-false, cond-true, eq-eqb, false≢true, ne_eqb, true≢false, lt-ltb}
 use Rattle.std.proofs.lemmas.Option.{none-some, same_Some}
 use Rattle.hm_names.specs.Server.{Server}
 use Rattle.hm_names.specs.declared.pid.Pid.{Pid}
@@ -31,18 +31,14 @@ use Rattle.hm_model.specs.Wanted.{server_of}
 use Rattle.hm_model.proofs.ExactRows.{led_row, row_passes}
 use Rattle.hm_model.proofs.LegalSteps.{StepFacts, ready_stops}
 use Rattle.hm_model.proofs.PlainActs.{is_caller, is_plain}
-use Rattle.hm_model.proofs.StepDoes.{Does, calls as calls_part, crash as crash_part, lined as lined_part, moves as moves_part, part_of, row_by}
+use Rattle.hm_model.proofs.StepDoes.{Does, calls as calls_part, crash as crash_part, lined as lined_part, moves as moves_part, part_of, row_by, exact_row_is, bears_by}
 use Rattle.hm_model.proofs.Trees.{does_of, grown_all, le_or_lt, new_child, node_same, step_of, undo_rooted}
 use Rattle.hm_model.proofs.UndoMakes.{undo_of}
 use Rattle.hm_costs.proofs.At.{IsFreshArgs}
-use Rattle.hm_costs.proofs.CallPaid.{exact_row_is}
 use Rattle.hm_costs.proofs.Live.{FencedDead, FencersDead, IsDead, dead_stays, down_dead, fence_in, fenced_step}
 use Rattle.hm_costs.proofs.Spend.{AreChildren, IsChild, IsChildGoal, act_spent, is_child_at}
-use Rattle.std.proofs.Common.{is_some, nat_lt}
-use Rattle.std.proofs.lemmas.Bool.{lt-ltb}
 use Rattle.hm_data.specs.declared.sheet.Row.{Row}
 use Rattle.hm_data.specs.declared.step.StepIn.{StepIn}
-use Rattle.hm_model.proofs.StepDoes.{bears_by}
 
 -- what undos make: transits that assign, and sweeps
 abbrev pub IsFollower : Args → Type 0

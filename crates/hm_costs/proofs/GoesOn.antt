@@ -19,7 +19,7 @@ use Rattle.hm_model.specs.Rules.{IsLegal}
 use Rattle.hm_model.specs.Tree.{Node, is_top, made, node_of, root_in, root_of}
 use Rattle.hm_model.specs.Undo.{is_empty, stack}
 use Rattle.hm_model.proofs.LegalSteps.{StepFacts}
-use Rattle.hm_model.proofs.StepDoes.{Does, IsSound}
+use Rattle.hm_model.proofs.StepDoes.{Does, IsStepAnswer}
 use Rattle.hm_model.proofs.Trees.{Grown, answer_now, does_of, down_rooted, grown_all, is_there, le_or_lt, node_same, old_or_new, other_answer, pid_there, step_of, still_there, submit_rooted, undo_rooted, new_child, IsRooted}
 use Rattle.hm_costs.specs.Theorem.{HasOneThatGoes, EachTreeGoesOn}
 
@@ -46,8 +46,8 @@ sound_rooted J J' rooted grown causes sound = record {
 }
 
 module _ (pid : Pid) (pick : Option Server) (out : StepOut) (J : Past) (grown : Grown J) (step : StepFacts J pid.0 pick out) (d : Does J pid.0 step.node.args (last_answer J pid.0) step.sheet.rows out) (sound : IsSoundJournal J) where
-  unsound : (a : Answer) → IsSound a → a ≡ answer_is.Undone → ⊥
-  unsound a s is = subst IsSound is s
+  unsound : (a : Answer) → IsStepAnswer a → a ≡ answer_is.Undone → ⊥
+  unsound a s is = subst IsStepAnswer is s
 
   kept_cause : (r : ℕ) → cause J r ≢ None → cause (entry_is.Step pid pick out ∷ J) r ≢ None
   kept_cause r some = by (root_of J pid.0 == r)

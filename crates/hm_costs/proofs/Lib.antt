@@ -7,6 +7,10 @@ pub mod MetClosed
 pub mod MetMerged
 pub mod MetUndone
 pub mod MetCrashed
+pub mod MetCreatedTwo
+pub mod MetDisabledTwo
+pub mod MetEnabledTwo
+pub mod MetCrashedTwo
 pub mod CostsMet
 pub mod GoesOn
 pub mod Sums
@@ -18,11 +22,7 @@ pub mod Lost
 pub mod RegionsLeave
 pub mod Spend
 pub mod At
-pub mod Tops
 pub mod Apart
-pub mod Distinct
-pub mod Transits
-pub mod Kin
 pub mod Edits
 pub mod Tables
 pub mod RowsStay
@@ -32,7 +32,6 @@ pub mod Opening
 pub mod TransitPaid
 pub mod LinedPaid
 pub mod CrashPaid
-pub mod Free
 pub mod Dead
 pub mod Stays
 pub mod Counted

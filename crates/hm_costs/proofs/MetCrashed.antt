@@ -31,7 +31,7 @@ abbrev played20 : Past
 played20 = entry_is.Up two ∷ created
 
 is_played20 : IsPlayed played20
-is_played20 = (created_played, refl, refl)
+is_played20 = (created_played, (refl, refl))
 
 abbrev played21 : Past
 played21 = entry_is.Down one ∷ played20

@@ -47,13 +47,13 @@ abbrev played1 : Past
 played1 = entry_is.Up one ∷ played0
 
 is_played1 : IsPlayed played1
-is_played1 = (is_played0, refl, refl)
+is_played1 = (is_played0, (refl, refl))
 
 abbrev played2 : Past
 played2 = entry_is.Submit (record { group = 1; number = 1 }) (request_is.CreateTable table []) ∷ played1
 
 is_played2 : IsPlayed played2
-is_played2 = (is_played1, refl, inr refl, λ own e. let few : drawn played1 table ≡ 0 = refl in subst (λ t. drawn played1 t + 1 ≤ 4096) (same_Some table own e) (omega (arith, few)))
+is_played2 = (is_played1, (refl, inr refl, λ own e. let few : drawn played1 table ≡ 0 = refl in subst (λ t. drawn played1 t + 1 ≤ 4096) (same_Some table own e) (omega (arith, few))))
 
 abbrev played3 : Past
 played3 = entry_is.Step (pid 1) None (gives (answer_is.More 1) []) ∷ played2

@@ -39,7 +39,7 @@ abbrev played30 : Past
 played30 = entry_is.Submit (record { group = 1; number = 3 }) (request_is.ModifyTable table 7) ∷ disabled
 
 is_played30 : IsPlayed played30
-is_played30 = (disabled_played, refl, inr refl, λ own e. let few : drawn disabled table ≡ 1 = refl in subst (λ t. drawn disabled t + 0 ≤ 4096) (same_Some table own e) (omega (arith, few)))
+is_played30 = (disabled_played, (refl, inr refl, λ own e. let few : drawn disabled table ≡ 1 = refl in subst (λ t. drawn disabled t + 0 ≤ 4096) (same_Some table own e) (omega (arith, few))))
 
 abbrev played31 : Past
 played31 = entry_is.Step (pid 9) None (gives (answer_is.More 1) []) ∷ played30
@@ -57,7 +57,7 @@ abbrev played33 : Past
 played33 = entry_is.Submit (record { group = 1; number = 4 }) (request_is.DeleteTable table) ∷ played32
 
 is_played33 : IsPlayed played33
-is_played33 = (is_played32, refl, inr refl, λ own e. let few : drawn played32 table ≡ 1 = refl in subst (λ t. drawn played32 t + 0 ≤ 4096) (same_Some table own e) (omega (arith, few)))
+is_played33 = (is_played32, (refl, inr refl, λ own e. let few : drawn played32 table ≡ 1 = refl in subst (λ t. drawn played32 t + 0 ≤ 4096) (same_Some table own e) (omega (arith, few))))
 
 abbrev played34 : Past
 played34 = entry_is.Step (pid 10) None (gives (answer_is.More 1) []) ∷ played33
@@ -87,7 +87,7 @@ abbrev played38 : Past
 played38 = entry_is.Submit (record { group = 1; number = 5 }) (request_is.CreateNamespace (codes "shop")) ∷ played37
 
 is_played38 : IsPlayed played38
-is_played38 = (is_played37, refl, inr refl, λ own e. absurd (none-some own e))
+is_played38 = (is_played37, (refl, inr refl, λ own e. absurd (none-some own e)))
 
 abbrev played39 : Past
 played39 = entry_is.Step (pid 12) None (gives (answer_is.More 1) []) ∷ played38
@@ -105,7 +105,7 @@ abbrev played41 : Past
 played41 = entry_is.Submit (record { group = 1; number = 6 }) (request_is.DropNamespace (codes "shop")) ∷ played40
 
 is_played41 : IsPlayed played41
-is_played41 = (is_played40, refl, inr refl, λ own e. absurd (none-some own e))
+is_played41 = (is_played40, (refl, inr refl, λ own e. absurd (none-some own e)))
 
 abbrev played42 : Past
 played42 = entry_is.Step (pid 13) None (gives (answer_is.More 1) []) ∷ played41

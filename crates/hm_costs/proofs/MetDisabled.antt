@@ -35,7 +35,7 @@ abbrev played20 : Past
 played20 = entry_is.Submit (record { group = 1; number = 2 }) (request_is.DisableTable table) ∷ created
 
 is_played20 : IsPlayed played20
-is_played20 = (created_played, refl, inr refl, λ own e. let few : drawn created table ≡ 1 = refl in subst (λ t. drawn created t + 0 ≤ 4096) (same_Some table own e) (omega (arith, few)))
+is_played20 = (created_played, (refl, inr refl, λ own e. let few : drawn created table ≡ 1 = refl in subst (λ t. drawn created t + 0 ≤ 4096) (same_Some table own e) (omega (arith, few))))
 
 abbrev played21 : Past
 played21 = entry_is.Step (pid 6) None (gives (answer_is.More 1) []) ∷ played20

@@ -187,7 +187,7 @@ abbrev played47 : Past
 played47 = entry_is.Submit (record { group = 1; number = 3 }) (request_is.MergeRegions (region 2 ∷ region 3 ∷ [])) ∷ played46
 
 is_played47 : IsPlayed played47
-is_played47 = (is_played46, refl, inr refl, λ own e. let few : drawn played46 table ≡ 3 = refl in subst (λ t. drawn played46 t + 1 ≤ 4096) (same_Some table own e) (omega (arith, few)))
+is_played47 = (is_played46, (refl, inr refl, λ own e. let few : drawn played46 table ≡ 3 = refl in subst (λ t. drawn played46 t + 1 ≤ 4096) (same_Some table own e) (omega (arith, few))))
 
 abbrev played48 : Past
 played48 = entry_is.Step (pid 14) None (gives (answer_is.More 1) []) ∷ played47

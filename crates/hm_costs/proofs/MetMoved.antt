@@ -44,7 +44,7 @@ abbrev played30 : Past
 played30 = entry_is.Submit (record { group = 1; number = 3 }) (request_is.EnableTable table) ∷ disabled
 
 is_played30 : IsPlayed played30
-is_played30 = (disabled_played, refl, inr refl, λ own e. let few : drawn disabled table ≡ 1 = refl in subst (λ t. drawn disabled t + 0 ≤ 4096) (same_Some table own e) (omega (arith, few)))
+is_played30 = (disabled_played, (refl, inr refl, λ own e. let few : drawn disabled table ≡ 1 = refl in subst (λ t. drawn disabled t + 0 ≤ 4096) (same_Some table own e) (omega (arith, few))))
 
 abbrev played31 : Past
 played31 = entry_is.Step (pid 9) None (gives (answer_is.More 1) []) ∷ played30
@@ -110,13 +110,13 @@ abbrev played41 : Past
 played41 = entry_is.Up two ∷ played40
 
 is_played41 : IsPlayed played41
-is_played41 = (is_played40, refl, refl)
+is_played41 = (is_played40, (refl, refl))
 
 abbrev played42 : Past
 played42 = entry_is.Submit (record { group = 1; number = 4 }) (request_is.Move (region 1) (Some two)) ∷ played41
 
 is_played42 : IsPlayed played42
-is_played42 = (is_played41, refl, inr refl, λ own e. let few : drawn played41 table ≡ 1 = refl in subst (λ t. drawn played41 t + 0 ≤ 4096) (same_Some table own e) (omega (arith, few)))
+is_played42 = (is_played41, (refl, inr refl, λ own e. let few : drawn played41 table ≡ 1 = refl in subst (λ t. drawn played41 t + 0 ≤ 4096) (same_Some table own e) (omega (arith, few))))
 
 abbrev played43 : Past
 played43 = entry_is.Step (pid 12) None (gives (answer_is.More 3) []) ∷ played42

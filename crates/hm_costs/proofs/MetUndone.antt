@@ -58,13 +58,13 @@ abbrev played32 : Past
 played32 = entry_is.Undo (pid 6) 2 (undo_out back_is.Sweep node6.args (pid 6) []) ∷ played31
 
 is_played32 : IsPlayed played32
-is_played32 = (is_played31, (node6, refl, refl, record { pid = 6; row = 2; undo = back_is.Sweep; edits = [] }, refl, refl, refl), (node6, refl, refl))
+is_played32 = (is_played31, ((node6, refl, refl, record { pid = 6; row = 2; undo = back_is.Sweep; edits = [] }, refl, refl, refl), (node6, refl, refl)))
 
 abbrev played33 : Past
 played33 = entry_is.Undo (pid 6) 1 (undo_out back_is.Reopen node6.args (pid 6) []) ∷ played32
 
 is_played33 : IsPlayed played33
-is_played33 = (is_played32, (node6, refl, refl, record { pid = 6; row = 1; undo = back_is.Reopen; edits = [] }, refl, refl, refl), (node6, refl, refl))
+is_played33 = (is_played32, ((node6, refl, refl, record { pid = 6; row = 1; undo = back_is.Reopen; edits = [] }, refl, refl, refl), (node6, refl, refl)))
 
 abbrev played34 : Past
 played34 = entry_is.Step (pid 10) None (calls 1 (verb_is.Sweep (pid 6))) ∷ played33

@@ -37,7 +37,7 @@ use Rattle.hm_model.specs.Journal.{Past}
 use Rattle.hm_model.specs.Kinds.{first_row_of, kind_of}
 use Rattle.hm_model.specs.Lists.{exact_rows, fixed}
 use Rattle.hm_model.specs.Outs.{checked, ends_with, fails, given, places, spawns}
-use Rattle.hm_model.specs.Picks.{is_pick_right}
+use Rattle.hm_model.specs.Picks.{is_pick_right, is_another, is_as_wanted}
 use Rattle.hm_model.specs.Places.{is_at, is_the_server, place_of, placed_by, region_if}
 use Rattle.hm_model.specs.Reports.{is_the_region}
 use Rattle.hm_model.specs.Rules.{IsLegal}
@@ -46,13 +46,12 @@ use Rattle.hm_model.specs.Tree.{Node, node_of}
 use Rattle.hm_model.specs.Verbs.{verb_in}
 use Rattle.hm_model.specs.Views.{region_of}
 use Rattle.hm_model.specs.Wanted.{goal_in, wanted_of}
-use Rattle.hm_model.specs.Picks.{is_another, is_as_wanted}
 use Rattle.hm_model.specs.Whereabouts.{moved_by}
 use Rattle.hm_model.proofs.KeyTests.{same_region-refl}
 use Rattle.hm_model.proofs.LegalSteps.{StepFacts}
 use Rattle.hm_model.proofs.NameTies.{same_server-is}
 use Rattle.hm_model.proofs.Trees.{answer_now, grown_all, step_of}
-use Rattle.hm_costs.proofs.CallPaid.{exact_row_is}
+use Rattle.hm_model.proofs.StepDoes.{exact_row_is}
 
 -- a transit is of kind 10, and works on its region
 pub record IsMoving (args : Args) (region : Region) : Type 0 where

@@ -37,13 +37,13 @@ use Rattle.hm_model.proofs.LegalSteps.{StepFacts, ready_stops}
 use Rattle.hm_model.proofs.PlainActs.{is_caller}
 use Rattle.hm_model.proofs.StepDoes.{Does}
 use Rattle.hm_model.proofs.Trees.{Grown, answer_now, does_of, grown_all, le_or_lt, new_child, node_same, other_answer, step_of}
-use Rattle.hm_costs.proofs.Tops.{ended_top}
-use Rattle.hm_costs.proofs.Free.{step_free}
-use Rattle.hm_costs.proofs.Transits.{above_caller, caller_facts, root_above, transits_conflict}
+use Rattle.hm_model.proofs.Tops.{ended_top}
+use Rattle.hm_model.proofs.Free.{step_free}
+use Rattle.hm_model.proofs.Transits.{above_caller, caller_facts, root_above, transits_conflict}
 use Rattle.hm_costs.proofs.Live.{IsDead}
 use Rattle.hm_costs.proofs.Moves.{comes_not, is_moving, opening_now}
 use Rattle.hm_costs.proofs.Prices.{Spares}
-use Rattle.hm_costs.proofs.Trees.{absent_all, ended_by}
+use Rattle.hm_model.proofs.RootTrees.{absent_all, ended_by}
 
 -- what calls a region server never fails
 caller_fine : (J : Past) (p : ℕ) (x : Node) (rows : List Row) (out : StepOut) → Does J p x.args (last_answer J p) rows out → is_caller x.args ≡ true → failing out.answer ≡ None

@@ -1,6 +1,6 @@
 -- The entries of a tree that nothing disturbs are paid for, whatever the kinds.
-use Rattle.std.proofs.Common.{◌≡◌, ◌≢◌, ℕ, ◌+◌, ◌-◌, ◌<◌, ◌≤◌, List, [], ◌∷◌, length, Bool, true, false, not, ◌||◌, ◌&&◌, ◌==◌, cond, nat_lt, Option, Some, None, is_some, refl, ap, sym, ◌∙◌, subst, arith, inl, inr, ◌⊎◌, slice_get}
-use Rattle.std.proofs.lemmas.Bool.{and_from, cases_Bool, cases_eq, cond-false, cond-true, eq-eqb, eqb-true, false≢true, le-ltb, lt-ltb, ne_eqb, true≢false}
+use Rattle.std.proofs.Common.{◌≡◌, ◌≢◌, ℕ, ◌+◌, ◌-◌, ◌<◌, ◌≤◌, List, [], ◌∷◌, length, Bool, true, false, not, ◌||◌, ◌&&◌, ◌==◌, cond, nat_lt, Option, Some, None, is_some, refl, ap, sym, ◌∙◌, subst, arith, inl, inr, ◌⊎◌, slice_get, nat_le, suc, zero}
+use Rattle.std.proofs.lemmas.Bool.{and_from, cases_Bool, cases_eq, cond-false, cond-true, eq-eqb, eqb-true, false≢true, le-ltb, lt-ltb, ne_eqb, true≢false, and_parts, le-leb, or_left, or_right}
 use Rattle.std.proofs.lemmas.Option.{none-some, same_Some, slice_get_past}
 use Rattle.hm_names.specs.Server.{Server}
 use Rattle.hm_names.specs.declared.pid.Pid.{Pid}
@@ -15,36 +15,27 @@ use Rattle.hm_data.specs.declared.step.StepOut.{StepOut}
 use Rattle.hm_model.specs.Answers.{done_with, failing, is_stopped, last_answer}
 use Rattle.hm_model.specs.Apart.{IsSameTree, tree_of}
 use Rattle.hm_model.specs.Costs.{cost}
-use Rattle.hm_model.specs.Entries.{IsQuiet, entries_of}
+use Rattle.hm_model.specs.Entries.{IsQuiet, entries_of, makes}
 use Rattle.hm_model.specs.Journal.{Past}
-use Rattle.hm_model.specs.Phase.{all_stopped, cause, ended, in_tree, or_else, root_ended, root_over, rolled_back, stopped_in}
+use Rattle.hm_model.specs.Phase.{all_stopped, cause, ended, in_tree, or_else, root_ended, root_over, rolled_back, stopped_in, all_below, ended_node}
 use Rattle.hm_model.specs.Rules.{IsLegal}
-use Rattle.hm_model.specs.Tree.{Node, args_in, child_of, made, node_of, root_in, root_of}
-use Rattle.hm_model.specs.Undo.{is_empty, pushed, stack}
+use Rattle.hm_model.specs.Tree.{Node, args_in, child_of, made, node_of, root_in, root_of, is_root_in, is_top}
+use Rattle.hm_model.specs.Undo.{is_empty, pushed, stack, Undoable, unless_failed}
 use Rattle.hm_model.proofs.Apart.{others_stay}
 use Rattle.hm_model.proofs.Grown.{grown_all as made_all, made_up_to, nodes_stay}
-use Rattle.hm_model.proofs.LegalSteps.{StepFacts}
-use Rattle.hm_model.proofs.StepDoes.{Does}
-use Rattle.hm_model.proofs.Trees.{Grown, IsRooted, answer_now, does_of, down_rooted, grown_all, is_there, le_or_lt, new_child, node_same, old_or_new, other_answer, step_of, submit_rooted, undo_rooted}
+use Rattle.hm_model.proofs.LegalSteps.{StepFacts, ready_stops}
+use Rattle.hm_model.proofs.StepDoes.{Does, CallerAt, IsStepAnswer}
+use Rattle.hm_model.proofs.Trees.{Grown, IsRooted, answer_now, does_of, down_rooted, grown_all, is_there, le_or_lt, new_child, node_same, old_or_new, other_answer, step_of, submit_rooted, undo_rooted, at_top, some_of}
 use Rattle.hm_costs.proofs.Prices.{ArePriced, Going, IsPaid, Spares}
 use Rattle.hm_costs.proofs.Sums.{price_of, sum_append, sum_below, sum_same, sum_swap, sum_total, total}
-use Rattle.hm_costs.proofs.Trees.{absent_all, ended_by, entries_other, of_tree, one_if_true, over_stopped, quiet_before, step_root}
-use Rattle.std.proofs.Common.{nat_le, suc, zero}
+use Rattle.hm_model.proofs.RootTrees.{absent_all, ended_by, of_tree, over_stopped, step_root, call_root, undo_root}
+use Rattle.hm_costs.proofs.Trees.{entries_other, one_if_true, quiet_before}
 use Rattle.hm_model.proofs.PlainActs.{ChildrenWait}
-use Rattle.hm_model.specs.Phase.{all_below, ended_node}
-use Rattle.std.proofs.lemmas.Bool.{and_parts, le-leb, or_left, or_right}
 use Rattle.hm_data.specs.declared.act.Back.{Back}
 use Rattle.hm_data.specs.declared.catalog.Edit.{Edit}
-use Rattle.hm_model.specs.Undo.{Undoable, unless_failed}
 use Rattle.hm_data.specs.declared.act.Back.TheVariants as back_is
-use Rattle.hm_model.proofs.StepDoes.{CallerAt, IsSound}
-use Rattle.hm_model.proofs.LegalSteps.{ready_stops}
-use Rattle.hm_model.specs.Tree.{is_root_in, is_top}
-use Rattle.hm_costs.proofs.Trees.{call_root, undo_root}
-use Rattle.hm_model.proofs.Trees.{at_top, some_of}
 use Rattle.hm_model.specs.Reports.{verb_of}
 use Rattle.hm_model.specs.Procedures.{latest}
-use Rattle.hm_model.specs.Entries.{makes}
 
 module _ (At : Past → ℕ → Node → ℕ → Type 0) (Fresh : Past → ℕ → Node → Type 0) (price : Args → ℕ) where
   -- a root without a step
@@ -304,14 +295,14 @@ module _ (At : Past → ℕ → Node → ℕ → Type 0) (Fresh : Past → ℕ �
           within = within_now;
         }
 
-    by_answer : pid.0 ≡ r → failing out.answer ≡ None → (a : Answer) → out.answer ≡ a → IsSound a → Paid (entry_is.Step pid pick out ∷ J) r top
+    by_answer : pid.0 ≡ r → failing out.answer ≡ None → (a : Answer) → out.answer ≡ a → IsStepAnswer a → Paid (entry_is.Step pid pick out ∷ J) r top
     by_answer here fine a e sound =
         let last : last_answer (entry_is.Step pid pick out ∷ J) r ≡ Some a = ap (last_answer (entry_is.Step pid pick out ∷ J)) (sym here) ∙ answer_now pid pick out J ∙ ap Some e in
         let over_is : (b : Bool) → is_some (done_with (Some a)) ≡ b → root_ended (entry_is.Step pid pick out ∷ J) r ≡ b = λ b h. ended_by (entry_is.Step pid pick out ∷ J) r (cause_now ∙ fine) ∙ ap (λ o. is_some (done_with o)) last ∙ h in
         let some : last_answer (entry_is.Step pid pick out ∷ J) r ≢ None = λ none. none-some a (sym none ∙ last) in
         by a e sound over_is some
       where
-        by : (a : Answer) → out.answer ≡ a → IsSound a → ((b : Bool) → is_some (done_with (Some a)) ≡ b → root_ended (entry_is.Step pid pick out ∷ J) r ≡ b) → last_answer (entry_is.Step pid pick out ∷ J) r ≢ None → Paid (entry_is.Step pid pick out ∷ J) r top
+        by : (a : Answer) → out.answer ≡ a → IsStepAnswer a → ((b : Bool) → is_some (done_with (Some a)) ≡ b → root_ended (entry_is.Step pid pick out ∷ J) r ≡ b) → last_answer (entry_is.Step pid pick out ∷ J) r ≢ None → Paid (entry_is.Step pid pick out ∷ J) r top
         by (answer_is.More n) e sound over_is some = spends (spends_on fine (over_is false refl) some)
         by (answer_is.Wait n) e sound over_is some = spends (spends_on fine (over_is false refl) some)
         by (answer_is.Await n) e sound over_is some = spends (spends_on fine (over_is false refl) some)

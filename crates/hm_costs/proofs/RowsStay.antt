@@ -47,14 +47,14 @@ use Rattle.hm_model.proofs.LegalSteps.{ready_stops}
 use Rattle.hm_model.proofs.Rows.{has_key, keys_in_order}
 use Rattle.hm_model.proofs.Trees.{IsWaiting, grown_all, step_of}
 use Rattle.hm_costs.proofs.Apart.{step_apart, undo_apart}
-use Rattle.hm_costs.proofs.Tops.{TopHolds, undo_facts}
+use Rattle.hm_model.proofs.Tops.{TopHolds, undo_facts}
 use Rattle.hm_costs.proofs.At.{AllCounted, CountsNow, IsCounter, IsIdle, goes_at_once}
 use Rattle.hm_costs.proofs.Counted.{among_same, more_edits}
 use Rattle.hm_costs.proofs.Edits.{AreEditsOf, IsKeyOf}
 use Rattle.hm_costs.proofs.Prices.{Going, Spares}
 use Rattle.hm_costs.proofs.Spend.{rows_counted}
 use Rattle.hm_costs.proofs.Tables.{IsTop, step_edits, tabled_all, undo_edits_of}
-use Rattle.hm_costs.proofs.Trees.{tree_root}
+use Rattle.hm_model.proofs.RootTrees.{tree_root}
 
 -- no row of a region of the table is edited
 abbrev pub AreAside : TableName → List Edit → Type 0

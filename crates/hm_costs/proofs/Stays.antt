@@ -1,7 +1,7 @@
 -- What a procedure may still cost stays, whatever others of the tree, and other trees, do.
-use Rattle.hm_model.specs.Fleet.{is_fenced}
-use Rattle.hm_model.specs.Whereabouts.{crashed_in}
-use Rattle.hm_costs.proofs.At.{CrashAt}
+use Rattle.hm_model.specs.Fleet.{is_fenced, is_live, same_server}
+use Rattle.hm_model.specs.Whereabouts.{crashed_in, moved_by}
+use Rattle.hm_costs.proofs.At.{CrashAt, AllCounted, At, CallAt, Counting, Fresh, CallGoes, Lined, OpensAt, TransitAt, call_due, due_at, IsIdle}
 use Rattle.hm_costs.proofs.Live.{IsDead, dead_stays}
 use Rattle.hm_costs.proofs.Lost.{CrashDue, Moving}
 use Rattle.hm_costs.proofs.RegionsLeave.{covered_stays, within_stays}
@@ -18,21 +18,17 @@ use Rattle.hm_data.specs.declared.entry.Entry.{Entry}
 use Rattle.hm_data.specs.declared.entry.Entry.TheVariants as entry_is
 use Rattle.hm_data.specs.declared.place.Place.{Place}
 use Rattle.hm_model.specs.Answers.{is_stopped, last_answer, report_of, row_after, row_of}
-use Rattle.hm_model.specs.Fleet.{is_live, same_server}
 use Rattle.hm_model.specs.Inputs.{made_at_step}
 use Rattle.hm_model.specs.Journal.{Past}
 use Rattle.hm_model.specs.Kinds.{first_row_of, kind_of}
 use Rattle.hm_model.specs.Rules.{IsLegal}
 use Rattle.hm_model.specs.Sheets.{sheet_for, sheets_of}
 use Rattle.hm_model.specs.Tree.{Node, node_of}
-use Rattle.hm_model.specs.Whereabouts.{moved_by}
 use Rattle.hm_model.proofs.Grown.{nodes_stay}
 use Rattle.hm_model.proofs.ValidSheets.{Leads}
 use Rattle.hm_model.proofs.Trees.{grown_all, other_answer, other_steps}
-use Rattle.hm_costs.proofs.Tops.{ended_top}
-use Rattle.hm_costs.proofs.At.{AllCounted, At, CallAt, Counting, Fresh, CallGoes, Lined, OpensAt, TransitAt, call_due, due_at}
+use Rattle.hm_model.proofs.Tops.{ended_top}
 use Rattle.hm_costs.proofs.RowsStay.{counts_stay}
-use Rattle.hm_costs.proofs.At.{IsIdle}
 use Rattle.hm_costs.proofs.Opening.{opens_holds, place_stays}
 use Rattle.hm_costs.proofs.Prices.{AllAt, Going, Spares}
 use Rattle.hm_costs.proofs.Spend.{price}

@@ -22,7 +22,7 @@ use Rattle.hm_model.specs.Rules.{IsLegal}
 use Rattle.hm_model.specs.Sheets.{undo_of_next}
 use Rattle.hm_model.specs.Tree.{Node, args_in, first_of, made, node_of, root_in, root_node, root_of}
 use Rattle.hm_model.specs.Undo.{Undoable, pushed, rest_of, row_if_there, stack}
-use Rattle.hm_model.specs.Undoing.{closed_by, undo_edits}
+use Rattle.hm_model.specs.Undoing.{undo_edits}
 use Rattle.hm_model.specs.Verbs.{verb_in}
 use Rattle.hm_model.specs.Views.{table_of}
 use Rattle.hm_model.specs.Whereabouts.{moved_by}
@@ -30,16 +30,14 @@ use Rattle.hm_model.proofs.ExactRows.{led_row, row_passes}
 use Rattle.hm_model.proofs.Grown.{nodes_stay}
 use Rattle.hm_model.proofs.LegalSteps.{StepFacts, ready_stops}
 use Rattle.hm_model.proofs.PlainActs.{is_caller, is_plain}
-use Rattle.hm_model.proofs.StepDoes.{Does, bears_by, calls as calls_part, crash as crash_part, lined as lined_part, moves as moves_part, part_of, row_by}
-use Rattle.hm_model.proofs.Trees.{Grown, does_of, grown_all, is_there, le_or_lt, new_child, node_same, step_of}
+use Rattle.hm_model.proofs.StepDoes.{Does, bears_by, calls as calls_part, crash as crash_part, lined as lined_part, moves as moves_part, part_of, row_by, exact_row_is}
+use Rattle.hm_model.proofs.Trees.{Grown, does_of, grown_all, le_or_lt, new_child, node_same, step_of}
 use Rattle.hm_model.proofs.UndoMakes.{undo_of}
-use Rattle.hm_costs.proofs.CallPaid.{exact_row_is}
 use Rattle.hm_costs.proofs.Dead.{IsFollower, follower_is, plain_children}
 use Rattle.hm_costs.proofs.Edits.{AreEditsOf, ClosesItsOwn, act_edits, asked_closes, edits_as, edits_turned}
-use Rattle.hm_costs.proofs.Distinct.{AreDistinct, asked_distinct}
-use Rattle.hm_costs.proofs.Transits.{caller_facts}
+use Rattle.hm_model.proofs.Transits.{caller_facts}
 use Rattle.hm_costs.proofs.Spend.{AreChildren, IsChild, is_child_at}
-use Rattle.hm_costs.proofs.Trees.{absent_all, tree_root}
+use Rattle.hm_model.proofs.RootTrees.{absent_all, tree_root}
 
 -- what roots are: requests, followers of undos, and crashes
 abbrev pub IsTop : Args → Type 0
@@ -47,18 +45,10 @@ IsTop (args_are.Root request first) = Unit {0}
 IsTop (args_are.Crash server) = Unit {0}
 IsTop args = IsFollower args
 
--- what only roots are
-abbrev pub IsHigh : Args → Type 0
-IsHigh (args_are.Root request first) = Unit {0}
-IsHigh (args_are.Crash server) = Unit {0}
-IsHigh args = ⊥
-
 -- what a procedure says of itself
 pub record IsOwn (x : Node) : Type 0 where
   pub closes : ClosesItsOwn x.args
-  pub apart : AreDistinct (closed_by x.args)
   pub top : x.above ≡ [] → IsTop x.args
-  pub high : IsHigh x.args → x.above ≡ []
 
 -- one that calls nobody and moves no region has the table of its root
 abbrev pub IsOfTable : Args → Args → Type 0
@@ -99,21 +89,21 @@ tabled_same : (entry : Entry) (J : Past) (legal : IsLegal (entry ∷ J)) → Tab
 tabled_same entry J legal old nodes stacks = tabled_rooted entry J legal old (λ r top is all. subst (AllUndoOf (table_of top.args)) (sym (stacks r)) all) (λ r none. stacks r ∙ (absent_all J legal.0 r none).stacked) (λ q x is. inl (sym (nodes q) ∙ is))
 
 -- a submission and a server that goes down make one root
-one_root : (J : Past) → Grown J → (args : Args) (first : ℕ) → ClosesItsOwn args → AreDistinct (closed_by args) → IsTop args → (q : ℕ) (x : Node) → cond (q == made J + 1) (Some (root_node q args first)) (node_of J q) ≡ Some x → (node_of J q ≡ Some x) ⊎ ((node_of J q ≡ None) × (x.root ≡ q) × IsOwn x)
-one_root J grown args first closes apart top q x is = elim (cases_eq q (made J + 1)) [
+one_root : (J : Past) → Grown J → (args : Args) (first : ℕ) → ClosesItsOwn args → IsTop args → (q : ℕ) (x : Node) → cond (q == made J + 1) (Some (root_node q args first)) (node_of J q) ≡ Some x → (node_of J q ≡ Some x) ⊎ ((node_of J q ≡ None) × (x.root ≡ q) × IsOwn x)
+one_root J grown args first closes top q x is = elim (cases_eq q (made J + 1)) [
   | inl new ↦
       let one : root_node q args first ≡ x = same_Some (root_node q args first) x (sym (cond-true (q == made J + 1) (Some (root_node q args first)) (node_of J q) (eq-eqb q (made J + 1) new)) ∙ is) in
-      inr (grown.numbered q (omega (arith, new)), ap (λ (n : Node). n.root) (sym one), subst IsOwn one (record { closes = closes; apart = apart; top = λ e. top; high = λ h. refl }))
+      inr (grown.numbered q (omega (arith, new)), ap (λ (n : Node). n.root) (sym one), subst IsOwn one (record { closes = closes; top = λ e. top }))
   | inr old ↦ inl (sym (cond-false (q == made J + 1) (Some (root_node q args first)) (node_of J q) (ne_eqb q (made J + 1) old)) ∙ is)
 ]
 
 -- a follower of an undo
 own_follower : (x : Node) → IsFollower x.args → IsOwn x
-own_follower x is = let b = by x.args is in record { closes = b.0; apart = b.1; top = b.2; high = b.3 }
+own_follower x is = let b = by x.args is in record { closes = b.0; top = b.1 }
   where
-    by : (args : Args) → IsFollower args → ClosesItsOwn args × AreDistinct (closed_by args) × (x.above ≡ [] → IsTop args) × (IsHigh args → x.above ≡ [])
-    by (args_are.Transit region goal to) is = (tt, tt, (λ e. is), (λ h. absurd h))
-    by (args_are.SweepLayout root) is = (tt, tt, (λ e. is), (λ h. absurd h))
+    by : (args : Args) → IsFollower args → ClosesItsOwn args × (x.above ≡ [] → IsTop args)
+    by (args_are.Transit region goal to) is = (tt, (λ e. is))
+    by (args_are.SweepLayout root) is = (tt, (λ e. is))
     by args is = absurd is
 
 -- what is left to undo behind a step and behind an undo
@@ -194,18 +184,6 @@ module _ (pid : Pid) (pick : Option Server) (out : StepOut) (J : Past) (legal : 
   closes_child (args_are.Root request first) (inr h) = absurd (cc h)
   closes_child args h = tt
 
-  distinct_child : (args : Args) → Here args → AreDistinct (closed_by args)
-  distinct_child (args_are.Root request first) (inl h) = absurd h.0
-  distinct_child (args_are.Root request first) (inr h) = absurd (cc h)
-  distinct_child args h = tt
-
-  low_child : (args : Args) → Here args → IsHigh args → ⊥
-  low_child (args_are.Root request first) (inl h) high = absurd h.0
-  low_child (args_are.Root request first) (inr h) high = cc h
-  low_child (args_are.Crash server) (inl h) high = absurd h.0
-  low_child (args_are.Crash server) (inr h) high = cc h
-  low_child args h high = high
-
   child_table : (args : Args) → Here args → IsOfTable root.0.args args
   child_table args (inr h) unmoved uncalled table e = absurd (cc ((caller_facts args h).1, uncalled))
   child_table (args_are.AddRegions own first bounds) (inl h) unmoved uncalled table e = old.tables pid.0 step.node root.0 step.node_is root.1 h.1 h.2 table (h.0 ∙ e)
@@ -231,7 +209,7 @@ module _ (pid : Pid) (pick : Option Server) (out : StepOut) (J : Past) (legal : 
       | inr lt ↦
           let c = new_child pid pick out J step.node step.node_is q lt x is in
           let h = here.1 (q - made J - 1) c.0 c.1 in
-          subst IsOwn (sym c.2) (record { closes = closes_child c.0 h; apart = distinct_child c.0 h; top = λ e. absurd (cons_nil pid.0 step.node.above e); high = λ high. absurd (low_child c.0 h high) })
+          subst IsOwn (sym c.2) (record { closes = closes_child c.0 h; top = λ e. absurd (cons_nil pid.0 step.node.above e) })
     ];
     tables = λ q x top is top_is. elim (le_or_lt q (made J)) [
       | inl le ↦
@@ -267,7 +245,7 @@ module _ (pid : Pid) (pick : Option Server) (out : StepOut) (J : Past) (legal : 
 pub tabled_all : (J : Past) → IsLegal J → Tabled J
 tabled_all [] legal = record { own = λ q x is. absurd (none-some x is); tables = λ q x top is. absurd (none-some x is); undone = λ r top is. tt }
 tabled_all (entry_is.Start sheets ∷ J) legal = tabled_same (entry_is.Start sheets) J legal (tabled_all J legal.0) (λ q. refl) (λ r. refl)
-tabled_all (entry_is.Submit nonce request ∷ J) legal = tabled_rooted (entry_is.Submit nonce request) J legal (tabled_all J legal.0) (λ r top is all. all) (λ r none. (absent_all J legal.0 r none).stacked) (λ q x is. one_root J (grown_all J legal.0) (args_are.Root request (first_of J (table_of_request request))) (first_of J (table_of_request request)) (asked_closes request (first_of J (table_of_request request)) legal.1.1.0.0) (asked_distinct request (first_of J (table_of_request request)) legal.1.1.0.0) tt q x is)
+tabled_all (entry_is.Submit nonce request ∷ J) legal = tabled_rooted (entry_is.Submit nonce request) J legal (tabled_all J legal.0) (λ r top is all. all) (λ r none. (absent_all J legal.0 r none).stacked) (λ q x is. one_root J (grown_all J legal.0) (args_are.Root request (first_of J (table_of_request request))) (first_of J (table_of_request request)) (asked_closes request (first_of J (table_of_request request)) legal.1.1.0.0) tt q x is)
 tabled_all (entry_is.Step pid pick out ∷ J) legal = tabled_step pid pick out J legal (tabled_all J legal.0)
 tabled_all (entry_is.Undo pid row out ∷ J) legal =
     tabled_rooted (entry_is.Undo pid row out) J legal (tabled_all J legal.0) (λ r top is all. undo_same (root_of J pid.0 == r) (table_of top.args) (stack J r) all) (λ r none. undo_none (root_of J pid.0 == r) (stack J r) (absent_all J legal.0 r none).stacked)
@@ -281,7 +259,7 @@ tabled_all (entry_is.Undo pid row out ∷ J) legal =
     ]
 tabled_all (entry_is.Report call told ∷ J) legal = tabled_same (entry_is.Report call told) J legal (tabled_all J legal.0) (λ q. refl) (λ r. refl)
 tabled_all (entry_is.Up server ∷ J) legal = tabled_same (entry_is.Up server) J legal (tabled_all J legal.0) (λ q. refl) (λ r. refl)
-tabled_all (entry_is.Down server ∷ J) legal = tabled_rooted (entry_is.Down server) J legal (tabled_all J legal.0) (λ r top is all. all) (λ r none. (absent_all J legal.0 r none).stacked) (λ q x is. one_root J (grown_all J legal.0) (args_are.Crash server) 1 tt tt tt q x is)
+tabled_all (entry_is.Down server ∷ J) legal = tabled_rooted (entry_is.Down server) J legal (tabled_all J legal.0) (λ r top is all. all) (λ r none. (absent_all J legal.0 r none).stacked) (λ q x is. one_root J (grown_all J legal.0) (args_are.Crash server) 1 tt tt q x is)
 tabled_all (entry_is.Abort pid ∷ J) legal = tabled_same (entry_is.Abort pid) J legal (tabled_all J legal.0) (λ q. refl) (λ r. refl)
 
 -- a step edits regions' rows of its root's table alone

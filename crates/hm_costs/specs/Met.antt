@@ -1,10 +1,13 @@
 -- That each kind of root costs no more than some root of the kind takes.
 use Rattle.std.specs.Prelude.{◌≡◌, ℕ, ◌+◌, ◌==◌, Bool, not, ◌||◌, map, is_none, is_some, List, Option, [], ◌∷◌, Some, None, true, false, ◌⊎◌}
 use Rattle.hm_names.specs.Server.{Server}
+use Rattle.hm_names.specs.declared.nonce.Nonce.{Nonce}
 use Rattle.hm_data.specs.declared.call.Told.{Told}
 use Rattle.hm_data.specs.declared.call.Verb.{Verb}
 use Rattle.hm_data.specs.declared.entry.Entry.TheVariants as entry_is
 use Rattle.hm_data.specs.declared.record.Phase.TheVariants as phase_is
+use Rattle.hm_data.specs.declared.request.Request.{Request}
+use Rattle.hm_data.specs.declared.sheet.Sheet.{Sheet}
 use Rattle.hm_data.specs.declared.step.StepOut.{StepOut}
 use Rattle.hm_model.specs.Answers.{last_answer, report_of}
 use Rattle.hm_model.specs.Costs.{cost}
@@ -49,19 +52,31 @@ Tells before p told =
 abbrev pub all_kinds : List ℕ
 all_kinds = 1 ∷ 2 ∷ 3 ∷ 4 ∷ 5 ∷ 6 ∷ 7 ∷ 8 ∷ 9 ∷ 10 ∷ 11 ∷ 20 ∷ 21 ∷ 23 ∷ 24 ∷ 25 ∷ 26 ∷ 27 ∷ []
 
+-- valid sheets for all kinds, and nothing before them
+abbrev pub Begins : Past → List Sheet → Type 0
+Begins before sheets = (before ≡ []) × (map (λ sheet. sheet.kind) sheets ≡ all_kinds) × AllValid sheets
+
+-- a request that can be asked for, under a nonce that is none or new
+abbrev pub IsAskable : Past → Nonce → Request → Type 0
+IsAskable before nonce request = (wrong_in request ≡ None) × IsFresh before nonce × StaysWithin before request
+
+-- the latest step that is left to undo is undone as its sheet says
+abbrev pub IsTakenBack : Past → ℕ → ℕ → StepOut → Type 0
+IsTakenBack before p row out = IsLatest before p row × IsEvaluated before (root_of before p) None out
+
+-- a server that comes up is newer than each of its host and port
+abbrev pub ComesUp : Past → Server → Type 0
+ComesUp before server = (has_newer before server ≡ false) × (has_older_live before server ≡ false)
+
 -- each entry meets its rules, whichever kinds the master runs, and one root at a time has a step and hasn't ended
 abbrev pub IsPlayed : Past → Type 0
 IsPlayed [] = ⊥
-IsPlayed (entry_is.Start sheets ∷ before) =
-    (before ≡ []) × (map (λ sheet. sheet.kind) sheets ≡ all_kinds) × AllValid sheets
-IsPlayed (entry_is.Submit nonce request ∷ before) =
-    IsPlayed before × (wrong_in request ≡ None) × IsFresh before nonce × StaysWithin before request
+IsPlayed (entry_is.Start sheets ∷ before) = Begins before sheets
+IsPlayed (entry_is.Submit nonce request ∷ before) = IsPlayed before × IsAskable before nonce request
 IsPlayed (entry_is.Step pid pick out ∷ before) = IsPlayed before × Plays before pid.0 pick out
-IsPlayed (entry_is.Undo pid row out ∷ before) =
-    IsPlayed before × IsLatest before pid.0 row × IsEvaluated before (root_of before pid.0) None out
+IsPlayed (entry_is.Undo pid row out ∷ before) = IsPlayed before × IsTakenBack before pid.0 row out
 IsPlayed (entry_is.Report call told ∷ before) = IsPlayed before × Tells before call.0 told
-IsPlayed (entry_is.Up server ∷ before) =
-    IsPlayed before × (has_newer before server ≡ false) × (has_older_live before server ≡ false)
+IsPlayed (entry_is.Up server ∷ before) = IsPlayed before × ComesUp before server
 IsPlayed (entry_is.Down server ∷ before) = IsPlayed before × (is_live before server ≡ true)
 IsPlayed (entry_is.Abort pid ∷ before) = ⊥
 
@@ -77,7 +92,8 @@ AllMet [] = Unit {0}
 AllMet ((kind, entries) ∷ more) = ((J : Past) × IsPlayed J × (r : ℕ) × IsMet J r kind entries) × AllMet more
 
 -- roots of each kind of request, where tables have one region and a split or a merge is of two; a crash of one region; a
--- transit and a sweep that an undo made
+-- transit and a sweep that an undo made; and a table that is made, enabled and disabled, and a crash, with two regions
 abbrev pub CostsAreMet : Type 0
 CostsAreMet =
-    AllMet ((1, 3) ∷ (2, 3) ∷ (3, 18) ∷ (4, 5) ∷ (5, 11) ∷ (6, 10) ∷ (7, 3) ∷ (8, 27) ∷ (9, 26) ∷ (10, 13) ∷ (11, 13) ∷ (10, 7) ∷ (27, 4) ∷ [])
+    AllMet ((1, 3) ∷ (2, 3) ∷ (3, 18) ∷ (4, 5) ∷ (5, 11) ∷ (6, 10) ∷ (7, 3) ∷ (8, 27) ∷ (9, 26) ∷ (10, 13) ∷ (11, 13) ∷ (10, 7) ∷ (27, 4)
+    ∷ (3, 24) ∷ (5, 17) ∷ (6, 15) ∷ (11, 19) ∷ [])

@@ -39,7 +39,7 @@ use Rattle.hm_kinds.proofs.Within.{within_others}
 use Rattle.hm_serial.proofs.Apart.{Aside, aside_from}
 use Rattle.hm_serial.proofs.FallAll.{falls_all}
 use Rattle.hm_serial.proofs.Frame.{cover_guards}
-use Rattle.hm_serial.proofs.Standing.{TopHolds}
+use Rattle.hm_model.proofs.Tops.{TopHolds}
 use Rattle.hm_serial.proofs.StandAll.{stands_all}
 use Rattle.hm_serial.proofs.Stands.{At, Pending}
 use Rattle.hm_serial.proofs.StandStep.{touches_rows}

@@ -8,7 +8,7 @@ use Rattle.std.specs.declared.cmp.Ordering.{Ordering}
 use Rattle.std.specs.declared.cmp.Ordering.TheVariants.{Less, Equal, Greater}
 use Rattle.hm_names.specs.Order.{bytes_cmp}
 use Rattle.hm_names.specs.declared.range.KeyRange.{KeyRange}
-use Rattle.hm_names.specs.Ranges.{holds, inner, ends_behind, front, back, joined}
+use Rattle.hm_names.specs.Ranges.{holds, inner, ends_behind, lower_part, upper_part, joined}
 use Rattle.hm_names.proofs.Orders.{below, upto, upto_self, upto_weaker}
 use Rattle.hm_names.proofs.Ranges.{held_in_parts, held_apart, holds_start}
 use Rattle.hm_model.proofs.KeyTests.{bytes_eq-is}
@@ -46,8 +46,8 @@ one_if_parts whole true false e n = rw e refl
 one_if_parts whole false b e n = rw e (omega arith)
 
 -- a range cut at an inner key has each key in one of its parts
-pub parts_once : (r : KeyRange) (m k : List ℕ) → inner r m ≡ true → one_if (holds (front r m) k) + one_if (holds (back r m) k) ≡ one_if (holds r k)
-parts_once r m k e = one_if_parts (holds r k) (holds (front r m) k) (holds (back r m) k) (held_in_parts r m e k) (held_apart r m e k)
+pub parts_once : (r : KeyRange) (m k : List ℕ) → inner r m ≡ true → one_if (holds (lower_part r m) k) + one_if (holds (upper_part r m) k) ≡ one_if (holds r k)
+parts_once r m k e = one_if_parts (holds r k) (holds (lower_part r m) k) (holds (upper_part r m) k) (held_in_parts r m e k) (held_apart r m e k)
 
 less_differs : (o : Ordering) → is_lt o ≡ true → not (is_eq o) ≡ true
 less_differs Less e = refl
@@ -72,7 +72,7 @@ meets r s p q some e =
     (and_from (upto r.start r.end) (ends_behind s r.end) (upto_weaker r.start r.end above) (ap (ends_behind s) e ∙ far.1))
     (below_differs r.start r.end above)
 
-back_is : (r s : KeyRange) → r.end ≡ s.start → back (joined r s) r.end ≡ s
+back_is : (r s : KeyRange) → r.end ≡ s.start → upper_part (joined r s) r.end ≡ s
 back_is r s e = ap (λ x. let one : KeyRange = record { start = x; end = s.end } in one) e
 
 -- two ranges that touch have each key of both once
@@ -143,7 +143,7 @@ rising_from start (key ∷ keys) k rises =
     let rest = rising_from key keys k parts.1 in
     let whole : KeyRange = record { start = start; end = [] } in
     let in_it = and_from (holds whole key) (not (bytes_eq start key)) (and_from (upto start key) true (upto_weaker start key parts.0) refl) (below_differs start key parts.0) in
-    ap (λ n. one_if (holds (front whole key) k) + n) rest ∙ parts_once whole key k in_it
+    ap (λ n. one_if (holds (lower_part whole key) k) + n) rest ∙ parts_once whole key k in_it
 
 -- every key is from the empty key on
 from_empty : (k : List ℕ) → holds (record { start = []; end = [] }) k ≡ true

@@ -98,7 +98,7 @@ live_rest o more e =
     let two : list_any (λ row. not (is_live_status (status_in row))) more ≡ false = or_second (not (is_live_status (status_in o))) (list_any (λ row. not (is_live_status (status_in row))) more) parts.1 in
     cond-false (list_any (λ row. is_none (status_in row)) more) (Some cause_is.RegionMissing) _ one ∙ cond-false (list_any (λ row. not (is_live_status (status_in row))) more) (Some cause_is.RegionNotLive) None two
 
-live_each : (there : Catalog) (u : TableName) (regions : List Region) → Each (λ r. r.table ≡ u) regions → regions_live (rows_of there regions) ≡ None → Each (IsLiveOf there u) regions
+pub live_each : (there : Catalog) (u : TableName) (regions : List Region) → Each (λ r. r.table ≡ u) regions → regions_live (rows_of there regions) ≡ None → Each (IsLiveOf there u) regions
 live_each there u [] own e = tt
 live_each there u (r ∷ regions) own e =
     let live = live_first (there (key_is.Region r)) (rows_of there regions) e in

@@ -55,7 +55,7 @@ use Rattle.hm_model.specs.Undoing.{closed_by, turned, turned_round, undo_edits, 
 use Rattle.hm_model.specs.Views.{asked_of, bounds_of, first_id_of, namespace_of, region_of, regions_in, table_of}
 use Rattle.hm_model.specs.Wanted.{ids_of, layout_of, server_of}
 use Rattle.hm_model.specs.declared.part.Part.{Part}
-use Rattle.hm_serial.proofs.Kids.{AllMade}
+use Rattle.hm_kinds.proofs.Kids.{AllMade}
 
 -- the ids that a procedure will give rows to are drawn
 abbrev pub ArgsDrawn : (TableName → ℕ → Type 0) → Args → Type 0
@@ -114,7 +114,7 @@ bounds_fit_by d (request_is.MergeRegions regions) first table bounds args is bou
 bounds_fit_by d (request_is.Move region to) first table bounds args is bound = absurd (none-some bounds bound)
 
 module _ (d : TableName → ℕ → Type 0) where
-  bounds_fit : (args : Args) (table : TableName) (bounds : List (List ℕ)) → ArgsDrawn d args → table_of args ≡ Some table → bounds_of args ≡ Some bounds → (i : ℕ) → first_id_of args ≤ i → i + 1 < first_id_of args + length bounds → d table i
+  pub bounds_fit : (args : Args) (table : TableName) (bounds : List (List ℕ)) → ArgsDrawn d args → table_of args ≡ Some table → bounds_of args ≡ Some bounds → (i : ℕ) → first_id_of args ≤ i → i + 1 < first_id_of args + length bounds → d table i
   bounds_fit (args_are.Root request first) table bounds args is bound = bounds_fit_by d request first table bounds args is bound
   bounds_fit (args_are.AddRegions t first own) table bounds args is bound =
       subst (λ x. (i : ℕ) → first ≤ i → i + 1 < first + length bounds → d x i) (same_Some t table is) (subst (λ x. (i : ℕ) → first ≤ i → i + 1 < first + length x → d t i) (same_Some own bounds bound) args)

@@ -30,7 +30,7 @@ use Rattle.hm_model.specs.Reads.{reads}
 use Rattle.hm_model.specs.Rules.{IsLegal}
 use Rattle.hm_model.specs.Tree.{Node, args_in, drawn, first_of, ids_for, made, new_ids, node_of, root_node, root_of, submitted}
 use Rattle.hm_model.specs.Undo.{Undoable, pushed, rest_of, stack}
-use Rattle.hm_serial.proofs.Kids.{AllMade, made_at}
+use Rattle.hm_kinds.proofs.Kids.{AllMade, made_at}
 use Rattle.hm_cover.proofs.Drawn.{AllDrawn, ArgsDrawn, IsDrawnAt, IsFine, SeenDrawn, fine_row, followers_fine, undo_drawn}
 use Rattle.hm_cover.specs.Theorem.{RegionIdsAreDrawn}
 
@@ -66,7 +66,7 @@ module _ (d e : TableName → ℕ → Type 0) (more : (t : TableName) (i : ℕ) 
   stack_more [] all = tt
   stack_more (step ∷ below) all = (edits_more step.edits all.0, stack_more below all.1)
 
-  args_more : (args : Args) → ArgsDrawn d args → ArgsDrawn e args
+  pub args_more : (args : Args) → ArgsDrawn d args → ArgsDrawn e args
   args_more (args_are.Root request first) fits = λ t is i low high. more t i (fits t is i low high)
   args_more (args_are.AddRegions table first bounds) fits = λ i low high. more table i (fits i low high)
   args_more (args_are.Transit region goal to) fits = tt
@@ -131,7 +131,7 @@ module _ (nonce : Nonce) (request : Request) (J : Past) (kept : IsDrawn J) where
   more_drawn : (t : TableName) (i : ℕ) → DrawnIn J t i → DrawnIn (entry_is.Submit nonce request ∷ J) t i
   more_drawn = drawn_more J (entry_is.Submit nonce request ∷ J) (λ t. omega arith)
 
-  from_one : (o : Option TableName) → 1 ≤ first_of J o
+  pub from_one : (o : Option TableName) → 1 ≤ first_of J o
   from_one None = omega arith
   from_one (Some table) = omega arith
 

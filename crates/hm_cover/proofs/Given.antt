@@ -28,7 +28,7 @@ use Rattle.hm_model.specs.Views.{regions_in}
 use Rattle.hm_model.proofs.ExactRows.{cons_nil, is_listed}
 use Rattle.hm_model.proofs.KeyTests.{cases_key}
 use Rattle.hm_kinds.proofs.Shares.{add_effect, added_row, remove_effect, row_or, touches, value}
-use Rattle.hm_serial.proofs.Editing.{no_adds, no_drops}
+use Rattle.hm_kinds.proofs.Editless.{no_adds, no_drops}
 use Rattle.hm_serial.proofs.Kinship.{is_kid}
 use Rattle.hm_cover.proofs.Local.{asks_regions}
 use Rattle.hm_cover.proofs.Shapes.{NoRegion, Shape, is_region_key}

@@ -10,7 +10,7 @@ use Rattle.hm_model.specs.Phase.{root_ended}
 use Rattle.hm_model.specs.Reads.{covers}
 use Rattle.hm_model.specs.Tree.{Node, node_of}
 use Rattle.hm_serial.proofs.Fallen.{some_cons}
-use Rattle.hm_serial.proofs.Standing.{TopHolds}
+use Rattle.hm_model.proofs.Tops.{TopHolds}
 
 none_or : (o : Option Answer) → (o ≡ None) ⊎ (o ≢ None)
 none_or None = inl refl

@@ -20,3 +20,7 @@ pub mod Stages
 pub mod Never
 pub mod CatWhole
 pub mod Now
+pub mod Merges
+pub mod Ids
+pub mod UndoneArgs
+pub mod IdsAll

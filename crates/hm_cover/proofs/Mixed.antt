@@ -40,12 +40,13 @@ use Rattle.hm_kinds.proofs.Roots.{Stage}
 use Rattle.hm_kinds.proofs.Shares.{touches, value}
 use Rattle.hm_kinds.proofs.Within.{edited-append, within_others}
 use Rattle.hm_serial.proofs.Apart.{Aside, step_top}
-use Rattle.hm_serial.proofs.FallAll.{All, back, edits_are, falls_all, none_at, stack_now, step_aside, top, u, undo_aside, undo_back, undo_within}
+use Rattle.hm_serial.proofs.FallAll.{All, held_before, edits_are, falls_all, none_at, stack_now, step_aside, top, u, undo_aside, undo_back, undo_within}
 use Rattle.hm_serial.proofs.Fallen.{root_of_node}
 use Rattle.hm_serial.proofs.FallStep.{belongs_here, kid_not_root, kid_of, kid_or_root, led_here, no_asks, own_args, own_aside, own_root, within_now}
 use Rattle.hm_serial.proofs.Frame.{cover_guards}
 use Rattle.hm_serial.proofs.Kinship.{editless, led_at}
-use Rattle.hm_serial.proofs.Standing.{TopHolds, TopIs, holds_left, live_child, quiet_tree, step_left, step_open, waiting_runs}
+use Rattle.hm_model.proofs.Tops.{TopHolds, TopIs}
+use Rattle.hm_serial.proofs.Standing.{holds_left, live_child, quiet_tree, step_left, step_open, waiting_runs}
 use Rattle.hm_serial.proofs.Stands.{At}
 use Rattle.hm_serial.proofs.StandAll.{stands_all}
 use Rattle.hm_serial.proofs.StandStep.{touches_rows}
@@ -367,7 +368,7 @@ mixed_all (entry_is.Start sheets ∷ J) legal r node h wide = absurd (none-some 
 mixed_all (entry_is.Submit nonce request ∷ J) legal r node h wide =
     let grown = grown_all J legal.0 in
     let rooted = submit_rooted nonce request J grown in
-    made_mixed J (entry_is.Submit nonce request ∷ J) rooted grown refl refl refl r node (mixed_all J legal.0 r node (back J (entry_is.Submit nonce request ∷ J) rooted grown r node refl refl refl h) wide)
+    made_mixed J (entry_is.Submit nonce request ∷ J) rooted grown refl refl refl r node (mixed_all J legal.0 r node (held_before J (entry_is.Submit nonce request ∷ J) rooted grown r node refl refl refl h) wide)
 mixed_all (entry_is.Step pid pick out ∷ J) legal r node h wide = step_mixed pid pick out J legal (mixed_all J legal.0) r node h wide
 mixed_all (entry_is.Undo pid row out ∷ J) legal r node h wide = undo_mixed pid row out J legal (mixed_all J legal.0) r node h wide
 mixed_all (entry_is.Report call told ∷ J) legal r node h wide = let t = mixed_all J legal.0 r node h wide in record { rows = t.rows; kids = t.kids; mixes = t.mixes }
@@ -375,5 +376,5 @@ mixed_all (entry_is.Up server ∷ J) legal r node h wide = let t = mixed_all J l
 mixed_all (entry_is.Down server ∷ J) legal r node h wide =
     let grown = grown_all J legal.0 in
     let rooted = down_rooted server J grown in
-    made_mixed J (entry_is.Down server ∷ J) rooted grown refl refl refl r node (mixed_all J legal.0 r node (back J (entry_is.Down server ∷ J) rooted grown r node refl refl refl h) wide)
+    made_mixed J (entry_is.Down server ∷ J) rooted grown refl refl refl r node (mixed_all J legal.0 r node (held_before J (entry_is.Down server ∷ J) rooted grown r node refl refl refl h) wide)
 mixed_all (entry_is.Abort pid ∷ J) legal r node h wide = let t = mixed_all J legal.0 r node h wide in record { rows = t.rows; kids = t.kids; mixes = t.mixes }

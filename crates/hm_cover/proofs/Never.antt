@@ -36,7 +36,7 @@ use Rattle.hm_kinds.proofs.CreateTable.{bounds_for}
 use Rattle.hm_kinds.proofs.Roots.{StageOf}
 use Rattle.hm_kinds.proofs.Shares.{add_effect}
 use Rattle.hm_serial.proofs.Frame.{cover_guards}
-use Rattle.hm_serial.proofs.Standing.{TopHolds}
+use Rattle.hm_model.proofs.Tops.{TopHolds}
 use Rattle.hm_serial.proofs.StandAll.{stands_all}
 use Rattle.hm_cover.proofs.CatWhole.{cat_whole, wide_rows}
 use Rattle.hm_cover.proofs.Deeds.{absent_is, between_length, keys_rise}
@@ -48,15 +48,25 @@ use Rattle.hm_cover.proofs.Mixed.{IsMixed, mixed_all}
 use Rattle.hm_cover.proofs.SerialWhole.{asked_ids, whole_all}
 use Rattle.hm_cover.proofs.Stages.{IsAdded, IsLess, creating_row, deleting_row, disabling_row, enabling_row, modifying_row}
 use Rattle.hm_cover.proofs.TableDeeds.{created_own}
-use Rattle.hm_cover.proofs.Whole.{Whole, bare_all, key_of_id, none_overlap, whole_same}
-use Rattle.hm_cover.specs.Theorem.{LiveRegionsNeverOverlap}
+use Rattle.hm_cover.proofs.Whole.{IsFilled, Whole, bare_all, filled_key, key_of_id, none_overlap, whole_same}
+use Rattle.hm_cover.specs.Theorem.{LiveRangesHaveKeys, LiveRegionsNeverOverlap, RangesHaveKeys}
 
 -- each row of a table's regions is none, or that of another catalog
 abbrev IsPart : Catalog → Catalog → TableName → Type 0
 IsPart there over t = (id : ℕ) → IsLess over (region_key t id) (there (region_key t id))
 
-part_apart : (there over : Catalog) (t : TableName) → IsPart there over t → NoneOverlap over t → NoneOverlap there t
-part_apart there over t part none a b one other ta tb ne la lb = none a b one other ta tb ne (live_over a one ta la) (live_over b other tb lb)
+-- its live regions don't overlap, and each has a key
+abbrev IsTidy : Catalog → TableName → Type 0
+IsTidy there t = NoneOverlap there t × ((id : ℕ) → IsFilled (there (region_key t id)))
+
+whole_tidy : (n : ℕ) (there : Catalog) (t : TableName) → Whole n there t → IsTidy there t
+whole_tidy n there t whole = (none_overlap n there t whole, whole.filled)
+
+part_tidy : (there over : Catalog) (t : TableName) → IsPart there over t → IsTidy over t → IsTidy there t
+part_tidy there over t part tidy = (
+  (λ a b one other ta tb ne la lb. tidy.0 a b one other ta tb ne (live_over a one ta la) (live_over b other tb lb)),
+  (λ id. elim (part id) [ inl gone ↦ subst IsFilled (sym gone) tt | inr is ↦ subst IsFilled (sym is) (tidy.1 id) ]),
+)
   where
     live_over : (r : Region) (range : KeyRange) → r.table ≡ t → IsLiveWith there r range → IsLiveWith over r range
     live_over r range own live =
@@ -88,10 +98,10 @@ module _ (n : ℕ) (big : 4096 < n) (J : Past) (legal : IsLegal J) (r : ℕ) (no
   mixed id = (mixed_all J legal r node holds wide).rows (region_key t id) refl (covered_row id)
 
   -- a root whose stages only take rows away
-  less_apart : ((id : ℕ) → IsLess (was J r) (region_key t id) (cat J (region_key t id))) → NoneOverlap (cat J) t
-  less_apart less = part_apart (cat J) (was J r) t less (none_overlap n (was J r) t whole_was)
+  less_apart : ((id : ℕ) → IsLess (was J r) (region_key t id) (cat J (region_key t id))) → IsTidy (cat J) t
+  less_apart less = part_tidy (cat J) (was J r) t less (whole_tidy n (was J r) t whole_was)
 
-  lessens : (request : Request) (first : ℕ) → node.args ≡ args_are.Root request first → ((lines : List Line) (then : List Edit) (id : ℕ) → StageOf request first (was J r) lines then → IsLess (was J r) (region_key t id) (edited then (region_key t id) (was J r (region_key t id)))) → NoneOverlap (cat J) t
+  lessens : (request : Request) (first : ℕ) → node.args ≡ args_are.Root request first → ((lines : List Line) (then : List Edit) (id : ℕ) → StageOf request first (was J r) lines then → IsLess (was J r) (region_key t id) (edited then (region_key t id) (was J r (region_key t id)))) → IsTidy (cat J) t
   lessens request first own stages = less_apart (λ id. elim (subst (λ a. IsMixed a (was J r) (region_key t id) (cat J (region_key t id))) own (mixed id)) [
     | inl none ↦ inl none
     | inr (inl same) ↦ inr same
@@ -124,8 +134,8 @@ module _ (n : ℕ) (big : 4096 < n) (J : Past) (legal : IsLegal J) (r : ℕ) (no
     abbrev full : Catalog
     full key = edited (set_to (was J r) (key_is.Table t) (Some (row_is.Table state_is.Enabled 1)) ∷ add_ranges (was J r) t first (ranges_between ([] ∷ split ++ [] ∷ []))) key (was J r key)
 
-    new_apart : was J r (key_is.Table t) ≡ None → NoneOverlap (cat J) t
-    new_apart gone = part_apart (cat J) full t part (none_overlap n full t (created_own n (was J r) t split first gone rises low whole_was))
+    new_apart : was J r (key_is.Table t) ≡ None → IsTidy (cat J) t
+    new_apart gone = part_tidy (cat J) full t part (whole_tidy n full t (created_own n (was J r) t split first gone rises low whole_was))
       where
         part : IsPart (cat J) full t
         part id = elim (each id) [
@@ -134,17 +144,17 @@ module _ (n : ℕ) (big : 4096 < n) (J : Past) (legal : IsLegal J) (r : ℕ) (no
           | inr added ↦ inr (added.1 ∙ sym (add_effect (was J r) t first (bounds_for split) (region_key t id) (was J r (region_key t id))))
         ]
 
-    there_apart : was J r (key_is.Table t) ≢ None → NoneOverlap (cat J) t
+    there_apart : was J r (key_is.Table t) ≢ None → IsTidy (cat J) t
     there_apart some = less_apart (λ id. elim (each id) [ inl less ↦ less | inr added ↦ absurd (some (free_absent (was J r) t added.0)) ])
 
-    create_apart : NoneOverlap (cat J) t
+    create_apart : IsTidy (cat J) t
     create_apart = by (was J r (key_is.Table t)) refl
       where
-        by : (o : Option CatRow) → was J r (key_is.Table t) ≡ o → NoneOverlap (cat J) t
+        by : (o : Option CatRow) → was J r (key_is.Table t) ≡ o → IsTidy (cat J) t
         by None e = new_apart e
         by (Some row) e = there_apart (λ none. none-some row (sym none ∙ e))
 
-  by_args : (args : Args) → node.args ≡ args → NoneOverlap (cat J) t
+  by_args : (args : Args) → node.args ≡ args → IsTidy (cat J) t
   by_args (args_are.Root (request_is.CreateTable u split) first) own = create_apart split first (own ∙ ap (λ x. args_are.Root (request_is.CreateTable x split) first) (same_table-is u t (over (same_table u t) (ap (λ a. covers a (key_is.Table t)) (sym own) ∙ c))))
   by_args (args_are.Root (request_is.DeleteTable u) first) own = lessens (request_is.DeleteTable u) first own (λ lines then id stage. deleting_row (was J r) t id u lines then stage)
   by_args (args_are.Root (request_is.EnableTable u) first) own = lessens (request_is.EnableTable u) first own (λ lines then id stage. enabling_row (was J r) t id u lines then stage)
@@ -157,17 +167,23 @@ module _ (n : ℕ) (big : 4096 < n) (J : Past) (legal : IsLegal J) (r : ℕ) (no
   by_args (args_are.Root (request_is.Move region to) first) own = absurd (true≢false (ap asks_regions (sym own) ∙ wide))
   by_args args own = absurd (true≢false (ap asks_regions (sym own) ∙ wide))
 
-  busy_apart : NoneOverlap (cat J) t
+  busy_apart : IsTidy (cat J) t
   busy_apart = by_args node.args refl
 
-never_at : (n : ℕ) → 4096 < n → (J : Past) → IsLegal J → (t : TableName) → NoneOverlap (cat J) t
+never_at : (n : ℕ) → 4096 < n → (J : Past) → IsLegal J → (t : TableName) → IsTidy (cat J) t
 never_at n big J legal t = elim (covered_or J (key_is.Table t) (made J + 1)) [
   | inl busy ↦ elim (cases_Bool (asks_regions busy.1.args)) [
     | inl local ↦ absurd (true≢false (sym busy.3 ∙ local_free busy.1.args local t))
     | inr wide ↦ busy_apart n big J legal busy.0 busy.1 busy.2 wide t busy.3
   ]
-  | inr free ↦ none_overlap n (cat J) t (cat_whole n big J legal t (λ r node h. free r node (let le = is_there J (grown_all J legal) r node h.0.0 in omega (arith, le)) h))
+  | inr free ↦ whole_tidy n (cat J) t (cat_whole n big J legal t (λ r node h. free r node (let le = is_there J (grown_all J legal) r node h.0.0 in omega (arith, le)) h))
 ]
 
 pub never_overlap : LiveRegionsNeverOverlap
-never_overlap J legal table = never_at 4097 (omega arith) J legal table
+never_overlap J legal table = (never_at 4097 (omega arith) J legal table).0
+
+pub have_keys : LiveRangesHaveKeys
+have_keys J legal table = (filled_key (cat J) table (never_at 4097 (omega arith) J legal table).1, deeds_have_keys 4097 (omega arith))
+  where
+    deeds_have_keys : (n : ℕ) → 4096 < n → RangesHaveKeys (serial J) table
+    deeds_have_keys n big = filled_key (serial J) table ((whole_all n big J legal).whole table).filled

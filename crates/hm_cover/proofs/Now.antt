@@ -9,8 +9,7 @@ use Rattle.hm_model.specs.Ranges.{IsBare, IsCovered}
 use Rattle.hm_model.specs.Reads.{IsBusy, covers}
 use Rattle.hm_model.specs.Rules.{IsLegal}
 use Rattle.hm_model.specs.Tree.{Node}
-use Rattle.hm_serial.proofs.Apart.{holds_open}
-use Rattle.hm_serial.proofs.Standing.{TopHolds}
+use Rattle.hm_model.proofs.Tops.{holds_open, TopHolds}
 use Rattle.hm_cover.proofs.CatWhole.{cat_whole}
 use Rattle.hm_cover.proofs.Whole.{Whole, bare_at, covered}
 use Rattle.hm_cover.specs.Theorem.{LiveRegionsCover, MissingTablesAreBare}

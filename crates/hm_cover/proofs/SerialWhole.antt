@@ -27,7 +27,7 @@ use Rattle.hm_data.specs.declared.request.Request.{Request}
 use Rattle.hm_data.specs.declared.step.StepOut.{StepOut}
 use Rattle.hm_model.proofs.Grown.{ids_within}
 use Rattle.hm_model.proofs.Rows.{has_key, in_with_keys}
-use Rattle.hm_model.proofs.Trees.{Grown, IsWaiting, all_below_at, answer_now, does_of, grown_all, is_there, le_or_lt, new_child, node_same, other_answer, step_of}
+use Rattle.hm_model.proofs.Trees.{Grown, IsWaiting, all_below_at, answer_now, grown_all, is_there, le_or_lt, new_child, node_same, other_answer, step_of}
 use Rattle.hm_model.proofs.UndoMakes.{undo_of}
 use Rattle.hm_model.specs.Answers.{done_with, failing, is_stopped, last_answer}
 use Rattle.hm_model.specs.Catalog.{Catalog, at_start, cat, edited, keys_of}
@@ -36,7 +36,7 @@ use Rattle.hm_model.specs.Deeds.{Deed, deed, deed_if}
 use Rattle.hm_model.specs.Journal.{Past}
 use Rattle.hm_model.specs.Kinds.{table_of_request}
 use Rattle.hm_model.specs.Locks.{Holds, IsIn, in_name_order}
-use Rattle.hm_model.specs.Reads.{IsBusy}
+use Rattle.hm_model.specs.Reads.{IsBusy, covers}
 use Rattle.hm_model.specs.Phase.{all_stopped, cause, ended_node, in_tree, or_else, rolled_back, root_ended, root_over, stopped_in}
 use Rattle.hm_model.specs.Pieces.{Batch, batches}
 use Rattle.hm_model.specs.Requests.{wrong_in}
@@ -47,11 +47,13 @@ use Rattle.hm_model.specs.Undo.{is_empty, stack}
 use Rattle.hm_model.specs.Undoing.{closed_by, undo_followers}
 use Rattle.hm_model.specs.Views.{Asked, asked_of}
 use Rattle.hm_serial.proofs.Fallen.{root_of_node, some_cons}
-use Rattle.hm_serial.proofs.FallAll.{falls_all, to_root}
-use Rattle.hm_serial.proofs.Kids.{AllMade, made_at}
+use Rattle.hm_serial.proofs.FallAll.{falls_all}
+use Rattle.hm_kinds.proofs.Kids.{AllMade, made_at}
 use Rattle.hm_serial.proofs.Kinship.{is_kid}
 use Rattle.hm_serial.proofs.Serial.{catalog_is}
-use Rattle.hm_serial.proofs.Standing.{TopHolds, live_child, root_low, waiting_runs}
+use Rattle.hm_serial.proofs.StandAll.{over_now, serials_now, stands_all}
+use Rattle.hm_model.proofs.Tops.{TopHolds}
+use Rattle.hm_serial.proofs.Standing.{live_child, root_low, waiting_runs}
 use Rattle.hm_model.proofs.LegalSteps.{StepFacts, ready_stops}
 use Rattle.hm_cover.proofs.Deeds.{MayDo, deed_drawn, deed_stays}
 use Rattle.hm_cover.proofs.Drawn.{ArgsDrawn, IsDrawnAt, SeenDrawn}
@@ -305,7 +307,7 @@ module _ (n : ℕ) (big : 4096 < n) (pid : Pid) (pick : Option Server) (out : St
       ]
 
   module _ (is : IsDeed) where
-    -- nobody holds behind it
+    -- its root has ended behind it
     ends_it : root_ended (entry_is.Step pid pick out ∷ J) step.node.root ≡ true
     ends_it =
         let own : step.node.root ≡ pid.0 = grown.tops pid.0 step.node step.node_is is.4 in
@@ -314,15 +316,6 @@ module _ (n : ℕ) (big : 4096 < n) (pid : Pid) (pick : Option Server) (out : St
         let none : cause (entry_is.Step pid pick out ∷ J) step.node.root ≡ None = cond-true (root_of J pid.0 == step.node.root) (or_else (cause J step.node.root) (failing out.answer)) (cause J step.node.root) (eq-eqb (root_of J pid.0) step.node.root mine) ∙ ap (λ c. or_else c (failing out.answer)) uncaused ∙ ap failing is.3 in
         ap (λ k. root_over k (rolled_back (entry_is.Step pid pick out ∷ J) step.node.root) (done_with (last_answer (entry_is.Step pid pick out ∷ J) step.node.root))) none
         ∙ ap (λ p. is_some (done_with (last_answer (entry_is.Step pid pick out ∷ J) p))) own ∙ ap (λ o. is_some (done_with o)) (answer_now pid pick out J ∙ ap Some is.3)
-
-    none_hold : (s : ℕ) (x : Node) → TopHolds (entry_is.Step pid pick out ∷ J) s x → ⊥
-    none_hold s x h =
-        let a = falls_all J legal.0 in
-        let mine = to_root pid pick out J grown a.one step (does_of pid pick out J grown step) legal.1.1.1.0 s x h in
-        true≢false (sym (ap (root_ended (entry_is.Step pid pick out ∷ J)) mine ∙ ends_it) ∙ h.2)
-
-    none_busy : (key : CatKey) → IsBusy (entry_is.Step pid pick out ∷ J) key → ⊥
-    none_busy key busy = let top = holds_root (entry_is.Step pid pick out ∷ J) (grown_all (entry_is.Step pid pick out ∷ J) legal) busy.0 busy.1 busy.2 busy.3 in none_hold busy.1.root top.0 top.1
 
     may : MayDo n (serial J) (keys_of J) is.0.request is.0.first
     may = record {
@@ -349,6 +342,7 @@ module _ (n : ℕ) (big : 4096 < n) (pid : Pid) (pick : Option Server) (out : St
         seen_free (key_is.Region r) = λ some its. some (kept.free q y b qy qb undone r.table r.id its)
 
     deed_done : IsWhole n (entry_is.Step pid pick out ∷ J)
+    unfolding step grown
     deed_done = record {
       whole = deed_stays n (serial J) (keys_of J) kept.whole is.0.request is.0.first may done is.5;
       sound = λ p x a at asked. kept.sound p x a (step_old p x a at asked) asked;
@@ -357,7 +351,10 @@ module _ (n : ℕ) (big : 4096 < n) (pid : Pid) (pick : Option Server) (out : St
         | inl same ↦ absurd (none-some is.2 (sym (ap (λ q. done_with (last_answer (entry_is.Step pid pick out ∷ J) q)) (sym same) ∙ undone) ∙ ap done_with (answer_now pid pick out J ∙ ap Some is.3)))
         | inr differs ↦ others_free p x a differs (step_old p x a at asked) asked (ap done_with (sym (other_answer pid pick out J p differs)) ∙ undone) u i among
       ];
-      listed = λ key some. has_key (entry_is.Step pid pick out ∷ J) key (λ none. some (sym (catalog_is (entry_is.Step pid pick out ∷ J) legal key (none_busy key)) ∙ none));
+      listed = λ key some. elim (cases_Bool (covers (root_of_node J grown pid.0 step.node step.node_is).0.args key)) [
+        | inl on ↦ has_key (entry_is.Step pid pick out ∷ J) key (λ none. some (sym (over_now pid pick out J legal (stands_all J legal.0) ends_it key on) ∙ none))
+        | inr off ↦ in_with_keys key out.edits (keys_of J) (kept.listed key (λ none. some (serials_now pid pick out J legal (stands_all J legal.0) key off ∙ none)))
+      ];
       rows = λ key. edited_drawn (DrawnIn J) done key (serial J key) (deed_drawn (DrawnIn J) (serial J) (keys_of J) kept.rows is.0.request is.0.first (λ u own i low high. asked_ids (DrawnIn J) step.node.args is.0 ((drawn_all J legal.0).args pid.0 step.node step.node_is) is.1 u i (own, low, high)) done is.5) (kept.rows key);
     }
 

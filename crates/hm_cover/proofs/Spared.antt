@@ -53,15 +53,17 @@ use Rattle.hm_model.proofs.StepDoes.{Does}
 use Rattle.hm_model.proofs.Trees.{Grown, answer_now, does_of, down_rooted, grown_all, step_of, submit_rooted}
 use Rattle.hm_model.proofs.ValidSheets.{Leads, valid_end}
 use Rattle.hm_serial.proofs.Apart.{Aside, step_top}
-use Rattle.hm_serial.proofs.Editing.{covers_from, none_act, rows_table}
-use Rattle.hm_serial.proofs.FallAll.{back, falls_all, none_at, step_aside, undo_back}
+use Rattle.hm_kinds.proofs.Editless.{none_act}
+use Rattle.hm_serial.proofs.Editing.{covers_from, rows_table}
+use Rattle.hm_serial.proofs.FallAll.{held_before, falls_all, none_at, step_aside, undo_back}
 use Rattle.hm_serial.proofs.Fallen.{Falls, MayFall, may_on, root_of_node}
 use Rattle.hm_serial.proofs.Falling.{IsPast, StepEdits, places_of}
 use Rattle.hm_serial.proofs.FallStep.{belongs_here, edits_of, kid_or_root, led_here, other_last, own_args, own_root}
 use Rattle.hm_serial.proofs.Frame.{unwound}
 use Rattle.hm_serial.proofs.Kinship.{editless, is_kid, is_lined, is_nil, kid_fails, kid_rows, led_at, lined_is, step_clean, step_within}
 use Rattle.hm_serial.proofs.Local.{Within, within_others, within_undo}
-use Rattle.hm_serial.proofs.Standing.{TopHolds, TopIs, holds_left, step_left, step_open}
+use Rattle.hm_model.proofs.Tops.{TopHolds, TopIs}
+use Rattle.hm_serial.proofs.Standing.{holds_left, step_left, step_open}
 
 -- undoing a step leaves the rows of the regions of tables that the root doesn't ask for alone
 abbrev pub SparesOne : Args → Undoable → Type 0
@@ -430,11 +432,11 @@ pub spared_all : (J : Past) → IsLegal J → AllSpared J
 spared_all [] legal r node h may = absurd (none-some node h.0.0)
 spared_all (entry_is.Start sheets ∷ J) legal r node h may = absurd (none-some node (sym (none_at J legal.1.0.0 r) ∙ h.0.0))
 spared_all (entry_is.Submit nonce request ∷ J) legal r node h may =
-    spared_all J legal.0 r node (back J (entry_is.Submit nonce request ∷ J) (submit_rooted nonce request J (grown_all J legal.0)) (grown_all J legal.0) r node refl refl refl h) (may_on (entry_is.Submit nonce request ∷ J) J r node refl refl refl may)
+    spared_all J legal.0 r node (held_before J (entry_is.Submit nonce request ∷ J) (submit_rooted nonce request J (grown_all J legal.0)) (grown_all J legal.0) r node refl refl refl h) (may_on (entry_is.Submit nonce request ∷ J) J r node refl refl refl may)
 spared_all (entry_is.Step pid pick out ∷ J) legal r node h may = step_spared pid pick out J legal (spared_all J legal.0) r node h may
 spared_all (entry_is.Undo pid row out ∷ J) legal r node h may = undo_spared pid row out J legal (spared_all J legal.0) r node h may
 spared_all (entry_is.Report call told ∷ J) legal r node h may = spared_all J legal.0 r node h may
 spared_all (entry_is.Up server ∷ J) legal r node h may = spared_all J legal.0 r node h may
 spared_all (entry_is.Down server ∷ J) legal r node h may =
-    spared_all J legal.0 r node (back J (entry_is.Down server ∷ J) (down_rooted server J (grown_all J legal.0)) (grown_all J legal.0) r node refl refl refl h) (may_on (entry_is.Down server ∷ J) J r node refl refl refl may)
+    spared_all J legal.0 r node (held_before J (entry_is.Down server ∷ J) (down_rooted server J (grown_all J legal.0)) (grown_all J legal.0) r node refl refl refl h) (may_on (entry_is.Down server ∷ J) J r node refl refl refl may)
 spared_all (entry_is.Abort pid ∷ J) legal r node h may = spared_all J legal.0 r node h may

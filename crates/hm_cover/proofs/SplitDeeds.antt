@@ -3,7 +3,7 @@ use Rattle.std.proofs.Common.{◌≡◌, ◌≢◌, ℕ, ◌+◌, ◌<◌, Bool,
 use Rattle.std.specs.Option.{option_map}
 use Rattle.std.proofs.lemmas.Option.{none-some}
 use Rattle.hm_names.specs.Region.{Region}
-use Rattle.hm_names.specs.Ranges.{back, front, holds, inner}
+use Rattle.hm_names.specs.Ranges.{upper_part, lower_part, holds, inner}
 use Rattle.hm_names.proofs.Ranges.{parts_hold_starts}
 use Rattle.hm_names.specs.declared.range.KeyRange.{KeyRange}
 use Rattle.hm_names.specs.declared.table.TableName.{TableName}
@@ -88,8 +88,8 @@ module _ (region : Region) (key : List ℕ) (first : ℕ) where
   with_rows None own one other = []
   with_rows (Some range) own one other =
       record { key = key_is.Region region; before = own; after = option_map (in_status status_is.Split) own }
-      ∷ record { key = region_key region.table first; before = one; after = Some (live_row (front range key) (region.id ∷ [])) }
-      ∷ record { key = region_key region.table (first + 1); before = other; after = Some (live_row (back range key) (region.id ∷ [])) }
+      ∷ record { key = region_key region.table first; before = one; after = Some (live_row (lower_part range key) (region.id ∷ [])) }
+      ∷ record { key = region_key region.table (first + 1); before = other; after = Some (live_row (upper_part range key) (region.id ∷ [])) }
       ∷ []
 
   rows_are : (there : Catalog) (range : Option KeyRange) → split_range there region key first range ≡ with_rows range (there (key_is.Region region)) (there (region_key region.table first)) (there (region_key region.table (first + 1)))
@@ -113,8 +113,8 @@ module _ (n : ℕ) (there : Catalog) (region : Region) (key : List ℕ) (first :
   abbrev told : List Edit
   told =
       record { key = key_is.Region region; before = Some (row_is.Region cut.range status_is.Live cut.parents); after = Some (row_is.Region cut.range status_is.Split cut.parents) }
-      ∷ record { key = region_key region.table first; before = None; after = Some (live_row (front cut.range key) (region.id ∷ [])) }
-      ∷ record { key = region_key region.table (first + 1); before = None; after = Some (live_row (back cut.range key) (region.id ∷ [])) }
+      ∷ record { key = region_key region.table first; before = None; after = Some (live_row (lower_part cut.range key) (region.id ∷ [])) }
+      ∷ record { key = region_key region.table (first + 1); before = None; after = Some (live_row (upper_part cut.range key) (region.id ∷ [])) }
       ∷ []
 
   pub split_told : split_edits there region key first ≡ told
@@ -148,7 +148,7 @@ module _ (n : ℕ) (there : Catalog) (region : Region) (key : List ℕ) (first :
       record {
         low = (small, ((omega (arith, low)), (low, tt)));
         full = (tt, (keys.0, (keys.1, tt)));
-        same = λ k. split_by (same_table t region.table) (holds cut.range k) (holds (front cut.range key) k) (holds (back cut.range key) k) (parts_once cut.range key k cut.inside);
+        same = λ k. split_by (same_table t region.table) (holds cut.range k) (holds (lower_part cut.range key) k) (holds (upper_part cut.range key) k) (parts_once cut.range key k cut.inside);
         found_row = refl;
         left_row = refl;
       }

@@ -184,7 +184,7 @@ none_overlap n there t whole a b one other ta tb ne la lb = false_from_ne_true (
     none_shared n there t whole a b one other ta tb ne la lb k.0 k.1 k.2)
 
 -- a row that serves a key is of a live region
-serves_is : (k : List ℕ) (o : Option CatRow) → serves k o ≡ true → (range : KeyRange) × (parents : List ℕ) × (o ≡ Some (row_is.Region range status_is.Live parents)) × (holds range k ≡ true)
+pub serves_is : (k : List ℕ) (o : Option CatRow) → serves k o ≡ true → (range : KeyRange) × (parents : List ℕ) × (o ≡ Some (row_is.Region range status_is.Live parents)) × (holds range k ≡ true)
 serves_is k None e = absurd (false≢true e)
 serves_is k (Some row_is.Ns) e = absurd (false≢true e)
 serves_is k (Some (row_is.Table state version)) e = absurd (false≢true e)

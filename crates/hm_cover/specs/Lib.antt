@@ -1,1 +1,4 @@
 pub mod Theorem
+pub mod Merges
+pub mod RegionIds
+pub mod Ids

@@ -1,9 +1,18 @@
 //! The laws.
-ghost use Rattle.hm_cover.specs.Theorem.{DeedsKeepRanges, LiveRegionsCover, LiveRegionsNeverOverlap, MissingTablesAreBare, RegionIdsAreDrawn};
+ghost use Rattle.hm_cover.specs.Ids.{IdsAreNamed, NoneAskForNone};
+ghost use Rattle.hm_cover.specs.Merges.{MergesKeepRanges};
+ghost use Rattle.hm_cover.specs.Theorem.{DeedsKeepRanges, LiveRangesHaveKeys, LiveRegionsCover, LiveRegionsNeverOverlap, MissingTablesAreBare, RegionIdsAreDrawn};
 
 /// A region's row has an id that its table has drawn, and ids are drawn from 1 on.
 pub fn region_ids_are_drawn()
     ensures { RegionIdsAreDrawn }
+{}
+
+/// Where requests name regions by ids from 1 on, all procedures do, and the first id that one draws or adds is below 2^32.
+/// There no entry asks for a transit of the id 0.
+pub fn ids_are_named()
+    ensures procedures { IdsAreNamed }
+    ensures none { NoneAskForNone }
 {}
 
 /// In the catalog of the deeds the live regions of a table never overlap and cover every key, and a table that isn't there
@@ -26,4 +35,15 @@ pub fn missing_tables_are_bare()
 /// what was done is undone.
 pub fn live_regions_never_overlap()
     ensures { LiveRegionsNeverOverlap }
+{}
+
+/// The range of each live region has a key, at any moment and in the catalog of the deeds: no live region is empty.
+pub fn live_ranges_have_keys()
+    ensures { LiveRangesHaveKeys }
+{}
+
+/// A merge of any number of adjacent live regions, not of two alone as requests may ask so far, keeps their table's ranges:
+/// live regions have keys, don't overlap and cover every key.
+pub fn merges_keep_ranges()
+    ensures { MergesKeepRanges }
 {}

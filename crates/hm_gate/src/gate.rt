@@ -7,7 +7,7 @@ ghost use Rattle.hm_gate.specs.declared.view.Position.TheVariants.{Waits};
 
 use crate::kept::Kept;
 use crate::law::Turns;
-use crate::plays::{Advance, Cut, Draw, Glue, Look, Raise};
+use crate::plays::{Advance, Draw, Glue, Halve, Look, Raise};
 use crate::seat::{Held, Seat, SeatOf};
 use crate::view::View;
 use atomic_table::{Refused, Table};
@@ -79,7 +79,7 @@ impl<V: Kept> Gate<V> {
         ensures new { (result.gate ≡ seat.old.gate) × (result.view ≡ fresh seat.old.view) }
     {
         let seen = seat.seen;
-        let place = self.table.shared.split_seat::<Cut>(&mut seat.place);
+        let place = self.table.shared.split_seat::<Halve>(&mut seat.place);
         SeatOf::of(place, seen)
     }
 

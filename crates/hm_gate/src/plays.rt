@@ -30,9 +30,9 @@ impl<V: Kept> Play<Option<V>, View<V::Item, V::Terms>> for Advance {
     ghost then = { went };
 }
 
-pub(crate) struct Cut;
+pub(crate) struct Halve;
 
-impl<I, T> Split<View<I, T>> for Cut {
+impl<I, T> Split<View<I, T>> for Halve {
     ghost left = { fewer };
 
     ghost right = { fresh };

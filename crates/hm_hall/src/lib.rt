@@ -4,7 +4,9 @@
 mod fault;
 mod laws;
 mod recorder;
+mod taken;
 
-pub use fault::{Halt, RecordFault};
+pub use fault::{HallFault, Halt, RecordFault};
 pub use laws::recording_is_decided;
 pub use recorder::Recorder;
+pub use taken::{Given, Taken};

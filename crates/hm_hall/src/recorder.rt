@@ -1,5 +1,5 @@
 //! The trait of what records entries.
-ghost use Rattle.std.specs.Prelude.{◌≡◌, ◌≢◌, ◌≤◌, ℕ, MatchResult, OnErr, IsErrOf, Some, None};
+ghost use Rattle.std.specs.Prelude.{◌≡◌, ◌≢◌, ◌≤◌, ◌↔◌, ℕ, MatchResult, OnErr, IsErrOf, IsTrue, Some, None};
 ghost use Rattle.hm_ports.specs.Faults.{Rose};
 ghost use Rattle.hm_data.specs.declared.entry.Entry.{Entry as EntryValue};
 ghost use Rattle.hm_hall.specs.Recording.{Recording, CanBeRecorded, Accepts, Records, full_at, next_of, with_next, halt_of};
@@ -25,6 +25,11 @@ pub trait Recorder {
 
     // How many entries fit in the memory that it has.
     ghost room: { Self → ℕ };
+
+    /// Whether an entry would be refused: it is halted, or the entry would pass the hard mark.
+    fn will_refuse(&self, entry: &Entry) -> bool
+        requires { CanBeRecorded entry.now }
+        ensures { IsTrue result ↔ (Accepts (kept self.now) entry.now → ⊥) };
 
     /// Makes an entry ready to be recorded, in place of one that was. Memory runs out only for an entry that would be
     /// recorded.

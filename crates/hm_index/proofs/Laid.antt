@@ -236,14 +236,14 @@ module _ (rank : ℕ → Ordering) where
   lead_is (place ∷ more) d lt = refl
 
   module _ (blocks : List (List ℕ)) where
-    abbrev pub Rises : Type 0
-    Rises = IsNonDecreasingBy (λ place. ordering_index (rank place)) (laid blocks)
+    abbrev pub AreRising : Type 0
+    AreRising = IsNonDecreasingBy (λ place. ordering_index (rank place)) (laid blocks)
 
     -- the rank where a block begins
     first_is : (b d : ℕ) → b < length blocks → 0 < length (block_at blocks b) → lead rank (block_at blocks b) ≡ rank (get_or (laid blocks) (start blocks b) d)
     first_is b d lt some = lead_is (block_at blocks b) d some ∙ ap rank (sym (ap (λ k. get_or (laid blocks) k d) (let e : start blocks b + 0 ≡ start blocks b = omega arith in sym e) ∙ read blocks b 0 d lt some))
 
-    leads_rise : Rises → (i j : ℕ) → i ≤ j → j < length blocks → (0 < j → 0 < length (block_at blocks j)) → ordering_index (lead rank (block_at blocks i)) ≤ ordering_index (lead rank (block_at blocks j))
+    leads_rise : AreRising → (i j : ℕ) → i ≤ j → j < length blocks → (0 < j → 0 < length (block_at blocks j)) → ordering_index (lead rank (block_at blocks i)) ≤ ordering_index (lead rank (block_at blocks j))
     leads_rise rises i j le lt some = elim (cases_eq i j) [
       | inl is ↦ rw is (omega arith)
       | inr other ↦ elim (cases_eq (length (block_at blocks i)) 0) [
@@ -261,7 +261,7 @@ module _ (rank : ℕ → Ordering) where
         empty_leads (place ∷ more) is = absurd (omega arith)
 
     -- where the ranks don't fall, those of the blocks' first places don't
-    pub firsts_rise : IsPacked blocks → Rises → IsNonDecreasingBy (λ block. ordering_index (lead rank block)) blocks
+    pub firsts_rise : IsPacked blocks → AreRising → IsNonDecreasingBy (λ block. ordering_index (lead rank block)) blocks
     firsts_rise packed rises i j d le lt =
         rw (get_or_default blocks i d [] (omega arith), get_or_default blocks j d [] lt) (leads_rise rises i j le lt (λ some. packed.filled j some lt))
 
@@ -291,12 +291,12 @@ module _ (rank : ℕ → Ordering) where
           let e : start blocks b + (k - start blocks b) ≡ k = omega arith in
           ap (λ n. get_or (laid blocks) n d) (sym e) ∙ read blocks b (k - start blocks b) d lt (omega arith)
 
-      block_rises : Rises → IsNonDecreasingBy (λ place. ordering_index (rank place)) (block_at blocks b)
+      block_rises : AreRising → IsNonDecreasingBy (λ place. ordering_index (rank place)) (block_at blocks b)
       block_rises rises i j d le within =
           let end = ends blocks b lt in
           rw (sym (read blocks b i d lt (omega arith)), sym (read blocks b j d lt within)) (rises (start blocks b + i) (start blocks b + j) d (omega arith) (omega arith))
 
-      module _ (packed : IsPacked blocks) (taken : IsBlockFor rank blocks b) (at : ℕ) (within : at ≤ length (block_at blocks b)) (inner : IsBinarySearchResult rank (block_at blocks b) (Err at)) (rises : Rises) where
+      module _ (packed : IsPacked blocks) (taken : IsBlockFor rank blocks b) (at : ℕ) (within : at ≤ length (block_at blocks b)) (inner : IsBinarySearchResult rank (block_at blocks b) (Err at)) (rises : AreRising) where
         -- a block that begins with the key has it
         between : IsBetween rank blocks b
         between = elim (taken rises) [ inl tie ↦ absurd (no_tie tie) | inr is ↦ is ]

@@ -35,6 +35,10 @@ illegal_first sheets first more breaks = record {
   breaks = breaks;
 }
 
+-- a start with sheets that are the same of each kind
+pub begun_start : (sheets own : List Sheet) → AreSheets own → SameSheets sheets own → IsBegun sheets (entry_is.Start own ∷ [])
+begun_start sheets own are same = record { legal = (tt, ((refl, are), tt)); some = λ e. cc; begins = same }
+
 pub no_start : (sheets : List Sheet) (first : Entry) (more : List Entry) → ((own : List Sheet) → first ≡ entry_is.Start own → ⊥) → IsFirstIllegal sheets (first ∷ more) 0 1
 no_start sheets first more other = illegal_first sheets first more (breaks_first first other)
 

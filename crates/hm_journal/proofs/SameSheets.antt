@@ -1,6 +1,6 @@
 -- Sheets that are the same by kind.
-use Rattle.std.proofs.Common.{◌≡◌, ℕ, ◌+◌, ◌<◌, ◌≤◌, List, [], ◌∷◌, map, Some, refl, sym, ap, ◌∙◌, arith}
-use Rattle.std.proofs.lemmas.Bool.{eq-eqb, ne_eqb}
+use Rattle.std.proofs.Common.{◌≡◌, ℕ, ◌+◌, ◌<◌, ◌≤◌, ◌&&◌, Bool, true, nat_lt, nat_le, List, [], ◌∷◌, map, Some, refl, sym, ap, ◌∙◌, arith}
+use Rattle.std.proofs.lemmas.Bool.{and_parts, eq-eqb, leb-true, ltb-true, ne_eqb}
 use Rattle.std.proofs.lemmas.Option.{same_Some}
 use Rattle.hm_data.specs.declared.sheet.Sheet.{Sheet}
 use Rattle.hm_model.specs.Kinds.{running_kinds}
@@ -13,8 +13,20 @@ abbrev AreRising : ℕ → List ℕ → Type 0
 AreRising low [] = Unit {0}
 AreRising low (kind ∷ kinds) = (low ≤ kind) × (kind < 256) × AreRising (kind + 1) kinds
 
+-- the same, as a test
+abbrev are_rising : ℕ → List ℕ → Bool
+are_rising low [] = true
+are_rising low (kind ∷ kinds) = nat_le low kind && (nat_lt kind 256 && are_rising (kind + 1) kinds)
+
+rising : (kinds : List ℕ) (low : ℕ) → are_rising low kinds ≡ true → AreRising low kinds
+rising [] low are = tt
+rising (kind ∷ kinds) low are =
+    let first = and_parts (nat_le low kind) (nat_lt kind 256 && are_rising (kind + 1) kinds) are in
+    let second = and_parts (nat_lt kind 256) (are_rising (kind + 1) kinds) first.1 in
+    (leb-true low kind first.0, ltb-true kind 256 second.0, rising kinds (kind + 1) second.1)
+
 running_rise : AreRising 0 running_kinds
-running_rise = (omega arith, omega arith, tt)
+running_rise = rising running_kinds 0 refl
 
 -- the first sheet, where it has the kind
 first_kind : (sheet : Sheet) (sheets : List Sheet) (kind : ℕ) → sheet.kind ≡ kind → sheet_for (sheet ∷ sheets) kind ≡ Some sheet

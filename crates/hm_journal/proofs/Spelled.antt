@@ -1,7 +1,7 @@
 -- Entries and the frames that spell them.
-use Rattle.std.proofs.Common.{◌≡◌, ℕ, ◌+◌, List, [], ◌∷◌, ◌++◌, take, slice_get, Some, All, sym, ap, ◌∙◌, subst}
+use Rattle.std.proofs.Common.{◌≡◌, ℕ, ◌+◌, ◌≤◌, List, [], ◌∷◌, ◌++◌, length, take, slice_get, Some, All, refl, arith, sym, ap, ◌∙◌, subst}
 use Rattle.std.proofs.lemmas.List.{take_more, map-append}
-use Rattle.std.proofs.lemmas.List.Elements.{All-push}
+use Rattle.std.proofs.lemmas.List.Elements.{All-nil, All-push}
 use Rattle.std.proofs.lemmas.Option.{slice_get_within, get_or_from_slice_get}
 use Rattle.hm_data.specs.declared.entry.Entry.{Entry}
 use Rattle.hm_entry.specs.Fits.{EntryFits}
@@ -21,3 +21,14 @@ spells_more frames number entries more entry so_far here is = record {
   are = ap frames_of is ∙ map-append spelling entries (entry ∷ []) ∙ ap (λ fs. fs ++ spelling entry ∷ []) so_far.are ∙ sym (take_item frames number (spelling entry) here.1);
   fits = subst (All EntryFits) (sym is) (All-push EntryFits entries entry so_far.fits here.0);
 }
+
+-- the first entry spells the first frame
+pub spells_first : (frames : List (List ℕ)) (entries : List Entry) (entry : Entry) → SpellsAt frames 0 entry → entries ≡ entry ∷ [] → Spells (take (length entries) frames) entries
+spells_first frames entries entry here is =
+    subst (λ n. Spells (take n frames) entries) (sym (ap length is))
+    (spells_more frames 0 [] entries entry (record { are = refl; fits = All-nil EntryFits }) here is)
+
+-- of so many entries as none
+pub none_of : (entries : List Entry) (count : ℕ) → count ≡ length entries → count ≤ 0 → entries ≡ []
+none_of [] count is none = refl
+none_of (entry ∷ entries) count is none = absurd (omega (arith, is, none))

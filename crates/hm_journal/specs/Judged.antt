@@ -13,7 +13,7 @@ use Rattle.hm_entry.specs.declared.fault.EntryFault.TheVariants as entry_fault_i
 use Rattle.hm_model.specs.Journal.{back}
 use Rattle.hm_model.specs.Rules.{Breaks, IsLegal}
 use Rattle.hm_model.specs.Sheets.{sheets_of}
-use Rattle.hm_state.specs.State.{IsUnrefused}
+use Rattle.hm_judge.specs.Judge.{IsUnrefused}
 use Rattle.hm_journal.specs.Stored.{IsJournal, SameSheets, frames_of, opened}
 use Rattle.hm_journal.specs.Verdict.{FailsAt, IsNoEntry, IsNoJournal}
 use Rattle.hm_journal.specs.View.{entries_in}

@@ -198,6 +198,10 @@ impl<D: Disk> Recorder for Journal<D> {
 
     ghost room = { λ journal. journal.room };
 
+    fn will_refuse(&self, entry: &Entry) -> bool {
+        Journal::will_refuse(self, entry)
+    }
+
     fn ready(&mut self, alloc: Global, entry: &Entry) -> Result<(), AllocError> {
         Journal::ready(self, alloc, entry)
     }

@@ -12,10 +12,11 @@ use crate::sheets::{are_sheets, copy_sheets, lowest_difference};
 use crate::why::JournalWhy;
 use hm_data::{Entry, Sheet};
 use hm_entry::{EntryFault, decode};
+use hm_judge::NotAllowed;
 use hm_log::Frames;
 use hm_names::Copied;
-use hm_state::{NotAllowed, State};
-use std::alloc::Global;
+use hm_state::State;
+use std::alloc::{AllocError, Global};
 
 // Why the frame of this number spells no entry.
 fn fault_of(number: u64, fault: EntryFault) -> JournalWhy
@@ -70,21 +71,43 @@ fn state_with(alloc: Global, first: &Entry, sheets: &[Sheet]) -> Result<State, J
     Ok(State::start(alloc, own.copy(alloc)?)?)
 }
 
-// Adds an entry, if it may stand behind those that are there.
-fn add_entry(alloc: Global, state: &mut State, entry: &Entry) -> Result<(), JournalWhy>
-    ensures entries { OnOk result (state.new.entries ≡ state.old.entries ++ entry.now ∷ []) }
-    ensures allowed { OnOk result (Allowed (back state.old.entries) entry.now) }
-    ensures why { IfErr result (IsNotAdded state.old.entries entry.now) }
+// Whether an entry may stand behind those that are there, and else why not.
+fn judge(alloc: Global, state: &State, entry: &Entry) -> Result<(), JournalWhy>
+    ensures allowed { OnOk result (Allowed (back state.now.entries) entry.now) }
+    ensures why { IfErr result (IsNotAdded state.now.entries entry.now) }
 {
     let number = state.entries();
     match state.allowed(alloc, entry) {
-        Ok(()) => {}
-        Err(NotAllowed::Rule(rule)) => return Err(JournalWhy::Illegal { number, rule }),
-        Err(NotAllowed::Memory) => return Err(JournalWhy::Memory),
+        Ok(()) => Ok(()),
+        Err(NotAllowed::Rule(rule)) => Err(JournalWhy::Illegal { number, rule }),
+        Err(NotAllowed::Memory) => Err(JournalWhy::Memory),
     }
-    let ready = state.prepare(alloc, entry)?;
+}
+
+// Adds an entry that may stand behind those that are there.
+fn add_allowed(alloc: Global, state: &mut State, entry: Entry) -> Result<(), AllocError>
+    requires { Allowed (back state.old.entries) entry }
+    ensures { OnOk result (state.new.entries ≡ state.old.entries ++ entry ∷ []) }
+{
+    let ready = state.prepare_own(alloc, entry)?;
     state.apply(ready);
     Ok(())
+}
+
+// Adds an entry, if it may stand behind those that are there.
+fn add_entry(alloc: Global, state: &mut State, entry: Entry) -> Result<(), JournalWhy>
+    ensures entries { OnOk result (state.new.entries ≡ state.old.entries ++ entry ∷ []) }
+    ensures allowed { OnOk result (Allowed (back state.old.entries) entry) }
+    ensures why { IfErr result (IsNotAdded state.old.entries entry) }
+{
+    if let Err(why) = judge(alloc, state, &entry) {
+        drop(entry);
+        return Err(why);
+    }
+    match add_allowed(alloc, state, entry) {
+        Ok(()) => Ok(()),
+        Err(_) => Err(JournalWhy::Memory),
+    }
 }
 
 // The state of a journal that has the entry of the first frame alone, if that starts one that has the same sheet of each
@@ -113,9 +136,7 @@ fn read_next(
     ensures why { IfErr result (IsNotAddedFrom state.old.entries frames.now number) }
 {
     let entry = read_entry(alloc, frames, number)?;
-    let added = add_entry(alloc, state, &entry);
-    drop(entry);
-    added
+    add_entry(alloc, state, entry)
 }
 
 // Adds the entries of the frames behind those of the entries that are there, if they may stand there.

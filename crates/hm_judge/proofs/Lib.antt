@@ -1,7 +1,12 @@
-mod Found
+pub mod Found
 mod Rules
 mod Stepping
 mod Failing
 mod Reporting
 mod Undoing
-mod Picking
+pub mod Picking
+mod Seeing
+mod RowsThere
+mod Asking
+mod Judging
+mod Living

@@ -119,7 +119,7 @@ last_of true false c d e = absurd (false≢true e)
 last_of false b c d e = absurd (false≢true e)
 
 -- where a step is undone, no server is picked
-no_pick : (o : Option Row) (at : StepIn) → is_step at.turn ≡ false → picks_at o at ≡ false
+pub no_pick : (o : Option Row) (at : StepIn) → is_step at.turn ≡ false → picks_at o at ≡ false
 no_pick None at e = refl
 no_pick (Some row) at e = and_off (is_picking row.act) (is_step at.turn) (not (is_cut_off row at) && wants_server (region_of at.args) at) e
 
@@ -136,7 +136,7 @@ needs_none J legal p x on =
     (turned J (undoes J p x) (stack J p) (step_input J p x None) on (stacked_all J legal p) (last_of (is_top x.above) (is_some (cause J p)) (all_stopped J p) (not (is_empty (stack J p))) on))
 
 -- a step of its own needs a server by its row
-needs_step : (J : Past) (p : ℕ) (x : Node) → node_of J p ≡ Some x → undoes J p x ≡ false → needs_server J p x ≡ picks_at (next_row J p x) (step_input J p x None)
+pub needs_step : (J : Past) (p : ℕ) (x : Node) → node_of J p ≡ Some x → undoes J p x ≡ false → needs_server J p x ≡ picks_at (next_row J p x) (step_input J p x None)
 needs_step J p x is off =
     ap (λ b. let at = turn_input J b (stack J p) (step_input J p x None) in picks_at (row_in (sheet_at J at) at.row) at) off
     ∙ ap (λ o. picks_at (row_in (elim o as (λ n. Option Sheet) [ None ↦ None | Some node ↦ sheet_of J p node ]) (row_of J p x)) (step_input J p x None)) is

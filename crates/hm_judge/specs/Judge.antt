@@ -1,5 +1,5 @@
 -- What is said of an entry that is judged.
-use Rattle.std.specs.Prelude.{◌≡◌, ℕ, List, [], ◌∷◌}
+use Rattle.std.specs.Prelude.{◌≡◌, ℕ, List, [], ◌∷◌, Bool, false, Result, Ok, Err}
 use Rattle.hm_data.specs.declared.entry.Entry.{Entry}
 use Rattle.hm_data.specs.declared.entry.Entry.TheVariants as entry_is
 use Rattle.hm_model.specs.Journal.{Past}
@@ -27,6 +27,13 @@ IsUnrefused before entry = (rule : ℕ) → Breaks before entry rule → IsEvalu
 abbrev pub IsWhy : Past → Entry → NotAllowed → Type 0
 IsWhy before entry (not_allowed.Rule number) = Breaks before entry number
 IsWhy before entry not_allowed.Memory = ((rule : ℕ) × IsEvaluation entry rule) × IsUnrefused before entry
+
+-- why a comparison refuses: it differs, which breaks its rule, or memory ran out
+abbrev pub IsRefusal : {E : Type 0} → ℕ → Result Bool E → NotAllowed → Type 0
+IsRefusal rule (Ok same) (not_allowed.Rule number) = (same ≡ false) × (number ≡ rule)
+IsRefusal rule (Ok same) not_allowed.Memory = ⊥
+IsRefusal rule (Err out_of_memory) (not_allowed.Rule number) = ⊥
+IsRefusal rule (Err out_of_memory) not_allowed.Memory = Unit {0}
 
 -- each of numbered rules holds that is judged without memory
 abbrev pub AllHoldBut : Entry → List (ℕ × Type 0) → Type 0

@@ -29,7 +29,7 @@ pub(crate) fn can_abort(records: &Records, pid: Pid) -> bool
 }
 
 /// Whether the row that it runs next isn't after the point.
-pub(crate) fn is_before_point(records: &Records, pid: Pid) -> bool
+pub fn is_before_point(records: &Records, pid: Pid) -> bool
     ensures { IsTrue result ↔ IsBeforePoint records.now.past pid.0 }
 {
     let Some(found) = find(records, pid) else {

@@ -1,19 +1,22 @@
 //! The rules, by number.
 ghost use Rattle.std.specs.Prelude.{◌≡◌, OnOk, IfErr, IsTrue, false};
 ghost use Rattle.hm_model.specs.Requests.{MayCome};
-ghost use Rattle.hm_model.specs.Rules.{Breaks};
-ghost use Rattle.hm_judge.specs.Judge.{HoldsBut, IsUnrefused};
+ghost use Rattle.hm_model.specs.Rules.{Allowed, Breaks};
+ghost use Rattle.hm_judge.specs.Judge.{HoldsBut, IsUnrefused, IsWhy};
 
 use crate::aborts::{can_abort, is_before_point};
 use crate::capabilities::may_come;
+use crate::evaluation::evaluated;
 use crate::picks::picks_right;
 use crate::reports::{fits_call, is_outstanding};
 use crate::servers::{has_newer, has_older_live, is_live};
 use crate::steps::{is_clear, may_step};
 use crate::submissions::{is_fresh, may_submit, stays_within};
 use crate::undos::is_latest;
+use crate::why::NotAllowed;
 use hm_data::Entry;
 use hm_records::Records;
+use std::alloc::Global;
 
 // Refuses by the number of a rule, unless it holds.
 fn rule(number: u8, holds: bool) -> Result<(), u8>
@@ -66,9 +69,22 @@ pub(crate) fn judged(records: &Records, entry: &Entry) -> Result<(), u8>
     }
 }
 
-/// Whether no rule refuses the entry that is judged without memory, that is all but the evaluation of a step or an undo;
-/// else the lowest rule that it breaks.
+/// Whether an entry may follow; else the lowest rule that it breaks, or that memory ran out before that was known. All rules
+/// that take no memory come before the evaluation of a step or an undo, which its sheet answers once.
+pub fn allowed(alloc: Global, records: &Records, entry: &Entry) -> Result<(), NotAllowed>
+    ensures ok { OnOk result (Allowed records.now.past entry.now) }
+    ensures why { IfErr result (IsWhy records.now.past entry.now) }
+{
+    match judged(records, entry) {
+        Ok(()) => evaluated(alloc, records, entry),
+        Err(number) => Err(NotAllowed::Rule(number)),
+    }
+}
+
+/// Whether all rules hold that are judged without memory, that is all but the evaluation of a step or an undo; else the lowest
+/// rule that the entry breaks.
 pub fn unrefused(records: &Records, entry: &Entry) -> Result<(), u8>
+    ensures holds { OnOk result (HoldsBut records.now.past entry.now) }
     ensures ok { OnOk result (IsUnrefused records.now.past entry.now) }
     ensures rule { IfErr result (Breaks records.now.past entry.now) }
 {

@@ -3,7 +3,7 @@ ghost use Rattle.std.specs.Prelude.{◌≡◌, ◌↔◌, ◌&&◌, ◌||◌, no
 ghost use Rattle.hm_catalog.specs.Kept.{key_of};
 ghost use Rattle.hm_model.specs.Catalog.{cat};
 ghost use Rattle.hm_model.specs.Evaluation.{is_picking};
-ghost use Rattle.hm_model.specs.Picks.{is_another as another, is_as_wanted as as_wanted, needs_server as needs, PicksRight};
+ghost use Rattle.hm_model.specs.Picks.{has_pick as pick_there, is_another as another, is_as_wanted as as_wanted, needs_server as needs, PicksRight};
 ghost use Rattle.hm_model.specs.Places.{is_the_server as the_server};
 ghost use Rattle.hm_model.specs.Records.{record_at};
 ghost use Rattle.hm_model.specs.RowsSaid.{is_in_state, is_live_status, status_in, table_state_in};
@@ -13,8 +13,8 @@ ghost use Rattle.hm_model.specs.Inputs.{sees_fenced as fenced_seen};
 ghost use Rattle.hm_model.specs.Wanted.{wanted_by_request as requested, wanted_of as wanted};
 ghost use Rattle.hm_judge.specs.Picks.{can_open, fits_record, place_told, read_by as region_read, wants};
 
-use crate::seen::{find, next_row, place_seen, sees_fenced};
-use crate::servers::{has_other_live, is_live, is_one};
+use crate::seen::{find, moved_by, next_row, place_seen, sees_fenced};
+use crate::servers::{has_live, has_other_live, is_live, is_one};
 use hm_catalog::Name;
 use hm_catalog::laws::rows_tell;
 use hm_data::{Act, Args, CatRow, Record, RegionState, Request, Row, Status, TableState};
@@ -30,16 +30,7 @@ fn read_by(args: &Args) -> Option<&RegionName>
             request: Request::SplitRegion { region, key: _ },
             first: _,
         } => Some(region),
-        Args::Root {
-            request: Request::Move { region, to: _ },
-            first: _,
-        } => Some(region),
-        Args::Transit {
-            region,
-            goal: _,
-            to: _,
-        } => Some(region),
-        _ => None,
+        _ => moved_by(args),
     }
 }
 
@@ -126,6 +117,16 @@ fn needs_server(records: &Records, pid: Pid, found: &Record) -> bool
     }
 }
 
+/// Whether the next step of a procedure needs no server to be picked, or one is live.
+pub fn has_pick(records: &Records, pid: Pid) -> bool
+    ensures { (node : Node) → node_of records.now.past pid.0 ≡ Some node → result ≡ pick_there records.now.past pid.0 node }
+{
+    let Some(found) = find(records, pid) else {
+        return false;
+    };
+    !needs_server(records, pid, found) || has_live(records)
+}
+
 // The server that a procedure is to bring its region to, where one is named.
 fn wanted_of(args: &Args) -> Option<&ServerName>
     ensures { option_copied result ≡ wanted args.now }
@@ -188,7 +189,7 @@ fn fits(records: &Records, found: &Record, server: &ServerName) -> bool
 }
 
 /// Whether a server is picked exactly where the next step of the procedure needs one, and fits.
-pub(crate) fn picks_right(records: &Records, pid: Pid, pick: &Option<ServerName>) -> bool
+pub fn picks_right(records: &Records, pid: Pid, pick: &Option<ServerName>) -> bool
     ensures { IsTrue result ↔ PicksRight records.now.past pid.0 pick.now }
 {
     let Some(found) = find(records, pid) else {

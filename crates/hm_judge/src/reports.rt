@@ -37,7 +37,7 @@ fn fits_args(args: &Args, told: Told) -> bool
 }
 
 /// Whether an answer fits the call, if it is recorded.
-pub(crate) fn fits_call(records: &Records, call: Pid, told: Told) -> bool
+pub fn fits_call(records: &Records, call: Pid, told: Told) -> bool
     ensures { IsTrue result ↔ FitsCall records.now.past call.0 told }
 {
     if !records.procedures().has_called(call) {

@@ -5,7 +5,7 @@ ghost use Rattle.hm_model.specs.Places.{place_of as place};
 ghost use Rattle.hm_model.specs.Records.{record_of};
 ghost use Rattle.hm_model.specs.Rules.{IsLegal};
 ghost use Rattle.hm_model.specs.Sheets.{row_in, sheet_for as sheet_of_kind, sheets_of};
-ghost use Rattle.hm_model.specs.Tree.{is_root as root};
+ghost use Rattle.hm_model.specs.Tree.{is_root as root, pid_of, root_of as root_in};
 ghost use Rattle.hm_model.specs.Whereabouts.{called_by as called, moved_by as moved};
 
 use crate::servers::is_fenced;
@@ -33,6 +33,16 @@ pub(crate) fn is_root(records: &Records, pid: Pid) -> bool
     }
 }
 
+/// The root of a procedure, 0 where there is none.
+pub(crate) fn root_of(records: &Records, pid: Pid) -> Pid
+    ensures { result ≡ pid_of (root_in records.now.past pid.0) }
+{
+    match find(records, pid) {
+        Some(found) => found.root,
+        None => Pid(0),
+    }
+}
+
 /// The row that a procedure runs next.
 pub(crate) fn next_row(records: &Records, found: &Record) -> Option<Row>
     ensures { result ≡ row_in (sheet_of_kind (sheets_of records.now.past) found.now.kind) found.now.row }
@@ -48,8 +58,8 @@ fn row_at(rows: &[Row], place: u8) -> Option<Row>
     rows.get(usize::from(place)).copied()
 }
 
-// The region that a procedure moves.
-fn moved_by(args: &Args) -> Option<&RegionName>
+/// The region that a procedure moves.
+pub(crate) fn moved_by(args: &Args) -> Option<&RegionName>
     ensures { option_copied result ≡ moved args.now }
 {
     match args {
@@ -66,8 +76,8 @@ fn moved_by(args: &Args) -> Option<&RegionName>
     }
 }
 
-// The server that a call about a region goes to.
-fn called_by(args: &Args) -> Option<&ServerName>
+/// The server that a call about a region goes to.
+pub fn called_by(args: &Args) -> Option<&ServerName>
     ensures { option_copied result ≡ called args.now }
 {
     match args {

@@ -1,6 +1,6 @@
 //! The rules of servers that come up and go down.
 ghost use Rattle.std.specs.Prelude.{◌≡◌};
-ghost use Rattle.hm_model.specs.Fleet.{has_newer as newer, has_older_live as older, has_other_live as other, is_fenced as fenced, is_live as live, same_server};
+ghost use Rattle.hm_model.specs.Fleet.{has_live as some_live, has_newer as newer, has_older_live as older, has_other_live as other, is_fenced as fenced, is_live as live, same_server};
 ghost use Rattle.hm_places.specs.Laws.{StandingsTell, standings_of};
 
 use hm_names::ServerName;
@@ -36,6 +36,13 @@ pub(crate) fn has_other_live(records: &Records, server: &ServerName) -> bool
     ensures { result ≡ other records.now.past server.now }
 {
     standings(records).has_other_live(server)
+}
+
+/// Whether some server is live.
+pub(crate) fn has_live(records: &Records) -> bool
+    ensures { result ≡ some_live records.now.past }
+{
+    standings(records).pick(records.places(), None).is_some()
 }
 
 /// Whether the server is live.

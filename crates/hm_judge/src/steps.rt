@@ -11,7 +11,7 @@ use hm_sheet::is_running_kind;
 
 /// Whether the procedure is there and may make a step: it is of a kind that runs, and runnable, or its call was answered or
 /// goes to a server that is fenced.
-pub(crate) fn may_step(records: &Records, pid: Pid) -> bool
+pub fn may_step(records: &Records, pid: Pid) -> bool
     ensures { IsTrue result ↔ MayStep records.now.past pid.0 }
 {
     let Some(found) = find(records, pid) else {

@@ -17,3 +17,5 @@ pub mod MergeRegions
 pub mod Exact
 pub mod Roots
 pub mod Effects
+pub mod Kids
+pub mod Editless

@@ -22,9 +22,9 @@ use Rattle.hm_model.proofs.KeyTests.{bytes_eq-is, same_region-is, same_table-is}
 use Rattle.hm_kinds.proofs.Covering.{order_has, rows_table}
 
 -- a request that can be submitted; any other procedure
-abbrev pub IsSound : Args → Type 0
-IsSound (args_are.Root request first) = wrong_in request ≡ None
-IsSound args = Unit {0}
+abbrev pub IsRight : Args → Type 0
+IsRight (args_are.Root request first) = wrong_in request ≡ None
+IsRight args = Unit {0}
 
 -- it is asked for, with others or alone
 abbrev pub Asks : List Ask → Resource → Type 0
@@ -185,7 +185,7 @@ server_founded : (server : Server) → Founded (exclusive (resource_is.Server se
 server_founded server resource (inl e) = subst (Above (exclusive (resource_is.Server server) ∷ [])) (same_resource resource (resource_is.Server server) e) tt
 server_founded server resource (inr never) = absurd never
 
-founded : (args : Args) → IsSound args → Founded (asks args)
+founded : (args : Args) → IsRight args → Founded (asks args)
 founded (args_are.Root (request_is.CreateNamespace ns) first) sound = ns_founded ns
 founded (args_are.Root (request_is.DropNamespace ns) first) sound = ns_founded ns
 founded (args_are.Root (request_is.CreateTable table keys) first) sound = table_founded table
@@ -210,7 +210,7 @@ founded (args_are.FenceCall server) sound = λ resource never. absurd never
 founded (args_are.LayoutCall root) sound = λ resource never. absurd never
 founded (args_are.SweepLayout root) sound = λ resource never. absurd never
 
-pub cover_form : (args : Args) → IsSound args → (key : CatKey) → covers args key ≡ true → CoverForm (asks args) key
+pub cover_form : (args : Args) → IsRight args → (key : CatKey) → covers args key ≡ true → CoverForm (asks args) key
 cover_form args sound key c = let f = found (asks args) key c in cover_over (asks args) (founded args sound) f.0 f.1 key f.2
 
 cover_guard : (list : List Ask) (key : CatKey) → CoverForm list key → GuardForm list key
@@ -260,7 +260,7 @@ merge_guard list (region ∷ more) each key on = elim (or_cases (is_table region
 table_asked : (table : TableName) (rest : List Ask) → Asks (table_shared table ++ rest) (resource_is.Table table)
 table_asked table rest = (shared (resource_is.Table table), inr (inl refl), refl)
 
-read_form : (args : Args) → rows_table args ≡ None → IsSound args → (key : CatKey) → reads args key ≡ true → GuardForm (asks args) key
+read_form : (args : Args) → rows_table args ≡ None → IsRight args → (key : CatKey) → reads args key ≡ true → GuardForm (asks args) key
 read_form (args_are.Root (request_is.CreateNamespace ns) first) none sound key on = ns_guard (exclusive (resource_is.Ns ns) ∷ []) ns (exclusive (resource_is.Ns ns), inl refl, refl) key on
 read_form (args_are.Root (request_is.DropNamespace ns) first) none sound key on = ns_tables_guard (exclusive (resource_is.Ns ns) ∷ []) ns (inl refl) key on
 read_form (args_are.Root (request_is.CreateTable table keys) first) none sound key on = elim (or_cases (is_ns table.ns key) (is_table table key) on) [
@@ -292,12 +292,12 @@ read_form (args_are.FenceCall server) none sound key on = absurd (false≢true o
 read_form (args_are.LayoutCall root) none sound key on = absurd (false≢true on)
 read_form (args_are.SweepLayout root) none sound key on = absurd (false≢true on)
 
-guard_form : (args : Args) → rows_table args ≡ None → IsSound args → (key : CatKey) → guards args key ≡ true → GuardForm (asks args) key
+guard_form : (args : Args) → rows_table args ≡ None → IsRight args → (key : CatKey) → guards args key ≡ true → GuardForm (asks args) key
 guard_form args none sound key on = elim (or_cases (covers args key) (reads args key) on) [
   | inl c ↦ cover_guard (asks args) key (cover_form args sound key c)
   | inr r ↦ read_form args none sound key r
 ]
 
 -- who covers a row asks for what clashes with the asks of each root that guards it
-pub lock_law : (one other : Args) → IsSound one → IsSound other → rows_table other ≡ None → (key : CatKey) → covers one key ≡ true → guards other key ≡ true → Clash (asks one) (asks other)
+pub lock_law : (one other : Args) → IsRight one → IsRight other → rows_table other ≡ None → (key : CatKey) → covers one key ≡ true → guards other key ≡ true → Clash (asks one) (asks other)
 lock_law one other sound sound' none key c g = join (asks one) (asks other) key (cover_form one sound key c) (guard_form other none sound' key g)

@@ -64,5 +64,5 @@ module _ (s : Chains) (linked : IsLinked s (lists_of s)) (l : ℕ) (there : l < 
 pub goes_on : (s : Chains) (x : ℕ) → IsOnWay s (Some x) → (x < length s.nodes) × IsOnWay s (node_at s x).next × (rest_from s (Some x) ≡ x ∷ rest_from s (node_at s x).next)
 goes_on s x way = goes_on_by s way.linked way.list way.within x way.front (rest_from s (Some x)) refl way.first way.cut
 
-pub is_over : (s : Chains) → IsOnWay s None → rest_from s None ≡ []
-is_over s way = walk_none (length s.nodes) s
+pub walk_is_over : (s : Chains) → IsOnWay s None → rest_from s None ≡ []
+walk_is_over s way = walk_none (length s.nodes) s

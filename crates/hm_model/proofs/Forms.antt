@@ -28,7 +28,7 @@ use Rattle.hm_data.specs.declared.step.StepIn.{StepIn}
 use Rattle.hm_data.specs.declared.step.StepOut.{StepOut}
 use Rattle.hm_model.specs.Answers.{no_row, row_after}
 use Rattle.hm_model.specs.Acts.{act_answer}
-use Rattle.hm_model.specs.CallActs.{call_assign, call_close, call_fence, call_layout, call_sweep, ends_as_told, layout_told, settle, settle_layout, unless_gone}
+use Rattle.hm_model.specs.CallActs.{call_assign, call_close, call_fence, call_layout, call_sweep, ends_as_told, layout_told, settle_call, settle_layout, unless_gone}
 use Rattle.hm_model.specs.Catalog.{row_at, set_to}
 use Rattle.hm_model.specs.Changes.{add_ranges, changed, merge_edits, remove_regions, split_edits}
 use Rattle.hm_model.specs.Checks.{can_split, namespace_empty, namespace_free, region_ready, table_disabled, table_enabled, table_free}
@@ -255,8 +255,8 @@ call_assign-formed next args fenced = gone_or next fenced (given (region_of args
 call_close-formed : (next : ℕ) (args : Args) (fenced : Bool) → IsFormed next (call_close next args fenced)
 call_close-formed next args fenced = gone_or next fenced (given (region_of args) next (λ region. calls next (verb_is.CloseRegion region))) (with_part (region_of args) next (λ region. calls next (verb_is.CloseRegion region)) (λ region. called next (verb_is.CloseRegion region)))
 
-settle-formed : (next : ℕ) (fenced : Bool) (report : Option Told) → IsFormed next (settle fenced report)
-settle-formed next fenced report = gone_or next fenced (ends_as_told report) (as_told next report)
+settle_call-formed : (next : ℕ) (fenced : Bool) (report : Option Told) → IsFormed next (settle_call fenced report)
+settle_call-formed next fenced report = gone_or next fenced (ends_as_told report) (as_told next report)
 
 call_fence-formed : (next : ℕ) (args : Args) → IsFormed next (call_fence next args)
 call_fence-formed next args = with_part (server_of args) next (λ server. calls next (verb_is.Fence server)) (λ server. called next (verb_is.Fence server))
@@ -308,7 +308,7 @@ act_formed act_is.Fence next at = fence-formed next at.args
 act_formed act_is.Reassign next at = reassign-formed next at.on_server
 act_formed act_is.CallAssign next at = call_assign-formed next at.args at.fenced
 act_formed act_is.CallClose next at = call_close-formed next at.args at.fenced
-act_formed act_is.Settle next at = settle-formed next at.fenced at.report
+act_formed act_is.Settle next at = settle_call-formed next at.fenced at.report
 act_formed act_is.CallFence next at = call_fence-formed next at.args
 act_formed act_is.CallLayout next at = call_layout-formed next at.args
 act_formed act_is.SettleLayout next at = settled_layout next at.report

@@ -30,3 +30,12 @@ pub mod CameUp
 mod Undone
 mod Beside
 pub mod NameTies
+pub mod Listed
+pub mod InOrder
+pub mod RootTrees
+pub mod Tops
+pub mod Transits
+pub mod Distinct
+pub mod Highs
+pub mod Kin
+pub mod Free

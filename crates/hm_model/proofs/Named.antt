@@ -27,7 +27,7 @@ use Rattle.hm_data.specs.declared.sheet.Row.{Row}
 use Rattle.hm_data.specs.declared.step.StepIn.{StepIn}
 use Rattle.hm_data.specs.declared.step.StepOut.{StepOut}
 use Rattle.hm_model.specs.Acts.{act_answer}
-use Rattle.hm_model.specs.CallActs.{call_assign, call_close, call_fence, call_layout, call_sweep, ends_as_told, layout_told, settle, settle_layout, unless_gone}
+use Rattle.hm_model.specs.CallActs.{call_assign, call_close, call_fence, call_layout, call_sweep, ends_as_told, layout_told, settle_call, settle_layout, unless_gone}
 use Rattle.hm_model.specs.Catalog.{row_at, set_to}
 use Rattle.hm_model.specs.Changes.{add_ranges, changed, merge_edits, remove_regions, split_edits}
 use Rattle.hm_model.specs.Checks.{can_split, namespace_empty, namespace_free, region_ready, table_disabled, table_enabled, table_free}
@@ -285,8 +285,8 @@ module _ (P : Server → Type 0) where
   call_close-named : (next : ℕ) (args : Args) (fenced : Bool) → IsNamed P (call_close next args fenced)
   call_close-named next args fenced = gone_or next fenced (given (region_of args) next (λ region. calls next (verb_is.CloseRegion region))) (with_part (region_of args) next (λ region. calls next (verb_is.CloseRegion region)) (λ region e. called next (verb_is.CloseRegion region)))
 
-  settle-named : (next : ℕ) (fenced : Bool) (report : Option Told) → IsNamed P (settle fenced report)
-  settle-named next fenced report = gone_or next fenced (ends_as_told report) (as_told next report)
+  settle_call-named : (next : ℕ) (fenced : Bool) (report : Option Told) → IsNamed P (settle_call fenced report)
+  settle_call-named next fenced report = gone_or next fenced (ends_as_told report) (as_told next report)
 
   call_fence-named : (next : ℕ) (args : Args) → IsNamed P (call_fence next args)
   call_fence-named next args = with_part (server_of args) next (λ server. calls next (verb_is.Fence server)) (λ server e. called next (verb_is.Fence server))
@@ -338,7 +338,7 @@ module _ (P : Server → Type 0) where
   act_named act_is.Reassign next at sees = reassign-named next at.on_server
   act_named act_is.CallAssign next at sees = call_assign-named next at.args at.fenced
   act_named act_is.CallClose next at sees = call_close-named next at.args at.fenced
-  act_named act_is.Settle next at sees = settle-named next at.fenced at.report
+  act_named act_is.Settle next at sees = settle_call-named next at.fenced at.report
   act_named act_is.CallFence next at sees = call_fence-named next at.args
   act_named act_is.CallLayout next at sees = call_layout-named next at.args
   act_named act_is.SettleLayout next at sees = settled_layout next at.report

@@ -1,6 +1,6 @@
 -- What the acts answer that call nobody and place nothing.
-use Rattle.std.proofs.Common.{◌≡◌, ℕ, zero, suc, ◌+◌, List, [], ◌∷◌, Bool, true, false, not, ◌&&◌, ◌==◌, Option, Some, None, cond, nat_le, length, take, drop, map, refl, ap, sym, ◌∙◌, slice_get, ◌++◌}
-use Rattle.std.proofs.lemmas.Bool.{and_parts, false≢true, not-true, true≢false}
+use Rattle.std.proofs.Common.{◌≡◌, ℕ, zero, suc, ◌+◌, List, [], ◌∷◌, Bool, true, false, not, ◌&&◌, ◌||◌, ◌==◌, Option, Some, None, cond, nat_le, length, take, drop, map, refl, ap, sym, ◌∙◌, slice_get, ◌++◌}
+use Rattle.std.proofs.lemmas.Bool.{and_parts, false≢true, true≢false}
 use Rattle.std.proofs.lemmas.Option.{none-some, same_Some}
 use Rattle.hm_names.specs.Region.{Region}
 use Rattle.hm_names.specs.declared.table.TableName.{TableName}
@@ -31,17 +31,15 @@ use Rattle.hm_model.specs.NamespaceActs.{has_table, version_of}
 use Rattle.hm_model.specs.RegionActs.{cut_of, merge_cause, regions_for}
 use Rattle.hm_model.specs.RowsSaid.{all_among, in_state, in_version}
 use Rattle.hm_model.specs.ActSorts.{is_check}
-use Rattle.hm_model.specs.Views.{asked_of, bounds_of, first_id_of, region_of, regions_in, table_of}
+use Rattle.hm_model.specs.Views.{asked_of, bounds_of, first_id_of, region_of, regions_in, table_of, namespace_of}
 use Rattle.hm_model.specs.Wanted.{ids_of, server_of}
 use Rattle.hm_model.specs.Answers.{failing, no_row}
 use Rattle.hm_model.specs.Checks.{can_split, namespace_empty, namespace_free, table_disabled, table_enabled, table_free}
 use Rattle.hm_model.specs.CrashActs.{reassign_all}
-use Rattle.hm_model.specs.Outs.{checked, edits_rows, ends_with, given, spawns}
+use Rattle.hm_model.specs.Outs.{checked, edits_rows, ends_with, given, spawns, fails, gives, on_to}
 use Rattle.hm_model.specs.Pieces.{Batch, adding, batches, by_64, dropping, numbers_from, ranges_between, transits}
 use Rattle.hm_model.specs.Locks.{in_name_order}
-use Rattle.hm_model.specs.Outs.{fails, gives, on_to}
 use Rattle.hm_model.specs.Undoing.{closed_by}
-use Rattle.hm_model.specs.Views.{namespace_of}
 use Rattle.hm_model.specs.Tree.{args_in}
 
 -- a procedure calls a region server
@@ -57,10 +55,23 @@ is_caller (args_are.FenceCall server) = false
 is_caller (args_are.LayoutCall root) = false
 is_caller (args_are.SweepLayout root) = false
 
--- no such procedure stands for the child
+-- only roots are such: requests and crashes
+abbrev pub is_high : Args → Bool
+is_high (args_are.Root request first) = true
+is_high (args_are.Transit region goal to) = false
+is_high (args_are.Crash server) = true
+is_high (args_are.AddRegions table first bounds) = false
+is_high (args_are.DropRegions table ids) = false
+is_high (args_are.AssignCall region server) = false
+is_high (args_are.CloseCall region server) = false
+is_high (args_are.FenceCall server) = false
+is_high (args_are.LayoutCall root) = false
+is_high (args_are.SweepLayout root) = false
+
+-- no procedure of either sort stands for the child
 abbrev pub is_quiet : Child → Bool
 is_quiet (child_is.Transits table ids goal) = true
-is_quiet (child_is.One args) = not (is_caller args)
+is_quiet (child_is.One args) = not (is_caller args || is_high args)
 
 abbrev pub all_quiet : List Child → Bool
 all_quiet [] = true
@@ -278,14 +289,28 @@ fine_act act_is.CallLayout h c next at = absurd (false≢true h)
 fine_act act_is.SettleLayout h c next at = absurd (false≢true h)
 fine_act act_is.CallSweep h c next at = absurd (false≢true h)
 
-not_caller : (ids : List ℕ) (table : TableName) (goal : Goal) (more : List Args) → ((i : ℕ) (args : Args) → slice_get more i ≡ Some args → is_caller args ≡ false) → (i : ℕ) (args : Args) → slice_get (map (λ id. args_are.Transit (record { table = table; id = id }) goal None) ids ++ more) i ≡ Some args → is_caller args ≡ false
-not_caller [] table goal more each i args is = each i args is
-not_caller (id ∷ ids) table goal more each zero args is = ap is_caller (sym (same_Some _ args is))
-not_caller (id ∷ ids) table goal more each (suc i) args is = not_caller ids table goal more each i args is
+neither : (a b : Bool) → not (a || b) ≡ true → (a ≡ false) × (b ≡ false)
+neither false false h = (refl, refl)
+neither false true h = absurd (false≢true h)
+neither true b h = absurd (false≢true h)
+
+-- none of the children is of a sort, where neither a transit nor a quiet one is
+module _ (test : Args → Bool) (transit : (region : Region) (goal : Goal) → test (args_are.Transit region goal None) ≡ false) (quiet_one : (args : Args) → not (is_caller args || is_high args) ≡ true → test args ≡ false) where
+  no_transit : (ids : List ℕ) (table : TableName) (goal : Goal) (more : List Args) → ((i : ℕ) (args : Args) → slice_get more i ≡ Some args → test args ≡ false) → (i : ℕ) (args : Args) → slice_get (map (λ id. args_are.Transit (record { table = table; id = id }) goal None) ids ++ more) i ≡ Some args → test args ≡ false
+  no_transit [] table goal more each i args is = each i args is
+  no_transit (id ∷ ids) table goal more each zero args is = ap test (sym (same_Some _ args is)) ∙ transit (record { table = table; id = id }) goal
+  no_transit (id ∷ ids) table goal more each (suc i) args is = no_transit ids table goal more each i args is
+
+  none_such : (children : List Child) → all_quiet children ≡ true → (i : ℕ) (args : Args) → slice_get (args_in children) i ≡ Some args → test args ≡ false
+  none_such [] quiet i args is = absurd (none-some args is)
+  none_such (child_is.Transits table ids goal ∷ more) quiet i args is = no_transit ids table goal (args_in more) (λ j a g. none_such more quiet j a g) i args is
+  none_such (child_is.One own ∷ more) quiet zero args is = ap test (sym (same_Some own args is)) ∙ quiet_one own (and_parts (not (is_caller own || is_high own)) (all_quiet more) quiet).0
+  none_such (child_is.One own ∷ more) quiet (suc i) args is = none_such more (and_parts (not (is_caller own || is_high own)) (all_quiet more) quiet).1 i args is
 
 -- none of the children is one that calls a region server
 pub quiet_args : (children : List Child) → all_quiet children ≡ true → (i : ℕ) (args : Args) → slice_get (args_in children) i ≡ Some args → is_caller args ≡ false
-quiet_args [] quiet i args is = absurd (none-some args is)
-quiet_args (child_is.Transits table ids goal ∷ more) quiet i args is = not_caller ids table goal (args_in more) (λ j a g. quiet_args more quiet j a g) i args is
-quiet_args (child_is.One own ∷ more) quiet zero args is = ap is_caller (sym (same_Some own args is)) ∙ not-true (is_caller own) (and_parts (not (is_caller own)) (all_quiet more) quiet).0
-quiet_args (child_is.One own ∷ more) quiet (suc i) args is = quiet_args more (and_parts (not (is_caller own)) (all_quiet more) quiet).1 i args is
+quiet_args = none_such is_caller (λ region goal. refl) (λ args quiet. (neither (is_caller args) (is_high args) quiet).0)
+
+-- nor what only roots are
+pub quiet_low : (children : List Child) → all_quiet children ≡ true → (i : ℕ) (args : Args) → slice_get (args_in children) i ≡ Some args → is_high args ≡ false
+quiet_low = none_such is_high (λ region goal. refl) (λ args quiet. (neither (is_caller args) (is_high args) quiet).1)

@@ -1,5 +1,5 @@
 -- What a step does, by its procedure's kind.
-use Rattle.std.proofs.Common.{◌≡◌, ◌≢◌, ℕ, zero, suc, List, [], ◌∷◌, ◌++◌, Bool, true, false, not, ◌&&◌, Option, Some, None, is_some, refl, ap, sym, ◌∙◌, subst, inl, inr, ◌⊎◌, slice_get}
+use Rattle.std.proofs.Common.{◌≡◌, ◌≢◌, ℕ, zero, suc, List, [], ◌∷◌, Bool, true, false, not, ◌&&◌, Option, Some, None, is_some, refl, ap, sym, ◌∙◌, subst, inl, inr, ◌⊎◌, slice_get}
 use Rattle.std.proofs.lemmas.Bool.{false≢true, true≢false}
 use Rattle.std.proofs.lemmas.Option.{none-some, same_Some}
 use Rattle.hm_names.specs.Region.{Region}
@@ -33,10 +33,9 @@ use Rattle.hm_model.specs.Evaluation.{is_cut_off, row_answer}
 use Rattle.hm_model.specs.Journal.{Past}
 use Rattle.hm_model.specs.Kinds.{first_row_of, kind_of}
 use Rattle.hm_model.specs.Lists.{exact_rows}
-use Rattle.hm_model.specs.Outs.{checked, ends_with, given, goes_on, places, spawns}
+use Rattle.hm_model.specs.Outs.{checked, ends_with, given, goes_on, places, spawns, fails, gives}
 use Rattle.hm_model.specs.Reports.{verb_of}
 use Rattle.hm_model.specs.Inputs.{step_input}
-use Rattle.hm_model.specs.Outs.{fails, gives}
 use Rattle.hm_model.specs.TransitActs.{behind_close, candidate, close_at, close_or_go, is_open, is_placed, is_state, is_told, lost_if, may_open_in, opened_or_not, told_place}
 use Rattle.hm_model.specs.Tree.{Node, args_in}
 use Rattle.hm_model.specs.Views.{region_of}
@@ -46,16 +45,16 @@ use Rattle.hm_model.specs.Verbs.{verb_in}
 use Rattle.hm_model.proofs.CallSteps.{CallOut, CallReady, caller_step}
 use Rattle.hm_model.proofs.ExactRows.{IsLed, exact_is, led_row, row_passes}
 use Rattle.hm_model.proofs.LegalSteps.{ReadyBy, StepFacts}
-use Rattle.hm_model.proofs.PlainActs.{ChildrenWait, GoesTo, IsPlainOut, is_caller, is_plain, plain_act, plain_fails, quiet_args}
+use Rattle.hm_model.proofs.PlainActs.{ChildrenWait, GoesTo, IsPlainOut, is_caller, is_plain, is_high, plain_act, plain_fails, quiet_args, quiet_low}
 
 -- an answer that a step may give
-abbrev pub IsSound : Answer → Type 0
-IsSound (answer_is.More n) = Unit {0}
-IsSound (answer_is.Wait n) = Unit {0}
-IsSound (answer_is.Await n) = Unit {0}
-IsSound (answer_is.Done told) = Unit {0}
-IsSound (answer_is.Fail cause) = Unit {0}
-IsSound answer_is.Undone = ⊥
+abbrev pub IsStepAnswer : Answer → Type 0
+IsStepAnswer (answer_is.More n) = Unit {0}
+IsStepAnswer (answer_is.Wait n) = Unit {0}
+IsStepAnswer (answer_is.Await n) = Unit {0}
+IsStepAnswer (answer_is.Done told) = Unit {0}
+IsStepAnswer (answer_is.Fail cause) = Unit {0}
+IsStepAnswer answer_is.Undone = ⊥
 
 -- children are none, or one procedure that calls a region server
 abbrev pub IsOneCall : List Child → Type 0
@@ -74,11 +73,11 @@ pub record IsMoveOut (next : ℕ) (out : StepOut) : Type 0 where
   pub editless : out.edits ≡ []
   pub near : GoesNear next out.answer
   pub silent : out.call ≡ None
-  pub sound : IsSound out.answer
+  pub sound : IsStepAnswer out.answer
   pub waits : ChildrenWait out.answer out.children
   pub childs : IsOneCall out.children
 
-move_gives : (next : ℕ) (answer : Answer) (place : Option Place) → GoesNear next answer → IsSound answer → ChildrenWait answer [] → IsMoveOut next (places answer place)
+move_gives : (next : ℕ) (answer : Answer) (place : Option Place) → GoesNear next answer → IsStepAnswer answer → ChildrenWait answer [] → IsMoveOut next (places answer place)
 move_gives next answer place near sound waits = record { editless = refl; near = near; silent = refl; sound = sound; waits = waits; childs = inl refl }
 
 move_on : (next : ℕ) → IsMoveOut next (goes_on next)
@@ -234,9 +233,10 @@ part_of (args_are.SweepLayout root) = calls _ refl refl (_, _, refl)
 
 -- what a step does
 pub record Does (J : Past) (p : ℕ) (args : Args) (was : Option Answer) (rows : List Row) (out : StepOut) : Type 0 where
-  pub sound : IsSound out.answer
+  pub sound : IsStepAnswer out.answer
   pub waits : ChildrenWait out.answer out.children
   pub bearing : (i : ℕ) (made : Args) → slice_get (args_in out.children) i ≡ Some made → bears args made ≡ true
+  pub low : (i : ℕ) (made : Args) → slice_get (args_in out.children) i ≡ Some made → is_high made ≡ false
   pub single : (r : Region) → moved_by args ≡ Some r → (i : ℕ) (made : Args) → slice_get (args_in out.children) i ≡ Some made → i ≡ 0
   pub led : exact_rows (kind_of args) ≡ [] → is_stop out.answer ≡ false → IsLed (kind_of args) rows (row_after (first_row_of args) (Some out.answer))
   pub calls : (verb : Verb) → verb_in args ≡ Some verb → CallOut J p args verb was out
@@ -252,7 +252,7 @@ led_next kind rows next first led (answer_is.Done told) goes runs = absurd (true
 led_next kind rows next first led (answer_is.Fail cause) goes runs = absurd (true≢false runs)
 led_next kind rows next first led answer_is.Undone goes runs = absurd goes
 
-sound_goes : (next : ℕ) (answer : Answer) → GoesTo next answer → IsSound answer
+sound_goes : (next : ℕ) (answer : Answer) → GoesTo next answer → IsStepAnswer answer
 sound_goes next (answer_is.More n) goes = tt
 sound_goes next (answer_is.Wait n) goes = tt
 sound_goes next (answer_is.Await n) goes = tt
@@ -270,12 +270,18 @@ one_arg i made own children one is = by i (ap (λ c. slice_get (args_in c) i) (s
     by zero is = (refl, same_Some own made is)
     by (suc i) is = absurd (none-some made is)
 
+caller_low : (args : Args) → is_caller args ≡ true → is_high args ≡ false
+caller_low (args_are.AssignCall region server) h = refl
+caller_low (args_are.CloseCall region server) h = refl
+caller_low args h = absurd (false≢true h)
+
 module _ (J : Past) (p : ℕ) (args : Args) (was : Option Answer) (rows : List Row) (out : StepOut) where
   plain_does : (next : ℕ) → IsPlainOut next out → (exact_rows (kind_of args) ≡ [] → IsLed (kind_of args) rows next) → moved_by args ≡ None → verb_in args ≡ None → Does J p args was rows out
   plain_does next plain led unmoved uncalled = record {
     sound = sound_goes next out.answer plain.goes;
     waits = plain.waits;
     bearing = λ i made is. ap (λ o. bears_by (is_some o) (is_some (verb_in args)) (is_caller made)) unmoved ∙ ap (λ o. bears_by false (is_some o) (is_caller made)) uncalled ∙ ap not (quiet_args out.children plain.quiet i made is);
+    low = λ i made is. quiet_low out.children plain.quiet i made is;
     single = λ r m i made is. absurd (none-some r (sym unmoved ∙ m));
     led = λ lined runs. led_next (kind_of args) rows next (first_row_of args) (led lined) out.answer plain.goes runs;
     calls = λ verb v. absurd (none-some verb (sym uncalled ∙ v));
@@ -291,6 +297,10 @@ module _ (J : Past) (p : ℕ) (args : Args) (was : Option Answer) (rows : List R
     bearing = λ i made is. ap (λ o. bears_by (is_some o) (is_some (verb_in args)) (is_caller made)) m ∙ elim move.childs [
       | inl none ↦ absurd (no_args i made out.children none is)
       | inr one ↦ ap is_caller (sym (one_arg i made one.0 out.children one.1 is).1) ∙ one.2
+    ];
+    low = λ i made is. elim move.childs [
+      | inl none ↦ absurd (no_args i made out.children none is)
+      | inr one ↦ ap is_high (sym (one_arg i made one.0 out.children one.1 is).1) ∙ caller_low one.0 one.2
     ];
     single = λ s e i made is. elim move.childs [
       | inl none ↦ absurd (no_args i made out.children none is)
@@ -309,14 +319,15 @@ module _ (J : Past) (p : ℕ) (args : Args) (was : Option Answer) (rows : List R
   call_does : (verb : Verb) → verb_in args ≡ Some verb → moved_by args ≡ None → IsExact args → CallOut J p args verb was out → Does J p args was rows out
   call_does verb v unmoved exact call = record {
     sound = elim call.does [
-      | inl asks ↦ subst IsSound (sym asks.2) tt
+      | inl asks ↦ subst IsStepAnswer (sym asks.2) tt
       | inr ends ↦ elim ends.1 [
-        | inl gone ↦ subst IsSound (sym gone.0) tt
-        | inr other ↦ elim other [ inl told ↦ subst IsSound (sym told.1) tt | inr failed ↦ subst IsSound (sym failed.1) tt ]
+        | inl gone ↦ subst IsStepAnswer (sym gone.0) tt
+        | inr other ↦ elim other [ inl told ↦ subst IsStepAnswer (sym told.1) tt | inr failed ↦ subst IsStepAnswer (sym failed.1) tt ]
       ]
     ];
     waits = none_wait out.answer;
     bearing = λ i made is. absurd (no_args i made out.children call.childless is);
+    low = λ i made is. absurd (no_args i made out.children call.childless is);
     single = λ r m. absurd (none-some r (sym unmoved ∙ m));
     led = λ lined runs. absurd (listed exact.0 exact.1 (sym exact.2 ∙ lined));
     calls = λ other w. subst (λ x. CallOut J p args x was out) (same_Some verb other (sym v ∙ w)) call;
@@ -355,18 +366,19 @@ call_ready J p node verb called (Some (answer_is.Done told)) ready at = absurd r
 call_ready J p node verb called (Some (answer_is.Fail cause)) ready at = absurd ready
 call_ready J p node verb called (Some answer_is.Undone) ready at = absurd ready
 
+-- the row of a kind of exact rows
+pub exact_row_is : (J : Past) (p : ℕ) (pick : Option Server) (out : StepOut) (step : StepFacts J p pick out) (kind : ℕ) → kind_of step.node.args ≡ kind → (first : Row) (more : List Row) → exact_rows kind ≡ first ∷ more → slice_get (exact_rows kind) (row_of J p step.node) ≡ Some step.row
+exact_row_is J p pick out step kind e first more is = ap (λ l. slice_get l (row_of J p step.node)) (is ∙ sym (exact_is step.sheet step.valid kind (step.of_kind ∙ e) first more is)) ∙ step.row_is
+
 -- a legal step does what its kind does, where rows lead on and calls are in order
 module _ (J : Past) (p : ℕ) (pick : Option Server) (out : StepOut) (step : StepFacts J p pick out)
     (led : exact_rows (kind_of step.node.args) ≡ [] → IsLed (kind_of step.node.args) step.sheet.rows (row_of J p step.node))
     (called : (verb : Verb) → verb_in step.node.args ≡ Some verb → CallerAt verb (verb_of J p) (last_answer J p)) where
-  own_row : (kind : ℕ) → kind_of step.node.args ≡ kind → (first : Row) (more : List Row) → exact_rows kind ≡ first ∷ more → slice_get (exact_rows kind) (row_of J p step.node) ≡ Some step.row
-  own_row kind e first more is = ap (λ l. slice_get l (row_of J p step.node)) (is ∙ sym (exact_is step.sheet step.valid kind (step.of_kind ∙ e) first more is)) ∙ step.row_is
-
   pub exact_row : IsExact step.node.args → slice_get (exact_rows (kind_of step.node.args)) (row_of J p step.node) ≡ Some step.row
-  exact_row exact = own_row (kind_of step.node.args) refl exact.0 exact.1 exact.2
+  exact_row exact = exact_row_is J p pick out step (kind_of step.node.args) refl exact.0 exact.1 exact.2
 
   pub move_row : kind_of step.node.args ≡ 10 → slice_get (exact_rows 10) (row_of J p step.node) ≡ Some step.row
-  move_row e = own_row 10 e _ _ refl
+  move_row e = exact_row_is J p pick out step 10 e _ _ refl
 
   by_plain : is_plain step.row.act ≡ true → IsPlainOut step.row.next out
   by_plain plain = subst (IsPlainOut step.row.next) (sym step.out_is) (row_by (IsPlainOut step.row.next) step.row (step_input J p step.node pick) (λ c. plain_fails step.row.next c) (plain_act step.row.act plain step.row.next (step_input J p step.node pick)))
@@ -377,7 +389,7 @@ module _ (J : Past) (p : ℕ) (pick : Option Server) (out : StepOut) (step : Ste
         let on = led_row (kind_of step.node.args) step.sheet step.valid (row_of J p step.node) (led exact) step.row step.row_is in
         plain_does J p step.node.args (last_answer J p) step.sheet.rows out step.row.next (by_plain on.plain) (λ e. on.on) unmoved uncalled
     | crash kind unmoved uncalled ↦
-        plain_does J p step.node.args (last_answer J p) step.sheet.rows out step.row.next (by_plain (row_passes (λ row. is_plain row.act) (exact_rows 11) refl (row_of J p step.node) step.row (own_row 11 kind _ _ refl))) (λ e. absurd (eleven_not (sym (ap exact_rows kind) ∙ e))) unmoved uncalled
+        plain_does J p step.node.args (last_answer J p) step.sheet.rows out step.row.next (by_plain (row_passes (λ row. is_plain row.act) (exact_rows 11) refl (row_of J p step.node) step.row (exact_row_is J p pick out step 11 kind _ _ refl))) (λ e. absurd (eleven_not (sym (ap exact_rows kind) ∙ e))) unmoved uncalled
     | moves r m kind uncalled ↦
         let moving = row_passes (λ row. is_moving row.act) (exact_rows 10) refl (row_of J p step.node) step.row (move_row kind) in
         move_does J p step.node.args (last_answer J p) step.sheet.rows out r m kind uncalled step.row.next (subst (IsMoveOut step.row.next) (sym step.out_is) (row_by (IsMoveOut step.row.next) step.row (step_input J p step.node pick) (λ c. move_fails step.row.next c) (move_act step.row.act moving step.row.next (step_input J p step.node pick))))

@@ -9,7 +9,7 @@ use Rattle.hm_model.specs.NamespaceActs.{check_free_namespace, add_namespace, ch
 use Rattle.hm_model.specs.RegionActs.{add_regions, open_regions, drop_regions, close_regions, check_split, close_parents, update_split_meta, open_new, finish, check_merge, update_merge_meta, add_region_rows, drop_region_rows}
 use Rattle.hm_model.specs.TransitActs.{get_assign_candidate, open_there, confirm_opened, close_there, confirm_closed, check_move}
 use Rattle.hm_model.specs.CrashActs.{fence, reassign}
-use Rattle.hm_model.specs.CallActs.{call_assign, call_close, settle, call_fence, call_layout, settle_layout, call_sweep}
+use Rattle.hm_model.specs.CallActs.{call_assign, call_close, settle_call, call_fence, call_layout, settle_layout, call_sweep}
 
 -- what an act answers that leads to a row, by the parts of the input that it reads
 abbrev pub act_answer : Act → ℕ → StepIn → StepOut
@@ -53,7 +53,7 @@ act_answer act_is.Fence next at = fence next at.args
 act_answer act_is.Reassign next at = reassign next at.on_server
 act_answer act_is.CallAssign next at = call_assign next at.args at.fenced
 act_answer act_is.CallClose next at = call_close next at.args at.fenced
-act_answer act_is.Settle next at = settle at.fenced at.report
+act_answer act_is.Settle next at = settle_call at.fenced at.report
 act_answer act_is.CallFence next at = call_fence next at.args
 act_answer act_is.CallLayout next at = call_layout next at.args
 act_answer act_is.SettleLayout next at = settle_layout at.report

@@ -31,8 +31,8 @@ ends_as_told None = ends_with told_is.Nothing
 ends_as_told (Some told) = ends_with told
 
 -- act 41: ends with the report
-abbrev pub settle : Bool → Option Told → StepOut
-settle fenced report = unless_gone fenced (ends_as_told report)
+abbrev pub settle_call : Bool → Option Told → StepOut
+settle_call fenced report = unless_gone fenced (ends_as_told report)
 
 -- act 42: calls the storage to fence the server
 abbrev pub call_fence : ℕ → Args → StepOut

@@ -1,7 +1,7 @@
 -- The edits of requests, in a catalog as it is seen.
 use Rattle.std.specs.Prelude.{ℕ, ◌+◌, List, [], ◌∷◌, ◌++◌, map, Option, Some, None}
 use Rattle.std.specs.Option.{option_map}
-use Rattle.hm_names.specs.Ranges.{front, back}
+use Rattle.hm_names.specs.Ranges.{lower_part, upper_part}
 use Rattle.hm_names.specs.Region.{Region}
 use Rattle.hm_names.specs.declared.range.KeyRange.{KeyRange}
 use Rattle.hm_names.specs.declared.table.TableName.{TableName}
@@ -44,8 +44,8 @@ abbrev pub split_range : Catalog → Region → List ℕ → ℕ → Option KeyR
 split_range there region key first None = []
 split_range there region key first (Some range) =
     changed there (key_is.Region region) (in_status status_is.Split)
-    ∷ set_to there (region_key region.table first) (Some (live_row (front range key) (region.id ∷ [])))
-    ∷ set_to there (region_key region.table (first + 1)) (Some (live_row (back range key) (region.id ∷ [])))
+    ∷ set_to there (region_key region.table first) (Some (live_row (lower_part range key) (region.id ∷ [])))
+    ∷ set_to there (region_key region.table (first + 1)) (Some (live_row (upper_part range key) (region.id ∷ [])))
     ∷ []
 
 -- a region is split at a key, with the first id that was drawn

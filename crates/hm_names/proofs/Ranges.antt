@@ -2,7 +2,7 @@
 use Rattle.std.proofs.Common.{◌≡◌, ◌≢◌, ℕ, Bool, true, false, not, ◌||◌, ◌&&◌, ◌==◌, List, [], ◌∷◌, length, refl, ap, ◌∙◌}
 use Rattle.std.specs.Str.{bytes_eq}
 use Rattle.hm_names.specs.declared.range.KeyRange.{KeyRange}
-use Rattle.hm_names.specs.Ranges.{ends_behind, holds, inner, overlaps, front, back}
+use Rattle.hm_names.specs.Ranges.{ends_behind, holds, inner, overlaps, lower_part, upper_part}
 use Rattle.hm_names.proofs.Orders.{below, upto, upto_not, upto_self, below_trans, upto_below, below_upto, below_unequal, upto_weaker, not_empty}
 
 pub both : (a b : Bool) → (a && b) ≡ true → (a ≡ true) × (b ≡ true)
@@ -39,7 +39,7 @@ held_by false false true false end n a b c = cc
 held_by false false false from_mid end n a b c = let no = c refl in cc
 
 -- a range cut at an inner key has the keys of its parts
-pub held_in_parts : (r : KeyRange) (m : List ℕ) → inner r m ≡ true → (k : List ℕ) → holds r k ≡ (holds (front r m) k || holds (back r m) k)
+pub held_in_parts : (r : KeyRange) (m : List ℕ) → inner r m ≡ true → (k : List ℕ) → holds r k ≡ (holds (lower_part r m) k || holds (upper_part r m) k)
 held_in_parts r m e k =
     let is = inner_is r m e in
     held_by (length m == 0) (below k m) (upto r.start k) (upto m k) (ends_behind r k) is.1 (upto_not m k)
@@ -55,7 +55,7 @@ apart_by false false true from_mid end n a = refl
 apart_by false false false from_mid end n a = refl
 
 -- and no key lies in both
-pub held_apart : (r : KeyRange) (m : List ℕ) → inner r m ≡ true → (k : List ℕ) → (holds (front r m) k && holds (back r m) k) ≡ false
+pub held_apart : (r : KeyRange) (m : List ℕ) → inner r m ≡ true → (k : List ℕ) → (holds (lower_part r m) k && holds (upper_part r m) k) ≡ false
 held_apart r m e k =
     apart_by (length m == 0) (below k m) (upto r.start k) (upto m k) (ends_behind r k) (inner_is r m e).1 (upto_not m k)
 
@@ -103,7 +103,7 @@ filled_not_nil [] e = absurd (cc)
 filled_not_nil (x ∷ s) e = λ p. cc
 
 -- the parts of a range that is cut have keys: each has its start
-pub parts_hold_starts : (r : KeyRange) (m : List ℕ) → inner r m ≡ true → (holds (front r m) r.start ≡ true) × (holds (back r m) m ≡ true)
+pub parts_hold_starts : (r : KeyRange) (m : List ℕ) → inner r m ≡ true → (holds (lower_part r m) r.start ≡ true) × (holds (upper_part r m) m ≡ true)
 parts_hold_starts r m e =
     let is = inner_is r m e in (
       and_true (upto r.start r.start) ((length m == 0) || below r.start m) (upto_self r.start) (or_right (length m == 0) (below r.start m) is.0),

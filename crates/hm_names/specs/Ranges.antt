@@ -22,12 +22,12 @@ abbrev pub overlaps : KeyRange → KeyRange → Bool
 overlaps a b = ends_behind a b.start && ends_behind b a.start
 
 -- the part of a range below a key
-abbrev pub front : KeyRange → List ℕ → KeyRange
-front r key = record { start = r.start; end = key }
+abbrev pub lower_part : KeyRange → List ℕ → KeyRange
+lower_part r key = record { start = r.start; end = key }
 
 -- the part of a range from a key on
-abbrev pub back : KeyRange → List ℕ → KeyRange
-back r key = record { start = key; end = r.end }
+abbrev pub upper_part : KeyRange → List ℕ → KeyRange
+upper_part r key = record { start = key; end = r.end }
 
 -- from the start of one range to the end of another
 abbrev pub joined : KeyRange → KeyRange → KeyRange

@@ -13,7 +13,7 @@ pub struct KeyRange {
 }
 
 impl KeyRange {
-    ghost use Rattle.hm_names.specs.Ranges.{ends_behind as behind, holds, inner, overlaps, front, back, joined};
+    ghost use Rattle.hm_names.specs.Ranges.{ends_behind as behind, holds, inner, overlaps, lower_part, upper_part, joined};
 
     fn ends_behind(&self, key: &RowKey) -> bool
         ensures { result ≡ behind self.now key.now }
@@ -47,7 +47,7 @@ impl KeyRange {
     /// The parts of the range below the key and from the key on.
     pub fn cut_at(self, alloc: Global, key: &RowKey) -> Result<(KeyRange, KeyRange), AllocError>
         requires { IsTrue (inner self key.now) }
-        ensures parts { IfOk result (λ p. (p.0 ≡ front self key.now) × (p.1 ≡ back self key.now)) }
+        ensures parts { IfOk result (λ p. (p.0 ≡ lower_part self key.now) × (p.1 ≡ upper_part self key.now)) }
         ensures whole { IfOk result (λ p. joined p.0 p.1 ≡ self) }
         ensures held { IfOk result (λ p. (k : List ℕ) → holds self k ≡ holds p.0 k || holds p.1 k) }
         ensures apart { IfOk result (λ p. (k : List ℕ) → (holds p.0 k && holds p.1 k) ≡ false) }
@@ -57,9 +57,9 @@ impl KeyRange {
         let before = key.copy(alloc)?;
         let behind = key.copy(alloc)?;
         let KeyRange { start, end } = self;
-        let front = KeyRange { start, end: before };
-        let back = KeyRange { start: behind, end };
-        Ok((front, back))
+        let lower = KeyRange { start, end: before };
+        let upper = KeyRange { start: behind, end };
+        Ok((lower, upper))
     }
 
     /// The range from the start of this one to the end of the next.
@@ -67,7 +67,7 @@ impl KeyRange {
         requires closed { self.end ≢ [] }
         requires next { self.end ≡ other.start }
         ensures whole { result ≡ joined self other }
-        ensures parts { (front result self.end ≡ self) × (back result self.end ≡ other) }
+        ensures parts { (lower_part result self.end ≡ self) × (upper_part result self.end ≡ other) }
         ensures held { IsTrue (inner result self.end)
             → (k : List ℕ) → holds result k ≡ holds self k || holds other k }
     {

@@ -43,11 +43,11 @@ module _ {K : Type 0} (cmp : K → K → Ordering) (total : IsTotalOrder cmp) wh
   pub total_if : IsTotalOrder (cmp_if cmp)
   total_if = record { antisymm = antisymm; trans = trans; congr = congr }
 
-back : (o : Ordering) → is_eq (ordering_reverse o) ≡ is_eq o
-back Less = refl
-back Equal = refl
-back Greater = refl
+turned_ties : (o : Ordering) → is_eq (ordering_reverse o) ≡ is_eq o
+turned_ties Less = refl
+turned_ties Equal = refl
+turned_ties Greater = refl
 
 -- the tie of two servers, the other way round
 pub server_ties_back : (a b : Server) → is_eq (server_cmp a b) ≡ same_server b a
-server_ties_back a b = ap is_eq (servers_total.antisymm a b) ∙ back (server_cmp b a) ∙ server_ties b a
+server_ties_back a b = ap is_eq (servers_total.antisymm a b) ∙ turned_ties (server_cmp b a) ∙ server_ties b a

@@ -26,7 +26,7 @@ use Rattle.hm_model.proofs.Grown.{down_new, down_old, grown_all, made_up_to, sub
 use Rattle.hm_procedures.specs.Book.{IsRooting}
 use Rattle.hm_procedures.specs.Changes.{aborted, added, fresh, reported}
 use Rattle.hm_procedures.specs.Kept.{IsKept, args_made, kept_at, kept_in, kept_of, root_shown}
-use Rattle.hm_procedures.specs.declared.kept.Kept.{Kept}
+use Rattle.hm_procedures.specs.declared.kept.Tracked.{Tracked}
 use Rattle.hm_procedures.proofs.Blank.{IsBlank, blank_new}
 use Rattle.hm_procedures.proofs.Counts.{all_stay, closed, is_open, no_root, open_root}
 use Rattle.hm_procedures.proofs.Facts.{fresh_root, on_abort, on_report, still_down, still_start, still_submit, still_up}
@@ -40,7 +40,7 @@ same_length f [] (y ∷ ys) each = absurd (none-some (f 0 y) (each 0))
 same_length f (x ∷ xs) [] each = absurd (none-some x (sym (each 0)))
 same_length f (x ∷ xs) (y ∷ ys) each = ap suc (same_length (λ q. f (suc q)) xs ys (λ q. each (suc q)))
 
-pub roots_added : (roots : List Pid) (mid more : List Kept) → ((q : ℕ) → slice_get roots q ≡ option_map root_shown (slice_get mid q)) → (q : ℕ) → slice_get (roots ++ map root_shown more) q ≡ option_map root_shown (slice_get (mid ++ more) q)
+pub roots_added : (roots : List Pid) (mid more : List Tracked) → ((q : ℕ) → slice_get roots q ≡ option_map root_shown (slice_get mid q)) → (q : ℕ) → slice_get (roots ++ map root_shown more) q ≡ option_map root_shown (slice_get (mid ++ more) q)
 roots_added roots mid more each q =
     let long : length roots ≡ length mid = same_length (λ i. root_shown) roots mid each in
     elim (cases_lt q (length mid)) [
@@ -53,11 +53,11 @@ roots_added roots mid more each q =
     ]
 
 -- procedures, each in a phase
-abbrev pub shown_as : (ℕ → Node → Phase) → Past → ℕ → Option Kept
+abbrev pub shown_as : (ℕ → Node → Phase) → Past → ℕ → Option Tracked
 shown_as phases J p = option_map (λ x. kept_in (phases p x) J p x) (node_of J p)
 
 -- those that were there, and those that an entry makes
-module _ (J' : Past) (n : ℕ) (up : Option (Pid × Pid)) (make : ℕ → Args → Node) (fresh_is : (p : ℕ) (args : Args) → IsBlank J' p → kept_in phase_is.Runnable J' p (make p args) ≡ fresh p up args) (phases : ℕ → Node → Phase) (kept : List Kept) (long : length kept ≡ n) (made : List Args) where
+module _ (J' : Past) (n : ℕ) (up : Option (Pid × Pid)) (make : ℕ → Args → Node) (fresh_is : (p : ℕ) (args : Args) → IsBlank J' p → kept_in phase_is.Runnable J' p (make p args) ≡ fresh p up args) (phases : ℕ → Node → Phase) (kept : List Tracked) (long : length kept ≡ n) (made : List Args) where
   pub more_made : ((q : ℕ) → q < n → slice_get kept q ≡ shown_as phases J' (q + 1)) → ((q : ℕ) → n ≤ q → node_of J' (q + 1) ≡ option_map (make (q + 1)) (slice_get made (q - n))) → ((p : ℕ) → n < p → IsBlank J' p)
       → ((p : ℕ) (x : Node) → n < p → node_of J' p ≡ Some x → phases p x ≡ phase_is.Runnable)
       → (q : ℕ) → slice_get (kept ++ added (length kept) up made) q ≡ shown_as phases J' (q + 1)
@@ -79,11 +79,11 @@ module _ (J' : Past) (n : ℕ) (up : Option (Pid × Pid)) (make : ℕ → Args �
           ∙ ap Some (fresh_is (q + 1) args (blank (q + 1) (omega (arith, le)))))
 
 -- the number of those that are kept now
-pub count_more : (kept : List Kept) (up : Option (Pid × Pid)) (made : List Args) (n : ℕ) → length kept ≡ n → length (kept ++ added (length kept) up made) ≡ n + length made
+pub count_more : (kept : List Tracked) (up : Option (Pid × Pid)) (made : List Args) (n : ℕ) → length kept ≡ n → length (kept ++ added (length kept) up made) ≡ n + length made
 count_more kept up made n long = length-append kept (added (length kept) up made) ∙ ap (λ k. length kept + k) (length-added (length kept) up made) ∙ ap (λ k. k + length made) long
 
 -- an entry that makes a root of its own
-module _ (entry : Entry) (J : Past) (legal : IsLegal (entry ∷ J)) (kept : List Kept) (roots : List Pid) (left : ℕ) (was : IsKept J kept roots left) (args : Args) (first : ℕ)
+module _ (entry : Entry) (J : Past) (legal : IsLegal (entry ∷ J)) (kept : List Tracked) (roots : List Pid) (left : ℕ) (was : IsKept J kept roots left) (args : Args) (first : ℕ)
     (tree : tree_of J entry ≡ made J + 1) (made_is : made (entry ∷ J) ≡ made J + 1)
     (old : (q : ℕ) → q ≢ made J + 1 → node_of (entry ∷ J) q ≡ node_of J q) (new : (q : ℕ) → q ≡ made J + 1 → node_of (entry ∷ J) q ≡ Some (root_node q args first))
     (still : (shown : Phase) (p : ℕ) (x : Node) → kept_in shown (entry ∷ J) p x ≡ kept_in shown J p x) where
@@ -143,7 +143,7 @@ module _ (entry : Entry) (J : Past) (legal : IsLegal (entry ∷ J)) (kept : List
   }
 
 -- entries that make nothing: what is kept stays, or is changed of one
-module _ (J : Past) (kept : List Kept) (roots : List Pid) (left : ℕ) (was : IsKept J kept roots left) where
+module _ (J : Past) (kept : List Tracked) (roots : List Pid) (left : ℕ) (was : IsKept J kept roots left) where
   pub start_kept : (sheets : List Sheet) → IsLegal (entry_is.Start sheets ∷ J) → IsKept (entry_is.Start sheets ∷ J) kept roots left
   start_kept sheets legal = record { legal = legal; count = was.count; kept_are = λ q. was.kept_are q ∙ by (q + 1) (node_of J (q + 1)); roots_are = was.roots_are; left_are = was.left_are }
     where
@@ -158,7 +158,7 @@ module _ (J : Past) (kept : List Kept) (roots : List Pid) (left : ℕ) (was : Is
       by p None = refl
       by p (Some x) = ap Some (sym (still_up (phase J p x) J p x server legal))
 
-  pub report_kept : (call : Pid) (told : Told) → IsLegal (entry_is.Report call told ∷ J) → (new : List Kept)
+  pub report_kept : (call : Pid) (told : Told) → IsLegal (entry_is.Report call told ∷ J) → (new : List Tracked)
       → ((q : ℕ) → slice_get new q ≡ option_map (reported (q + 1 == call.0) told) (slice_get kept q)) → IsKept (entry_is.Report call told ∷ J) new roots left
   report_kept call told legal new each = record {
     legal = legal;
@@ -172,11 +172,11 @@ module _ (J : Past) (kept : List Kept) (roots : List Pid) (left : ℕ) (was : Is
       by p None = refl
       by p (Some x) = ap Some (sym (on_report (phase J p x) J p x call told legal))
 
-      same : (b : Bool) (o : Option Kept) → option_map root_shown o ≡ option_map root_shown (option_map (reported b told) o)
+      same : (b : Bool) (o : Option Tracked) → option_map root_shown o ≡ option_map root_shown (option_map (reported b told) o)
       same b None = refl
       same b (Some one) = refl
 
-  pub abort_kept : (pid : Pid) → IsLegal (entry_is.Abort pid ∷ J) → (new : List Kept)
+  pub abort_kept : (pid : Pid) → IsLegal (entry_is.Abort pid ∷ J) → (new : List Tracked)
       → ((q : ℕ) → slice_get new q ≡ option_map (aborted (q + 1 == pid.0)) (slice_get kept q)) → IsKept (entry_is.Abort pid ∷ J) new roots left
   abort_kept pid legal new each = record {
     legal = legal;
@@ -190,7 +190,7 @@ module _ (J : Past) (kept : List Kept) (roots : List Pid) (left : ℕ) (was : Is
       by p None = refl
       by p (Some x) = ap Some (sym (on_abort (phase J p x) J p x pid legal))
 
-      same : (b : Bool) (o : Option Kept) → option_map root_shown o ≡ option_map root_shown (option_map (aborted b) o)
+      same : (b : Bool) (o : Option Tracked) → option_map root_shown o ≡ option_map root_shown (option_map (aborted b) o)
       same b None = refl
       same b (Some one) = refl
 

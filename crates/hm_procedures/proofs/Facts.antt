@@ -27,7 +27,7 @@ use Rattle.hm_model.proofs.Forest.{forest_all, rooted_all, top_is_own}
 use Rattle.hm_model.proofs.Waiting.{children_change, under_change}
 use Rattle.hm_procedures.specs.Changes.{aborted, child_ended, fresh, is_this, reported, stepped, tree_stepped}
 use Rattle.hm_procedures.specs.Kept.{kept_in}
-use Rattle.hm_procedures.specs.declared.kept.Kept.{Kept}
+use Rattle.hm_procedures.specs.declared.kept.Tracked.{Tracked}
 use Rattle.hm_procedures.proofs.Blank.{IsBlank}
 
 -- the parent that is shown
@@ -56,17 +56,17 @@ pub fresh_child : (J : Past) (p : ℕ) (pid : Pid) (me : Node) (args : Args) →
 fresh_child J p pid me args b = rw (b.last, b.verb, b.report, b.aborted, b.tries, b.before, b.count, b.cause_is, b.children, b.under) refl
 
 -- with other counts
-abbrev counted : Kept → ℕ → ℕ → Kept
+abbrev counted : Tracked → ℕ → ℕ → Tracked
 counted one children under = record one { open_children = children; open_under = under }
 
-counted_same : (one : Kept) {a b c d : ℕ} → a ≡ b → c ≡ d → counted one a c ≡ counted one b d
+counted_same : (one : Tracked) {a b c d : ℕ} → a ≡ b → c ≡ d → counted one a c ≡ counted one b d
 counted_same one {a} {b} {c} {d} e f = ap (λ n. counted one n c) e ∙ ap (counted one b) f
 
 as_was : {a b : ℕ} → a + 0 ≡ b + 0 → a ≡ b
 as_was e = omega (arith, e)
 
 module _ (phase : Phase) (J : Past) (p : ℕ) (node : Node) where
-  abbrev was : Kept
+  abbrev was : Tracked
   was = kept_in phase J p node
 
   pub still_start : (sheets : List _) → IsLegal (entry_is.Start sheets ∷ J) → kept_in phase (entry_is.Start sheets ∷ J) p node ≡ was
@@ -146,10 +146,10 @@ module _ (pid : Pid) (pick : Option Server) (out : StepOut) (J : Past) (legal : 
       by true false false = refl
       by false b c = refl
 
-  abbrev filled : Kept → ℕ → Bool → Option Cause → ℕ → ℕ → Kept
+  abbrev filled : Tracked → ℕ → Bool → Option Cause → ℕ → ℕ → Tracked
   filled one row called cause children under = record one { shown = record one.shown { row = row }; has_called = called; cause = cause; open_children = children; open_under = under }
 
-  filled_same : (one : Kept) {r r' : ℕ} {c c' : Bool} {f f' : Option Cause} {n n' m m' : ℕ} → r ≡ r' → c ≡ c' → f ≡ f' → n ≡ n' → m ≡ m' → filled one r c f n m ≡ filled one r' c' f' n' m'
+  filled_same : (one : Tracked) {r r' : ℕ} {c c' : Bool} {f f' : Option Cause} {n n' m m' : ℕ} → r ≡ r' → c ≡ c' → f ≡ f' → n ≡ n' → m ≡ m' → filled one r c f n m ≡ filled one r' c' f' n' m'
   filled_same one {r} {r'} {c} {c'} {f} {f'} {n} {n'} {m} {m'} er ec ef en em =
       ap (λ x. filled one x c f n m) er ∙ ap (λ x. filled one r' x f n m) ec ∙ ap (λ x. filled one r' c' x n m) ef ∙ ap (λ x. filled one r' c' f' x m) en ∙ ap (filled one r' c' f' n') em
 

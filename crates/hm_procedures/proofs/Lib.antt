@@ -12,3 +12,4 @@ mod Members
 mod Rolled
 mod Readers
 mod Needs
+mod Tops

@@ -23,14 +23,14 @@ use Rattle.hm_data.specs.declared.args.Args.{Args}
 use Rattle.hm_procedures.specs.Book.{HasRoot}
 use Rattle.hm_procedures.specs.Changes.{added, is_this}
 use Rattle.hm_procedures.specs.Kept.{IsKept, kept_at, kept_of, root_shown}
-use Rattle.hm_procedures.specs.declared.kept.Kept.{Kept}
+use Rattle.hm_procedures.specs.declared.kept.Tracked.{Tracked}
 use Rattle.hm_procedures.proofs.Counts.{count_most, is_open}
 use Rattle.hm_procedures.proofs.Enters.{same_length}
 use Rattle.hm_procedures.proofs.Facts.{children_law, parent_shown, this_parent, under_law}
 use Rattle.hm_procedures.proofs.Places.{slice_get-low}
 use Rattle.hm_procedures.proofs.Shown.{parent_is}
 
-module _ (J : Past) (kept : List Kept) (roots : List Pid) (left : ℕ) (was : IsKept J kept roots left) where
+module _ (J : Past) (kept : List Tracked) (roots : List Pid) (left : ℕ) (was : IsKept J kept roots left) where
   pub roots_long : length roots ≡ length kept
   roots_long = same_length (λ i. root_shown) roots kept was.roots_are
 
@@ -58,9 +58,9 @@ module _ (J : Past) (kept : List Kept) (roots : List Pid) (left : ℕ) (was : Is
       let here = kept_here up.0 y.0 y.1 in
       (here.0, here.1, (y.0, y.1, y.3))
 
-  pub few_children : (p : ℕ) (x : Node) → node_of J p ≡ Some x → (one : Kept) → slice_get kept (p - 1) ≡ Some one → one.open_children ≤ length kept + 1
+  pub few_children : (p : ℕ) (x : Node) → node_of J p ≡ Some x → (one : Tracked) → slice_get kept (p - 1) ≡ Some one → one.open_children ≤ length kept + 1
   few_children p x is one here =
-      let same = ap (λ (k : Kept). k.open_children) (same_Some one (kept_at J p x) (sym here ∙ (kept_here p x is).2)) in
+      let same = ap (λ (k : Tracked). k.open_children) (same_Some one (kept_at J p x) (sym here ∙ (kept_here p x is).2)) in
       let most = count_most (made J + 1) (is_open_child J p) in
       let count = was.count in
       omega (arith, same, most, count)
@@ -70,29 +70,29 @@ module _ (J : Past) (kept : List Kept) (roots : List Pid) (left : ℕ) (was : Is
     count = length (args_in out.children)
 
     -- the parent has a child to end
-    pub parent_open : is_stop out.answer ≡ true → (up : Pid) → parent_shown me.above ≡ Some up → (k : Kept) → slice_get kept (up.0 - 1) ≡ Some k → 1 ≤ k.open_children
+    pub parent_open : is_stop out.answer ≡ true → (up : Pid) → parent_shown me.above ≡ Some up → (k : Tracked) → slice_get kept (up.0 - 1) ≡ Some k → 1 ≤ k.open_children
     parent_open stops up shown k here =
         let y = parent_here pid.0 me is_me up shown in
         let differs : up.0 ≢ pid.0 = λ same. (let lt = y.2.2 in omega (arith, lt, same)) in
-        let value : k.open_children ≡ open_children J up.0 = ap (λ (x : Kept). x.open_children) (same_Some k (kept_at J up.0 y.2.0) (sym here ∙ (kept_here up.0 y.2.0 y.2.1).2)) in
+        let value : k.open_children ≡ open_children J up.0 = ap (λ (x : Tracked). x.open_children) (same_Some k (kept_at J up.0 y.2.0) (sym here ∙ (kept_here up.0 y.2.0 y.2.1).2)) in
         let law = children_law pid pick out J legal me is_me up.0 in
         let none : (if up.0 == pid.0 then count else 0) ≡ 0 = cond-false (up.0 == pid.0) count 0 (ne_eqb up.0 pid.0 differs) in
         let ends : one_if (is_this (parent_shown me.above) up.0 && is_stop out.answer) ≡ 1 = ap (λ o. one_if (is_this o up.0 && is_stop out.answer)) shown ∙ ap (λ b. one_if (b && is_stop out.answer)) (eq-eqb up.0 up.0 refl) ∙ ap one_if stops in
         omega (arith, value, law, ends, none)
 
-    root_under : (k : Kept) → slice_get kept (me.root - 1) ≡ Some k → k.open_under ≡ open_under J me.root
+    root_under : (k : Tracked) → slice_get kept (me.root - 1) ≡ Some k → k.open_under ≡ open_under J me.root
     root_under k here =
         let top = root_here pid.0 me is_me in
-        ap (λ (x : Kept). x.open_under) (same_Some k (kept_at J me.root top.3.0) (sym here ∙ (kept_here me.root top.3.0 top.3.1).2))
+        ap (λ (x : Tracked). x.open_under) (same_Some k (kept_at J me.root top.3.0) (sym here ∙ (kept_here me.root top.3.0 top.3.1).2))
 
-    pub few_under : (k : Kept) → slice_get kept (me.root - 1) ≡ Some k → k.open_under ≤ length kept + 1
+    pub few_under : (k : Tracked) → slice_get kept (me.root - 1) ≡ Some k → k.open_under ≤ length kept + 1
     few_under k here =
         let same = root_under k here in
         let most = count_most (made J + 1) (is_open_under J me.root) in
         let long = was.count in
         omega (arith, same, most, long)
 
-    pub under_open : (is_stop out.answer && is_some (parent_shown me.above)) ≡ true → (k : Kept) → slice_get kept (me.root - 1) ≡ Some k → 1 ≤ k.open_under + count
+    pub under_open : (is_stop out.answer && is_some (parent_shown me.above)) ≡ true → (k : Tracked) → slice_get kept (me.root - 1) ≡ Some k → 1 ≤ k.open_under + count
     under_open ends k here =
         let same = root_under k here in
         let law = under_law pid pick out J legal me is_me me.root in
@@ -112,12 +112,12 @@ abort_there pid J legal = by (node_of J pid.0) refl legal.1.1.0.1.0
     by None e h = absurd (false≢true h)
     by (Some x) e h = (x, e)
 
-long_map : (xs : List Kept) → length (map root_shown xs) ≡ length xs
+long_map : (xs : List Tracked) → length (map root_shown xs) ≡ length xs
 long_map [] = refl
 long_map (x ∷ xs) = ap suc (long_map xs)
 
 -- roots and what is kept grow alike
-pub roots_more : (roots : List Pid) (kept : List Kept) (up : Option (Pid × Pid)) (ys : List Args) (roots' : List Pid) (kept' : List Kept) → length roots ≡ length kept
+pub roots_more : (roots : List Pid) (kept : List Tracked) (up : Option (Pid × Pid)) (ys : List Args) (roots' : List Pid) (kept' : List Tracked) → length roots ≡ length kept
     → roots' ≡ roots ++ map root_shown (added (length kept) up ys) → kept' ≡ kept ++ added (length kept) up ys → length roots' ≡ length kept'
 roots_more roots kept up ys roots' kept' same are is =
     ap length are ∙ length-append roots (map root_shown (added (length kept) up ys)) ∙ ap (λ n. n + length (map root_shown (added (length kept) up ys))) same

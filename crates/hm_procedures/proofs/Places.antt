@@ -8,7 +8,7 @@ use Rattle.std.proofs.lemmas.List.{append_assoc, take_at}
 use Rattle.hm_names.specs.declared.pid.Pid.{Pid}
 use Rattle.hm_data.specs.declared.args.Args.{Args}
 use Rattle.hm_procedures.specs.Changes.{added, fresh}
-use Rattle.hm_procedures.specs.declared.kept.Kept.{Kept}
+use Rattle.hm_procedures.specs.declared.kept.Tracked.{Tracked}
 
 pub slice_get-set : {X : Type 0} (xs : List X) (i : ℕ) (y : X) (k : ℕ) → i < length xs → slice_get (set xs i y) k ≡ cond (eqb k i) (Some y) (slice_get xs k)
 slice_get-set [] i y k lt = absurd (omega arith)
@@ -59,7 +59,7 @@ added_snoc n up (y ∷ ys) args =
     let e : n + 1 + length ys ≡ n + suc (length ys) = omega arith in
     ap (λ l. fresh (n + 1) up y ∷ l) (added_snoc (n + 1) up ys args ∙ ap (λ k. added (n + 1) up ys ++ added k up (args ∷ [])) e)
 
-pub added_next : (old : List Kept) (up : Option (Pid × Pid)) (ys : List Args) (args : Args) (now : List Kept) → now ≡ old ++ added (length old) up ys
+pub added_next : (old : List Tracked) (up : Option (Pid × Pid)) (ys : List Args) (args : Args) (now : List Tracked) → now ≡ old ++ added (length old) up ys
     → now ++ added (length now) up (args ∷ []) ≡ old ++ added (length old) up (ys ++ args ∷ [])
 added_next old up ys args now is =
     let long : length now ≡ length old + length ys = ap length is ∙ length-append old (added (length old) up ys) ∙ ap (λ k. length old + k) (length-added (length old) up ys) in
@@ -69,7 +69,7 @@ added_next old up ys args now is =
     ∙ ap (λ l. old ++ l) (sym (added_snoc (length old) up ys args))
 
 -- and so their roots
-pub roots_next : (roots : List Pid) (f : Kept → Pid) (n : ℕ) (up : Option (Pid × Pid)) (ys : List Args) (args : Args) (m : ℕ) (now : List Pid) → m ≡ n + length ys → now ≡ roots ++ map f (added n up ys)
+pub roots_next : (roots : List Pid) (f : Tracked → Pid) (n : ℕ) (up : Option (Pid × Pid)) (ys : List Args) (args : Args) (m : ℕ) (now : List Pid) → m ≡ n + length ys → now ≡ roots ++ map f (added n up ys)
     → now ++ map f (added m up (args ∷ [])) ≡ roots ++ map f (added n up (ys ++ args ∷ []))
 roots_next roots f n up ys args m now long is =
     ap (λ l. l ++ map f (added m up (args ∷ []))) is

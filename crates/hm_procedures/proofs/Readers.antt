@@ -14,7 +14,7 @@ use Rattle.hm_model.specs.Tree.{Node, node_of}
 use Rattle.hm_model.proofs.Grown.{grown_all}
 use Rattle.hm_procedures.specs.Changes.{ends_in, has_ended, is_undoing}
 use Rattle.hm_procedures.specs.Kept.{kept_at, kept_of}
-use Rattle.hm_procedures.specs.declared.kept.Kept.{Kept}
+use Rattle.hm_procedures.specs.declared.kept.Tracked.{Tracked}
 use Rattle.hm_procedures.proofs.Shown.{ended_kept, undoes_kept}
 
 -- who isn't kept isn't there
@@ -26,7 +26,7 @@ gone_of J p none = by (node_of J p) refl none
     by (Some x) e h = absurd (none-some (kept_at J p x) h)
 
 -- who is kept is there
-pub there_of : (J : Past) (p : ℕ) (one : Kept) → Some one ≡ kept_of J p → (x : Node) × (node_of J p ≡ Some x) × (one ≡ kept_at J p x)
+pub there_of : (J : Past) (p : ℕ) (one : Tracked) → Some one ≡ kept_of J p → (x : Node) × (node_of J p ≡ Some x) × (one ≡ kept_at J p x)
 there_of J p one some = by (node_of J p) refl some
   where
     by : (o : Option Node) → node_of J p ≡ o → Some one ≡ option_map (kept_at J p) o → (x : Node) × (node_of J p ≡ Some x) × (one ≡ kept_at J p x)
@@ -36,10 +36,10 @@ there_of J p one some = by (node_of J p) refl some
 pub kept_none : (J : Past) → IsLegal J → (p : ℕ) → p ≡ 0 → None ≡ kept_of J p
 kept_none J legal p zero_is = sym (ap (option_map (kept_at J p)) (ap (node_of J) zero_is ∙ (grown_all J legal).none))
 
-pub ended_by : (J : Past) → IsLegal J → (p : ℕ) (one : Kept) → Some one ≡ kept_of J p → has_ended one ≡ ended J p
+pub ended_by : (J : Past) → IsLegal J → (p : ℕ) (one : Tracked) → Some one ≡ kept_of J p → has_ended one ≡ ended J p
 ended_by J legal p one is = let t = there_of J p one is in ap has_ended t.2 ∙ ended_kept J legal p t.0 t.1
 
-pub undoes_by : (J : Past) → IsLegal J → (p : ℕ) (one : Kept) → Some one ≡ kept_of J p → (b : Bool) → b ≡ is_undoing one → IsTrue b ↔ MayUndo J p
+pub undoes_by : (J : Past) → IsLegal J → (p : ℕ) (one : Tracked) → Some one ≡ kept_of J p → (b : Bool) → b ≡ is_undoing one → IsTrue b ↔ MayUndo J p
 undoes_by J legal p one is b said =
     let t = there_of J p one is in
     let same : b ≡ undoes J p t.0 = said ∙ ap is_undoing t.2 ∙ undoes_kept J legal p t.0 t.1 in
@@ -51,10 +51,10 @@ ends_said (Ok ends) same said = said ∙ same
 ends_said (Err e) same said = tt
 
 -- one end more
-pub ends_more : (kept : List Kept) (from i : ℕ) (one : Kept) → slice_get kept (from + i) ≡ Some one → ends_in kept from i ++ end_of (from + i + 1) (done_with one.last) ≡ ends_in kept from (i + 1)
+pub ends_more : (kept : List Tracked) (from i : ℕ) (one : Tracked) → slice_get kept (from + i) ≡ Some one → ends_in kept from i ++ end_of (from + i + 1) (done_with one.last) ≡ ends_in kept from (i + 1)
 ends_more kept from i one is =
     let e : suc i ≡ i + 1 = omega arith in
     sym (ap (λ o. ends_in kept from i ++ (elim o as (λ x. List (Pid × Told)) [ None ↦ [] | Some x ↦ end_of (from + i + 1) (done_with x.last) ])) is) ∙ ap (ends_in kept from) e
 
-pub ends_push : (kept : List Kept) (from i : ℕ) (one : Kept) → slice_get kept (from + i) ≡ Some one → (ends new : List (Pid × Told)) → ends ≡ ends_in kept from i → new ≡ ends ++ end_of (from + i + 1) (done_with one.last) → new ≡ ends_in kept from (i + 1)
+pub ends_push : (kept : List Tracked) (from i : ℕ) (one : Tracked) → slice_get kept (from + i) ≡ Some one → (ends new : List (Pid × Told)) → ends ≡ ends_in kept from i → new ≡ ends ++ end_of (from + i + 1) (done_with one.last) → new ≡ ends_in kept from (i + 1)
 ends_push kept from i one is ends new was more = more ∙ ap (λ l. l ++ end_of (from + i + 1) (done_with one.last)) was ∙ ends_more kept from i one is

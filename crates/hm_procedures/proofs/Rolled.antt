@@ -8,7 +8,7 @@ use Rattle.hm_data.specs.declared.answer.Cause.{Cause}
 use Rattle.hm_procedures.specs.Changes.{shown_if}
 use Rattle.hm_procedures.specs.Kept.{root_shown}
 use Rattle.hm_procedures.specs.Trees.{IsNext}
-use Rattle.hm_procedures.specs.declared.kept.Kept.{Kept}
+use Rattle.hm_procedures.specs.declared.kept.Tracked.{Tracked}
 use Rattle.hm_procedures.proofs.Places.{pid_is}
 
 -- a number lies before where one is
@@ -16,11 +16,11 @@ abbrev pub is_passed : Option Pid → ℕ → Bool
 is_passed None p = true
 is_passed (Some at) p = nat_lt p at.0
 
-abbrev pub is_of : Pid → Kept → Bool
+abbrev pub is_of : Pid → Tracked → Bool
 is_of root one = (let its = root_shown one in its.0) == root.0
 
 -- the procedures of a root's tree that were passed are shown
-abbrev pub AreShown : List Kept → List Kept → Pid → Cause → Option Pid → Type 0
+abbrev pub AreShown : List Tracked → List Tracked → Pid → Cause → Option Pid → Type 0
 AreShown kept now root cause at =
     (p : ℕ) → slice_get now p ≡ option_map (λ one. shown_if (is_of root one && is_passed at (p + 1)) (Some cause) true one) (slice_get kept p)
 
@@ -33,19 +33,19 @@ pub at_next : (roots : List Pid) (root : Pid) (place : ℕ) (next : Option Pid) 
 at_next roots root place None h = tt
 at_next roots root place (Some next) h = (let lt = h.0 in omega (arith, lt), h.1)
 
-twice : (a b : Bool) (cause : Cause) (one : Kept) → shown_if a (Some cause) true (shown_if b (Some cause) true one) ≡ shown_if (a || b) (Some cause) true one
+twice : (a b : Bool) (cause : Cause) (one : Tracked) → shown_if a (Some cause) true (shown_if b (Some cause) true one) ≡ shown_if (a || b) (Some cause) true one
 twice true b cause one = refl
 twice false b cause one = refl
 
-module _ (kept : List Kept) (roots : List Pid) (root : Pid) (cause : Cause) (are : (p : ℕ) → slice_get roots p ≡ option_map root_shown (slice_get kept p)) where
-  root_here : (p : ℕ) (one : Kept) → slice_get kept p ≡ Some one → slice_get roots p ≡ Some (root_shown one)
+module _ (kept : List Tracked) (roots : List Pid) (root : Pid) (cause : Cause) (are : (p : ℕ) → slice_get roots p ≡ option_map root_shown (slice_get kept p)) where
+  root_here : (p : ℕ) (one : Tracked) → slice_get kept p ≡ Some one → slice_get roots p ≡ Some (root_shown one)
   root_here p one is = are p ∙ ap (option_map root_shown) is
 
   -- none is passed at first
   pub shown_none : ((p : ℕ) → p + 1 < root.0 → slice_get roots p ≡ Some root → ⊥) → AreShown kept kept root cause (Some root)
   shown_none first p = by (slice_get kept p) refl
     where
-      off : (one : Kept) → slice_get kept p ≡ Some one → (is_of root one && nat_lt (p + 1) root.0) ≡ false
+      off : (one : Tracked) → slice_get kept p ≡ Some one → (is_of root one && nat_lt (p + 1) root.0) ≡ false
       off one is = elim (cases_lt (p + 1) root.0) [
         | inr le ↦ ap (λ b. is_of root one && b) (le-ltb (p + 1) root.0 le) ∙ and_false (is_of root one)
         | inl lt ↦ elim (cases_eq (let its = root_shown one in its.0) root.0) [
@@ -58,19 +58,19 @@ module _ (kept : List Kept) (roots : List Pid) (root : Pid) (cause : Cause) (are
           and_false true = refl
           and_false false = refl
 
-      by : (o : Option Kept) → slice_get kept p ≡ o → o ≡ option_map (λ one. shown_if (is_of root one && is_passed (Some root) (p + 1)) (Some cause) true one) o
+      by : (o : Option Tracked) → slice_get kept p ≡ o → o ≡ option_map (λ one. shown_if (is_of root one && is_passed (Some root) (p + 1)) (Some cause) true one) o
       by None e = refl
       by (Some one) e = sym (ap (λ b. Some (shown_if b (Some cause) true one)) (off one e))
 
   -- one more
-  pub shown_more : (pid : Pid) (next : Option Pid) (now new : List Kept) → IsAt roots root (Some pid) → IsNext roots root (pid.0 - 1) next → AreShown kept now root cause (Some pid)
+  pub shown_more : (pid : Pid) (next : Option Pid) (now new : List Tracked) → IsAt roots root (Some pid) → IsNext roots root (pid.0 - 1) next → AreShown kept now root cause (Some pid)
       → ((p : ℕ) → slice_get new p ≡ option_map (shown_if (pid.0 == p + 1) (Some cause) true) (slice_get now p)) → AreShown kept new root cause next
   shown_more pid next now new at is_next was shows p = shows p ∙ ap (option_map (shown_if (pid.0 == p + 1) (Some cause) true)) (was p) ∙ by (slice_get kept p) refl
     where
-      own : (one : Kept) → slice_get kept p ≡ Some one → pid.0 ≡ p + 1 → root_shown one ≡ root
+      own : (one : Tracked) → slice_get kept p ≡ Some one → pid.0 ≡ p + 1 → root_shown one ≡ root
       own one is same = let e : pid.0 - 1 ≡ p = omega (arith, same) in same_Some (root_shown one) root (sym (root_here p one is) ∙ ap (slice_get roots) (sym e) ∙ at.1)
 
-      member : (one : Kept) → slice_get kept p ≡ Some one → (let its = root_shown one in its.0) ≡ root.0 → slice_get roots p ≡ Some root
+      member : (one : Tracked) → slice_get kept p ≡ Some one → (let its = root_shown one in its.0) ≡ root.0 → slice_get roots p ≡ Some root
       member one is same = root_here p one is ∙ ap Some (pid_is (root_shown one) root same)
 
       passed : (n : Option Pid) → IsNext roots root (pid.0 - 1) n → p + 1 ≤ pid.0 → is_passed n (p + 1) ≡ true
@@ -84,7 +84,7 @@ module _ (kept : List Kept) (roots : List Pid) (root : Pid) (cause : Cause) (are
         | inr le ↦ le-ltb (p + 1) n.0 le
       ]
 
-      test : (one : Kept) → slice_get kept p ≡ Some one → ((pid.0 == p + 1) || (is_of root one && nat_lt (p + 1) pid.0)) ≡ (is_of root one && is_passed next (p + 1))
+      test : (one : Tracked) → slice_get kept p ≡ Some one → ((pid.0 == p + 1) || (is_of root one && nat_lt (p + 1) pid.0)) ≡ (is_of root one && is_passed next (p + 1))
       test one is = elim (cases_eq (let its = root_shown one in its.0) root.0) [
         | inr other ↦
             ap (λ b. b || (is_of root one && nat_lt (p + 1) pid.0)) (ne_eqb pid.0 (p + 1) (λ same. other (ap (λ (x : Pid). x.0) (own one is same))))
@@ -105,17 +105,17 @@ module _ (kept : List Kept) (roots : List Pid) (root : Pid) (cause : Cause) (are
             ]
           ]
 
-      by : (o : Option Kept) → slice_get kept p ≡ o
+      by : (o : Option Tracked) → slice_get kept p ≡ o
           → option_map (shown_if (pid.0 == p + 1) (Some cause) true) (option_map (λ one. shown_if (is_of root one && is_passed (Some pid) (p + 1)) (Some cause) true one) o)
           ≡ option_map (λ one. shown_if (is_of root one && is_passed next (p + 1)) (Some cause) true one) o
       by None e = refl
       by (Some one) e = ap Some (twice (pid.0 == p + 1) (is_of root one && nat_lt (p + 1) pid.0) cause one ∙ ap (λ b. shown_if b (Some cause) true one) (test one e))
 
   -- all
-  pub shown_all : (now : List Kept) → AreShown kept now root cause None → (p : ℕ) → slice_get now p ≡ option_map (λ one. shown_if (is_of root one) (Some cause) true one) (slice_get kept p)
+  pub shown_all : (now : List Tracked) → AreShown kept now root cause None → (p : ℕ) → slice_get now p ≡ option_map (λ one. shown_if (is_of root one) (Some cause) true one) (slice_get kept p)
   shown_all now was p = was p ∙ by (slice_get kept p)
     where
-      by : (o : Option Kept) → option_map (λ one. shown_if (is_of root one && true) (Some cause) true one) o ≡ option_map (λ one. shown_if (is_of root one) (Some cause) true one) o
+      by : (o : Option Tracked) → option_map (λ one. shown_if (is_of root one && true) (Some cause) true one) o ≡ option_map (λ one. shown_if (is_of root one) (Some cause) true one) o
       by None = refl
       by (Some one) = ap (λ b. Some (shown_if b (Some cause) true one)) (and_true (is_of root one))
         where

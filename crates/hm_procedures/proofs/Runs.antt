@@ -18,7 +18,7 @@ use Rattle.hm_model.proofs.Grown.{down_new, down_old, grown_all, step_old, submi
 use Rattle.hm_model.proofs.Trees.{new_child, other_steps, steps_now}
 use Rattle.hm_procedures.specs.Changes.{ends_in}
 use Rattle.hm_procedures.specs.Kept.{kept_at, kept_of, made_in_step}
-use Rattle.hm_procedures.specs.declared.kept.Kept.{Kept}
+use Rattle.hm_procedures.specs.declared.kept.Tracked.{Tracked}
 
 -- a number is one of so many behind another
 abbrev pub is_among : ℕ → ℕ → ℕ → Bool
@@ -137,7 +137,7 @@ run_all (entry_is.Down server ∷ J) legal p = run_still J (entry_is.Down server
 run_all (entry_is.Abort pid ∷ J) legal p = run_still J (entry_is.Abort pid ∷ J) p (omega arith) refl refl (λ q le. refl) (λ q lt. ap (child_in p) ((grown_all J legal.0).numbered q lt)) (run_all J legal.0 p)
 
 -- what those below a number ended with, where none of them is a new child
-module _ (J : Past) (legal : IsLegal J) (p : ℕ) (kept : List Kept) (are : (q : ℕ) → slice_get kept q ≡ kept_of J (q + 1)) where
+module _ (J : Past) (legal : IsLegal J) (p : ℕ) (kept : List Tracked) (are : (q : ℕ) → slice_get kept q ≡ kept_of J (q + 1)) where
   abbrev from : ℕ
   from = made_at_step J p
 

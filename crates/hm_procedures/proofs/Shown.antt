@@ -21,7 +21,7 @@ use Rattle.hm_model.proofs.Trees.{all_below_at}
 use Rattle.hm_model.proofs.Waiting.{children_tell, under_tells}
 use Rattle.hm_procedures.specs.Changes.{has_ended, is_rolled_back, is_shown, is_this, is_touched, is_undoing, phase_by, shown_if}
 use Rattle.hm_procedures.specs.Kept.{kept_at, kept_in}
-use Rattle.hm_procedures.specs.declared.kept.Kept.{Kept}
+use Rattle.hm_procedures.specs.declared.kept.Tracked.{Tracked}
 use Rattle.hm_procedures.proofs.Facts.{parent_shown, shown_top, this_parent}
 
 -- a descendant that goes on keeps its tree from being rolled back
@@ -101,7 +101,7 @@ ne_from a b e same = true≢false (sym (eq-eqb a b same) ∙ e)
 
 module _ (J J' : Past) (pid : Pid) (me : Node) (tree : IsInTree J J' pid me) where
   module _ (p : ℕ) (node : Node) (is : node_of J' p ≡ Some node) where
-    abbrev its : Kept
+    abbrev its : Tracked
     its = kept_in (phase_before J p node) J' p node
 
     -- a descendant that isn't touched stays in its phase

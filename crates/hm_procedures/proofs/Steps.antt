@@ -23,7 +23,7 @@ use Rattle.hm_model.proofs.Grown.{grown_all, made_up_to, nodes_stay, step_old, u
 use Rattle.hm_model.proofs.Trees.{new_child, node_new}
 use Rattle.hm_procedures.specs.Changes.{added, has_ended, is_shown, noted, shown_if}
 use Rattle.hm_procedures.specs.Kept.{IsKept, kept_at, kept_in, kept_of, root_shown}
-use Rattle.hm_procedures.specs.declared.kept.Kept.{Kept}
+use Rattle.hm_procedures.specs.declared.kept.Tracked.{Tracked}
 use Rattle.hm_procedures.proofs.Blank.{blank_new}
 use Rattle.hm_procedures.proofs.Counts.{closed, is_open, no_root, one_may, open_root}
 use Rattle.hm_procedures.proofs.Enters.{count_more, more_made, roots_added, same_length, shown_as}
@@ -32,9 +32,9 @@ use Rattle.hm_procedures.proofs.InTrees.{in_tree_step, in_tree_undo, others_end,
 use Rattle.hm_procedures.proofs.Shown.{IsInTree, ended_kept, phase_before, rolled_kept, shows}
 
 -- how the phases of a tree are shown, by its root
-abbrev pub Shows : List Kept → List Kept → Pid → Option Pid → Pid → Bool → Type 0
+abbrev pub Shows : List Tracked → List Tracked → Pid → Option Pid → Pid → Bool → Type 0
 Shows mid new pid parent root nothing_left =
-    (top : Kept) → slice_get mid (root.0 - 1) ≡ Some top → (q : ℕ)
+    (top : Tracked) → slice_get mid (root.0 - 1) ≡ Some top → (q : ℕ)
     → slice_get new q ≡ option_map (λ one. shown_if (is_shown top.cause ((top.open_under == 0) && nothing_left) pid parent root (q + 1) one) top.cause ((top.open_under == 0) && nothing_left) one) (slice_get mid q)
 
 pub new_runs : (J : Past) (p : ℕ) (x : Node) → made J < p → phase_before J p x ≡ phase_is.Runnable
@@ -45,7 +45,7 @@ old_phase J p x le = cond-false (nat_lt (made J) p) phase_is.Runnable (phase J p
 
 -- an entry in the tree of a procedure, shown
 module _ (entry : Entry) (J : Past) (legal : IsLegal (entry ∷ J)) (pid : Pid) (me : Node) (tree : IsInTree J (entry ∷ J) pid me)
-    (mid new : List Kept) (roots : List Pid) (nothing_left : Bool)
+    (mid new : List Tracked) (roots : List Pid) (nothing_left : Bool)
     (are : (q : ℕ) → slice_get mid q ≡ shown_as (phase_before J) (entry ∷ J) (q + 1))
     (roots_are : (q : ℕ) → slice_get roots q ≡ option_map root_shown (slice_get mid q))
     (left : nothing_left ≡ is_empty (stack (entry ∷ J) me.root))
@@ -58,7 +58,7 @@ module _ (entry : Entry) (J : Past) (legal : IsLegal (entry ∷ J)) (pid : Pid) 
       let top = rooted_all J legal.0 pid.0 me tree.is_me in
       (top.root, nodes_stay entry J legal me.root top.root top.there, top.at_top, (made_up_to J (grown_all J legal.0) me.root top.root top.there).0, top.there)
 
-  abbrev top_kept : Kept
+  abbrev top_kept : Tracked
   top_kept = kept_in (phase_before J me.root root_is.0) now me.root root_is.0
 
   top_is_kept : slice_get mid (me.root - 1) ≡ Some top_kept
@@ -70,7 +70,7 @@ module _ (entry : Entry) (J : Past) (legal : IsLegal (entry ∷ J)) (pid : Pid) 
   abbrev rolled : Bool
   rolled = (top_kept.open_under == 0) && nothing_left
 
-  abbrev shown_at : ℕ → Kept → Kept
+  abbrev shown_at : ℕ → Tracked → Tracked
   shown_at = λ q one. shown_if (is_shown top_kept.cause rolled pid (parent_shown me.above) (pid_of me.root) (q + 1) one) top_kept.cause rolled one
 
   pub kept_shown : (q : ℕ) → slice_get new q ≡ kept_of now (q + 1)
@@ -83,7 +83,7 @@ module _ (entry : Entry) (J : Past) (legal : IsLegal (entry ∷ J)) (pid : Pid) 
   pub roots_kept : (q : ℕ) → slice_get roots q ≡ option_map root_shown (slice_get new q)
   roots_kept q = roots_are q ∙ by (slice_get mid q) ∙ sym (ap (option_map root_shown) (shown top_kept top_is_kept q))
     where
-      by : (o : Option Kept) → option_map root_shown o ≡ option_map root_shown (option_map (shown_at q) o)
+      by : (o : Option Tracked) → option_map root_shown o ≡ option_map root_shown (option_map (shown_at q) o)
       by None = refl
       by (Some one) = refl
 
@@ -91,7 +91,7 @@ module _ (entry : Entry) (J : Past) (legal : IsLegal (entry ∷ J)) (pid : Pid) 
   long_shown = same_length shown_at new mid (shown top_kept top_is_kept)
 
   -- whether the root has ended, as it is kept
-  pub ended_shown : (over : Bool) → ((one : Kept) → slice_get new (me.root - 1) ≡ Some one → over ≡ has_ended one) → over ≡ ended now me.root
+  pub ended_shown : (over : Bool) → ((one : Tracked) → slice_get new (me.root - 1) ≡ Some one → over ≡ has_ended one) → over ≡ ended now me.root
   ended_shown over told =
       let ge = root_is.3 in
       let up : me.root - 1 + 1 ≡ me.root = omega (arith, ge) in
@@ -125,15 +125,15 @@ module _ (entry : Entry) (J : Past) (legal : IsLegal (entry ∷ J)) (pid : Pid) 
       left_are = (let law = left_shown in omega (arith, law, count_is, left_is));
     }
 
-module _ (J : Past) (kept : List Kept) (roots : List Pid) (left : ℕ) (was : IsKept J kept roots left) where
+module _ (J : Past) (kept : List Tracked) (roots : List Pid) (left : ℕ) (was : IsKept J kept roots left) where
   -- a step
   module _ (pid : Pid) (pick : Option Server) (out : StepOut) (legal : IsLegal (entry_is.Step pid pick out ∷ J)) (me : Node) (is_me : node_of J pid.0 ≡ Some me)
-      (three : List Kept)
+      (three : List Tracked)
       (each : (q : ℕ) → slice_get three q ≡ option_map (noted (q + 1) pid (parent_shown me.above) (pid_of me.root) out (made J) (length (args_in out.children))) (slice_get kept q)) where
     abbrev after : Past
     after = entry_is.Step pid pick out ∷ J
 
-    abbrev step : ℕ → Kept → Kept
+    abbrev step : ℕ → Tracked → Tracked
     step = λ q k. noted (q + 1) pid (parent_shown me.above) (pid_of me.root) out (made J) (length (args_in out.children)) k
 
     pub long : length three ≡ made J
@@ -142,7 +142,7 @@ module _ (J : Past) (kept : List Kept) (roots : List Pid) (left : ℕ) (was : Is
     three_roots : (q : ℕ) → slice_get roots q ≡ option_map root_shown (slice_get three q)
     three_roots q = was.roots_are q ∙ by (slice_get kept q) ∙ sym (ap (option_map root_shown) (each q))
       where
-        by : (o : Option Kept) → option_map root_shown o ≡ option_map root_shown (option_map (step q) o)
+        by : (o : Option Tracked) → option_map root_shown o ≡ option_map root_shown (option_map (step q) o)
         by None = refl
         by (Some k) = refl
 
@@ -158,7 +158,7 @@ module _ (J : Past) (kept : List Kept) (roots : List Pid) (left : ℕ) (was : Is
     child_is : (q : ℕ) → made J ≤ q → node_of after (q + 1) ≡ option_map (child_of pid.0 me) (slice_get (args_in out.children) (q - made J))
     child_is q le = let e : q + 1 - made J - 1 ≡ q - made J = omega (arith, le) in node_new pid pick out J me is_me (q + 1) (omega (arith, le)) ∙ ap (λ i. option_map (child_of pid.0 me) (slice_get (args_in out.children) i)) e
 
-    abbrev pub mid : List Kept
+    abbrev pub mid : List Tracked
     mid = three ++ added (length three) (Some (pid, pid_of me.root)) (args_in out.children)
 
     pub mid_are : (q : ℕ) → slice_get mid q ≡ shown_as (phase_before J) after (q + 1)
@@ -176,11 +176,11 @@ module _ (J : Past) (kept : List Kept) (roots : List Pid) (left : ℕ) (was : Is
         let c = new_child pid pick out J me is_me q lt there.0 there.1 in
         no_root after q there.0 there.1 (ap (λ (n : Node). is_top n.above) c.2)
 
-    pub step_long : (new : List Kept) (nothing_left : Bool) → nothing_left ≡ is_empty (stack after me.root) → Shows mid new pid (parent_shown me.above) (pid_of me.root) nothing_left → length new ≡ length mid
+    pub step_long : (new : List Tracked) (nothing_left : Bool) → nothing_left ≡ is_empty (stack after me.root) → Shows mid new pid (parent_shown me.above) (pid_of me.root) nothing_left → length new ≡ length mid
     step_long new nothing_left is_left shown = long_shown (entry_is.Step pid pick out) J legal pid me (in_tree_step pid pick out J legal me is_me) mid new roots_mid nothing_left mid_are roots_are_mid is_left shown
 
-    module _ (new : List Kept) (nothing_left over : Bool) (left_now : ℕ) (is_left : nothing_left ≡ is_empty (stack after me.root)) (shown : Shows mid new pid (parent_shown me.above) (pid_of me.root) nothing_left)
-        (told : (k : Kept) → slice_get new (me.root - 1) ≡ Some k → over ≡ has_ended k) where
+    module _ (new : List Tracked) (nothing_left over : Bool) (left_now : ℕ) (is_left : nothing_left ≡ is_empty (stack after me.root)) (shown : Shows mid new pid (parent_shown me.above) (pid_of me.root) nothing_left)
+        (told : (k : Tracked) → slice_get new (me.root - 1) ≡ Some k → over ≡ has_ended k) where
       pub step_over : over ≡ ended after me.root
       step_over = ended_shown (entry_is.Step pid pick out) J legal pid me (in_tree_step pid pick out J legal me is_me) mid new roots_mid nothing_left mid_are roots_are_mid is_left shown over told
 
@@ -212,7 +212,7 @@ module _ (J : Past) (kept : List Kept) (roots : List Pid) (left : ℕ) (was : Is
     follower_is : (q : ℕ) → made J ≤ q → node_of behind (q + 1) ≡ option_map (λ a. root_node (q + 1) a 1) (slice_get (args_in out.followers) (q - made J))
     follower_is q le = let e : q + 1 - made J - 1 ≡ q - made J = omega (arith, le) in undo_new pid row out J (q + 1) (omega (arith, le)) ∙ ap (λ i. option_map (λ a. root_node (q + 1) a 1) (slice_get (args_in out.followers) i)) e
 
-    abbrev pub mid_undo : List Kept
+    abbrev pub mid_undo : List Tracked
     mid_undo = kept ++ added (length kept) None (args_in out.followers)
 
     pub mid_undo_are : (q : ℕ) → slice_get mid_undo q ≡ shown_as (phase_before J) behind (q + 1)
@@ -233,11 +233,11 @@ module _ (J : Past) (kept : List Kept) (roots : List Pid) (left : ℕ) (was : Is
         by x is None e = absurd (none-some x e)
         by x is (Some a) e = open_root behind q x is (ap (λ (n : Node). is_top n.above) (sym (same_Some (root_node q a 1) x e))) (blank_new (entry_is.Undo pid row out) J legal q lt)
 
-    pub undo_long : (new : List Kept) (nothing_left : Bool) → nothing_left ≡ is_empty (stack behind me.root) → Shows mid_undo new pid (parent_shown me.above) (pid_of me.root) nothing_left → length new ≡ length mid_undo
+    pub undo_long : (new : List Tracked) (nothing_left : Bool) → nothing_left ≡ is_empty (stack behind me.root) → Shows mid_undo new pid (parent_shown me.above) (pid_of me.root) nothing_left → length new ≡ length mid_undo
     undo_long new nothing_left is_left shown = long_shown (entry_is.Undo pid row out) J legal pid me (in_tree_undo pid row out J legal me is_me) mid_undo new roots_undo nothing_left mid_undo_are roots_undo_are is_left shown
 
-    module _ (new : List Kept) (nothing_left over : Bool) (left_now : ℕ) (is_left : nothing_left ≡ is_empty (stack behind me.root)) (shown : Shows mid_undo new pid (parent_shown me.above) (pid_of me.root) nothing_left)
-        (told : (k : Kept) → slice_get new (me.root - 1) ≡ Some k → over ≡ has_ended k) where
+    module _ (new : List Tracked) (nothing_left over : Bool) (left_now : ℕ) (is_left : nothing_left ≡ is_empty (stack behind me.root)) (shown : Shows mid_undo new pid (parent_shown me.above) (pid_of me.root) nothing_left)
+        (told : (k : Tracked) → slice_get new (me.root - 1) ≡ Some k → over ≡ has_ended k) where
       pub undo_over : over ≡ ended behind me.root
       undo_over = ended_shown (entry_is.Undo pid row out) J legal pid me (in_tree_undo pid row out J legal me is_me) mid_undo new roots_undo nothing_left mid_undo_are roots_undo_are is_left shown over told
 

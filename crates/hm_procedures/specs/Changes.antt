@@ -12,7 +12,7 @@ use Rattle.hm_model.specs.Counts.{one_if}
 use Rattle.hm_model.specs.Kinds.{first_row_of, kind_of}
 use Rattle.hm_model.specs.Phase.{end_of, or_else, own_phase, phase_table, root_over}
 use Rattle.hm_model.specs.Places.{has_failed, one_more}
-use Rattle.hm_procedures.specs.declared.kept.Kept.{Kept}
+use Rattle.hm_procedures.specs.declared.kept.Tracked.{Tracked}
 
 -- the root of a new procedure: that of its parent, or its own
 abbrev pub root_by : ℕ → Option (Pid × Pid) → Pid
@@ -25,7 +25,7 @@ parent_by None = None
 parent_by (Some up) = Some up.0
 
 -- a new procedure, as a root or with its parent and its root
-abbrev pub fresh : ℕ → Option (Pid × Pid) → Args → Kept
+abbrev pub fresh : ℕ → Option (Pid × Pid) → Args → Tracked
 fresh p up args = record {
   shown = record { pid = record { 0 = p }; parent = parent_by up; root = root_by p up; kind = kind_of args; row = first_row_of args; args = args; tries = 0; aborted = false; phase = phase_is.Runnable };
   last = None;
@@ -39,12 +39,12 @@ fresh p up args = record {
 }
 
 -- new procedures, numbered behind a number
-abbrev pub added : ℕ → Option (Pid × Pid) → List Args → List Kept
+abbrev pub added : ℕ → Option (Pid × Pid) → List Args → List Tracked
 added p up [] = []
 added p up (args ∷ more) = fresh (p + 1) up args ∷ added (p + 1) up more
 
 -- behind a step, where it is the one's own, before which so many had been made and which makes so many
-abbrev pub stepped : Bool → StepOut → ℕ → ℕ → Kept → Kept
+abbrev pub stepped : Bool → StepOut → ℕ → ℕ → Tracked → Tracked
 stepped own out made count one = record one {
   shown = record one.shown { row = if own then row_after (first_row_of (let shown = one.shown in shown.args)) (Some out.answer) else (let shown = one.shown in shown.row); tries = if own && has_failed out.place then one_more (let shown = one.shown in shown.tries) else (let shown = one.shown in shown.tries) };
   last = if own then Some out.answer else one.last;
@@ -55,11 +55,11 @@ stepped own out made count one = record one {
 }
 
 -- behind the end of a child, where it is the one's
-abbrev pub child_ended : Bool → Kept → Kept
+abbrev pub child_ended : Bool → Tracked → Tracked
 child_ended own one = record one { open_children = one.open_children - one_if own }
 
 -- the root behind a step in its tree that makes so many, by which a descendant ends or not, and which fails or not
-abbrev pub tree_stepped : Bool → ℕ → Bool → Option Cause → Kept → Kept
+abbrev pub tree_stepped : Bool → ℕ → Bool → Option Cause → Tracked → Tracked
 tree_stepped own count ends failure one = record one {
   open_under = one.open_under + (if own then count else 0) - one_if (own && ends);
   cause = if own then or_else one.cause failure else one.cause;
@@ -71,23 +71,23 @@ is_this None p = false
 is_this (Some pid) p = pid.0 == p
 
 -- a procedure behind a step, by who it is: the one that steps, its parent, its root, or another
-abbrev pub noted : ℕ → Pid → Option Pid → Pid → StepOut → ℕ → ℕ → Kept → Kept
+abbrev pub noted : ℕ → Pid → Option Pid → Pid → StepOut → ℕ → ℕ → Tracked → Tracked
 noted p pid parent root out made count one =
     tree_stepped (root.0 == p) count (is_stop out.answer && is_some parent) (failing out.answer) (child_ended (is_this parent p && is_stop out.answer) (stepped (p == pid.0) out made count one))
 
 -- behind a report of its call, and behind an abort
-abbrev pub reported : Bool → Told → Kept → Kept
+abbrev pub reported : Bool → Told → Tracked → Tracked
 reported own told one = record one { report = if own then Some told else one.report }
 
-abbrev pub aborted : Bool → Kept → Kept
+abbrev pub aborted : Bool → Tracked → Tracked
 aborted own one = record one { shown = record one.shown { aborted = if own then true else (let shown = one.shown in shown.aborted) } }
 
 -- the phase of a procedure, by the cause of its root and whether that is rolled back
-abbrev pub phase_by : Option Cause → Bool → Kept → Phase
+abbrev pub phase_by : Option Cause → Bool → Tracked → Phase
 phase_by cause rolled one = phase_table cause rolled (is_none (let shown = one.shown in shown.parent)) (own_phase one.last (one.open_children == 0))
 
 -- shown in its phase
-abbrev pub shown_if : Bool → Option Cause → Bool → Kept → Kept
+abbrev pub shown_if : Bool → Option Cause → Bool → Tracked → Tracked
 shown_if own cause rolled one = record one { shown = record one.shown { phase = if own then phase_by cause rolled one else (let shown = one.shown in shown.phase) } }
 
 -- it is a procedure, its parent or its root
@@ -95,7 +95,7 @@ abbrev pub is_touched : Pid → Option Pid → Pid → ℕ → Bool
 is_touched pid parent root p = (pid.0 == p) || (is_this parent p || (root.0 == p))
 
 -- the phases that an entry may change: those of its whole tree where that is rolled back, else those of few
-abbrev pub is_shown : Option Cause → Bool → Pid → Option Pid → Pid → ℕ → Kept → Bool
+abbrev pub is_shown : Option Cause → Bool → Pid → Option Pid → Pid → ℕ → Tracked → Bool
 is_shown None rolled pid parent root p one = is_touched pid parent root p
 is_shown (Some cause) true pid parent root p one = (let shown = one.shown in let its = shown.root in its.0) == root.0
 is_shown (Some cause) false pid parent root p one = is_touched pid parent root p
@@ -110,17 +110,17 @@ is_rolled_back (phase_is.RolledBack cause) = true
 is_rolled_back phase_is.Success = false
 
 -- it has ended: a root as its cause says, a descendant by its last step
-abbrev pub has_ended : Kept → Bool
+abbrev pub has_ended : Tracked → Bool
 has_ended one =
     if is_none (let shown = one.shown in shown.parent) then root_over one.cause (is_rolled_back (let shown = one.shown in shown.phase)) (done_with one.last) else is_stopped one.last
 
 -- a failed root with its descendants ended that isn't rolled back
-abbrev pub is_undoing : Kept → Bool
+abbrev pub is_undoing : Tracked → Bool
 is_undoing one =
     is_none (let shown = one.shown in shown.parent) && (is_some one.cause && ((one.open_under == 0) && not (is_rolled_back (let shown = one.shown in shown.phase))))
 
 -- what those of some procedures ended with that ended well, from a place on
-abbrev pub ends_in : List Kept → ℕ → ℕ → List (Pid × Told)
+abbrev pub ends_in : List Tracked → ℕ → ℕ → List (Pid × Told)
 ends_in kept from zero = []
 ends_in kept from (suc n) =
     ends_in kept from n ++ (elim (slice_get kept (from + n)) as (λ one. List (Pid × Told)) [ None ↦ [] | Some one ↦ end_of (from + n + 1) (done_with one.last) ])

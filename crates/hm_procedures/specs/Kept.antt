@@ -18,7 +18,7 @@ use Rattle.hm_model.specs.Reports.{verb_of}
 use Rattle.hm_model.specs.Rules.{IsLegal}
 use Rattle.hm_model.specs.Tree.{Node, args_in, first_of, made, node_of, parent_in, pid_of}
 use Rattle.hm_model.specs.Waiting.{open_children, open_under}
-use Rattle.hm_procedures.specs.declared.kept.Kept.{Kept}
+use Rattle.hm_procedures.specs.declared.kept.Tracked.{Tracked}
 
 -- what the procedures that an entry makes work on, in order
 abbrev pub args_made : Past → Entry → List Args
@@ -44,7 +44,7 @@ made_in_step (entry_is.Down server ∷ before) p = made_in_step before p
 made_in_step (entry_is.Abort pid ∷ before) p = made_in_step before p
 
 -- what is kept of a procedure that is shown in a phase
-abbrev pub kept_in : Phase → Past → ℕ → Node → Kept
+abbrev pub kept_in : Phase → Past → ℕ → Node → Tracked
 kept_in phase before p node = record {
   shown = record {
     pid = pid_of p;
@@ -68,19 +68,19 @@ kept_in phase before p node = record {
 }
 
 -- what is kept of a procedure
-abbrev pub kept_at : Past → ℕ → Node → Kept
+abbrev pub kept_at : Past → ℕ → Node → Tracked
 kept_at before p node = kept_in (phase before p node) before p node
 
 -- what is kept of a procedure by its number
-abbrev pub kept_of : Past → ℕ → Option Kept
+abbrev pub kept_of : Past → ℕ → Option Tracked
 kept_of before p = option_map (kept_at before p) (node_of before p)
 
 -- the root that is shown
-abbrev pub root_shown : Kept → Pid
+abbrev pub root_shown : Tracked → Pid
 root_shown one = let shown = one.shown in shown.root
 
 -- what is kept is what a legal journal says of its procedures, of their roots, and of how many roots haven't ended
-pub record IsKept (past : Past) (kept : List Kept) (roots : List Pid) (left : ℕ) : Type 0 where
+pub record IsKept (past : Past) (kept : List Tracked) (roots : List Pid) (left : ℕ) : Type 0 where
   pub legal : IsLegal past
   pub count : length kept ≡ made past
   pub kept_are : (p : ℕ) → slice_get kept p ≡ kept_of past (p + 1)

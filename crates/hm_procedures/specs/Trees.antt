@@ -1,5 +1,5 @@
 -- The procedures in their trees.
-use Rattle.std.specs.Prelude.{◌≡◌, ℕ, ◌+◌, ◌-◌, ◌<◌, ◌≤◌, List, Bool, map, Option, Some, None, if◌then◌else◌, slice_get}
+use Rattle.std.specs.Prelude.{◌≡◌, ℕ, ◌+◌, ◌-◌, ◌<◌, ◌≤◌, ◌==◌, List, [], ◌∷◌, Bool, map, Option, Some, None, if◌then◌else◌, slice_get}
 use Rattle.hm_names.specs.declared.pid.Pid.{Pid}
 use Rattle.hm_procedures.specs.declared.trees.Member.{Member}
 
@@ -11,6 +11,11 @@ pub record TreesView : Type 0 where
 
 abbrev pub roots_of : List Member → List Pid
 roots_of members = map (λ member. member.root) members
+
+-- the roots among procedures that are numbered from p on, by the root of each: those that are their own
+abbrev pub tops_from : ℕ → List Pid → List Pid
+tops_from p [] = []
+tops_from p (root ∷ roots) = if root.0 == p then root ∷ tops_from (p + 1) roots else tops_from (p + 1) roots
 
 -- the next procedure of a root's tree behind the one at a place, where there is one
 abbrev pub IsNext : List Pid → Pid → ℕ → Option Pid → Type 0

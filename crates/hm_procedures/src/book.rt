@@ -9,11 +9,11 @@ ghost use Rattle.hm_model.specs.Undo.{is_empty, stack};
 ghost use Rattle.hm_procedures.specs.Book.{HasRoot, IsAbort, IsBook, IsReport, IsRooting, IsUndo, room_of, spare_of};
 ghost use Rattle.hm_procedures.specs.Changes.{added};
 ghost use Rattle.hm_procedures.specs.Kept.{args_made, root_shown};
-ghost use Rattle.hm_procedures.specs.declared.kept.Kept.{Kept as KeptOf};
+ghost use Rattle.hm_procedures.specs.declared.kept.Tracked.{Tracked as TrackedOf};
 
 use crate::changes::{note_abort, note_all, note_report};
 use crate::journal::Journal;
-use crate::kept::Kept;
+use crate::kept::Tracked;
 use crate::phases::{family, has_ended, show_phases};
 use crate::trees::Trees;
 use hm_data::{Args, Entry, StepOut, Told};
@@ -31,7 +31,7 @@ fn less_if(count: u64, over: bool) -> u64
 // What is kept of each procedure, the trees, and how many roots haven't ended.
 #[derive(Drop)]
 pub(crate) struct Book {
-    pub(crate) kept: Vec<Kept>,
+    pub(crate) kept: Vec<Tracked>,
     pub(crate) trees: Trees,
     pub(crate) unfinished: u64,
 }
@@ -75,7 +75,7 @@ impl Book {
             Some((_, root)) => self.trees.add(root),
             None => self.trees.add_root(),
         }
-        self.kept.push_reserved(Kept::fresh(pid, up, args));
+        self.kept.push_reserved(Tracked::fresh(pid, up, args));
     }
 
     // Adds new procedures, as roots or with their parent and their root.

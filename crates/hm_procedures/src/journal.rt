@@ -6,9 +6,9 @@ ghost use Rattle.hm_data.specs.declared.entry.Entry.{Entry as EntryOf};
 use hm_data::Entry;
 use std::marker::Model;
 
-// Entries back from the newest. Nothing but the clauses ties them to what happened.
+/// Entries back from the newest. Nothing but the clauses ties them to what happened.
 #[derive(Drop)]
-pub(crate) struct Journal {
+pub struct Journal {
     ghost entries: { List EntryOf },
 }
 

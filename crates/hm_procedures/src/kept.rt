@@ -13,7 +13,7 @@ use hm_names::Pid;
 
 // A procedure as it is shown, and what its phase and its steps need.
 #[derive(Drop)]
-pub(crate) struct Kept {
+pub(crate) struct Tracked {
     pub(crate) shown: Record,
     // What its last step answered.
     pub(crate) last: Option<Answer>,
@@ -130,15 +130,15 @@ fn tries_after(tries: u32, place: &Option<Place>) -> u32
 }
 
 // What is kept at a place.
-pub(crate) fn kept_at(kept: &[Kept], place: u64) -> Option<&Kept>
+pub(crate) fn kept_at(kept: &[Tracked], place: u64) -> Option<&Tracked>
     ensures { option_copied result ≡ slice_get kept.now place }
 {
     kept.get(place as usize)
 }
 
-impl Kept {
+impl Tracked {
     // A new procedure, as a root or with its parent and its root.
-    pub(crate) fn fresh(pid: Pid, up: Option<(Pid, Pid)>, args: Args) -> Kept
+    pub(crate) fn fresh(pid: Pid, up: Option<(Pid, Pid)>, args: Args) -> Tracked
         ensures { result ≡ fresh pid.0 up args }
     {
         let (parent, root) = match up {
@@ -147,7 +147,7 @@ impl Kept {
         };
         let kind = kind_of(&args);
         let row = first_row_of(&args);
-        Kept {
+        Tracked {
             shown: Record {
                 pid,
                 parent,

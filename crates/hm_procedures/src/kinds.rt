@@ -4,8 +4,8 @@ ghost use Rattle.hm_model.specs.Kinds.{first_row_of as row_at_first, goal_row, k
 
 use hm_data::{Args, Goal, Request};
 
-// The kind that a request asks for.
-fn kind_asked(request: &Request) -> u8
+/// The kind that a request asks for.
+pub fn kind_asked(request: &Request) -> u8
     ensures { result ≡ request_kind request.now }
 {
     match request {

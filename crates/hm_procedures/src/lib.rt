@@ -12,4 +12,6 @@ mod phases;
 mod procedures;
 mod trees;
 
+pub use journal::Journal;
+pub use kinds::kind_asked;
 pub use procedures::Procedures;

@@ -11,11 +11,12 @@ ghost use Rattle.hm_model.specs.Rules.{IsLegal};
 ghost use Rattle.hm_model.specs.Tree.{made};
 ghost use Rattle.hm_model.specs.Undo.{is_empty, stack};
 ghost use Rattle.hm_procedures.specs.Kept.{args_made, kept_of, made_in_step};
+ghost use Rattle.hm_procedures.specs.Procedures.{roots};
 
 use crate::book::Book;
 use crate::ends::ends_from;
 use crate::journal::Journal;
-use crate::kept::{Kept, kept_at};
+use crate::kept::{Tracked, kept_at};
 use hm_data::{Args, Entry, Record, Told};
 use hm_names::{List, Pid};
 use std::alloc::{AllocError, Global};
@@ -51,6 +52,13 @@ impl Procedures {
         })
     }
 
+    /// The journal with one entry more, for what has to remember it.
+    pub fn journal_with(&self, entry: &Entry) -> Journal
+        ensures { result.entries ≡ entry.now ∷ self.now.past }
+    {
+        self.past.then(entry)
+    }
+
     /// The number of the procedure that was made last; 0 where there is none.
     pub fn last_pid(&self) -> u64
         ensures last { result ≡ made self.now.past }
@@ -61,7 +69,7 @@ impl Procedures {
     }
 
     // What is kept of a procedure.
-    fn kept(&self, pid: Pid) -> Option<&Kept>
+    fn kept(&self, pid: Pid) -> Option<&Tracked>
         ensures kept { option_copied result ≡ kept_of self.now.past pid.0 }
         ensures legal { IsLegal self.now.past }
     {
@@ -80,6 +88,13 @@ impl Procedures {
             Some(kept) => Some(&kept.shown),
             None => None,
         }
+    }
+
+    /// The roots, in the order of their numbers.
+    pub fn roots(&self) -> &[Pid]
+        ensures { result.now ≡ roots self.now.past }
+    {
+        self.book.trees.tops()
     }
 
     /// Whether it has made a step.

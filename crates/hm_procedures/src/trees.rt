@@ -2,7 +2,7 @@
 ghost use Rattle.std.specs.Prelude.{◌≡◌, ◌+◌, ◌-◌, ◌<◌, ◌≤◌, ◌++◌, [], ◌∷◌, ◌==◌, ℕ, length, OnOk, Some, slice_get};
 ghost use Rattle.std.specs.Option.{option_map};
 ghost use Rattle.hm_names.specs.declared.pid.Pid.{Pid as PidOf};
-ghost use Rattle.hm_procedures.specs.Trees.{IsLast, IsNext, lasted, nexted};
+ghost use Rattle.hm_procedures.specs.Trees.{IsLast, IsNext, lasted, nexted, tops_from};
 
 use hm_names::Pid;
 use std::alloc::{AllocError, Global};
@@ -21,17 +21,19 @@ pub(crate) struct Member {
 #[derive(Drop)]
 pub(crate) struct Trees {
     members: Vec<Member>,
+    // The roots.
+    tops: Vec<Pid>,
 }
 
 impl Model for Trees {
-    ghost use Rattle.std.specs.Prelude.{◌-◌, vec_len, vec_capacity};
-    ghost use Rattle.hm_procedures.specs.Trees.{AreLinked, TreesView, roots_of};
+    ghost use Rattle.std.specs.Prelude.{◌≡◌, ◌+◌, ◌-◌, min, vec_len, vec_capacity};
+    ghost use Rattle.hm_procedures.specs.Trees.{AreLinked, TreesView, roots_of, tops_from};
 
     ghost Value = { TreesView };
 
-    ghost view = { λ s. record { roots = roots_of s.members.items; spare = vec_capacity s.members - vec_len s.members; room = vec_capacity s.members } };
+    ghost view = { λ s. record { roots = roots_of s.members.items; spare = min (vec_capacity s.members - vec_len s.members) (vec_capacity s.tops - vec_len s.tops); room = vec_capacity s.members + vec_capacity s.tops } };
 
-    ghost invariant = { λ s. AreLinked s.members.items };
+    ghost invariant = { λ s. AreLinked s.members.items × (s.tops.items ≡ tops_from 1 (roots_of s.members.items)) };
 }
 
 // Has a procedure lead to this one.
@@ -59,6 +61,7 @@ impl Trees {
     {
         Trees {
             members: Vec::new(alloc),
+            tops: Vec::new(alloc),
         }
     }
 
@@ -68,7 +71,8 @@ impl Trees {
         ensures room { OnOk result (count ≤ self.new.spare) }
         ensures kept { self.old.spare ≤ self.new.spare }
     {
-        self.members.reserve(count)
+        self.members.reserve(count)?;
+        self.tops.reserve(count)
     }
 
     // Adds a root.
@@ -84,6 +88,7 @@ impl Trees {
             next: None,
             last: own,
         });
+        self.tops.push_reserved(own);
     }
 
     // Adds a procedure to the tree of a root.
@@ -104,6 +109,14 @@ impl Trees {
             next: None,
             last: own,
         });
+    }
+
+    // The roots, in the order of their numbers.
+    pub(crate) fn tops(&self) -> &[Pid]
+        ensures { result.now ≡ tops_from 1 self.now.roots }
+    {
+        let _members = &self.members;
+        self.tops.as_slice()
     }
 
     // The last procedure of a root's tree.

@@ -26,8 +26,8 @@ fn table_of_first(regions: &[RegionName]) -> Option<&TableName>
     }
 }
 
-// The table of a request: its own, or its region's.
-fn table_of_request(request: &Request) -> Option<&TableName>
+/// The table of a request: its own, or that of the first region that it names.
+pub fn table_of_request(request: &Request) -> Option<&TableName>
     ensures { option_copied result ≡ requested_table request.now }
 {
     match request {
@@ -43,8 +43,8 @@ fn table_of_request(request: &Request) -> Option<&TableName>
     }
 }
 
-// How many region ids a request draws.
-fn new_ids(request: &Request) -> u64
+/// How many region ids a request draws: one for each region that it makes.
+pub fn new_ids(request: &Request) -> u64
     ensures { result ≡ ids_of request.now }
 {
     match request {

@@ -14,5 +14,6 @@ mod rows;
 mod running;
 mod steps;
 
+pub use ids::{new_ids, table_of_request};
 pub use parts::Parts;
 pub use records::Records;

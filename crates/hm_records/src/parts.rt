@@ -1,6 +1,8 @@
 //! What is kept of an entry.
-ghost use Rattle.std.specs.Prelude.{◌≡◌, ◌+◌, length, IfOk, MatchOption};
-ghost use Rattle.hm_records.specs.Parts.{AreParts, AsksForNone};
+ghost use Rattle.std.specs.Prelude.{◌≡◌, IfOk, MatchOption};
+ghost use Rattle.hm_data.specs.declared.entry.Entry.{Entry as EntryValue};
+ghost use Rattle.hm_model.specs.Journal.{Past};
+ghost use Rattle.hm_records.specs.Parts.{AreParts, AsksForNone, size_of};
 
 use crate::fleet::comes_up;
 use crate::ids::ids_drawn;
@@ -33,9 +35,9 @@ pub struct Parts {
 }
 
 impl Parts {
-    // For how much more there has to be room.
-    pub(crate) fn size(&self) -> u64
-        ensures { result ≡ 1 + length self.now.edits + length self.now.made }
+    /// For how much more there has to be room.
+    pub fn size(&self) -> u64
+        ensures { (before : Past) (entry : EntryValue) → AreParts before entry self.now → result ≡ size_of entry }
     {
         1 + self.edits.as_slice().len() as u64 + self.made.as_slice().len() as u64
     }

@@ -1,8 +1,9 @@
 //! The state of a journal, by its own calls.
 use crate::journal::{sheets_of_tables, submission};
 use hm_data::{Answer, Entry, StepOut, Told};
+use hm_judge::NotAllowed;
 use hm_names::{List, Nonce, Pid};
-use hm_state::{NotAllowed, State};
+use hm_state::State;
 use std::alloc::{AllocError, Global};
 use std::process::Abort;
 use std::test::Fail;

@@ -13,33 +13,33 @@ use std::sync::ledger::{Blank, Ledger};
 use std::test::Fail;
 
 // What a procedure does: it claims, and takes unless it is refused for the one that is told, or it gives up.
-enum Turn {
+enum Attempt {
     Claims(u64, Option<u64>),
     GivesUp(u64),
 }
 
 // The procedures are: 1 makes table a, 2 makes table b, 3 drops the namespace of both, 4 opens the first region of a and is
 // a child of 1, 5 moves this region.
-const TURNS: [Turn; 19] = [
-    Turn::Claims(1, None),
-    Turn::Claims(2, None),
-    Turn::Claims(3, Some(1)),
-    Turn::Claims(5, Some(1)),
-    Turn::Claims(4, None),
-    Turn::Claims(5, Some(1)),
-    Turn::GivesUp(1),
-    Turn::Claims(5, Some(4)),
-    Turn::Claims(1, None),
-    Turn::GivesUp(1),
-    Turn::GivesUp(4),
-    Turn::Claims(5, None),
-    Turn::Claims(1, Some(5)),
-    Turn::Claims(4, Some(5)),
-    Turn::Claims(3, Some(2)),
-    Turn::GivesUp(2),
-    Turn::GivesUp(5),
-    Turn::Claims(3, None),
-    Turn::Claims(2, Some(3)),
+const ATTEMPTS: [Attempt; 19] = [
+    Attempt::Claims(1, None),
+    Attempt::Claims(2, None),
+    Attempt::Claims(3, Some(1)),
+    Attempt::Claims(5, Some(1)),
+    Attempt::Claims(4, None),
+    Attempt::Claims(5, Some(1)),
+    Attempt::GivesUp(1),
+    Attempt::Claims(5, Some(4)),
+    Attempt::Claims(1, None),
+    Attempt::GivesUp(1),
+    Attempt::GivesUp(4),
+    Attempt::Claims(5, None),
+    Attempt::Claims(1, Some(5)),
+    Attempt::Claims(4, Some(5)),
+    Attempt::Claims(3, Some(2)),
+    Attempt::GivesUp(2),
+    Attempt::GivesUp(5),
+    Attempt::Claims(3, None),
+    Attempt::Claims(2, Some(3)),
 ];
 
 fn add_ns(asks: &mut Vec<Ask>, alloc: Global, exclusive: bool) -> Result<(), AllocError> {
@@ -154,17 +154,17 @@ fn give_up(book: &mut LockBook, pid: u64)
 fn act<L: Ledger>(
     rt: &impl Abort,
     book: &mut LockBook,
-    each: &Turn,
+    each: &Attempt,
     steps: &mut Steps<L>,
 ) -> Result<(), Fail>
     requires { AreEnlisted book.old.rows }
     ensures { AreEnlisted book.new.rows }
 {
     match each {
-        Turn::Claims(pid @ 1..=5, expected) => {
+        Attempt::Claims(pid @ 1..=5, expected) => {
             assert_eq!(rt; claim(book, *pid, steps), *expected);
         }
-        Turn::GivesUp(pid @ 1..=5) => give_up(book, *pid),
+        Attempt::GivesUp(pid @ 1..=5) => give_up(book, *pid),
         _ => assert!(rt; false),
     }
     Ok(())
@@ -178,7 +178,7 @@ fn turns<L: Ledger>(rt: &impl Abort, alloc: Global, blank: Blank) -> Result<(), 
     let mut steps = Steps::<L>::new(blank);
     let mut book = LockBook::new(alloc)?;
     enlist_five(&mut book, alloc)?;
-    for each in &TURNS {
+    for each in &ATTEMPTS {
         act(rt, &mut book, each, &mut steps)?;
     }
     assert_eq!(rt; (book.holds(Pid(2)), book.holds(Pid(3))), (false, true));

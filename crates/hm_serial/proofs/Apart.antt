@@ -1,6 +1,6 @@
--- No two roots that hold ask for what clashes: the one fact that is needed of rule 6, whichever of its texts is in force.
+-- No two roots that hold ask for what clashes.
 use Rattle.std.proofs.Common.{◌≡◌, ◌≢◌, ℕ, List, [], ◌∷◌, true, false, Option, Some, None, refl, ap, sym, ◌∙◌, subst, inl, inr}
-use Rattle.std.proofs.lemmas.Bool.{cases_Bool, cases_eq, cond-true, true≢false}
+use Rattle.std.proofs.lemmas.Bool.{cases_Bool, cases_eq}
 use Rattle.std.proofs.lemmas.Option.{none-some, same_Some}
 use Rattle.hm_names.specs.Server.{Server}
 use Rattle.hm_names.specs.declared.pid.Pid.{Pid}
@@ -8,27 +8,28 @@ use Rattle.hm_data.specs.declared.answer.Answer.{Answer}
 use Rattle.hm_data.specs.declared.catalog.CatKey.{CatKey}
 use Rattle.hm_data.specs.declared.entry.Entry.TheVariants as entry_is
 use Rattle.hm_data.specs.declared.step.StepOut.{StepOut}
-use Rattle.hm_model.specs.Answers.{is_stopped, last_answer}
-use Rattle.hm_model.specs.Holding.{IsClear, IsFree, MayBegin}
+use Rattle.hm_model.specs.Answers.{last_answer}
 use Rattle.hm_model.specs.Journal.{Past}
-use Rattle.hm_model.specs.Locks.{AsksClash, Clash, IsAbove, IsIn, asks}
+use Rattle.hm_model.specs.Locks.{Clash, asks}
 use Rattle.hm_model.specs.Reads.{covers, guards}
-use Rattle.hm_model.specs.Phase.{ended, ended_node, root_ended}
-use Rattle.hm_model.specs.Tree.{Node, is_root, is_root_in, is_top, made, node_of}
+use Rattle.hm_model.specs.Tree.{Node, made, node_of}
+use Rattle.hm_model.specs.Rules.{IsLegal}
+use Rattle.hm_model.proofs.Free.{step_free}
 use Rattle.hm_model.proofs.LegalSteps.{StepFacts, ready_stops}
 use Rattle.hm_model.proofs.StepDoes.{Does}
 use Rattle.hm_model.proofs.Trees.{Grown, IsWaiting, le_or_lt, new_child, node_same}
 use Rattle.hm_kinds.proofs.Covering.{rows_table}
-use Rattle.hm_kinds.proofs.LockForms.{IsSound, clash_sym, lock_law}
+use Rattle.hm_kinds.proofs.LockForms.{IsRight, clash_sym, lock_law}
 use Rattle.hm_serial.proofs.Fallen.{some_cons}
-use Rattle.hm_serial.proofs.Standing.{TopHolds, TopIs, holds_left, live_child, step_left, step_open}
+use Rattle.hm_model.proofs.Tops.{TopHolds, TopIs, holds_with, tops_conflict}
+use Rattle.hm_serial.proofs.Standing.{holds_left, live_child, step_left, step_open}
 
 abbrev pub Apart : Past → Type 0
 Apart J = (s t : ℕ) (x y : Node) → TopHolds J s x → TopHolds J t y → s ≢ t → Clash (asks x.args) (asks y.args) → ⊥
 
 -- each procedure's request could be submitted
 abbrev pub Asked : Past → Type 0
-Asked J = (q : ℕ) (x : Node) → node_of J q ≡ Some x → IsSound x.args
+Asked J = (q : ℕ) (x : Node) → node_of J q ≡ Some x → IsRight x.args
 
 -- of a root and another that holds, neither covers a row that the other one guards
 abbrev pub Aside : Past → ℕ → Node → Type 0
@@ -55,28 +56,9 @@ BeginsApart J p =
     (node : Node) → node_of J p ≡ Some node → node.above ≡ [] → last_answer J p ≡ None
     → (s : ℕ) (x : Node) → TopHolds J s x → s ≢ p → Clash (asks node.args) (asks x.args) → ⊥
 
-pub holds_open : (J : Past) (s : ℕ) (x : Node) → TopHolds J s x → ended J s ≡ false
-holds_open J s x h = ap (ended_node J s) h.0.0 ∙ cond-true (is_top x.above) (root_ended J s) (is_stopped (last_answer J s)) (ap is_top h.0.1) ∙ h.2
-
-pub top_root : (J : Past) (s : ℕ) (x : Node) → TopIs J s x → is_root J s ≡ true
-top_root J s x top = ap is_root_in top.0 ∙ ap is_top top.1
-
--- where one root at a time has a step
-pub from_begin : (J : Past) (p : ℕ) → MayBegin J p → BeginsApart J p
-from_begin J p may node is top none s x h differs clash = true≢false (sym (may (top_root J p node (is, top)) none s differs (top_root J s x h.0) h.1) ∙ holds_open J s x h)
-
--- where locks are taken
-pub from_free : (J : Past) (p : ℕ) → IsFree J [] p → BeginsApart J p
-from_free J p free node is top none s x h differs clash =
-    free s ((λ e. none-some x (sym e ∙ h.0.0)), holds_open J s x h, inl h.1)
-    ((λ e. differs (sym e)), ((λ up. not_above s x h.0 p up), (λ up. not_above p node (is, top) s up), subst (λ o. AsksClash o (node_of J s)) (sym is) (subst (AsksClash (Some node)) (sym h.0.0) clash)))
-  where
-    not_above : (t : ℕ) (y : Node) → TopIs J t y → (q : ℕ) → IsAbove q (node_of J t) → ⊥
-    not_above t y top q up = subst (IsIn q) top.1 (subst (IsAbove q) top.0 up)
-
--- what rule 6 gives
-pub begins_apart : (J : Past) (p : ℕ) → IsClear J [] p → BeginsApart J p
-begins_apart J p clear = from_begin J p clear
+-- so it is, since who steps conflicts with none that holds
+pub begins_apart : (pid : Pid) (pick : Option Server) (out : StepOut) (J : Past) → IsLegal (entry_is.Step pid pick out ∷ J) → BeginsApart J pid.0
+begins_apart pid pick out J legal node is top none s x h differs clash = step_free pid pick out J legal s (holds_with J s x h) (tops_conflict J pid.0 s node x (is, top) h.0 (λ e. differs (sym e)) clash)
 
 -- a root behind a step was one before
 module _ (pid : Pid) (pick : Option Server) (out : StepOut) (J : Past) (step : StepFacts J pid.0 pick out) where

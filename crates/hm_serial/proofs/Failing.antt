@@ -28,7 +28,7 @@ use Rattle.hm_serial.proofs.Stands.{ended_same}
 use Rattle.hm_serial.proofs.Fallen.{Falls}
 use Rattle.hm_serial.proofs.Frame.{unwound}
 use Rattle.hm_serial.proofs.Local.{Within}
-use Rattle.hm_serial.proofs.Standing.{TopHolds, TopIs}
+use Rattle.hm_model.proofs.Tops.{TopHolds, TopIs}
 
 has_within : (args : Args) (edits : List Edit) (key : CatKey) → Within args edits → HasKey edits key → covers args key ≡ true
 has_within args [] key within h = absurd h

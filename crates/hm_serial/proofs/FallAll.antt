@@ -1,6 +1,6 @@
 -- At every legal journal, what may still be undone leads back, and no two roots that hold clash.
 use Rattle.std.proofs.Common.{◌≡◌, ◌≢◌, ℕ, ◌+◌, ◌-◌, ◌<◌, List, [], ◌∷◌, true, false, not, ◌&&◌, ◌==◌, map, nat_lt, Option, Some, None, is_some, option_map, refl, ap, sym, ◌∙◌, subst, inl, inr, slice_get}
-use Rattle.std.proofs.lemmas.Bool.{and_parts, and_right, cases_eq, cond-false, cond-true, eq-eqb, false≢true, lt-ltb, ne_eqb, true≢false}
+use Rattle.std.proofs.lemmas.Bool.{and_parts, and_right, cases_eq, cond-false, cond-true, eq-eqb, false≢true, lt-ltb, ne_eqb}
 use Rattle.std.proofs.lemmas.Option.{none-some, same_Some}
 use Rattle.hm_names.specs.Server.{Server}
 use Rattle.hm_names.specs.declared.nonce.Nonce.{Nonce}
@@ -17,36 +17,30 @@ use Rattle.hm_data.specs.declared.catalog.CatKey.{CatKey}
 use Rattle.hm_data.specs.declared.entry.Entry.TheVariants as entry_is
 use Rattle.hm_data.specs.declared.request.Request.{Request}
 use Rattle.hm_data.specs.declared.step.StepOut.{StepOut}
-use Rattle.hm_model.specs.Answers.{done_with, last_answer, is_stopped}
+use Rattle.hm_model.specs.Answers.{done_with, last_answer}
 use Rattle.hm_model.specs.Catalog.{cat, edited, was}
 use Rattle.hm_model.specs.Journal.{Past}
 use Rattle.hm_model.specs.Reads.{covers}
-use Rattle.hm_model.specs.Phase.{all_stopped, cause, root_ended, root_over, rolled_back, ended, ended_node}
+use Rattle.hm_model.specs.Phase.{all_stopped, cause, root_ended, root_over, rolled_back}
 use Rattle.hm_model.specs.Rules.{IsLegal}
 use Rattle.hm_model.specs.Locks.{in_name_order}
 use Rattle.hm_model.specs.Pieces.{Batch, batches}
 use Rattle.hm_model.specs.Undoing.{closed_by, undo_edits, undo_followers}
-use Rattle.hm_model.specs.Tree.{Node, args_in, is_top, made, node_of, root_node, root_of, submitted, is_root, is_root_in}
+use Rattle.hm_model.specs.Tree.{Node, args_in, is_top, made, node_of, root_node, root_of, submitted}
 use Rattle.hm_model.specs.Undo.{Undoable, is_empty, rest_of, stack}
-use Rattle.hm_model.proofs.Trees.{Grown, IsRooted, does_of, down_rooted, grown_all, le_or_lt, new_child, node_same, old_or_new, step_of, still, submit_rooted, undo_rooted, IsWaiting}
+use Rattle.hm_model.proofs.Trees.{Grown, IsRooted, does_of, down_rooted, grown_all, le_or_lt, new_child, node_same, old_or_new, step_of, still, submit_rooted, undo_rooted}
 use Rattle.hm_model.proofs.UndoMakes.{IsUndoOf, undo_of}
-use Rattle.hm_kinds.proofs.LockForms.{IsSound}
-use Rattle.hm_data.specs.declared.answer.Answer.{Answer}
-use Rattle.hm_model.proofs.LegalSteps.{StepFacts, ready_stops}
-use Rattle.hm_model.proofs.StepDoes.{Does}
+use Rattle.hm_kinds.proofs.LockForms.{IsRight}
 use Rattle.hm_serial.proofs.Apart.{Apart, Aside, Asked, apart_back, apart_step, aside_from, begins_apart, step_apart}
 use Rattle.hm_serial.proofs.Editing.{rows_table}
 use Rattle.hm_serial.proofs.Kinship.{is_kid}
-use Rattle.hm_serial.proofs.Fallen.{Falls, MayFall, Unwinds, may_on, falls_calm, falls_nothing, root_of_node, some_cons}
+use Rattle.hm_serial.proofs.Fallen.{Falls, MayFall, Unwinds, may_on, falls_calm, falls_nothing, root_of_node}
 use Rattle.hm_serial.proofs.FallStep.{falls_step, kid_of}
 use Rattle.hm_serial.proofs.Frame.{AllWithin, cover_guards, unwound}
-use Rattle.hm_serial.proofs.Kids.{AllMade, made_at}
+use Rattle.hm_kinds.proofs.Kids.{AllMade, made_at}
 use Rattle.hm_serial.proofs.Local.{Within, within_others}
-use Rattle.hm_serial.proofs.Standing.{TopHolds, TopIs, holds_left, rooted_left, live_child, step_left, step_open}
-
--- one root at most holds, while rule 6 lets one at a time begin
-abbrev pub One : Past → Type 0
-One J = (s t : ℕ) (x y : Node) → TopHolds J s x → TopHolds J t y → s ≡ t
+use Rattle.hm_model.proofs.Tops.{TopHolds, TopIs}
+use Rattle.hm_serial.proofs.Standing.{holds_left, rooted_left}
 
 -- an entry that makes roots
 rooted_falls : (J J' : Past) (rooted : IsRooted J J') (grown : Grown J) → Falls J → ((p : ℕ) → cause J' p ≡ cause J p) → ((p : ℕ) → stack J p ≡ [] → stack J' p ≡ [])
@@ -64,51 +58,8 @@ old_holder J J' rooted grown r node h = elim (old_or_new J J' rooted grown r nod
   | inr new ↦ absurd (h.1 new.3)
 ]
 
-pub back : (J J' : Past) (rooted : IsRooted J J') (grown : Grown J) (r : ℕ) (node : Node) → cause J' r ≡ cause J r → stack J' r ≡ stack J r → was J' r ≡ was J r → TopHolds J' r node → TopHolds J r node
-back J J' rooted grown r node causes stacks base h = holds_left J J' r node (rooted_left J J' rooted grown r node (old_holder J J' rooted grown r node h) causes stacks base) h
-
-one_back : (J J' : Past) → ((r : ℕ) (node : Node) → TopHolds J' r node → TopHolds J r node) → One J → One J'
-one_back J J' holds one s t x y h k = one s t x y (holds s x h) (holds t y k)
-
--- a step, while rule 6 lets one root at a time begin: what hm_serial says rests on none of this
-module _ (pid : Pid) (pick : Option Server) (out : StepOut) (J : Past) (grown : Grown J) (one : One J) (step : StepFacts J pid.0 pick out) (d : Does J pid.0 step.node.args (last_answer J pid.0) step.sheet.rows out) (clear : is_root J pid.0 ≡ true → last_answer J pid.0 ≡ None → (q : ℕ) → q ≢ pid.0 → is_root J q ≡ true → last_answer J q ≢ None → ended J q ≡ true) where
-  begun : (s : ℕ) (node : Node) → TopHolds J s node → last_answer J step.node.root ≢ None → s ≡ step.node.root
-  begun s node h some =
-      let root = root_of_node J grown pid.0 step.node step.node_is in
-      one s step.node.root node root.0 h (root.1, some, step_open pid pick out J grown step d)
-
-  holder_ends : (s : ℕ) (node : Node) → TopHolds J s node → ended J s ≡ true → ⊥
-  holder_ends s node h over = true≢false (sym over ∙ ap (ended_node J s) h.0.0 ∙ cond-true (is_top node.above) (root_ended J s) (is_stopped (last_answer J s)) (ap is_top h.0.1) ∙ h.2)
-
-  by_above : (above : List ℕ) → step.node.above ≡ above → (s : ℕ) (node : Node) → TopHolds J s node → (o : Option Answer) → last_answer J step.node.root ≡ o → s ≡ step.node.root
-  by_above above e s node h (Some answer) last = begun s node h (λ none. none-some answer (sym none ∙ last))
-  by_above [] e s node h None last =
-      let root : step.node.root ≡ pid.0 = grown.tops pid.0 step.node step.node_is e in
-      elim (cases_eq s pid.0) [
-        | inl same ↦ same ∙ sym root
-        | inr differs ↦ absurd (holder_ends s node h (clear (ap is_root_in step.node_is ∙ ap is_top e) (ap (last_answer J) (sym root) ∙ last) s differs (ap is_root_in h.0.0 ∙ ap is_top h.0.1) h.1))
-      ]
-  by_above (u ∷ rest) e s node h None last =
-      let l = live_child J grown step.node.above pid.0 step.node step.node_is refl (λ n. some_cons u rest (sym e ∙ n)) (ready_stops J pid.0 step.node (last_answer J pid.0) step.ready) in
-      absurd (subst IsWaiting last l.5)
-
-  pub alone_at : (s : ℕ) (node : Node) → TopHolds J s node → s ≡ step.node.root
-  alone_at s node h = by_above step.node.above refl s node h (last_answer J step.node.root) refl
-
-  pub old_top : (s : ℕ) (x : Node) → TopIs (entry_is.Step pid pick out ∷ J) s x → TopIs J s x
-  old_top s x is = elim (le_or_lt s (made J)) [
-    | inl le ↦ (sym (node_same pid pick out J s le) ∙ is.0, is.1)
-    | inr lt ↦ let c = new_child pid pick out J step.node step.node_is s lt x is.0 in absurd (some_cons pid.0 step.node.above (ap (λ (n : Node). n.above) (sym c.2) ∙ is.1))
-  ]
-
-  pub to_root : (s : ℕ) (x : Node) → TopHolds (entry_is.Step pid pick out ∷ J) s x → s ≡ step.node.root
-  to_root s x h = elim (cases_eq s step.node.root) [
-    | inl same ↦ same
-    | inr differs ↦ alone_at s x (holds_left J (entry_is.Step pid pick out ∷ J) s x (step_left pid pick out J grown step d s x (old_top s x h.0) differs) h)
-  ]
-
-  pub one_step : One (entry_is.Step pid pick out ∷ J)
-  one_step s t x y h k = to_root s x h ∙ sym (to_root t y k)
+pub held_before : (J J' : Past) (rooted : IsRooted J J') (grown : Grown J) (r : ℕ) (node : Node) → cause J' r ≡ cause J r → stack J' r ≡ stack J r → was J' r ≡ was J r → TopHolds J' r node → TopHolds J r node
+held_before J J' rooted grown r node causes stacks base h = holds_left J J' r node (rooted_left J J' rooted grown r node (old_holder J J' rooted grown r node h) causes stacks base) h
 
 -- an undo's followers list no regions
 transits_rows : (goal : Goal) (list : List Batch) → AllMade (λ args. rows_table args ≡ None) (map (λ batch. child_is.Transits batch.table batch.ids goal) list)
@@ -179,7 +130,7 @@ module _ (pid : Pid) (row : ℕ) (out : StepOut) (J : Past) (legal : IsLegal (en
   pub undo_back : (r : ℕ) (node : Node) → TopHolds (entry_is.Undo pid row out ∷ J) r node → TopHolds J r node
   undo_back r node h = elim (cases_eq r R) [
     | inl same ↦ (old_holder J J' rooted grown r node h, h.1, ap (root_ended J) same ∙ open_at)
-    | inr differs ↦ back J J' rooted grown r node refl (stack_off r differs) refl h
+    | inr differs ↦ held_before J J' rooted grown r node refl (stack_off r differs) refl h
   ]
 
   pub edits_are : out.edits ≡ undo_edits u.latest.undo u.latest.edits
@@ -248,7 +199,6 @@ pub record All (J : Past) : Type 0 where
   pub falls : Falls J
   pub apart : Apart J
   pub asked : Asked J
-  pub one : One J
 
 submit_rows : (nonce : Nonce) (request : Request) (J : Past) → Grown J → (p : ℕ) (x : Node) → made J < p → node_of (entry_is.Submit nonce request ∷ J) p ≡ Some x → rows_table x.args ≡ None
 submit_rows nonce request J grown p x lt is = elim (cases_eq p (made J + 1)) [
@@ -265,7 +215,7 @@ down_rows server J grown p x lt is = elim (cases_eq p (made J + 1)) [
 pub none_at : (J : Past) → J ≡ [] → (p : ℕ) → node_of J p ≡ None
 none_at J e p = ap (λ j. node_of j p) e
 
-kid_sound : (args : Args) → is_kid args ≡ true → IsSound args
+kid_sound : (args : Args) → is_kid args ≡ true → IsRight args
 kid_sound (args_are.Root request first) k = absurd (false≢true k)
 kid_sound (args_are.Transit region goal to) k = tt
 kid_sound (args_are.Crash server) k = tt
@@ -277,11 +227,11 @@ kid_sound (args_are.FenceCall server) k = tt
 kid_sound (args_are.LayoutCall root) k = tt
 kid_sound (args_are.SweepLayout root) k = tt
 
-transits_sound : (goal : Goal) (list : List Batch) → AllMade IsSound (map (λ batch. child_is.Transits batch.table batch.ids goal) list)
+transits_sound : (goal : Goal) (list : List Batch) → AllMade IsRight (map (λ batch. child_is.Transits batch.table batch.ids goal) list)
 transits_sound goal [] = tt
 transits_sound goal (batch ∷ more) = ((λ id. tt), transits_sound goal more)
 
-followers_sound : (undo : Back) (args : Args) (root : Pid) → AllMade IsSound (undo_followers undo args root)
+followers_sound : (undo : Back) (args : Args) (root : Pid) → AllMade IsRight (undo_followers undo args root)
 followers_sound back_is.Nothing args root = tt
 followers_sound back_is.Edits args root = tt
 followers_sound back_is.Sweep args root = (tt, tt)
@@ -293,7 +243,7 @@ step_aside pid pick out J legal a =
     let grown = grown_all J legal.0 in
     let step = step_of pid pick out J grown legal in
     let top = root_of_node J grown pid.0 step.node step.node_is in
-    aside_from J step.node.root top.0 (step_apart pid pick out J grown step (does_of pid pick out J grown step) a.apart (begins_apart J pid.0 legal.1.1.1.0) top.0 top.1) a.asked (λ q x is. a.falls.tops q x is) top.1
+    aside_from J step.node.root top.0 (step_apart pid pick out J grown step (does_of pid pick out J grown step) a.apart (begins_apart pid pick out J legal) top.0 top.1) a.asked (λ q x is. a.falls.tops q x is) top.1
 
 pub undo_aside : (pid : Pid) (row : ℕ) (out : StepOut) (J : Past) (legal : IsLegal (entry_is.Undo pid row out ∷ J)) (a : All J) → Aside J (root_of J pid.0) (top pid row out J legal (grown_all J legal.0) a.falls)
 undo_aside pid row out J legal a =
@@ -302,13 +252,13 @@ undo_aside pid row out J legal a =
 
 asked_submit : (nonce : Nonce) (request : Request) (J : Past) → IsLegal (entry_is.Submit nonce request ∷ J) → Asked J → Asked (entry_is.Submit nonce request ∷ J)
 asked_submit nonce request J legal asked q x is = elim (cases_eq q (made J + 1)) [
-  | inl same ↦ subst (λ (n : Node). IsSound n.args) (same_Some (submitted J request q) x (sym (cond-true (q == made J + 1) (Some (submitted J request q)) (node_of J q) (eq-eqb q (made J + 1) same)) ∙ is)) legal.1.1.0.0
+  | inl same ↦ subst (λ (n : Node). IsRight n.args) (same_Some (submitted J request q) x (sym (cond-true (q == made J + 1) (Some (submitted J request q)) (node_of J q) (eq-eqb q (made J + 1) same)) ∙ is)) legal.1.1.0.0
   | inr differs ↦ asked q x (sym (cond-false (q == made J + 1) (Some (submitted J request q)) (node_of J q) (ne_eqb q (made J + 1) differs)) ∙ is)
 ]
 
 asked_down : (server : Server) (J : Past) → Asked J → Asked (entry_is.Down server ∷ J)
 asked_down server J asked q x is = elim (cases_eq q (made J + 1)) [
-  | inl same ↦ subst (λ (n : Node). IsSound n.args) (same_Some (root_node q (args_are.Crash server) 1) x (sym (cond-true (q == made J + 1) (Some (root_node q (args_are.Crash server) 1)) (node_of J q) (eq-eqb q (made J + 1) same)) ∙ is)) tt
+  | inl same ↦ subst (λ (n : Node). IsRight n.args) (same_Some (root_node q (args_are.Crash server) 1) x (sym (cond-true (q == made J + 1) (Some (root_node q (args_are.Crash server) 1)) (node_of J q) (eq-eqb q (made J + 1) same)) ∙ is)) tt
   | inr differs ↦ asked q x (sym (cond-false (q == made J + 1) (Some (root_node q (args_are.Crash server) 1)) (node_of J q) (ne_eqb q (made J + 1) differs)) ∙ is)
 ]
 
@@ -320,7 +270,7 @@ asked_step pid pick out J legal a q x is =
       | inl le ↦ a.asked q x (sym (node_same pid pick out J q le) ∙ is)
       | inr lt ↦
           let c = new_child pid pick out J step.node step.node_is q lt x is in
-          subst (λ (n : Node). IsSound n.args) (sym c.2) (kid_sound c.0 (kid_of pid pick out J grown a.falls step (does_of pid pick out J grown step) (step_aside pid pick out J legal a) (q - made J - 1) c.0 c.1).kid)
+          subst (λ (n : Node). IsRight n.args) (sym c.2) (kid_sound c.0 (kid_of pid pick out J grown a.falls step (does_of pid pick out J grown step) (step_aside pid pick out J legal a) (q - made J - 1) c.0 c.1).kid)
     ]
 
 asked_undo : (pid : Pid) (row : ℕ) (out : StepOut) (J : Past) (legal : IsLegal (entry_is.Undo pid row out ∷ J)) → All J → Asked (entry_is.Undo pid row out ∷ J)
@@ -332,14 +282,14 @@ asked_undo pid row out J legal a q x is = elim (le_or_lt q (made J)) [
     its_undo : IsUndoOf J (root_of J pid.0) out
     its_undo = u pid row out J legal (grown_all J legal.0) a.falls
 
-    new : made J < q → (o : Option Args) → slice_get (args_in out.followers) (q - made J - 1) ≡ o → IsSound x.args
+    new : made J < q → (o : Option Args) → slice_get (args_in out.followers) (q - made J - 1) ≡ o → IsRight x.args
     new lt None e = absurd (none-some x (sym (cond-true (nat_lt (made J) q) _ (node_of J q) (lt-ltb (made J) q lt) ∙ ap (option_map (λ args. root_node q args 1)) e) ∙ is))
     new lt (Some args) e =
-        subst (λ (n : Node). IsSound n.args) (same_Some (root_node q args 1) x (sym (cond-true (nat_lt (made J) q) _ (node_of J q) (lt-ltb (made J) q lt) ∙ ap (option_map (λ args. root_node q args 1)) e) ∙ is))
-        (made_at IsSound (undo_followers its_undo.undo its_undo.args its_undo.root) (followers_sound its_undo.undo its_undo.args its_undo.root) (q - made J - 1) args (ap (λ (o : StepOut). slice_get (args_in o.followers) (q - made J - 1)) (sym its_undo.out_is) ∙ e))
+        subst (λ (n : Node). IsRight n.args) (same_Some (root_node q args 1) x (sym (cond-true (nat_lt (made J) q) _ (node_of J q) (lt-ltb (made J) q lt) ∙ ap (option_map (λ args. root_node q args 1)) e) ∙ is))
+        (made_at IsRight (undo_followers its_undo.undo its_undo.args its_undo.root) (followers_sound its_undo.undo its_undo.args its_undo.root) (q - made J - 1) args (ap (λ (o : StepOut). slice_get (args_in o.followers) (q - made J - 1)) (sym its_undo.out_is) ∙ e))
 
 pub falls_all : (J : Past) → IsLegal J → All J
-falls_all [] legal = record { falls = falls_nothing; one = λ s t x y h k. absurd (none-some x h.0.0); apart = λ s t x y h k differs clash. none-some x h.0.0; asked = λ q x is. absurd (none-some x is) }
+falls_all [] legal = record { falls = falls_nothing; apart = λ s t x y h k differs clash. none-some x h.0.0; asked = λ q x is. absurd (none-some x is) }
 falls_all (entry_is.Start sheets ∷ J) legal =
     let a = falls_all J legal.0 in
     let f = a.falls in
@@ -357,18 +307,16 @@ falls_all (entry_is.Start sheets ∷ J) legal =
         tree = λ r node h. absurd (none-some node (sym (none r) ∙ h.0.0));
       };
       apart = λ s t x y h k differs clash. none-some x (sym (none s) ∙ h.0.0);
-      one = λ s t x y h k. absurd (none-some x (sym (none s) ∙ h.0.0));
       asked = a.asked;
     }
 falls_all (entry_is.Submit nonce request ∷ J) legal =
     let a = falls_all J legal.0 in
     let grown = grown_all J legal.0 in
     let rooted = submit_rooted nonce request J grown in
-    let holds : (r : ℕ) (node : Node) → TopHolds (entry_is.Submit nonce request ∷ J) r node → TopHolds J r node = (λ r node h. back J (entry_is.Submit nonce request ∷ J) rooted grown r node refl refl refl h) in
+    let holds : (r : ℕ) (node : Node) → TopHolds (entry_is.Submit nonce request ∷ J) r node → TopHolds J r node = (λ r node h. held_before J (entry_is.Submit nonce request ∷ J) rooted grown r node refl refl refl h) in
     record {
       falls = rooted_falls J (entry_is.Submit nonce request ∷ J) rooted grown a.falls (λ p. refl) (λ p e. e) (submit_rows nonce request J grown) (λ r node h. a.falls.tree r node (holds r node h));
       apart = apart_back J (entry_is.Submit nonce request ∷ J) holds a.apart;
-      one = one_back J (entry_is.Submit nonce request ∷ J) holds a.one;
       asked = asked_submit nonce request J legal a.asked;
     }
 falls_all (entry_is.Step pid pick out ∷ J) legal =
@@ -379,9 +327,8 @@ falls_all (entry_is.Step pid pick out ∷ J) legal =
     let top = root_of_node J grown pid.0 step.node step.node_is in
     record {
       falls = falls_step pid pick out J grown a.falls step d (step_aside pid pick out J legal a);
-      apart = apart_step pid pick out J grown step d a.apart (begins_apart J pid.0 legal.1.1.1.0) top.0 top.1;
+      apart = apart_step pid pick out J grown step d a.apart (begins_apart pid pick out J legal) top.0 top.1;
       asked = asked_step pid pick out J legal a;
-      one = one_step pid pick out J grown a.one step d legal.1.1.1.0;
     }
 falls_all (entry_is.Undo pid row out ∷ J) legal =
     let a = falls_all J legal.0 in
@@ -390,28 +337,26 @@ falls_all (entry_is.Undo pid row out ∷ J) legal =
       falls = falls_undo pid row out J legal grown a.falls (undo_aside pid row out J legal a);
       apart = apart_back J (entry_is.Undo pid row out ∷ J) (undo_back pid row out J legal grown a.falls) a.apart;
       asked = asked_undo pid row out J legal a;
-      one = one_back J (entry_is.Undo pid row out ∷ J) (undo_back pid row out J legal grown a.falls) a.one;
     }
 falls_all (entry_is.Report call told ∷ J) legal =
     let a = falls_all J legal.0 in
     let f = a.falls in
-    record { falls = record { fresh = f.fresh; gone = f.gone; tops = f.tops; kids = f.kids; belongs = f.belongs; near = f.near; safe = f.safe; bare = f.bare; tree = f.tree }; apart = a.apart; asked = a.asked; one = a.one }
+    record { falls = record { fresh = f.fresh; gone = f.gone; tops = f.tops; kids = f.kids; belongs = f.belongs; near = f.near; safe = f.safe; bare = f.bare; tree = f.tree }; apart = a.apart; asked = a.asked }
 falls_all (entry_is.Up server ∷ J) legal =
     let a = falls_all J legal.0 in
     let f = a.falls in
-    record { falls = record { fresh = f.fresh; gone = f.gone; tops = f.tops; kids = f.kids; belongs = f.belongs; near = f.near; safe = f.safe; bare = f.bare; tree = f.tree }; apart = a.apart; asked = a.asked; one = a.one }
+    record { falls = record { fresh = f.fresh; gone = f.gone; tops = f.tops; kids = f.kids; belongs = f.belongs; near = f.near; safe = f.safe; bare = f.bare; tree = f.tree }; apart = a.apart; asked = a.asked }
 falls_all (entry_is.Down server ∷ J) legal =
     let a = falls_all J legal.0 in
     let grown = grown_all J legal.0 in
     let rooted = down_rooted server J grown in
-    let holds : (r : ℕ) (node : Node) → TopHolds (entry_is.Down server ∷ J) r node → TopHolds J r node = (λ r node h. back J (entry_is.Down server ∷ J) rooted grown r node refl refl refl h) in
+    let holds : (r : ℕ) (node : Node) → TopHolds (entry_is.Down server ∷ J) r node → TopHolds J r node = (λ r node h. held_before J (entry_is.Down server ∷ J) rooted grown r node refl refl refl h) in
     record {
       falls = rooted_falls J (entry_is.Down server ∷ J) rooted grown a.falls (λ p. refl) (λ p e. e) (down_rows server J grown) (λ r node h. a.falls.tree r node (holds r node h));
       apart = apart_back J (entry_is.Down server ∷ J) holds a.apart;
-      one = one_back J (entry_is.Down server ∷ J) holds a.one;
       asked = asked_down server J a.asked;
     }
 falls_all (entry_is.Abort pid ∷ J) legal =
     let a = falls_all J legal.0 in
     let f = a.falls in
-    record { falls = record { fresh = f.fresh; gone = f.gone; tops = f.tops; kids = f.kids; belongs = f.belongs; near = f.near; safe = f.safe; bare = f.bare; tree = f.tree }; apart = a.apart; asked = a.asked; one = a.one }
+    record { falls = record { fresh = f.fresh; gone = f.gone; tops = f.tops; kids = f.kids; belongs = f.belongs; near = f.near; safe = f.safe; bare = f.bare; tree = f.tree }; apart = a.apart; asked = a.asked }

@@ -42,7 +42,8 @@ use Rattle.hm_serial.proofs.Apart.{Aside}
 use Rattle.hm_serial.proofs.Kinship.{NewKid, editless, is_bare, is_kid, is_lined, kid_fails, kid_quiet, kid_rows, lined_is, may_fail, near_step, new_kid, own_edits, step_clean, step_within}
 use Rattle.hm_serial.proofs.Local.{Within, within_others}
 use Rattle.hm_serial.specs.Theorem.{Tells}
-use Rattle.hm_serial.proofs.Standing.{Left, TopHolds, TopIs, holds_left, live_child, quiet_tree, step_left, step_open, top_not_me}
+use Rattle.hm_model.proofs.Tops.{TopHolds, TopIs}
+use Rattle.hm_serial.proofs.Standing.{Left, holds_left, live_child, quiet_tree, step_left, step_open, top_not_me}
 use Rattle.hm_serial.proofs.Fallen.{Falls, MayFall, Unwinds, may_on, root_of_node, some_cons}
 
 -- what asks for a table is no descendant

@@ -21,7 +21,7 @@ use Rattle.hm_model.proofs.Trees.{Grown}
 use Rattle.hm_serial.proofs.Editing.{rows_table}
 use Rattle.hm_serial.proofs.Frame.{AllWithin, unwound}
 use Rattle.hm_serial.proofs.Kinship.{is_bare, is_kid, is_lined, may_fail}
-use Rattle.hm_serial.proofs.Standing.{TopHolds, TopIs}
+use Rattle.hm_model.proofs.Tops.{TopHolds, TopIs}
 
 -- the tree of a root may still be undone: it lists no rows, has failed, or runs a row next that is before the point
 abbrev pub MayFall : Past → ℕ → Node → Type 0

@@ -36,9 +36,10 @@ use Rattle.hm_model.proofs.ExactRows.{IsLedRow, is_late_next, is_listed}
 use Rattle.hm_model.proofs.LegalSteps.{StepFacts}
 use Rattle.hm_model.proofs.PlainActs.{GoesTo, IsPlainOut, fine_act, is_plain, plain_act, plain_fails}
 use Rattle.hm_model.proofs.ValidSheets.{Leads, is_last, valid_end}
-use Rattle.hm_serial.proofs.Editing.{IsEdit, no_adds, edit_step, is_telling, rows_table}
+use Rattle.hm_kinds.proofs.Editless.{no_adds}
+use Rattle.hm_serial.proofs.Editing.{IsEdit, edit_step, is_telling, rows_table}
 use Rattle.hm_model.proofs.Rows.{row_read}
-use Rattle.hm_serial.proofs.Kids.{MadeBy, kids_act}
+use Rattle.hm_kinds.proofs.Kids.{MadeBy, kids_act}
 use Rattle.hm_serial.proofs.Local.{Within}
 use Rattle.hm_serial.specs.Theorem.{Tells}
 

@@ -1,4 +1,5 @@
--- Who may be a descendant, and what a step's new children may do.
+-- Who may be a descendant, and what a step's new children may do. Kinds are named here, and a journal: whom a procedure
+-- makes is decided kind by kind, and what these may do by how far its rows have led in the journal.
 use Rattle.std.proofs.Common.{◌≡◌, ◌≢◌, ℕ, zero, suc, List, [], ◌∷◌, Bool, true, false, not, ◌==◌, cond, Option, Some, None, refl, ap, sym, ◌∙◌, subst, inl, inr, ◌⊎◌, slice_get, arith}
 use Rattle.std.proofs.lemmas.Bool.{and_from, and_left, and_parts, and_right, cases_Bool, cond-false, cond-true, eq-eqb, eqb-true, false≢true, not-true, not_from_true, or_cases, true≢false}
 use Rattle.std.proofs.lemmas.Option.{none-some, same_Some}
@@ -39,8 +40,9 @@ use Rattle.hm_model.proofs.ExactRows.{IsLed, IsLedRow, all_rows, is_in_place, is
 use Rattle.hm_model.proofs.LegalSteps.{StepFacts}
 use Rattle.hm_model.proofs.PlainActs.{is_plain}
 use Rattle.hm_model.proofs.StepDoes.{Does, IsMoveOut, Part, calls, crash, is_moving, lined, move_act, move_fails, moves, part_of, row_by}
-use Rattle.hm_serial.proofs.Editing.{none_act, rows_table}
-use Rattle.hm_serial.proofs.Kids.{MadeBy, kids_act}
+use Rattle.hm_kinds.proofs.Editless.{none_act}
+use Rattle.hm_serial.proofs.Editing.{rows_table}
+use Rattle.hm_kinds.proofs.Kids.{MadeBy, kids_act}
 use Rattle.hm_serial.proofs.Local.{Within}
 use Rattle.hm_data.specs.declared.request.Request.TheVariants as request_is
 use Rattle.hm_model.specs.Tree.{args_in}
@@ -57,7 +59,7 @@ use Rattle.hm_model.specs.Views.{region_of}
 use Rattle.hm_model.specs.Wanted.{goal_in}
 use Rattle.hm_model.proofs.StepDoes.{IsOneCall}
 use Rattle.hm_serial.proofs.Falling.{places_of, IsEarly, IsPast, StepEdits, lined_edits}
-use Rattle.hm_serial.proofs.Kids.{IsChildOf, made_at}
+use Rattle.hm_kinds.proofs.Kids.{IsChildOf, made_at}
 
 -- a procedure that another one may have made
 abbrev pub is_kid : Args → Bool

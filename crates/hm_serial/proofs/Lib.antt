@@ -1,7 +1,6 @@
 pub mod Local
 pub mod Frame
 pub mod Editing
-pub mod Kids
 pub mod Standing
 pub mod Falling
 pub mod Kinship

@@ -10,7 +10,7 @@ use Rattle.hm_model.specs.Serial.{serial}
 use Rattle.hm_model.specs.Tree.{Node}
 use Rattle.hm_model.proofs.Counting.{none_unfinished}
 use Rattle.hm_model.proofs.Trees.{grown_all, step_of}
-use Rattle.hm_serial.proofs.Apart.{holds_open}
+use Rattle.hm_model.proofs.Tops.{holds_open, top_root}
 use Rattle.hm_serial.proofs.StandAll.{deed_now, stands_all}
 use Rattle.hm_serial.specs.Theorem.{CatalogIsSerial, DeedsApply, SettledCatalogIsSerial}
 
@@ -21,7 +21,7 @@ catalog_is J legal key free = (stands_all J legal).settled key (λ r node h. eli
 ])
 
 pub settled_is : SettledCatalogIsSerial
-settled_is J legal none key = (stands_all J legal).settled key (λ r node h. absurd (true≢false (sym (none_unfinished J legal none r (Rattle.hm_serial.proofs.Apart.top_root J r node h.0)) ∙ holds_open J r node h)))
+settled_is J legal none key = (stands_all J legal).settled key (λ r node h. absurd (true≢false (sym (none_unfinished J legal none r (top_root J r node h.0)) ∙ holds_open J r node h)))
 
 pub deeds_apply_is : DeedsApply
 deeds_apply_is pid pick out J legal node is top told done =

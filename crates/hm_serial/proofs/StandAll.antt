@@ -35,22 +35,22 @@ use Rattle.hm_model.proofs.Apart.{others_stay}
 use Rattle.hm_model.proofs.Grown.{nodes_stay}
 use Rattle.hm_model.proofs.Rows.{in_with_keys}
 use Rattle.hm_model.proofs.Trees.{Grown, does_of, down_rooted, grown_all, is_there, step_of, submit_rooted}
-use Rattle.hm_kinds.proofs.LockForms.{IsSound}
+use Rattle.hm_kinds.proofs.LockForms.{IsRight}
 use Rattle.hm_kinds.proofs.Within.{within_others}
 use Rattle.hm_serial.proofs.Apart.{Aside, step_top}
-use Rattle.hm_serial.proofs.FallAll.{back, falls_all, none_at, sick, step_aside, top, top_is, undo_aside, undo_back, undo_holds, undo_unwinds, undo_within}
+use Rattle.hm_serial.proofs.FallAll.{held_before, falls_all, none_at, sick, step_aside, top, top_is, undo_aside, undo_back, undo_holds, undo_unwinds, undo_within}
 use Rattle.hm_serial.proofs.Fallen.{root_of_node}
 use Rattle.hm_serial.proofs.FallStep.{kid_of, kid_or_root, own_root, unwinds_now}
 use Rattle.hm_serial.proofs.Failing.{nothing_left}
 use Rattle.hm_serial.proofs.Frame.{unwound}
-use Rattle.hm_serial.proofs.Kids.{AllMade}
+use Rattle.hm_kinds.proofs.Kids.{AllMade}
 use Rattle.hm_serial.proofs.Kinship.{is_kid}
-use Rattle.hm_serial.proofs.Standing.{TopHolds, TopIs}
+use Rattle.hm_model.proofs.Tops.{TopHolds, TopIs}
 use Rattle.hm_serial.proofs.Stands.{Stands, Tree, holds_behind, settled_on, tree_like, tree_on, trees_on}
 use Rattle.hm_serial.proofs.StandStep.{cat_others, keys_grow, root_keeps}
 use Rattle.hm_serial.proofs.StandKid.{kid_here, kid_over, kid_serials}
 
-kid_sound : (args : Args) → is_kid args ≡ true → IsSound args
+kid_sound : (args : Args) → is_kid args ≡ true → IsRight args
 kid_sound (args_are.Root request first) k = absurd (false≢true k)
 kid_sound (args_are.Transit region goal to) k = tt
 kid_sound (args_are.Crash server) k = tt
@@ -62,11 +62,11 @@ kid_sound (args_are.FenceCall server) k = tt
 kid_sound (args_are.LayoutCall root) k = tt
 kid_sound (args_are.SweepLayout root) k = tt
 
-transits_sound : (goal : Goal) (list : List Batch) → AllMade IsSound (map (λ batch. child_is.Transits batch.table batch.ids goal) list)
+transits_sound : (goal : Goal) (list : List Batch) → AllMade IsRight (map (λ batch. child_is.Transits batch.table batch.ids goal) list)
 transits_sound goal [] = tt
 transits_sound goal (batch ∷ more) = ((λ id. tt), transits_sound goal more)
 
-followers_sound : (undo : Back) (args : Args) (root : Pid) → AllMade IsSound (undo_followers undo args root)
+followers_sound : (undo : Back) (args : Args) (root : Pid) → AllMade IsRight (undo_followers undo args root)
 followers_sound back_is.Nothing args root = tt
 followers_sound back_is.Edits args root = tt
 followers_sound back_is.Sweep args root = (tt, tt)
@@ -100,12 +100,12 @@ not_next J grown s x at same = (let le = is_there J grown s x at.0 in omega (ari
 stands_submit : (nonce : Nonce) (request : Request) (J : Past) → IsLegal (entry_is.Submit nonce request ∷ J) → Stands J → Stands (entry_is.Submit nonce request ∷ J)
 stands_submit nonce request J legal stands =
     let grown = grown_all J legal.0 in
-    rooted_stands (entry_is.Submit nonce request) J legal grown stands refl refl (λ key. refl) (λ key. refl) (not_next J grown) (λ s x h. back J (entry_is.Submit nonce request ∷ J) (submit_rooted nonce request J grown) grown s x refl refl refl h)
+    rooted_stands (entry_is.Submit nonce request) J legal grown stands refl refl (λ key. refl) (λ key. refl) (not_next J grown) (λ s x h. held_before J (entry_is.Submit nonce request ∷ J) (submit_rooted nonce request J grown) grown s x refl refl refl h)
 
 stands_down : (server : Server) (J : Past) → IsLegal (entry_is.Down server ∷ J) → Stands J → Stands (entry_is.Down server ∷ J)
 stands_down server J legal stands =
     let grown = grown_all J legal.0 in
-    rooted_stands (entry_is.Down server) J legal grown stands refl refl (λ key. refl) (λ key. refl) (not_next J grown) (λ s x h. back J (entry_is.Down server ∷ J) (down_rooted server J grown) grown s x refl refl refl h)
+    rooted_stands (entry_is.Down server) J legal grown stands refl refl (λ key. refl) (λ key. refl) (not_next J grown) (λ s x h. held_before J (entry_is.Down server ∷ J) (down_rooted server J grown) grown s x refl refl refl h)
 
 -- a step
 module _ (pid : Pid) (pick : Option Server) (out : StepOut) (J : Past) (legal : IsLegal (entry_is.Step pid pick out ∷ J)) (stands : Stands J) where
@@ -124,7 +124,7 @@ module _ (pid : Pid) (pick : Option Server) (out : StepOut) (J : Past) (legal : 
   abbrev d : Rattle.hm_model.proofs.StepDoes.Does J pid.0 step.node.args (last_answer J pid.0) step.sheet.rows out
   d = does_of pid pick out J grown step
 
-  abbrev its_top : (y : Node) × TopIs J step.node.root y
+  abbrev pub its_top : (y : Node) × TopIs J step.node.root y
   its_top = root_of_node J grown pid.0 step.node step.node_is
 
   abbrev aside : Aside J step.node.root its_top.0
@@ -138,7 +138,8 @@ module _ (pid : Pid) (pick : Option Server) (out : StepOut) (J : Past) (legal : 
       ap (λ l. unwound l key (cat J' key)) (sym (nothing_left J' step.node.root ended failed))
       ∙ unwinds_now pid pick out J grown all.falls step d aside (inr (inl failed)) key (ap (λ (n : Node). covers n.args key) own_is ∙ c)
 
-  serials_now : (key : CatKey) → covers its_top.0.args key ≡ false → serial J' key ≡ serial J key
+  -- what the root of the tree doesn't cover has the row of the deeds that it had
+  pub serials_now : (key : CatKey) → covers its_top.0.args key ≡ false → serial J' key ≡ serial J key
   serials_now key off = elim (kid_or_root pid pick out J grown all.falls step d aside) [
     | inl e ↦ (root_keeps pid pick out J grown all.falls stands step d aside its_top.0 its_top.1 aside e).serials key off
     | inr kid ↦ kid_serials pid pick out J grown all.falls stands step d aside its_top.0 its_top.1 kid key
@@ -150,7 +151,8 @@ module _ (pid : Pid) (pick : Option Server) (out : StepOut) (J : Past) (legal : 
     | inr kid ↦ kid_here pid pick out J grown all.falls stands step d aside its_top.0 its_top.1 kid
   ]
 
-  over_now : root_ended J' step.node.root ≡ true → (key : CatKey) → covers its_top.0.args key ≡ true → cat J' key ≡ serial J' key
+  -- and once the root has ended, what it covers has that row
+  pub over_now : root_ended J' step.node.root ≡ true → (key : CatKey) → covers its_top.0.args key ≡ true → cat J' key ≡ serial J' key
   over_now ended key c = elim (kid_or_root pid pick out J grown all.falls step d aside) [
     | inl e ↦ (root_keeps pid pick out J grown all.falls stands step d aside its_top.0 its_top.1 aside e).over left_back ended key c
     | inr kid ↦ kid_over pid pick out J grown all.falls stands step d aside its_top.0 its_top.1 kid left_back ended key c

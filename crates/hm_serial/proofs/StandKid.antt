@@ -38,7 +38,8 @@ use Rattle.hm_serial.proofs.Fallen.{Falls, root_of_node}
 use Rattle.hm_serial.proofs.FallStep.{belongs_here, kid_not_root, kid_of, led_here, no_asks, other_last, own_args, own_root}
 use Rattle.hm_serial.proofs.Frame.{cover_guards}
 use Rattle.hm_serial.proofs.Kinship.{editless, is_kid, led_at}
-use Rattle.hm_serial.proofs.Standing.{TopIs, live_child, step_open}
+use Rattle.hm_model.proofs.Tops.{TopIs}
+use Rattle.hm_serial.proofs.Standing.{live_child, step_open}
 use Rattle.hm_serial.proofs.Stands.{At, Pending, Stands, Tree, Where}
 use Rattle.hm_serial.proofs.StandStep.{touches_rows, uncut_so}
 

@@ -51,7 +51,8 @@ use Rattle.hm_serial.proofs.Apart.{Aside}
 use Rattle.hm_serial.proofs.Fallen.{Falls, root_of_node, some_cons}
 use Rattle.hm_serial.proofs.FallStep.{kid_of, led_here, own_args, own_root, belongs_here, within_now}
 use Rattle.hm_serial.proofs.Kinship.{editless}
-use Rattle.hm_serial.proofs.Standing.{TopIs, quiet_tree, step_open}
+use Rattle.hm_model.proofs.Tops.{TopIs}
+use Rattle.hm_serial.proofs.Standing.{quiet_tree, step_open}
 use Rattle.hm_serial.proofs.Stands.{At, IsListed, Pending, Stands, Tree, Where}
 
 -- a whole deed counts where the answer ends a root well

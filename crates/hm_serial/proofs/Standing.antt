@@ -18,15 +18,8 @@ use Rattle.hm_model.specs.Tree.{Node, is_top, made, node_of, root_in, root_of}
 use Rattle.hm_model.specs.Undo.{is_empty, stack}
 use Rattle.hm_model.proofs.LegalSteps.{ReadyBy, StepFacts, ready_stops}
 use Rattle.hm_model.proofs.StepDoes.{Does}
+use Rattle.hm_model.proofs.Tops.{TopHolds, TopIs}
 use Rattle.hm_model.proofs.Trees.{Grown, IsRooted, IsWaiting, all_below_at, child_stopped, is_there, le_or_lt, new_child, node_same, old_or_new, other_answer, still_there}
-
--- a root, by its number
-abbrev pub TopIs : Past → ℕ → Node → Type 0
-TopIs J r node = (node_of J r ≡ Some node) × (node.above ≡ [])
-
--- a root that has a step and hasn't ended
-abbrev pub TopHolds : Past → ℕ → Node → Type 0
-TopHolds J r node = TopIs J r node × (last_answer J r ≢ None) × (root_ended J r ≡ false)
 
 pub all_from : (n : ℕ) (test : ℕ → Bool) → ((q : ℕ) → q < n → test q ≡ true) → all_below n test ≡ true
 all_from zero test each = refl

@@ -27,7 +27,7 @@ use Rattle.hm_model.proofs.ValidSheets.{Leads}
 use Rattle.hm_kinds.proofs.Exact.{IsExactKind, IsSettled}
 use Rattle.hm_kinds.proofs.Roots.{Stage}
 use Rattle.hm_kinds.proofs.Shares.{touches, value}
-use Rattle.hm_serial.proofs.Standing.{TopHolds, TopIs}
+use Rattle.hm_model.proofs.Tops.{TopHolds, TopIs}
 
 -- an unfinished descendant will change the row
 abbrev pub Pending : Past → ℕ → CatKey → Type 0

@@ -1,5 +1,5 @@
 -- No two that hold conflict, where whoever is taken was free when it was taken.
-use Rattle.std.proofs.Common.{◌≡◌, ◌≢◌, ℕ, ◌+◌, List, [], ◌∷◌, true, false, Option, Some, None, refl, ap, sym, ◌∙◌, subst, inl, inr, ◌⊎◌, arith}
+use Rattle.std.proofs.Common.{◌≡◌, ◌≢◌, ℕ, List, [], ◌∷◌, true, false, Option, Some, None, refl, ap, sym, ◌∙◌, subst, inl, inr, ◌⊎◌}
 use Rattle.std.proofs.lemmas.Bool.{cases_Bool, cases_eq, cond-false, cond-true, true≢false}
 use Rattle.std.proofs.lemmas.Option.{none-some}
 use Rattle.hm_names.specs.Server.{Server}
@@ -8,24 +8,21 @@ use Rattle.hm_data.specs.declared.entry.Entry.{Entry}
 use Rattle.hm_data.specs.declared.entry.Entry.TheVariants as entry_is
 use Rattle.hm_data.specs.declared.step.StepOut.{StepOut}
 use Rattle.hm_model.specs.Answers.{is_stopped, last_answer}
-use Rattle.hm_model.specs.Apart.{tree_of}
 use Rattle.hm_model.specs.Holding.{HoldsWith, InConflict, IsFree, NoneClash}
 use Rattle.hm_model.specs.Journal.{Past}
 use Rattle.hm_model.specs.Locks.{AsksClash, IsAbove, IsIn, asks}
 use Rattle.hm_model.specs.Phase.{ended, ended_node, root_ended}
 use Rattle.hm_model.specs.Rules.{IsLegal}
-use Rattle.hm_model.specs.Tree.{Node, is_top, made, node_of, root_of}
-use Rattle.hm_model.proofs.Apart.{others_stay}
+use Rattle.hm_model.specs.Tree.{Node, is_top, node_of}
+use Rattle.hm_model.proofs.Free.{step_free}
 use Rattle.hm_model.proofs.Grown.{nodes_stay}
 use Rattle.hm_model.proofs.LegalSteps.{ready_stops}
-use Rattle.hm_model.proofs.Trees.{does_of, grown_all, is_there, other_answer, step_of}
+use Rattle.hm_model.proofs.Tops.{root_stays}
+use Rattle.hm_model.proofs.Trees.{grown_all, other_answer, step_of}
 use Rattle.hm_kinds.proofs.LockForms.{clash_sym}
-use Rattle.hm_serial.proofs.FallAll.{falls_all, undo_holds}
-use Rattle.hm_serial.proofs.Standing.{step_open}
-use Rattle.hm_serial.proofs.Stands.{ended_same}
-use Rattle.hm_serial.specs.Taking.{IsTaken, NoneConflict, StepsFree, lets_go, nobody, records, takes}
+use Rattle.hm_serial.specs.Taking.{IsTaken, NoneConflict, NoneOfLegalConflict, StepsFree, lets_go, nobody, records, takes}
 
-some_node : (J : Past) (p : ℕ) → node_of J p ≢ None → (x : Node) × (node_of J p ≡ Some x)
+pub some_node : (J : Past) (p : ℕ) → node_of J p ≢ None → (x : Node) × (node_of J p ≡ Some x)
 some_node J p there = by (node_of J p) refl
   where
     by : (o : Option Node) → node_of J p ≡ o → (x : Node) × (node_of J p ≡ Some x)
@@ -55,37 +52,7 @@ there_of J taken (records {before} entry t allowed free) p among = λ none.
     none-some x.0 (sym none ∙ nodes_stay entry before (legal_of _ _ t, allowed) p x.0 x.1)
 there_of J taken (lets_go left t within) p among = there_of _ _ t p (within p among)
 
--- a root of another tree that has ended stays so
-other_stays : (entry : Entry) (J : Past) (legal : IsLegal (entry ∷ J)) (s : ℕ) (x : Node) → node_of J s ≡ Some x → x.above ≡ [] → s ≢ tree_of J entry → root_ended J s ≡ true → root_ended (entry ∷ J) s ≡ true
-other_stays entry J legal s x is top other over =
-    ended_same J (entry ∷ J) s x (is, top) ((grown_all J legal.0).tops s x is top) (others_stay entry J legal s x is top other) (nodes_stay entry J legal) ∙ over
-
-not_next : (J : Past) → IsLegal J → (s : ℕ) (x : Node) → node_of J s ≡ Some x → s ≢ made J + 1
-not_next J legal s x is same = (let le = is_there J (grown_all J legal) s x is in omega (arith, le, same))
-
--- a root that has ended stays so
-root_stays : (entry : Entry) (J : Past) → IsLegal (entry ∷ J) → (s : ℕ) (x : Node) → node_of J s ≡ Some x → x.above ≡ [] → root_ended J s ≡ true → root_ended (entry ∷ J) s ≡ true
-root_stays (entry_is.Start sheets) J legal s x is top over = over
-root_stays (entry_is.Report call told) J legal s x is top over = over
-root_stays (entry_is.Up server) J legal s x is top over = over
-root_stays (entry_is.Abort pid) J legal s x is top over = over
-root_stays (entry_is.Submit nonce request) J legal s x is top over = other_stays (entry_is.Submit nonce request) J legal s x is top (not_next J legal.0 s x is) over
-root_stays (entry_is.Down server) J legal s x is top over = other_stays (entry_is.Down server) J legal s x is top (not_next J legal.0 s x is) over
-root_stays (entry_is.Step pid pick out) J legal s x is top over = elim (cases_eq s (root_of J pid.0)) [
-  | inr other ↦ other_stays (entry_is.Step pid pick out) J legal s x is top other over
-  | inl mine ↦
-      let grown = grown_all J legal.0 in
-      let step = step_of pid pick out J grown legal in
-      absurd (true≢false (sym over ∙ ap (root_ended J) (mine ∙ ap Rattle.hm_model.specs.Tree.root_in step.node_is) ∙ step_open pid pick out J grown step (does_of pid pick out J grown step)))
-]
-root_stays (entry_is.Undo pid row out) J legal s x is top over = elim (cases_eq s (root_of J pid.0)) [
-  | inr other ↦ other_stays (entry_is.Undo pid row out) J legal s x is top other over
-  | inl mine ↦
-      let a = falls_all J legal.0 in
-      absurd (true≢false (sym over ∙ ap (root_ended J) mine ∙ (undo_holds pid row out J legal (grown_all J legal.0) a.falls).2))
-]
-
--- so does a descendant
+-- a descendant that has ended stays so
 below_stays : (entry : Entry) (J : Past) → IsLegal (entry ∷ J) → (q : ℕ) → is_stopped (last_answer J q) ≡ true → is_stopped (last_answer (entry ∷ J) q) ≡ true
 below_stays (entry_is.Start sheets) J legal q over = over
 below_stays (entry_is.Submit nonce request) J legal q over = over
@@ -102,7 +69,7 @@ below_stays (entry_is.Step pid pick out) J legal q over = elim (cases_eq q pid.0
 ]
 
 -- who hasn't ended hadn't
-open_before : (entry : Entry) (J : Past) → IsLegal (entry ∷ J) → (q : ℕ) (x : Node) → node_of J q ≡ Some x → ended (entry ∷ J) q ≡ false → ended J q ≡ false
+pub open_before : (entry : Entry) (J : Past) → IsLegal (entry ∷ J) → (q : ℕ) (x : Node) → node_of J q ≡ Some x → ended (entry ∷ J) q ≡ false → ended J q ≡ false
 open_before entry J legal q x is running = elim (cases_Bool (ended J q)) [
   | inr off ↦ off
   | inl over ↦ absurd (true≢false (sym (by x.above refl over) ∙ running))
@@ -114,7 +81,7 @@ open_before entry J legal q x is running = elim (cases_Bool (ended J q)) [
     by : (above : List ℕ) → x.above ≡ above → ended J q ≡ true → ended (entry ∷ J) q ≡ true
     by [] e over =
         ap (ended_node (entry ∷ J) q) there ∙ cond-true (is_top x.above) (root_ended (entry ∷ J) q) (is_stopped (last_answer (entry ∷ J) q)) (ap is_top e)
-        ∙ root_stays entry J legal q x is e (sym (cond-true (is_top x.above) (root_ended J q) (is_stopped (last_answer J q)) (ap is_top e)) ∙ sym (ap (ended_node J q) is) ∙ over)
+        ∙ root_stays entry J legal q x (is, e) (sym (cond-true (is_top x.above) (root_ended J q) (is_stopped (last_answer J q)) (ap is_top e)) ∙ sym (ap (ended_node J q) is) ∙ over)
     by (u ∷ rest) e over =
         ap (ended_node (entry ∷ J) q) there ∙ cond-false (is_top x.above) (root_ended (entry ∷ J) q) (is_stopped (last_answer (entry ∷ J) q)) (ap is_top e)
         ∙ below_stays entry J legal q (sym (cond-false (is_top x.above) (root_ended J q) (is_stopped (last_answer J q)) (ap is_top e)) ∙ sym (ap (ended_node J q) is) ∙ over)
@@ -139,6 +106,18 @@ held_or J taken p a (there, running, inl some) = inl (there, running, inl some)
 held_or J taken p a (there, running, inr (inl same)) = inr same
 held_or J taken p a (there, running, inr (inr among)) = inl (there, running, inr among)
 
+-- nor do any where one more is taken who is free
+pub clash_taken : (J : Past) (taken : List ℕ) (p : ℕ) → NoneClash J taken → IsFree J taken p → NoneClash J (p ∷ taken)
+clash_taken J taken p none free a b ha hb c = one_more J taken p none free a b (held_or J taken p a ha) (held_or J taken p b hb) c
+
+-- nor where some are let go
+pub clash_within : (J : Past) (left taken : List ℕ) → ((p : ℕ) → IsIn p left → IsIn p taken) → NoneClash J taken → NoneClash J left
+clash_within J left taken within none a b ha hb c = none a b (ha.0, ha.1, by a ha.2) (hb.0, hb.1, by b hb.2) c
+  where
+    by : (a : ℕ) → (last_answer J a ≢ None) ⊎ IsIn a left → (last_answer J a ≢ None) ⊎ IsIn a taken
+    by a (inl some) = inl some
+    by a (inr among) = inr (within a among)
+
 -- who holds behind an entry held before it, or steps at it
 module _ (entry : Entry) (J : Past) (legal : IsLegal (entry ∷ J)) (taken : List ℕ) (made_all : (p : ℕ) → IsIn p taken → node_of J p ≢ None) where
   was_there : (a : ℕ) → (last_answer (entry ∷ J) a ≡ last_answer J a) → HoldsWith (entry ∷ J) taken a → node_of J a ≢ None
@@ -155,7 +134,7 @@ module _ (entry : Entry) (J : Past) (legal : IsLegal (entry ∷ J)) (taken : Lis
       by (inl some) = inl (λ none. some (last ∙ none))
       by (inr among) = inr among
 
-  pub calm : NoneClash J taken → ((a : ℕ) → last_answer (entry ∷ J) a ≡ last_answer J a) → NoneClash (entry ∷ J) taken
+  calm : NoneClash J taken → ((a : ℕ) → last_answer (entry ∷ J) a ≡ last_answer J a) → NoneClash (entry ∷ J) taken
   calm none last p q hp hq c =
       let x = some_node J p (was_there p (last p) hp) in
       let y = some_node J q (was_there q (last q) hq) in
@@ -187,7 +166,7 @@ module _ (pid : Pid) (pick : Option Server) (out : StepOut) (J : Past) (legal : 
         (there_step a h, open_before (entry_is.Step pid pick out) J legal a x.0 x.1 h.1, inr (subst (λ k. IsIn k taken) (sym mine) among))
   ]
 
-  pub steps : NoneClash J taken → IsIn pid.0 taken ⊎ IsFree J taken pid.0 → NoneClash (entry_is.Step pid pick out ∷ J) taken
+  steps : NoneClash J taken → IsIn pid.0 taken ⊎ IsFree J taken pid.0 → NoneClash (entry_is.Step pid pick out ∷ J) taken
   steps none who p q hp hq c =
       let x = some_node J p (there_step p hp) in
       let y = some_node J q (there_step q hq) in
@@ -197,7 +176,8 @@ module _ (pid : Pid) (pick : Option Server) (out : StepOut) (J : Past) (legal : 
         | inr free ↦ one_more J taken pid.0 none free p q (held_step p hp) (held_step q hq) was
       ]
 
-after : (entry : Entry) (J : Past) (legal : IsLegal (entry ∷ J)) (taken : List ℕ) → ((p : ℕ) → IsIn p taken → node_of J p ≢ None) → NoneClash J taken → StepsFree J taken entry → NoneClash (entry ∷ J) taken
+-- behind an entry whose step is of one who was taken, or is free, no two conflict where none did
+pub after : (entry : Entry) (J : Past) (legal : IsLegal (entry ∷ J)) (taken : List ℕ) → ((p : ℕ) → IsIn p taken → node_of J p ≢ None) → NoneClash J taken → StepsFree J taken entry → NoneClash (entry ∷ J) taken
 after (entry_is.Start sheets) J legal taken made_all none free = calm (entry_is.Start sheets) J legal taken made_all none (λ a. refl)
 after (entry_is.Submit nonce request) J legal taken made_all none free = calm (entry_is.Submit nonce request) J legal taken made_all none (λ a. refl)
 after (entry_is.Step pid pick out) J legal taken made_all none free = steps pid pick out J legal taken made_all none free
@@ -209,10 +189,22 @@ after (entry_is.Abort pid) J legal taken made_all none free = calm (entry_is.Abo
 
 pub none_conflict_is : NoneConflict
 none_conflict_is J all nobody = λ p q hp hq c. absurd (hp.0 refl)
-none_conflict_is J all (takes {before} {taken} p t there free) = λ a b ha hb c. one_more before taken p (none_conflict_is _ _ t) free a b (held_or before taken p a ha) (held_or before taken p b hb) c
+none_conflict_is J all (takes {before} {taken} p t there free) = clash_taken before taken p (none_conflict_is _ _ t) free
 none_conflict_is J all (records {before} {taken} entry t allowed free) = after entry before (legal_of _ _ t, allowed) taken (there_of _ _ t) (none_conflict_is _ _ t) free
-none_conflict_is J all (lets_go {before} {taken} left t within) = λ a b ha hb c. none_conflict_is _ _ t a b (ha.0, ha.1, by a ha.2) (hb.0, hb.1, by b hb.2) c
-  where
-    by : (a : ℕ) → (last_answer before a ≢ None) ⊎ IsIn a left → (last_answer before a ≢ None) ⊎ IsIn a taken
-    by a (inl some) = inl some
-    by a (inr among) = inr (within a among)
+none_conflict_is J all (lets_go {before} {taken} left t within) = clash_within before left taken within (none_conflict_is _ _ t)
+
+-- the step of a legal journal is of one who is free
+steps_free : (entry : Entry) (J : Past) → IsLegal (entry ∷ J) → StepsFree J [] entry
+steps_free (entry_is.Start sheets) J legal = tt
+steps_free (entry_is.Submit nonce request) J legal = tt
+steps_free (entry_is.Step pid pick out) J legal = inr (step_free pid pick out J legal)
+steps_free (entry_is.Undo pid row out) J legal = tt
+steps_free (entry_is.Report call told) J legal = tt
+steps_free (entry_is.Up server) J legal = tt
+steps_free (entry_is.Down server) J legal = tt
+steps_free (entry_is.Abort pid) J legal = tt
+
+-- so no two conflict that have a step and haven't ended
+pub legal_apart : NoneOfLegalConflict
+legal_apart [] legal = λ p q hp hq c. absurd (hp.0 refl)
+legal_apart (entry ∷ J) legal = after entry J legal [] (λ p among. absurd among) (legal_apart J legal.0) (steps_free entry J legal)

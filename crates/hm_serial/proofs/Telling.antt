@@ -21,13 +21,14 @@ use Rattle.hm_model.proofs.Trees.{does_of, down_rooted, grown_all, step_of, stil
 use Rattle.hm_model.proofs.UndoMakes.{IsUndoOf}
 use Rattle.hm_serial.specs.Theorem.{Tells, UndosTell}
 use Rattle.hm_serial.proofs.Backs.{AllTell}
-use Rattle.hm_serial.proofs.FallAll.{back, edits_are, falls_all, none_at, sick, stack_now, stack_off, step_aside, top, u, undo_aside, undo_back, undo_holds, undo_within}
+use Rattle.hm_serial.proofs.FallAll.{held_before, edits_are, falls_all, none_at, sick, stack_now, stack_off, step_aside, top, u, undo_aside, undo_back, undo_holds, undo_within}
 use Rattle.hm_serial.proofs.Apart.{step_top}
 use Rattle.hm_serial.proofs.Frame.{AllWithin, cover_guards}
 use Rattle.hm_serial.proofs.Local.{Within, within_others}
 use Rattle.hm_serial.proofs.FallStep.{own_aside, own_root, tells_now, within_now}
 use Rattle.hm_serial.proofs.Fallen.{MayFall, may_on}
-use Rattle.hm_serial.proofs.Standing.{TopHolds, TopIs, holds_left, step_left, step_open}
+use Rattle.hm_model.proofs.Tops.{TopHolds, TopIs}
+use Rattle.hm_serial.proofs.Standing.{holds_left, step_left, step_open}
 
 abbrev IsTelling : Past → Type 0
 IsTelling J = (r : ℕ) (node : Node) → TopHolds J r node → MayFall J r node → AllTell (stack J r) (cat J)
@@ -51,7 +52,7 @@ tells_all [] legal r node h may = absurd (none-some node h.0.0)
 tells_all (entry_is.Start sheets ∷ J) legal r node h may = absurd (none-some node (sym (none_at J legal.1.0.0 r) ∙ h.0.0))
 tells_all (entry_is.Submit nonce request ∷ J) legal r node h may =
     let grown = grown_all J legal.0 in
-    tells_all J legal.0 r node (back J (entry_is.Submit nonce request ∷ J) (submit_rooted nonce request J grown) grown r node refl refl refl h) may
+    tells_all J legal.0 r node (held_before J (entry_is.Submit nonce request ∷ J) (submit_rooted nonce request J grown) grown r node refl refl refl h) may
 tells_all (entry_is.Step pid pick out ∷ J) legal r node h may =
     let grown = grown_all J legal.0 in
     let a = falls_all J legal.0 in
@@ -94,7 +95,7 @@ tells_all (entry_is.Report call told ∷ J) legal r node h may = tells_all J leg
 tells_all (entry_is.Up server ∷ J) legal r node h may = tells_all J legal.0 r node h may
 tells_all (entry_is.Down server ∷ J) legal r node h may =
     let grown = grown_all J legal.0 in
-    tells_all J legal.0 r node (back J (entry_is.Down server ∷ J) (down_rooted server J grown) grown r node refl refl refl h) may
+    tells_all J legal.0 r node (held_before J (entry_is.Down server ∷ J) (down_rooted server J grown) grown r node refl refl refl h) may
 tells_all (entry_is.Abort pid ∷ J) legal r node h may = tells_all J legal.0 r node h may
 
 pub undos_tell : UndosTell

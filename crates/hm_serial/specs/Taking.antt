@@ -5,7 +5,7 @@ use Rattle.hm_data.specs.declared.entry.Entry.TheVariants as entry_is
 use Rattle.hm_model.specs.Holding.{IsFree, NoneClash}
 use Rattle.hm_model.specs.Journal.{Past}
 use Rattle.hm_model.specs.Locks.{IsIn}
-use Rattle.hm_model.specs.Rules.{Allowed}
+use Rattle.hm_model.specs.Rules.{Allowed, IsLegal}
 use Rattle.hm_model.specs.Tree.{node_of}
 
 -- a step is that of one who was taken, or who is free; other entries are of nobody
@@ -30,3 +30,7 @@ pub data IsTaken : Past → List ℕ → Type 0 where
 -- no two procedures that have a step, or are taken, and haven't ended conflict
 abbrev pub NoneConflict : Type 0
 NoneConflict = (J : Past) (taken : List ℕ) → IsTaken J taken → NoneClash J taken
+
+-- where nobody is taken it is so in every legal journal
+abbrev pub NoneOfLegalConflict : Type 0
+NoneOfLegalConflict = (J : Past) → IsLegal J → NoneClash J []

@@ -1,6 +1,6 @@
 //! The laws.
 ghost use Rattle.hm_serial.specs.Theorem.{CatalogIsSerial, SettledCatalogIsSerial, DeedsApply, EditsAreCovered, FailureLeavesAll, UndosTell};
-ghost use Rattle.hm_serial.specs.Taking.{NoneConflict};
+ghost use Rattle.hm_serial.specs.Taking.{NoneConflict, NoneOfLegalConflict};
 
 /// On every key that no unfinished procedure with a step covers, the catalog is that of the deeds.
 pub fn catalog_is_serial()
@@ -27,10 +27,11 @@ pub fn failure_leaves_all()
     ensures { FailureLeavesAll }
 {}
 
-/// No two procedures that have a step, or are taken, and haven't ended conflict, where whoever is taken was free when it was
-/// taken.
+/// No two procedures that have a step and haven't ended conflict, nor do any that are taken ahead of their first step, where
+/// whoever is taken was free when it was taken.
 pub fn none_conflict()
-    ensures { NoneConflict }
+    ensures legal { NoneOfLegalConflict }
+    ensures taken { NoneConflict }
 {}
 
 /// The edits of an undo tell the rows that they find.

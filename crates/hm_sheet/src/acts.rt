@@ -7,7 +7,7 @@ ghost use Rattle.hm_model.specs.Evaluation.{named_ids};
 ghost use Rattle.hm_model.specs.Views.{first_id_of as first_id};
 
 use crate::calls::{
-    call_assign, call_close, call_fence, call_layout, call_sweep, settle, settle_layout,
+    call_assign, call_close, call_fence, call_layout, call_sweep, settle_call, settle_layout,
 };
 use crate::crashes::{fence, reassign};
 use crate::merges::{check_merge, update_merge_meta};
@@ -106,7 +106,7 @@ fn ask(alloc: Global, act: Act, next: u8, at: &StepIn) -> Result<StepOut, AllocE
         Act::CallFence => call_fence(alloc, next, args),
         Act::CallLayout => Ok(call_layout(alloc, next, args)),
         Act::CallSweep => Ok(call_sweep(alloc, next, args)),
-        Act::Settle => Ok(settle(alloc, at.fenced, at.report)),
+        Act::Settle => Ok(settle_call(alloc, at.fenced, at.report)),
         Act::SettleLayout => Ok(settle_layout(alloc, at.report)),
         _ => unreachable!(),
     }

@@ -1,6 +1,6 @@
 // The acts of calls.
 ghost use Rattle.std.specs.Prelude.{◌≡◌, IfOk};
-ghost use Rattle.hm_model.specs.CallActs.{call_assign as asks_to_open, call_close as asks_to_close, settle as settled, call_fence as asks_to_fence, call_layout as asks_to_lay_out, layout_told as laid, settle_layout as settled_layout, call_sweep as asks_to_sweep, ends_as_told as told_end};
+ghost use Rattle.hm_model.specs.CallActs.{call_assign as asks_to_open, call_close as asks_to_close, settle_call as settled, call_fence as asks_to_fence, call_layout as asks_to_lay_out, layout_told as laid, settle_layout as settled_layout, call_sweep as asks_to_sweep, ends_as_told as told_end};
 
 use crate::outs::{calls, ends_with, fails, goes_on};
 use crate::views::{layout_of, region_of, server_of};
@@ -57,7 +57,7 @@ fn ends_as_told(alloc: Global, report: Option<Told>) -> StepOut
 }
 
 /// Ends with the report; a server that is fenced is gone.
-pub(crate) fn settle(alloc: Global, fenced: bool, report: Option<Told>) -> StepOut
+pub(crate) fn settle_call(alloc: Global, fenced: bool, report: Option<Told>) -> StepOut
     ensures { result ≡ settled fenced report }
 {
     if fenced {

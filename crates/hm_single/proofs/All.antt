@@ -32,11 +32,12 @@ use Rattle.hm_model.specs.Single.{IsOver, called_at}
 use Rattle.hm_model.specs.TransitActs.{is_state}
 use Rattle.hm_model.specs.Tree.{Node, args_in, made, node_of, root_node, root_of}
 use Rattle.hm_model.specs.Undo.{rest_of, stack}
-use Rattle.hm_single.specs.Calls.{AllFree, Finds, IsLater, IsOpenedBy, IsVoid, MayOpen, Moves, NextIs}
+use Rattle.hm_single.specs.Calls.{Finds, IsLater, IsOpenedBy, IsVoid, MayOpen, Moves, NextIs}
 use Rattle.hm_single.specs.Theorem.{CallsFind, LastIsRecorded, OneTransit, OpeningsAreSingle, PlaceByRow}
+use Rattle.hm_model.proofs.Free.{step_free}
 use Rattle.hm_model.proofs.Trees.{Grown, IsRooted, call_mine, does_of, down_rooted, grown_all, le_or_lt, old_or_new, step_of, still, submit_rooted, undo_rooted}
 use Rattle.hm_single.proofs.Keeps.{finds_close, finds_open, kept_step, void_over}
-use Rattle.hm_single.proofs.Kept.{IsCalm, IsGoing, Kept, kept_calm, kept_nothing}
+use Rattle.hm_single.proofs.Kept.{IsCalm, IsGoing, Lasting, kept_calm, kept_nothing}
 use Rattle.hm_single.proofs.Kin.{goes_holds, holds_goes}
 use Rattle.hm_model.proofs.PlainActs.{is_caller, quiet_args}
 use Rattle.hm_single.proofs.Stage.{StageFor, child_of_step, work_of}
@@ -158,43 +159,43 @@ same_calm J J' made_is node last verb lasts steps places works causes stacks cal
   later = record { reports = reports; fences = fences; peers = λ p peer h. rw (node p, verb p) h };
 }
 
-pub kept_all : (J : Past) → IsLegal J → AllFree J → Kept J
-kept_all [] legal free = kept_nothing
-kept_all (entry_is.Start sheets ∷ J) legal free =
-    kept_calm J (entry_is.Start sheets ∷ J) (same_calm J (entry_is.Start sheets ∷ J) refl (λ p. refl) (λ p. refl) (λ p. refl) (λ r. refl) (λ p. refl) (λ r. refl) (λ r. refl) (λ p. refl) (λ p. refl) (λ p. refl) (omega arith) (λ p t h. h) (λ s h. h)) (grown_all J legal.0) (kept_all J legal.0 free)
-kept_all (entry_is.Submit nonce request ∷ J) legal free =
+pub kept_all : (J : Past) → IsLegal J → Lasting J
+kept_all [] legal = kept_nothing
+kept_all (entry_is.Start sheets ∷ J) legal =
+    kept_calm J (entry_is.Start sheets ∷ J) (same_calm J (entry_is.Start sheets ∷ J) refl (λ p. refl) (λ p. refl) (λ p. refl) (λ r. refl) (λ p. refl) (λ r. refl) (λ r. refl) (λ p. refl) (λ p. refl) (λ p. refl) (omega arith) (λ p t h. h) (λ s h. h)) (grown_all J legal.0) (kept_all J legal.0)
+kept_all (entry_is.Submit nonce request ∷ J) legal =
     let grown = grown_all J legal.0 in
-    kept_calm J (entry_is.Submit nonce request ∷ J) (submit_calm nonce request J grown) grown (kept_all J legal.0 free)
-kept_all (entry_is.Step pid pick out ∷ J) legal free =
+    kept_calm J (entry_is.Submit nonce request ∷ J) (submit_calm nonce request J grown) grown (kept_all J legal.0)
+kept_all (entry_is.Step pid pick out ∷ J) legal =
     let grown = grown_all J legal.0 in
     let step = step_of pid pick out J grown legal in
-    kept_step pid pick out J grown (kept_all J legal.0 free.0) step (does_of pid pick out J grown step) free.1
-kept_all (entry_is.Undo pid row out ∷ J) legal free =
+    kept_step pid pick out J grown (kept_all J legal.0) step (does_of pid pick out J grown step) (step_free pid pick out J legal)
+kept_all (entry_is.Undo pid row out ∷ J) legal =
     let grown = grown_all J legal.0 in
-    kept_calm J (entry_is.Undo pid row out ∷ J) (undo_calm pid row out J grown legal) grown (kept_all J legal.0 free)
-kept_all (entry_is.Report call told ∷ J) legal free =
-    kept_calm J (entry_is.Report call told ∷ J) (same_calm J (entry_is.Report call told ∷ J) refl (λ p. refl) (λ p. refl) (λ p. refl) (λ r. refl) (λ p. refl) (λ r. refl) (λ r. refl) (λ p. refl) (λ p. refl) (λ p. refl) (omega arith) reports (λ s h. or_right _ (is_fenced J s) h)) (grown_all J legal.0) (kept_all J legal.0 free)
+    kept_calm J (entry_is.Undo pid row out ∷ J) (undo_calm pid row out J grown legal) grown (kept_all J legal.0)
+kept_all (entry_is.Report call told ∷ J) legal =
+    kept_calm J (entry_is.Report call told ∷ J) (same_calm J (entry_is.Report call told ∷ J) refl (λ p. refl) (λ p. refl) (λ p. refl) (λ r. refl) (λ p. refl) (λ r. refl) (λ r. refl) (λ p. refl) (λ p. refl) (λ p. refl) (omega arith) reports (λ s h. or_right _ (is_fenced J s) h)) (grown_all J legal.0) (kept_all J legal.0)
   where
     reports : (p : ℕ) (t : Told) → report_of J p ≡ Some t → report_of (entry_is.Report call told ∷ J) p ≡ Some t
     reports p t h = elim (cases_eq p call.0) [
       | inl same ↦ absurd (none-some t (sym legal.1.1.0.1.1 ∙ ap (report_of J) (sym same) ∙ h))
       | inr differs ↦ cond-false (p == call.0) (Some told) (report_of J p) (ne_eqb p call.0 differs) ∙ h
     ]
-kept_all (entry_is.Up server ∷ J) legal free =
-    kept_calm J (entry_is.Up server ∷ J) (same_calm J (entry_is.Up server ∷ J) refl (λ p. refl) (λ p. refl) (λ p. refl) (λ r. refl) (λ p. refl) (λ r. refl) (λ r. refl) (λ p. refl) (λ p. refl) (λ p. refl) (omega arith) (λ p t h. h) (λ s h. h)) (grown_all J legal.0) (kept_all J legal.0 free)
-kept_all (entry_is.Down server ∷ J) legal free =
+kept_all (entry_is.Up server ∷ J) legal =
+    kept_calm J (entry_is.Up server ∷ J) (same_calm J (entry_is.Up server ∷ J) refl (λ p. refl) (λ p. refl) (λ p. refl) (λ r. refl) (λ p. refl) (λ r. refl) (λ r. refl) (λ p. refl) (λ p. refl) (λ p. refl) (omega arith) (λ p t h. h) (λ s h. h)) (grown_all J legal.0) (kept_all J legal.0)
+kept_all (entry_is.Down server ∷ J) legal =
     let grown = grown_all J legal.0 in
-    kept_calm J (entry_is.Down server ∷ J) (down_calm server J grown) grown (kept_all J legal.0 free)
-kept_all (entry_is.Abort pid ∷ J) legal free =
-    kept_calm J (entry_is.Abort pid ∷ J) (same_calm J (entry_is.Abort pid ∷ J) refl (λ p. refl) (λ p. refl) (λ p. refl) (λ r. refl) (λ p. refl) (λ r. refl) (λ r. refl) (λ p. refl) (λ p. refl) (λ p. refl) (omega arith) (λ p t h. h) (λ s h. h)) (grown_all J legal.0) (kept_all J legal.0 free)
+    kept_calm J (entry_is.Down server ∷ J) (down_calm server J grown) grown (kept_all J legal.0)
+kept_all (entry_is.Abort pid ∷ J) legal =
+    kept_calm J (entry_is.Abort pid ∷ J) (same_calm J (entry_is.Abort pid ∷ J) refl (λ p. refl) (λ p. refl) (λ p. refl) (λ r. refl) (λ p. refl) (λ r. refl) (λ r. refl) (λ p. refl) (λ p. refl) (λ p. refl) (omega arith) (λ p t h. h) (λ s h. h)) (grown_all J legal.0) (kept_all J legal.0)
 
 pub last_is_recorded : LastIsRecorded
 last_is_recorded J legal region p is = (grown_all J legal).last_is region p is
 
 pub one_transit_is : OneTransit
-one_transit_is J legal free region p q moves_p holds_p moves_q holds_q =
+one_transit_is J legal region p q moves_p holds_p moves_q holds_q =
     let grown = grown_all J legal in
-    let kept = kept_all J legal free in
+    let kept = kept_all J legal in
     same_Some p q (sym (kept.works p region moves_p (holds_goes J grown kept p region moves_p holds_p)) ∙ kept.works q region moves_q (holds_goes J grown kept q region moves_q holds_q))
 
 -- a place at rest is neither Opening nor Closing
@@ -206,10 +207,10 @@ rest_not_closing : (J : Past) (last : Option ℕ) (state : RegionState) (server 
 rest_not_closing J last place_is.Closing server rest h = rest
 rest_not_closing J last state server rest h = false≢true h
 
-module _ (J : Past) (legal : IsLegal J) (free : AllFree J) (region : Region) where
+module _ (J : Past) (legal : IsLegal J) (region : Region) where
   at_work : (p : ℕ) → Moves J p region → HoldsWith J [] p → AtRow J p region (place_of J region) (last_call J region) (last_answer J p) (child_of_step J p) (node_of J (child_of_step J p)) (last_answer J (child_of_step J p))
   at_work p moves holds =
-      let kept = kept_all J legal free in
+      let kept = kept_all J legal in
       subst (StageFor J region) (kept.works p region moves (holds_goes J (grown_all J legal) kept p region moves holds)) (kept.stage region)
 
   -- the rows at which a region is being opened
@@ -261,11 +262,11 @@ module _ (J : Past) (legal : IsLegal J) (free : AllFree J) (region : Region) whe
 
   next_is : (p row : ℕ) (o : Option Answer) → Moves J p region → last_answer J p ≡ o → IsGoing o → ((node : Node) → row_after (first_row_of node.args) o ≡ row) → NextIs J region row
   next_is p row o moves l going at =
-      let kept = kept_all J legal free in
+      let kept = kept_all J legal in
       (p, moves.0, moves.1, moves.2, goes_holds J (grown_all J legal) kept p region moves (subst IsGoing (sym l) going), ap (row_after (first_row_of moves.0.args)) l ∙ at moves.0)
 
   opening_row : is_state place_is.Opening (place_of J region) ≡ true → NextIs J region 1 ⊎ NextIs J region 2
-  opening_row opening = by_work (work_of J region) refl ((kept_all J legal free).stage region)
+  opening_row opening = by_work (work_of J region) refl ((kept_all J legal).stage region)
     where
       by_row : (p : ℕ) → Moves J p region → (o : Option Answer) → last_answer J p ≡ o → AtRow J p region (place_of J region) (last_call J region) o (child_of_step J p) (node_of J (child_of_step J p)) (last_answer J (child_of_step J p)) → NextIs J region 1 ⊎ NextIs J region 2
       by_row p moves None l h = absurd (rest_not_opening J (last_call J region) (place_of J region).state (place_of J region).server h opening)
@@ -280,10 +281,10 @@ module _ (J : Past) (legal : IsLegal J) (free : AllFree J) (region : Region) whe
 
       by_work : (w : Option ℕ) → work_of J region ≡ w → StageFor J region w → NextIs J region 1 ⊎ NextIs J region 2
       by_work None e h = absurd (rest_not_opening J (last_call J region) (place_of J region).state (place_of J region).server h opening)
-      by_work (Some p) e h = by_row p ((kept_all J legal free).worker p region e).0 (last_answer J p) refl h
+      by_work (Some p) e h = by_row p ((kept_all J legal).worker p region e).0 (last_answer J p) refl h
 
   closing_row : is_state place_is.Closing (place_of J region) ≡ true → NextIs J region 4
-  closing_row closing = by_work (work_of J region) refl ((kept_all J legal free).stage region)
+  closing_row closing = by_work (work_of J region) refl ((kept_all J legal).stage region)
     where
       by_row : (p : ℕ) → Moves J p region → (o : Option Answer) → last_answer J p ≡ o → AtRow J p region (place_of J region) (last_call J region) o (child_of_step J p) (node_of J (child_of_step J p)) (last_answer J (child_of_step J p)) → NextIs J region 4
       by_row p moves None l h = absurd (rest_not_closing J (last_call J region) (place_of J region).state (place_of J region).server h closing)
@@ -298,24 +299,24 @@ module _ (J : Past) (legal : IsLegal J) (free : AllFree J) (region : Region) whe
 
       by_work : (w : Option ℕ) → work_of J region ≡ w → StageFor J region w → NextIs J region 4
       by_work None e h = absurd (rest_not_closing J (last_call J region) (place_of J region).state (place_of J region).server h closing)
-      by_work (Some p) e h = by_row p ((kept_all J legal free).worker p region e).0 (last_answer J p) refl h
+      by_work (Some p) e h = by_row p ((kept_all J legal).worker p region e).0 (last_answer J p) refl h
 
   opening_from : (row : ℕ) → (row ≡ 1) ⊎ (row ≡ 2) → NextIs J region row → is_state place_is.Opening (place_of J region) ≡ true
   opening_from row which n = opens_at n.0 n.1 (last_answer J n.0) row n.4 refl n.5 which (at_work n.0 (n.1, n.2, n.3) n.4)
 
 pub place_by_row : PlaceByRow
-place_by_row J legal free region = (
-  (λ opening. opening_row J legal free region opening, λ n. elim n [ inl one ↦ opening_from J legal free region 1 (inl refl) one | inr two ↦ opening_from J legal free region 2 (inr refl) two ]),
-  (λ closing. closing_row J legal free region closing, λ n. closes_at J legal free region n.0 n.1 (last_answer J n.0) n.4 refl n.5 (at_work J legal free region n.0 (n.1, n.2, n.3) n.4)),
+place_by_row J legal region = (
+  (λ opening. opening_row J legal region opening, λ n. elim n [ inl one ↦ opening_from J legal region 1 (inl refl) one | inr two ↦ opening_from J legal region 2 (inr refl) two ]),
+  (λ closing. closing_row J legal region closing, λ n. closes_at J legal region n.0 n.1 (last_answer J n.0) n.4 refl n.5 (at_work J legal region n.0 (n.1, n.2, n.3) n.4)),
 )
 
 pub calls_find : CallsFind
-calls_find pid pick out J legal free =
+calls_find pid pick out J legal =
     let grown = grown_all J legal.0 in
-    let kept = kept_all J legal.0 free.0 in
+    let kept = kept_all J legal.0 in
     let step = step_of pid pick out J grown legal in
     let d = does_of pid pick out J grown step in
-    (step.node, step.node_is, by step.node out.call refl (λ verb e. (call_mine pid pick out J grown step d verb e).3) (λ r e. finds_open pid pick out J grown kept step d free.1 r e) (λ r e. finds_close pid pick out J grown kept step d free.1 r e))
+    (step.node, step.node_is, by step.node out.call refl (λ verb e. (call_mine pid pick out J grown step d verb e).3) (λ r e. finds_open pid pick out J grown kept step d (step_free pid pick out J legal) r e) (λ r e. finds_close pid pick out J grown kept step d (step_free pid pick out J legal) r e))
   where
     by : (node : Node) (o : Option Verb) → out.call ≡ o → ((verb : Verb) → out.call ≡ Some verb → verb_of J pid.0 ≡ None) → ((r : Region) → out.call ≡ Some (verb_is.AssignRegion r) → IsVoid J (last_call J r) × IsLater pid.0 (last_call J r)) → ((r : Region) → out.call ≡ Some (verb_is.CloseRegion r) → (server : Server) × (node.args ≡ args_are.CloseCall r server) × IsOpenedBy J (last_call J r) server × IsLater pid.0 (last_call J r)) → Finds J pid.0 node o
     by node None e silent opens closes = tt
@@ -326,12 +327,12 @@ calls_find pid pick out J legal free =
     by node (Some (verb_is.Sweep root)) e silent opens closes = silent _ e
 
 pub openings_single : OpeningsAreSingle
-openings_single pid pick out J legal free =
+openings_single pid pick out J legal =
     let grown = grown_all J legal.0 in
-    let kept = kept_all J legal.0 free.0 in
+    let kept = kept_all J legal.0 in
     let step = step_of pid pick out J grown legal in
     let d = does_of pid pick out J grown step in
-    by out.call refl (λ r e p is. void_over pid pick out J grown kept step d free.1 r p is (kept.settled r p is) (finds_open pid pick out J grown kept step d free.1 r e).0)
+    by out.call refl (λ r e p is. void_over pid pick out J grown kept step d (step_free pid pick out J legal) r p is (kept.settled r p is) (finds_open pid pick out J grown kept step d (step_free pid pick out J legal) r e).0)
   where
     by : (o : Option Verb) → out.call ≡ o → ((r : Region) → out.call ≡ Some (verb_is.AssignRegion r) → (p : ℕ) → verb_of J p ≡ Some (verb_is.AssignRegion r) → IsOver J p r) → MayOpen J o
     by None e each = tt

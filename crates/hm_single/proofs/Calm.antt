@@ -1,6 +1,6 @@
 -- While a root that found its table without open regions goes on and opens none, none of the table's regions has a place.
 use Rattle.std.proofs.Common.{◌≡◌, ℕ, ◌+◌, ◌==◌, ◌||◌, not, List, [], ◌∷◌, Bool, true, false, Option, Some, None, is_some, refl, ap, sym, ◌∙◌, subst, inl, inr, ◌⊎◌}
-use Rattle.std.proofs.lemmas.Bool.{and_from, cases_Bool, cases_eq, cond-false, false≢true, not_from_false, or_left, or_right, ne_eqb, true≢false}
+use Rattle.std.proofs.lemmas.Bool.{and_from, cases_Bool, cases_eq, false≢true, not_from_false, or_left, or_right, ne_eqb, true≢false}
 use Rattle.std.proofs.lemmas.Option.{none-some, same_Some}
 use Rattle.hm_names.specs.Region.{Region}
 use Rattle.hm_names.specs.Server.{Server}
@@ -48,10 +48,10 @@ use Rattle.hm_serial.proofs.Apart.{Aside, step_top}
 use Rattle.hm_serial.proofs.FallAll.{All, falls_all, step_aside}
 use Rattle.hm_serial.proofs.Fallen.{MayFall, may_on, root_of_node}
 use Rattle.hm_serial.proofs.FallStep.{kid_or_root, other_last}
-use Rattle.hm_serial.proofs.Standing.{TopHolds, TopIs, all_from, holds_left, live_child, step_left, step_open}
+use Rattle.hm_model.proofs.Tops.{TopHolds, TopIs}
+use Rattle.hm_serial.proofs.Standing.{all_from, holds_left, live_child, step_left, step_open}
 use Rattle.hm_cover.proofs.Edits.{neither}
 use Rattle.hm_cover.proofs.Spared.{cause_now}
-use Rattle.hm_single.specs.Calls.{AllFree}
 use Rattle.hm_single.proofs.Lines.{disabled_off, fills, is_on, rests}
 use Rattle.hm_single.proofs.Own.{Own, cut_or, does, own, step}
 use Rattle.hm_single.proofs.Tidies.{tidy_all}
@@ -231,7 +231,7 @@ module _ (pid : Pid) (pick : Option Server) (out : StepOut) (J : Past) (legal : 
             (disabled u (ap (λ a. reads a (key_is.Table u)) args ∙ same_table-refl u) (at_act act_is.CheckTableDisabled (act_first (request_is.ModifyTable u version) e) ∙ ap (λ a. check_table_disabled its.row.next a (step_input J pid.0 its.node pick).rows) args))
         by q e hq = absurd (false≢true hq)
 
-  module _ (free : AllFree J') (on : AllOn J) (before : AllCalm J) where
+  module _ (on : AllOn J) (before : AllCalm J) where
     -- the root of the stepping tree
     own_calm : (node : Node) (request : Request) (first : ℕ) → TopIs J its.node.root node → TopHolds J' its.node.root node → node.args ≡ args_are.Root request first → (h : fills request ≡ true) → MayFall J' its.node.root node ⊎ (rests request ≡ true)
         → (region : Region) → covers node.args (key_is.Table region.table) ≡ true → is_placed (place_of J' region) ≡ false
@@ -275,7 +275,7 @@ module _ (pid : Pid) (pick : Option Server) (out : StepOut) (J : Past) (legal : 
           let was = holds_left J J' r node left holds in
           let covered : covers node.args (key_is.Region region) ≡ true = ap (λ a. covers a (key_is.Region region)) own_args ∙ fills_regions request first h region ∙ ap (λ a. covers a (key_is.Table region.table)) (sym own_args) ∙ c in
           let unplaced = before r node request first was own_args h (elim falls [ inl may ↦ inl (may_on J' J r node (sym left.cause_is) (sym left.last) (sym left.sheets) may) | inr rest ↦ inr rest ]) region c in
-          elim (held_stay pid pick out J legal free r node was.0.0 was.0.1 was.1 was.2 region covered) [
+          elim (held_stay pid pick out J legal r node was.0.0 was.0.1 was.1 was.2 region covered) [
             | inl same ↦ absurd (differs (sym same ∙ ap root_in its.node_is))
             | inr stay ↦ ap is_placed stay ∙ unplaced
           ]

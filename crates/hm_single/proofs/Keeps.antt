@@ -45,7 +45,7 @@ use Rattle.hm_model.proofs.CallSteps.{laying_not_caller}
 use Rattle.hm_model.proofs.StepDoes.{Does, lined, crash, moves, calls, move_row, part_of}
 use Rattle.hm_model.proofs.ExactRows.{all_rows, exact_is, row_passes}
 use Rattle.hm_model.proofs.Trees.{Grown, IsWaiting, answer_now, call_mine, child_stopped, is_there, le_or_lt, new_child, node_new, node_same, other_answer, other_steps, pid_there, runs, still_there, steps_now, verb_now, verb_or, verb_stays}
-use Rattle.hm_single.proofs.Kept.{CallsLater, IsGoing, IsMove, IsSettled, IsSoundLast, Kept, fail_in, over_later, settled_later}
+use Rattle.hm_single.proofs.Kept.{CallsLater, IsGoing, IsMove, IsSettled, IsSoundLast, Lasting, fail_in, over_later, settled_later}
 use Rattle.hm_single.proofs.Kin.{goes_holds, kin_of, moved_not_caller, root_there, transits_conflict}
 use Rattle.hm_model.proofs.LegalSteps.{ReadyBy, StepFacts}
 use Rattle.hm_model.proofs.PlainActs.{is_caller}
@@ -84,7 +84,7 @@ placed_here : (r : Region) (own : Option Region) (place : Option Place) (old : P
 placed_here r own None old is = refl
 placed_here r own (Some new) old is = cond-true (is_the_region r own) new old (is_itself r own is)
 
-module _ (pid : Pid) (pick : Option Server) (out : StepOut) (J : Past) (grown : Grown J) (kept : Kept J) (step : StepFacts J pid.0 pick out) (d : Does J pid.0 step.node.args (last_answer J pid.0) step.sheet.rows out) (free : IsFree J [] pid.0) where
+module _ (pid : Pid) (pick : Option Server) (out : StepOut) (J : Past) (grown : Grown J) (kept : Lasting J) (step : StepFacts J pid.0 pick out) (d : Does J pid.0 step.node.args (last_answer J pid.0) step.sheet.rows out) (free : IsFree J [] pid.0) where
   J' : Past
   J' = entry_is.Step pid pick out ∷ J
 
@@ -817,7 +817,7 @@ module _ (pid : Pid) (pick : Option Server) (out : StepOut) (J : Past) (grown : 
           by_verb (verb_is.Layout root) e on was = absurd (false≢true on)
           by_verb (verb_is.Sweep root) e on was = absurd (false≢true on)
 
-  pub kept_step : Kept (entry_is.Step pid pick out ∷ J)
+  pub kept_step : Lasting (entry_is.Step pid pick out ∷ J)
   unfolding J'
   kept_step = record {
     works = works_now;

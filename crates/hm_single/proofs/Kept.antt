@@ -43,7 +43,7 @@ fail_in (Some answer) = failing answer
 
 abbrev pub IsSoundLast : Option Answer → Type 0
 IsSoundLast None = Unit {0}
-IsSoundLast (Some answer) = Rattle.hm_model.proofs.StepDoes.IsSound answer
+IsSoundLast (Some answer) = Rattle.hm_model.proofs.StepDoes.IsStepAnswer answer
 
 -- a root that is a transit
 pub record IsMove (J : Past) (p : ℕ) : Type 0 where
@@ -60,7 +60,7 @@ IsSettled J r p =
     ⊎ ((last_call J r ≡ Some p)
     ⊎ ((q : ℕ) × (last_call J r ≡ Some q) × (verb_of J q ≡ Some (verb_is.CloseRegion r)) × (called_at J p < called_at J q) × (peer_of J q ≡ peer_of J p)))
 
-pub record Kept (J : Past) : Type 0 where
+pub record Lasting (J : Past) : Type 0 where
   pub works : (p : ℕ) (r : Region) → Moves J p r → IsGoing (last_answer J p) → work_of J r ≡ Some p
   pub worker : (p : ℕ) (r : Region) → work_of J r ≡ Some p → Moves J p r × (last_answer J p ≢ None)
   pub calling : (q : ℕ) (node : Node) (r : Region) → node_of J q ≡ Some node → caller_region node.args ≡ Some r → is_stopped (last_answer J q) ≡ false → (p : ℕ) × (work_of J r ≡ Some p) × (child_of_step J p ≡ q) × IsWaiting (last_answer J p)
@@ -73,7 +73,7 @@ pub record Kept (J : Past) : Type 0 where
   pub called : (p : ℕ) (verb : Verb) → verb_of J p ≡ Some verb → called_at J p < length J
   pub settled : (r : Region) (p : ℕ) → verb_of J p ≡ Some (verb_is.AssignRegion r) → IsSettled J r p
 
-pub kept_nothing : Kept []
+pub kept_nothing : Lasting []
 kept_nothing = record {
   works = λ p r m going. absurd going;
   worker = λ p r is. absurd (none-some p is);
@@ -131,7 +131,7 @@ pub record IsCalm (J J' : Past) : Type 0 where
   pub longer : length J ≤ length J'
   pub later : Later J J'
 
-module _ (J J' : Past) (calm : IsCalm J J') (grown : Grown J) (kept : Kept J) where
+module _ (J J' : Past) (calm : IsCalm J J') (grown : Grown J) (kept : Lasting J) where
   unstepped : (p : ℕ) → node_of J p ≡ None → last_answer J' p ≡ None
   unstepped p none = calm.last p ∙ grown.unmade p none
 
@@ -154,7 +154,7 @@ module _ (J J' : Past) (calm : IsCalm J J') (grown : Grown J) (kept : Kept J) wh
     | inr new ↦ inr new.0
   ]
 
-  pub kept_calm : Kept J'
+  pub kept_calm : Lasting J'
   kept_calm = record {
     works = λ p r m going. calm.works r ∙ kept.works p r (moves_back p r m (going_some (last_answer J' p) going)) (subst IsGoing (calm.last p) going);
     worker = λ p r is. let w = kept.worker p r (sym (calm.works r) ∙ is) in ((w.0.0, calm.still p w.0.0 w.0.1, w.0.2), λ e. w.1 (sym (calm.last p) ∙ e));

@@ -21,7 +21,7 @@ use Rattle.hm_single.specs.Calls.{Moves}
 use Rattle.hm_model.specs.Verbs.{verb_in}
 use Rattle.hm_model.proofs.StepDoes.{bears, bears_by}
 use Rattle.hm_model.proofs.Trees.{Grown, IsWaiting}
-use Rattle.hm_single.proofs.Kept.{IsGoing, IsMove, Kept, fail_in}
+use Rattle.hm_single.proofs.Kept.{IsGoing, IsMove, Lasting, fail_in}
 use Rattle.hm_model.proofs.PlainActs.{is_caller}
 use Rattle.hm_single.proofs.Stage.{caller_facts}
 
@@ -137,7 +137,7 @@ module _ (J : Past) (grown : Grown J) where
   all_stop : (p : ℕ) → IsMove J p → (IsWaiting (last_answer J p) → ⊥) → all_stopped J p ≡ true
   all_stop p move idle = all_from (made J + 1) (stopped_in J p) (λ q. stopped_one p move idle q (node_of J q) refl)
 
-  module _ (kept : Kept J) where
+  module _ (kept : Lasting J) where
     ended_is : (p : ℕ) (node : Node) → node_of J p ≡ Some node → ended J p ≡ cond (is_top node.above) (root_ended J p) (is_stopped (last_answer J p))
     ended_is p node is = ap (ended_node J p) is
 

@@ -9,11 +9,13 @@ pub mod All
 pub mod Placed
 pub mod Placing
 pub mod Unassigned
+pub mod Vacated
 pub mod SingleLive
 pub mod Makes
 pub mod Own
 pub mod Lines
 pub mod Tidy
+pub mod Closed
 pub mod Tidies
 pub mod Calm
 pub mod Live

@@ -51,7 +51,8 @@ use Rattle.hm_kinds.proofs.MergeRegions.{Merging}
 use Rattle.hm_kinds.proofs.ModifyTable.{Modifying}
 use Rattle.hm_kinds.proofs.Roots.{StageOf}
 use Rattle.hm_kinds.proofs.SplitRegion.{Splitting}
-use Rattle.hm_single.proofs.Makes.{makes, transit_made}
+use Rattle.hm_model.proofs.Listed.{transit_made}
+use Rattle.hm_single.proofs.Makes.{makes}
 
 -- requests that close regions, those that find none with a place, and those of them that open none
 abbrev pub shuts : Request → Bool

@@ -55,15 +55,16 @@ use Rattle.hm_model.proofs.Trees.{Grown, down_rooted, grown_all, submit_rooted}
 use Rattle.hm_kinds.proofs.Covering.{covers_from, merge_own, rows_table}
 use Rattle.hm_kinds.proofs.Roots.{Stage, StageOf}
 use Rattle.hm_serial.proofs.Apart.{Aside}
-use Rattle.hm_serial.proofs.Editing.{none_act}
-use Rattle.hm_serial.proofs.FallAll.{All, back, edits_are, falls_all, none_at, sick, step_aside, top_is, u, undo_back, undo_holds, undo_within}
+use Rattle.hm_kinds.proofs.Editless.{none_act}
+use Rattle.hm_serial.proofs.FallAll.{All, held_before, edits_are, falls_all, none_at, sick, step_aside, u, undo_back, undo_holds, undo_within}
 use Rattle.hm_serial.proofs.Fallen.{MayFall, may_on, root_of_node}
 use Rattle.hm_serial.proofs.FallStep.{kid_or_root, other_last, own_begun, own_root, within_now}
 use Rattle.hm_serial.proofs.Local.{Within, within_others}
-use Rattle.hm_serial.proofs.Standing.{TopHolds, TopIs, quiet_tree, step_open}
+use Rattle.hm_model.proofs.Tops.{TopHolds, TopIs}
+use Rattle.hm_serial.proofs.Standing.{quiet_tree, step_open}
 use Rattle.hm_cover.proofs.Local.{local_free}
 use Rattle.hm_cover.proofs.Spared.{Spares, spared_all}
-use Rattle.hm_single.specs.Calls.{AllFree, MovesIn}
+use Rattle.hm_single.specs.Calls.{MovesIn}
 use Rattle.hm_single.specs.Theorem.{PlacedLive, PlacedWhereOn}
 use Rattle.hm_single.proofs.Calm.{AllCalm, AllOn, fills_regions, place_still, step_calm}
 use Rattle.hm_single.proofs.Lines.{IsLiveRow, begins_edit, disable_edit, disable_keeps, fill_late, fills, first_tests, good_live, is_creating, is_deleting, is_finish, is_on, is_shut, merge_edit_act, merge_good, on_changed, on_state, rests, shuts, split_edit_act, split_good}
@@ -71,7 +72,7 @@ use Rattle.hm_single.proofs.Own.{Own, RunsNext, cut_or, does, led_now, own, root
 use Rattle.hm_single.proofs.Placing.{placed_live}
 use Rattle.hm_single.proofs.Tidies.{edits_or, kid_editless, lined_unmoved, tidy_all}
 use Rattle.hm_single.proofs.Tidy.{Closes, Mild, Tidy, own_is}
-use Rattle.hm_single.proofs.Unassigned.{unassigned}
+use Rattle.hm_single.proofs.Vacated.{unassigned}
 
 -- a region's row is live, and its table's on
 abbrev pub IsFine : Past → Region → Type 0
@@ -166,7 +167,7 @@ deleting_rests (request_is.SplitRegion region key) first h = absurd (false≢tru
 deleting_rests (request_is.MergeRegions regions) first h = absurd (false≢true h)
 deleting_rests (request_is.Move region to) first h = absurd (false≢true h)
 
-module _ (pid : Pid) (pick : Option Server) (out : StepOut) (J : Past) (legal : IsLegal (entry_is.Step pid pick out ∷ J)) (free : AllFree (entry_is.Step pid pick out ∷ J)) (live : AllFine J) (calm : AllCalm J) where
+module _ (pid : Pid) (pick : Option Server) (out : StepOut) (J : Past) (legal : IsLegal (entry_is.Step pid pick out ∷ J)) (live : AllFine J) (calm : AllCalm J) where
   abbrev J' : Past
   J' = entry_is.Step pid pick out ∷ J
 
@@ -196,7 +197,7 @@ module _ (pid : Pid) (pick : Option Server) (out : StepOut) (J : Past) (legal : 
   opens region unplaced placed = by (moved_by its.node.args) refl
     where
       may : may_open (cat J (key_is.Table region.table)) (cat J (key_is.Region region)) ≡ true
-      may = placed_live pid pick out J legal free region unplaced placed
+      may = placed_live pid pick out J legal region unplaced placed
 
       by : (o : Option Region) → moved_by its.node.args ≡ o → IsFine J' region
       by None none = absurd (true≢false (sym placed ∙ ap is_placed (place_still pid pick out J legal region none) ∙ unplaced))
@@ -280,9 +281,10 @@ module _ (pid : Pid) (pick : Option Server) (out : StepOut) (J : Past) (legal : 
     closed_none : shuts request ≡ true → is_shut its.row.act ≡ true → is_finish its.row.act ≡ false → Closes J pid.0 request region → covers its.node.args (key_is.Region region) ≡ true → ⊥
     closed_none h shut unfinished c cov =
         let t = tidy_all J legal.0 pid.0 its.node request first (its.node_is, e) args_is listed in
-        true≢false (sym placed ∙ unassigned J legal.0 free.0 pid.0 its.node its.node_is e running region cov (
-          t.closed h begun its.row.act runs_it shut region c,
-          λ p x m. (t.unassigns h its.row.act runs_it unfinished p x region m, quiet_tree J grown pid.0 its.node its.ready p x m.0 m.1 (below p x m)),
+        let closed = t.closed h begun its.row.act runs_it shut region c in
+        true≢false (sym placed ∙ unassigned J legal.0 pid.0 its.node its.node_is e running region cov (
+          (closed.0, closed.1, closed.2, quiet_tree J grown pid.0 its.node its.ready closed.0 closed.1 closed.2.0 closed.2.1 (below closed.0 closed.1 closed.2)),
+          λ p x m. t.unassigns h its.row.act runs_it unfinished p x region m,
         ))
       where
         below : (p : ℕ) (x : Node) → MovesIn J pid.0 region p x → x.above ≢ []
@@ -525,26 +527,26 @@ BothFine J = AllFine J × AllCalm J
 on_all : (J : Past) → AllFine J → AllOn J
 on_all J live region placed = (live region placed).1
 
-pub fine_all : (J : Past) → IsLegal J → AllFree J → BothFine J
-fine_all [] legal free = ((λ region placed. absurd (false≢true placed)), (λ r node request first holds. absurd (none-some node holds.0.0)))
-fine_all (entry_is.Start sheets ∷ J) legal free = (let b = fine_all J legal.0 free in (b.0, (λ r node request first holds. absurd (none-some node (sym (none_at J legal.1.0.0 r) ∙ holds.0.0)))))
-fine_all (entry_is.Submit nonce asked ∷ J) legal free =
-    let b = fine_all J legal.0 free in
+pub fine_all : (J : Past) → IsLegal J → BothFine J
+fine_all [] legal = ((λ region placed. absurd (false≢true placed)), (λ r node request first holds. absurd (none-some node holds.0.0)))
+fine_all (entry_is.Start sheets ∷ J) legal = (let b = fine_all J legal.0 in (b.0, (λ r node request first holds. absurd (none-some node (sym (none_at J legal.1.0.0 r) ∙ holds.0.0)))))
+fine_all (entry_is.Submit nonce asked ∷ J) legal =
+    let b = fine_all J legal.0 in
     let g = grown_all J legal.0 in
-    (b.0, (λ r node request first holds own_args h falls region c. b.1 r node request first (back J (entry_is.Submit nonce asked ∷ J) (submit_rooted nonce asked J g) g r node refl refl refl holds) own_args h (elim falls [ inl f ↦ inl (may_on (entry_is.Submit nonce asked ∷ J) J r node refl refl refl f) | inr rest ↦ inr rest ]) region c))
-fine_all (entry_is.Step pid pick out ∷ J) legal free = (let b = fine_all J legal.0 free.0 in (step_fine pid pick out J legal free b.0 b.1, step_calm pid pick out J legal free (on_all J b.0) b.1))
-fine_all (entry_is.Undo pid row out ∷ J) legal free = (let b = fine_all J legal.0 free in (undo_fine pid row out J legal b.0 b.1, undo_calm pid row out J legal b.0 b.1))
-fine_all (entry_is.Report call told ∷ J) legal free = (let b = fine_all J legal.0 free in (b.0, (λ r node request first holds own_args h falls region c. b.1 r node request first holds own_args h falls region c)))
-fine_all (entry_is.Up server ∷ J) legal free = (let b = fine_all J legal.0 free in (b.0, (λ r node request first holds own_args h falls region c. b.1 r node request first holds own_args h falls region c)))
-fine_all (entry_is.Down server ∷ J) legal free =
-    let b = fine_all J legal.0 free in
+    (b.0, (λ r node request first holds own_args h falls region c. b.1 r node request first (held_before J (entry_is.Submit nonce asked ∷ J) (submit_rooted nonce asked J g) g r node refl refl refl holds) own_args h (elim falls [ inl f ↦ inl (may_on (entry_is.Submit nonce asked ∷ J) J r node refl refl refl f) | inr rest ↦ inr rest ]) region c))
+fine_all (entry_is.Step pid pick out ∷ J) legal = (let b = fine_all J legal.0 in (step_fine pid pick out J legal b.0 b.1, step_calm pid pick out J legal (on_all J b.0) b.1))
+fine_all (entry_is.Undo pid row out ∷ J) legal = (let b = fine_all J legal.0 in (undo_fine pid row out J legal b.0 b.1, undo_calm pid row out J legal b.0 b.1))
+fine_all (entry_is.Report call told ∷ J) legal = (let b = fine_all J legal.0 in (b.0, (λ r node request first holds own_args h falls region c. b.1 r node request first holds own_args h falls region c)))
+fine_all (entry_is.Up server ∷ J) legal = (let b = fine_all J legal.0 in (b.0, (λ r node request first holds own_args h falls region c. b.1 r node request first holds own_args h falls region c)))
+fine_all (entry_is.Down server ∷ J) legal =
+    let b = fine_all J legal.0 in
     let g = grown_all J legal.0 in
-    (b.0, (λ r node request first holds own_args h falls region c. b.1 r node request first (back J (entry_is.Down server ∷ J) (down_rooted server J g) g r node refl refl refl holds) own_args h (elim falls [ inl f ↦ inl (may_on (entry_is.Down server ∷ J) J r node refl refl refl f) | inr rest ↦ inr rest ]) region c))
-fine_all (entry_is.Abort pid ∷ J) legal free = (let b = fine_all J legal.0 free in (b.0, (λ r node request first holds own_args h falls region c. b.1 r node request first holds own_args h falls region c)))
+    (b.0, (λ r node request first holds own_args h falls region c. b.1 r node request first (held_before J (entry_is.Down server ∷ J) (down_rooted server J g) g r node refl refl refl holds) own_args h (elim falls [ inl f ↦ inl (may_on (entry_is.Down server ∷ J) J r node refl refl refl f) | inr rest ↦ inr rest ]) region c))
+fine_all (entry_is.Abort pid ∷ J) legal = (let b = fine_all J legal.0 in (b.0, (λ r node request first holds own_args h falls region c. b.1 r node request first holds own_args h falls region c)))
 
 -- each region with a place is live, and its table there and not disabled
 pub all_live : PlacedLive
-all_live J legal free region placed = (let l = ((fine_all J legal free).0 region placed).0 in (l.0, (l.1, l.2)))
+all_live J legal region placed = (let l = ((fine_all J legal).0 region placed).0 in (l.0, (l.1, l.2)))
 
 on_row : (row : Option CatRow) → is_on row ≡ true → (state : TableState) × (version : ℕ) × (row ≡ Some (row_is.Table state version)) × (state ≢ state_is.Disabled)
 on_row None h = absurd (false≢true h)
@@ -553,4 +555,4 @@ on_row (Some (row_is.Region range status parents)) h = absurd (false≢true h)
 on_row (Some (row_is.Table state version)) h = (state, version, refl, λ e. true≢false (sym h ∙ ap (λ s. on_state (Some s)) e))
 
 pub all_on : PlacedWhereOn
-all_on J legal free region placed = on_row (cat J (key_is.Table region.table)) ((fine_all J legal free).0 region placed).1
+all_on J legal region placed = on_row (cat J (key_is.Table region.table)) ((fine_all J legal).0 region placed).1

@@ -1,5 +1,5 @@
 -- Which transits the acts make, and who adds or drops rows of regions.
-use Rattle.std.proofs.Common.{◌≡◌, ℕ, zero, suc, ◌+◌, List, [], ◌∷◌, Bool, true, false, Option, Some, None, cond, nat_le, length, take, drop, map, refl, ap, sym, ◌∙◌, inl, inr, ◌⊎◌, slice_get}
+use Rattle.std.proofs.Common.{◌≡◌, ℕ, zero, suc, ◌+◌, List, [], ◌∷◌, Bool, true, false, Option, Some, None, cond, nat_le, length, take, drop, map, refl}
 use Rattle.std.proofs.lemmas.Bool.{false≢true}
 use Rattle.hm_names.specs.declared.table.TableName.{TableName}
 use Rattle.hm_data.specs.declared.act.Act.{Act}
@@ -23,7 +23,7 @@ use Rattle.hm_model.specs.Kinds.{table_of_first}
 use Rattle.hm_model.specs.NamespaceActs.{has_table, version_of}
 use Rattle.hm_model.specs.RegionActs.{cut_of, merge_cause, regions_for}
 use Rattle.hm_model.specs.RowsSaid.{all_among, in_state, in_version}
-use Rattle.hm_model.specs.Views.{asked_of, bounds_of, first_id_of, region_of, regions_in, table_of}
+use Rattle.hm_model.specs.Views.{asked_of, bounds_of, first_id_of, region_of, regions_in, table_of, namespace_of}
 use Rattle.hm_model.specs.Wanted.{ids_of, server_of}
 use Rattle.hm_model.specs.Checks.{can_split, namespace_empty, namespace_free, table_disabled, table_enabled, table_free}
 use Rattle.hm_model.specs.CrashActs.{reassign_all}
@@ -31,18 +31,9 @@ use Rattle.hm_model.specs.Outs.{checked, edits_rows, given, spawns}
 use Rattle.hm_model.specs.Pieces.{Batch, adding, batches, by_64, dropping, numbers_from, ranges_between, transits}
 use Rattle.hm_model.specs.Locks.{in_name_order}
 use Rattle.hm_model.specs.Undoing.{closed_by}
-use Rattle.hm_model.specs.Views.{namespace_of}
-use Rattle.hm_model.specs.Tree.{args_in}
 use Rattle.hm_model.proofs.PlainActs.{is_plain}
-use Rattle.std.specs.declared.cmp.Ordering.{Ordering}
-use Rattle.std.specs.declared.cmp.Ordering.TheVariants.{Less, Equal, Greater}
-use Rattle.hm_names.specs.Order.{region_cmp}
 use Rattle.hm_names.specs.Region.{Region}
-use Rattle.hm_model.specs.Keys.{same_table}
-use Rattle.hm_model.specs.Locks.{IsIn, with_region, with_region_at}
-use Rattle.hm_model.specs.Pieces.{with_batch}
-use Rattle.hm_model.proofs.KeyTests.{same_table-is}
-use Rattle.hm_serial.proofs.Kids.{AllMade}
+use Rattle.hm_kinds.proofs.Kids.{AllMade}
 
 -- the goal of the transits that an act makes
 abbrev pub makes : Act → Option Goal
@@ -148,49 +139,3 @@ kids_goal act_is.CallFence h next at = absurd (false≢true h)
 kids_goal act_is.CallLayout h next at = absurd (false≢true h)
 kids_goal act_is.SettleLayout h next at = absurd (false≢true h)
 kids_goal act_is.CallSweep h next at = absurd (false≢true h)
-
-in_slice : {A : Type 0} (x : A) (list : List A) → IsIn x list → (i : ℕ) × (slice_get list i ≡ Some x)
-in_slice x [] h = elim h [ ]
-in_slice x (first ∷ more) (inl here) = (0, ap Some (sym here))
-in_slice x (first ∷ more) (inr later) = let on = in_slice x more later in (suc on.0, on.1)
-
-in_with_region_at : (y region first : Region) (more rest : List Region) → ((y ≡ region) ⊎ IsIn y more → IsIn y rest) → (o : Ordering) → (y ≡ region) ⊎ IsIn y (first ∷ more) → IsIn y (with_region_at o region first more rest)
-in_with_region_at y region first more rest on Less h = h
-in_with_region_at y region first more rest on Equal h = h
-in_with_region_at y region first more rest on Greater h = elim h [
-  | inl new ↦ inr (on (inl new))
-  | inr old ↦ elim old [ inl here ↦ inl here | inr later ↦ inr (on (inr later)) ]
-]
-
-in_with_region : (y region : Region) (list : List Region) → (y ≡ region) ⊎ IsIn y list → IsIn y (with_region region list)
-in_with_region y region [] h = h
-in_with_region y region (first ∷ more) h = in_with_region_at y region first more (with_region region more) (in_with_region y region more) (region_cmp region first) h
-
-in_ordered : (y : Region) (list : List Region) → IsIn y list → IsIn y (in_name_order list)
-in_ordered y [] h = h
-in_ordered y (region ∷ more) (inl here) = in_with_region y region (in_name_order more) (inl here)
-in_ordered y (region ∷ more) (inr later) = in_with_region y region (in_name_order more) (inr (in_ordered y more later))
-
-module _ (goal : Goal) where
-  abbrev sent : Region → Args
-  sent y = args_are.Transit y goal None
-
-  abbrev sends : List Batch → List Args
-  sends list = args_in (map (λ batch. child_is.Transits batch.table batch.ids goal) list)
-
-  in_with_batch : (y region : Region) (list : List Batch) → (y ≡ region) ⊎ IsIn (sent y) (sends list) → IsIn (sent y) (sends (with_batch region list))
-  in_with_batch y region [] h = elim h [ inl here ↦ inl (ap sent here) | inr later ↦ elim later [ ] ]
-  in_with_batch y region (batch ∷ more) h = by (same_table region.table batch.table) refl
-    where
-      by : (b : Bool) → same_table region.table batch.table ≡ b → IsIn (sent y) (sends (cond b (record { table = batch.table; ids = region.id ∷ batch.ids } ∷ more) (record { table = region.table; ids = region.id ∷ [] } ∷ batch ∷ more)))
-      by false e = elim h [ inl here ↦ inl (ap sent here) | inr later ↦ inr later ]
-      by true e = elim h [ inl here ↦ inl (ap sent here ∙ ap (λ t. sent (record { table = t; id = region.id })) (same_table-is region.table batch.table e)) | inr later ↦ inr later ]
-
-  in_batches : (y : Region) (list : List Region) → IsIn y list → IsIn (sent y) (sends (batches list))
-  in_batches y [] h = elim h [ ]
-  in_batches y (region ∷ more) (inl here) = in_with_batch y region (batches more) (inl here)
-  in_batches y (region ∷ more) (inr later) = in_with_batch y region (batches more) (inr (in_batches y more later))
-
-  -- each of some regions gets its transit
-  pub transit_made : (y : Region) (regions : List Region) → IsIn y regions → (i : ℕ) × (slice_get (args_in (transits goal regions)) i ≡ Some (args_are.Transit y goal None))
-  transit_made y regions h = in_slice (sent y) (args_in (transits goal regions)) (in_batches y (in_name_order regions) (in_ordered y regions h))

@@ -38,7 +38,7 @@ use Rattle.hm_model.proofs.ValidSheets.{Leads, valid_end}
 use Rattle.hm_kinds.proofs.Covering.{rows_table}
 use Rattle.hm_kinds.proofs.Roots.{Stage, root_leads, serves}
 use Rattle.hm_serial.proofs.FallAll.{falls_all}
-use Rattle.hm_serial.proofs.Kids.{made_at}
+use Rattle.hm_kinds.proofs.Kids.{made_at}
 use Rattle.hm_serial.proofs.Standing.{quiet_tree, step_open}
 use Rattle.hm_serial.proofs.StandAll.{stands_all}
 use Rattle.hm_serial.proofs.Stands.{At}

@@ -17,7 +17,7 @@ use Rattle.hm_model.proofs.Trees.{IsWaiting}
 use Rattle.hm_single.specs.Calls.{CallsAbout, IsOpenedBy, IsVoid}
 use Rattle.hm_single.specs.Theorem.{OpenedAreTold, UnplacedAreFree}
 use Rattle.hm_single.proofs.All.{kept_all}
-use Rattle.hm_single.proofs.Kept.{Kept}
+use Rattle.hm_single.proofs.Kept.{Lasting}
 use Rattle.hm_single.proofs.Stage.{StageFor, caller_region, child_of_step, work_of}
 use Rattle.hm_single.proofs.Transit.{AtRest, AtRow, IsRest, at_place}
 
@@ -70,7 +70,7 @@ module _ (J : Past) (region : Region) where
   waits_between p (Some (answer_is.Fail cause)) q made answer w h = absurd w
   waits_between p (Some answer_is.Undone) q made answer w h = absurd w
 
-  module _ (kept : Kept J) where
+  module _ (kept : Lasting J) where
     pub stands : IsRest J (last_call J region) (place_of J region) ⊎ IsBetween
     stands = by (work_of J region) (kept.stage region)
       where
@@ -88,19 +88,19 @@ module _ (J : Past) (region : Region) where
         waits_between c.0 (last_answer J c.0) (child_of_step J c.0) (node_of J (child_of_step J c.0)) (last_answer J (child_of_step J c.0)) c.3 (subst (StageFor J region) c.1 (kept.stage region))
 
 pub opened_told : OpenedAreTold
-opened_told J legal free region h = elim (stands J region (kept_all J legal free)) [
+opened_told J legal region h = elim (stands J region (kept_all J legal)) [
   | inl rest ↦ rest_opened J (last_call J region) (place_of J region).state (place_of J region).server rest h
   | inr between ↦ absurd (between_not_open J region between h)
 ]
 
 pub unplaced_free : UnplacedAreFree
-unplaced_free J legal free region h = (
-  elim (stands J region (kept_all J legal free)) [
+unplaced_free J legal region h = (
+  elim (stands J region (kept_all J legal)) [
     | inl rest ↦ rest_void J (last_call J region) (place_of J region).state (place_of J region).server rest h
     | inr between ↦ absurd (true≢false (sym (between_placed J region between) ∙ h))
   ],
   λ p calls. elim (cases_Bool (is_stopped (last_answer J p))) [
     | inl stopped ↦ stopped
-    | inr runs ↦ absurd (true≢false (sym (between_placed J region (caller_between J region (kept_all J legal free) p calls.0 calls.2 (calls_region J region (kept_all J legal free) p calls) runs)) ∙ h))
+    | inr runs ↦ absurd (true≢false (sym (between_placed J region (caller_between J region (kept_all J legal) p calls.0 calls.2 (calls_region J region (kept_all J legal) p calls) runs)) ∙ h))
   ],
 )

@@ -47,7 +47,7 @@ use Rattle.hm_model.proofs.StepDoes.{Does, calls, crash, lined, move_row, moves,
 use Rattle.hm_model.proofs.Trees.{Grown, does_of, grown_all, step_of}
 use Rattle.hm_single.specs.Theorem.{PlacedWhereLive}
 use Rattle.hm_single.proofs.All.{kept_all}
-use Rattle.hm_single.proofs.Kept.{Kept}
+use Rattle.hm_single.proofs.Kept.{Lasting}
 use Rattle.hm_single.proofs.Rows.{first_free}
 use Rattle.hm_single.proofs.Stage.{StageFor, child_of_step, moved_region, the_region}
 use Rattle.hm_single.proofs.Transit.{AtRow, IsFreeRow}
@@ -152,7 +152,7 @@ may_read J args region m may =
     ∙ ap (may_open (row_at (rows_read J args) (key_is.Table region.table))) (sym (row_read J args (key_is.Region region) on.1)) ∙ may
 
 -- a region without a place is at a row that looks at it
-module _ (J : Past) (region : Region) (kept : Kept J) (unplaced : is_placed (place_of J region) ≡ false) where
+module _ (J : Past) (region : Region) (kept : Lasting J) (unplaced : is_placed (place_of J region) ≡ false) where
   free_by : (p : ℕ) (args : Args) (o : Option Answer) (q : ℕ) (made : Option Node) (answer : Option Answer) → moved_by args ≡ Some region → is_stopped o ≡ false → AtRow J p region (place_of J region) (last_call J region) o q made answer → IsFreeRow (row_after (first_row_of args) o)
   free_by p args None q made answer m runs h = first_free args region m
   free_by p args (Some (answer_is.More n)) q made answer m runs (inl h) = h.0
@@ -192,7 +192,7 @@ moved_kind args region m = by (part_of args)
     by (calls verb v unmoved exact) = absurd (none-some region (sym unmoved ∙ m))
 
 -- a step
-module _ (pid : Pid) (pick : Option Server) (out : StepOut) (J : Past) (grown : Grown J) (kept : Kept J) (step : StepFacts J pid.0 pick out) (d : Does J pid.0 step.node.args (last_answer J pid.0) step.sheet.rows out) where
+module _ (pid : Pid) (pick : Option Server) (out : StepOut) (J : Past) (grown : Grown J) (kept : Lasting J) (step : StepFacts J pid.0 pick out) (d : Does J pid.0 step.node.args (last_answer J pid.0) step.sheet.rows out) where
   runs_now : is_stopped (last_answer J pid.0) ≡ false
   runs_now = ready_stops J pid.0 step.node (last_answer J pid.0) step.ready
 
@@ -233,7 +233,7 @@ module _ (pid : Pid) (pick : Option Server) (out : StepOut) (J : Past) (grown : 
       by false act unplaced here h placed own = free_places step.row.act step.row.next (step_input J pid.0 step.node pick) act unplaced here h placed region own
 
 pub placed_live : PlacedWhereLive
-placed_live pid pick out J legal free region was now =
+placed_live pid pick out J legal region was now =
     let grown = grown_all J legal.0 in
     let step = step_of pid pick out J grown legal in
-    places_live pid pick out J grown (kept_all J legal.0 free.0) step (does_of pid pick out J grown step) region was now
+    places_live pid pick out J grown (kept_all J legal.0) step (does_of pid pick out J grown step) region was now

@@ -27,13 +27,14 @@ use Rattle.hm_model.specs.TransitActs.{is_placed}
 use Rattle.hm_model.proofs.KeyTests.{cases_key, same_key-refl, same_region-is, same_table-is}
 use Rattle.hm_model.proofs.LegalSteps.{StepFacts, ready_stops}
 use Rattle.hm_model.proofs.StepDoes.{Does}
+use Rattle.hm_model.proofs.Free.{step_free}
 use Rattle.hm_model.proofs.Trees.{Grown, call_mine, does_of, grown_all, step_of}
 use Rattle.hm_cover.proofs.Never.{never_overlap}
-use Rattle.hm_single.specs.Calls.{AllFree, MayOpen, PlacedAreLive}
+use Rattle.hm_single.specs.Calls.{MayOpen, PlacedAreLive}
 use Rattle.hm_single.specs.Theorem.{SingleOverRanges}
 use Rattle.hm_single.proofs.All.{kept_all, openings_single}
 use Rattle.hm_single.proofs.Keeps.{void_over}
-use Rattle.hm_single.proofs.Kept.{Kept}
+use Rattle.hm_single.proofs.Kept.{Lasting}
 use Rattle.hm_single.proofs.Live.{all_live}
 use Rattle.hm_single.proofs.Placed.{between_placed, caller_between, unplaced_free}
 use Rattle.hm_single.proofs.Stage.{called_region}
@@ -73,12 +74,12 @@ range_now (entry_is.Abort pid ∷ J) region range is = range_now J region range 
 live_range : (J : Past) (region : Region) (range : KeyRange) → IsLiveWith (cat J) region range → range_of J region ≡ Some range
 live_range J region range live = range_now J region range (ap range_in live.1)
 
-module _ (pid : Pid) (pick : Option Server) (out : StepOut) (J : Past) (legal : IsLegal (entry_is.Step pid pick out ∷ J)) (free : AllFree (entry_is.Step pid pick out ∷ J)) (live : PlacedAreLive J) (region : Region) (call : out.call ≡ Some (verb_is.AssignRegion region)) where
+module _ (pid : Pid) (pick : Option Server) (out : StepOut) (J : Past) (legal : IsLegal (entry_is.Step pid pick out ∷ J)) (live : PlacedAreLive J) (region : Region) (call : out.call ≡ Some (verb_is.AssignRegion region)) where
   abbrev grown : Grown J
   grown = grown_all J legal.0
 
-  abbrev kept : Kept J
-  kept = kept_all J legal.0 free.0
+  abbrev kept : Lasting J
+  kept = kept_all J legal.0
 
   abbrev step : StepFacts J pid.0 pick out
   step = step_of pid pick out J (grown_all J legal.0) legal
@@ -93,7 +94,7 @@ module _ (pid : Pid) (pick : Option Server) (out : StepOut) (J : Past) (legal : 
       between_placed J region (caller_between J region kept pid.0 step.node step.node_is (sym (called_region step.node.args (verb_is.AssignRegion region) mine.0)) (ready_stops J pid.0 step.node (last_answer J pid.0) step.ready))
 
   own_over : (p : ℕ) (other : Region) → other ≡ region → verb_of J p ≡ Some (verb_is.AssignRegion other) → IsOver J p other
-  own_over p other same is = subst (IsOver J p) (sym same) (may (openings_single pid pick out J legal free) p (is ∙ ap (λ r. Some (verb_is.AssignRegion r)) same))
+  own_over p other same is = subst (IsOver J p) (sym same) (may (openings_single pid pick out J legal) p (is ∙ ap (λ r. Some (verb_is.AssignRegion r)) same))
     where
       may : MayOpen J out.call → (q : ℕ) → verb_of J q ≡ Some (verb_is.AssignRegion region) → IsOver J q region
       may h = subst (MayOpen J) call h
@@ -115,29 +116,29 @@ module _ (pid : Pid) (pick : Option Server) (out : StepOut) (J : Past) (legal : 
           | inl same ↦ own_over p other (sym (same_region-is region other same)) is
           | inr off ↦ elim (cases_Bool (is_placed (place_of J other))) [
             | inl placed ↦ absurd (apart other (λ same. true≢false (sym (Rattle.hm_model.proofs.KeyTests.same_region-refl region) ∙ ap (same_region region) same ∙ off)) parts.0 placed parts.1)
-            | inr unplaced ↦ void_over pid pick out J grown kept step does free.1 other p is (kept.settled other p is) (unplaced_free J legal.0 free.0 other unplaced).0
+            | inr unplaced ↦ void_over pid pick out J grown kept step does (step_free pid pick out J legal) other p is (kept.settled other p is) (unplaced_free J legal.0 other unplaced).0
           ]
         ]
   ]
 
-step_single : (pid : Pid) (pick : Option Server) (out : StepOut) (J : Past) → IsLegal (entry_is.Step pid pick out ∷ J) → AllFree (entry_is.Step pid pick out ∷ J) → PlacedAreLive J → MayCall J out.call
-step_single pid pick out J legal free live = by out.call refl
+step_single : (pid : Pid) (pick : Option Server) (out : StepOut) (J : Past) → IsLegal (entry_is.Step pid pick out ∷ J) → PlacedAreLive J → MayCall J out.call
+step_single pid pick out J legal live = by out.call refl
   where
     by : (o : Option Verb) → out.call ≡ o → MayCall J o
     by None e = tt
-    by (Some (verb_is.AssignRegion region)) e = each_over pid pick out J legal free live region e
+    by (Some (verb_is.AssignRegion region)) e = each_over pid pick out J legal live region e
     by (Some (verb_is.CloseRegion region)) e = tt
     by (Some (verb_is.Fence server)) e = tt
     by (Some (verb_is.Layout root)) e = tt
     by (Some (verb_is.Sweep root)) e = tt
 
 pub single_over : SingleOverRanges
-single_over [] legal free = tt
-single_over (entry_is.Start sheets ∷ J) legal free = single_over J legal.0 free
-single_over (entry_is.Submit nonce request ∷ J) legal free = single_over J legal.0 free
-single_over (entry_is.Step pid pick out ∷ J) legal free = (single_over J legal.0 free.0, step_single pid pick out J legal free (all_live J legal.0 free.0))
-single_over (entry_is.Undo pid row out ∷ J) legal free = single_over J legal.0 free
-single_over (entry_is.Report call told ∷ J) legal free = single_over J legal.0 free
-single_over (entry_is.Up server ∷ J) legal free = single_over J legal.0 free
-single_over (entry_is.Down server ∷ J) legal free = single_over J legal.0 free
-single_over (entry_is.Abort pid ∷ J) legal free = single_over J legal.0 free
+single_over [] legal = tt
+single_over (entry_is.Start sheets ∷ J) legal = single_over J legal.0
+single_over (entry_is.Submit nonce request ∷ J) legal = single_over J legal.0
+single_over (entry_is.Step pid pick out ∷ J) legal = (single_over J legal.0, step_single pid pick out J legal (all_live J legal.0))
+single_over (entry_is.Undo pid row out ∷ J) legal = single_over J legal.0
+single_over (entry_is.Report call told ∷ J) legal = single_over J legal.0
+single_over (entry_is.Up server ∷ J) legal = single_over J legal.0
+single_over (entry_is.Down server ∷ J) legal = single_over J legal.0
+single_over (entry_is.Abort pid ∷ J) legal = single_over J legal.0

@@ -35,7 +35,8 @@ use Rattle.hm_serial.proofs.FallAll.{All, falls_all, none_at, step_aside}
 use Rattle.hm_serial.proofs.Fallen.{MayFall, may_on, root_of_node}
 use Rattle.hm_serial.proofs.FallStep.{belongs_here, kid_or_root, led_here, own_args, own_root, other_last}
 use Rattle.hm_serial.proofs.Kinship.{editless, is_kid, kid_rows}
-use Rattle.hm_serial.proofs.Standing.{TopIs, step_left}
+use Rattle.hm_model.proofs.Tops.{TopIs}
+use Rattle.hm_serial.proofs.Standing.{step_left}
 use Rattle.hm_single.specs.Calls.{MovesIn}
 use Rattle.hm_single.proofs.Lines.{is_creating, is_deleting}
 use Rattle.hm_single.proofs.Makes.{GoalIs, makes}

@@ -53,7 +53,7 @@ use Rattle.hm_serial.proofs.Apart.{Aside}
 use Rattle.hm_serial.proofs.FallAll.{All, falls_all, step_aside}
 use Rattle.hm_serial.proofs.Fallen.{MayFall, root_of_node}
 use Rattle.hm_serial.proofs.FallStep.{own_root}
-use Rattle.hm_serial.proofs.Standing.{TopIs}
+use Rattle.hm_model.proofs.Tops.{TopIs}
 use Rattle.hm_cover.proofs.Spared.{could_fall, late_stands, stack_is}
 use Rattle.hm_single.specs.Calls.{MovesIn}
 use Rattle.hm_single.proofs.Lines.{OnlyShuts, Sent, adds_kind, begins_shut, closer, closer_sends, disable_keeps, drops_kind, enabled_on, fill_makes, fills, first_open, is_creating, is_deleting, is_finish, is_on, is_shut, rests, shut_before, shut_next, shuts}
@@ -106,7 +106,7 @@ quiet_unmoved (args_are.LayoutCall root) region h m = none-some region m
 quiet_unmoved (args_are.SweepLayout root) region h m = none-some region m
 quiet_unmoved args region h m = false≢true h
 
-moved_goal : (act : Act) (args : Args) (region : Region) → GoalIs act args → moved_by args ≡ Some region → (goal : Goal) × (to : Option Server) × (args ≡ args_are.Transit region goal to) × (makes act ≡ Some goal)
+pub moved_goal : (act : Act) (args : Args) (region : Region) → GoalIs act args → moved_by args ≡ Some region → (goal : Goal) × (to : Option Server) × (args ≡ args_are.Transit region goal to) × (makes act ≡ Some goal)
 moved_goal act (args_are.Transit moved goal to) region g m = (goal, to, ap (λ r. args_are.Transit r goal to) (same_Some moved region m), g)
 moved_goal act (args_are.Root request first) region g m = absurd g
 moved_goal act (args_are.Crash server) region g m = absurd g

@@ -1,5 +1,5 @@
 -- A region whose Unassigns under a root have ended has no place while the root asks for it alone.
-use Rattle.std.proofs.Common.{◌≡◌, ◌≢◌, ℕ, ◌<◌, List, [], ◌∷◌, Bool, true, false, Option, Some, None, refl, ap, sym, ◌∙◌, subst, inl, inr, ◌⊎◌, slice_get, arith}
+use Rattle.std.proofs.Common.{◌≡◌, ◌≢◌, ℕ, ◌<◌, List, [], ◌∷◌, Bool, true, false, not, ◌&&◌, ◌||◌, Option, Some, None, refl, ap, sym, ◌∙◌, subst, inl, inr, ◌⊎◌, slice_get, arith}
 use Rattle.std.proofs.lemmas.Bool.{and_right, cases_Bool, cases_eq, cond-false, cond-true, false≢true, true≢false}
 use Rattle.std.proofs.lemmas.Option.{none-some, same_Some}
 use Rattle.hm_names.specs.Region.{Region}
@@ -43,24 +43,26 @@ use Rattle.hm_model.specs.Whereabouts.{moved_by}
 use Rattle.hm_model.proofs.KeyTests.{same_region-refl}
 use Rattle.hm_model.proofs.LegalSteps.{StepFacts, ready_stops}
 use Rattle.hm_model.proofs.StepDoes.{Does}
+use Rattle.hm_model.proofs.Free.{step_free}
 use Rattle.hm_model.proofs.Trees.{Grown, IsRooted, answer_now, does_of, down_rooted, grown_all, is_there, le_or_lt, node_same, old_or_new, other_answer, still_there, step_of, submit_rooted, undo_rooted}
 use Rattle.hm_kinds.proofs.Covering.{rows_table}
 use Rattle.hm_kinds.proofs.LockForms.{clash_sym, lock_law}
-use Rattle.hm_serial.proofs.Apart.{holds_open, step_top}
+use Rattle.hm_model.proofs.Tops.{holds_open, TopHolds, TopIs}
+use Rattle.hm_serial.proofs.Apart.{step_top}
 use Rattle.hm_serial.proofs.FallAll.{All, falls_all, none_at, stack_off, step_aside, undo_holds}
 use Rattle.hm_serial.proofs.Fallen.{root_of_node}
 use Rattle.hm_serial.proofs.FallStep.{own_begun}
-use Rattle.hm_serial.proofs.Standing.{Left, TopHolds, TopIs, ended_left, rooted_left, step_left, step_open}
-use Rattle.hm_single.specs.Calls.{AllFree, MovesIn}
-use Rattle.hm_single.specs.Theorem.{HeldPlacesStay, UnassignedAreUnplaced}
+use Rattle.hm_serial.proofs.Standing.{Left, ended_left, rooted_left, step_left, step_open}
+use Rattle.hm_single.specs.Calls.{MovesIn}
+use Rattle.hm_single.specs.Theorem.{HeldPlacesStay}
 use Rattle.hm_single.proofs.All.{kept_all}
-use Rattle.hm_single.proofs.Kept.{Kept}
+use Rattle.hm_single.proofs.Kept.{Lasting}
 use Rattle.hm_single.proofs.Placing.{giver, own_row, reads_own}
 use Rattle.hm_single.proofs.Stage.{StageFor, child_of_step, moved_if, the_region, work_of, worked}
 use Rattle.hm_single.proofs.Transit.{AtRest, AtRow, IsFreeRow, IsRest}
 
 -- where an Unassign is
-abbrev UnassignAt : Option Answer → Type 0
+abbrev pub UnassignAt : Option Answer → Type 0
 UnassignAt None = Unit {0}
 UnassignAt (Some (answer_is.More n)) = ⊥
 UnassignAt (Some (answer_is.Wait n)) = n ≡ 4
@@ -140,15 +142,15 @@ stage_answer J p r place last (answer_is.Done told) q made other a h = (tt, λ s
 stage_answer J p r place last (answer_is.Fail cause) q made other a h = (tt, λ stops. h)
 stage_answer J p r place last answer_is.Undone q made other a h = absurd a
 
-module _ (pid : Pid) (pick : Option Server) (out : StepOut) (J : Past) (legal : IsLegal (entry_is.Step pid pick out ∷ J)) (free : AllFree (entry_is.Step pid pick out ∷ J)) where
+module _ (pid : Pid) (pick : Option Server) (out : StepOut) (J : Past) (legal : IsLegal (entry_is.Step pid pick out ∷ J)) where
   abbrev J' : Past
   J' = entry_is.Step pid pick out ∷ J
 
   abbrev grown : Grown J
   grown = grown_all J legal.0
 
-  abbrev kept : Kept J
-  kept = kept_all J legal.0 free.0
+  abbrev kept : Lasting J
+  kept = kept_all J legal.0
 
   abbrev step : StepFacts J pid.0 pick out
   step = step_of pid pick out J (grown_all J legal.0) legal
@@ -204,7 +206,7 @@ module _ (pid : Pid) (pick : Option Server) (out : StepOut) (J : Past) (legal : 
 
     stage_now : UnassignAt (Some out.answer) × (is_stop out.answer ≡ true → IsRest J' (last_call J' region) (place_of J' region))
     stage_now =
-        let at_work : StageFor J' region (Some pid.0) = subst (StageFor J' region) (work_now region moves_it) ((kept_all J' legal free).stage region) in
+        let at_work : StageFor J' region (Some pid.0) = subst (StageFor J' region) (work_now region moves_it) ((kept_all J' legal).stage region) in
         stage_answer J' pid.0 region (place_of J' region) (last_call J' region) out.answer (child_of_step J' pid.0) (node_of J' (child_of_step J' pid.0)) (last_answer J' (child_of_step J' pid.0)) shuts.answers
         (subst (λ o. AtRow J' pid.0 region (place_of J' region) (last_call J' region) o (child_of_step J' pid.0) (node_of J' (child_of_step J' pid.0)) (last_answer J' (child_of_step J' pid.0))) (answer_now pid pick out J) at_work)
 
@@ -218,8 +220,32 @@ module _ (pid : Pid) (pick : Option Server) (out : StepOut) (J : Past) (legal : 
     pub unplaced_now : is_stop out.answer ≡ true → is_placed (place_of J' region) ≡ false
     unplaced_now stops = rest_shut J' (last_call J' region) (place_of J' region).state (place_of J' region).server (stage_now.1 stops) (shut_now stops)
 
+    -- one that goes on finds its region open
+    pub goes_placed : is_stop out.answer ≡ false → is_placed (place_of J region) ≡ true
+    goes_placed goes = elim (row_cases (last_answer J pid.0) refl at runs_now) [
+      | inl three ↦
+          let at_row : StepIn = step_input J pid.0 step.node pick in
+          let same : out ≡ close_or_go 4 goal_is.Unassign region (place_of J region) (is_open (place_of J region) at_row.fenced) =
+          out_by act_is.Close 4 (row_is 3 (fixed act_is.Close 4 true) three refl) ∙ ap (λ a. close_there 4 a (place_if J (moved_by a)) at_row.fenced) own in
+          by (is_open (place_of J region) at_row.fenced) refl (ap (λ (o : StepOut). is_stop o.answer) (sym same) ∙ goes)
+      | inr four ↦
+          let at_row : StepIn = step_input J pid.0 step.node pick in
+          let same : out ≡ confirm_closed (args_are.Transit region goal_is.Unassign to) at_row.ends =
+          out_by act_is.ConfirmClosed 0 (row_is 4 (fixed act_is.ConfirmClosed 0 true) four refl) ∙ ap (λ a. confirm_closed a at_row.ends) own in
+          absurd (true≢false (ap (λ (o : StepOut). is_stop o.answer) (sym same) ∙ goes))
+    ]
+      where
+        placed_open : (opening opened closing fenced : Bool) → (opened && not fenced) ≡ true → (opening || (opened || closing)) ≡ true
+        placed_open true opened closing fenced h = refl
+        placed_open false true closing fenced h = refl
+        placed_open false false closing fenced h = absurd (false≢true h)
+
+        by : (b : Bool) → is_open (place_of J region) (step_input J pid.0 step.node pick).fenced ≡ b → is_stop (close_or_go 4 goal_is.Unassign region (place_of J region) b).answer ≡ false → is_placed (place_of J region) ≡ true
+        by true opens runs = placed_open (is_state place_is.Opening (place_of J region)) (is_state place_is.Opened (place_of J region)) (is_state place_is.Closing (place_of J region)) (step_input J pid.0 step.node pick).fenced opens
+        by false shut runs = absurd (true≢false runs)
+
 -- where each Unassign is
-abbrev AllAt : Past → Type 0
+abbrev pub AllAt : Past → Type 0
 AllAt J = (p : ℕ) (x : Node) (region : Region) (to : Option Server) → node_of J p ≡ Some x → x.args ≡ args_are.Transit region goal_is.Unassign to → UnassignAt (last_answer J p)
 
 calm_at : (J J' : Past) → IsRooted J J' → Grown J → AllAt J → AllAt J'
@@ -228,30 +254,30 @@ calm_at J J' rooted grown before p x region to is own = elim (old_or_new J J' ro
   | inr new ↦ subst UnassignAt (sym new.3) tt
 ]
 
-at_all : (J : Past) → IsLegal J → AllFree J → AllAt J
-at_all [] legal free p x region to is own = absurd (none-some x is)
-at_all (entry_is.Start sheets ∷ J) legal free p x region to is own = at_all J legal.0 free p x region to is own
-at_all (entry_is.Submit nonce request ∷ J) legal free p x region to is own = let g = grown_all J legal.0 in calm_at J (entry_is.Submit nonce request ∷ J) (submit_rooted nonce request J g) g (at_all J legal.0 free) p x region to is own
-at_all (entry_is.Step pid pick out ∷ J) legal free p x region to is own = elim (cases_eq p pid.0) [
+pub at_all : (J : Past) → IsLegal J → AllAt J
+at_all [] legal p x region to is own = absurd (none-some x is)
+at_all (entry_is.Start sheets ∷ J) legal p x region to is own = at_all J legal.0 p x region to is own
+at_all (entry_is.Submit nonce request ∷ J) legal p x region to is own = let g = grown_all J legal.0 in calm_at J (entry_is.Submit nonce request ∷ J) (submit_rooted nonce request J g) g (at_all J legal.0) p x region to is own
+at_all (entry_is.Step pid pick out ∷ J) legal p x region to is own = elim (cases_eq p pid.0) [
   | inl same ↦
       let step = step_of pid pick out J (grown_all J legal.0) legal in
       let there = still_there pid pick out J (grown_all J legal.0) step (does_of pid pick out J (grown_all J legal.0) step) pid.0 step.node step.node_is in
       let one : step.node ≡ x = same_Some step.node x (sym there ∙ ap (node_of (entry_is.Step pid pick out ∷ J)) (sym same) ∙ is) in
       let mine : step.node.args ≡ args_are.Transit region goal_is.Unassign to = ap (λ (n : Node). n.args) one ∙ own in
-      subst UnassignAt (sym (ap (last_answer (entry_is.Step pid pick out ∷ J)) same ∙ answer_now pid pick out J)) (stage_now pid pick out J legal free region to mine (at_all J legal.0 free.0 pid.0 step.node region to step.node_is mine)).0
+      subst UnassignAt (sym (ap (last_answer (entry_is.Step pid pick out ∷ J)) same ∙ answer_now pid pick out J)) (stage_now pid pick out J legal region to mine (at_all J legal.0 pid.0 step.node region to step.node_is mine)).0
   | inr differs ↦ subst UnassignAt (sym (other_answer pid pick out J p differs)) (elim (le_or_lt p (made J)) [
-    | inl le ↦ at_all J legal.0 free.0 p x region to (sym (node_same pid pick out J p le) ∙ is) own
+    | inl le ↦ at_all J legal.0 p x region to (sym (node_same pid pick out J p le) ∙ is) own
     | inr lt ↦ subst UnassignAt (sym ((grown_all J legal.0).unmade p ((grown_all J legal.0).numbered p lt))) tt
   ])
 ]
-at_all (entry_is.Undo pid row out ∷ J) legal free p x region to is own = let g = grown_all J legal.0 in calm_at J (entry_is.Undo pid row out ∷ J) (undo_rooted pid row out J g) g (at_all J legal.0 free) p x region to is own
-at_all (entry_is.Report call told ∷ J) legal free p x region to is own = at_all J legal.0 free p x region to is own
-at_all (entry_is.Up server ∷ J) legal free p x region to is own = at_all J legal.0 free p x region to is own
-at_all (entry_is.Down server ∷ J) legal free p x region to is own = let g = grown_all J legal.0 in calm_at J (entry_is.Down server ∷ J) (down_rooted server J g) g (at_all J legal.0 free) p x region to is own
-at_all (entry_is.Abort pid ∷ J) legal free p x region to is own = at_all J legal.0 free p x region to is own
+at_all (entry_is.Undo pid row out ∷ J) legal p x region to is own = let g = grown_all J legal.0 in calm_at J (entry_is.Undo pid row out ∷ J) (undo_rooted pid row out J g) g (at_all J legal.0) p x region to is own
+at_all (entry_is.Report call told ∷ J) legal p x region to is own = at_all J legal.0 p x region to is own
+at_all (entry_is.Up server ∷ J) legal p x region to is own = at_all J legal.0 p x region to is own
+at_all (entry_is.Down server ∷ J) legal p x region to is own = let g = grown_all J legal.0 in calm_at J (entry_is.Down server ∷ J) (down_rooted server J g) g (at_all J legal.0) p x region to is own
+at_all (entry_is.Abort pid ∷ J) legal p x region to is own = at_all J legal.0 p x region to is own
 
 -- where an Unassign that has ended worked on a region last, the region has no place
-abbrev AllShut : Past → Type 0
+abbrev pub AllShut : Past → Type 0
 AllShut J =
     (region : Region) (p : ℕ) (x : Node) (to : Option Server) → work_of J region ≡ Some p → node_of J p ≡ Some x → x.args ≡ args_are.Transit region goal_is.Unassign to
     → is_stopped (last_answer J p) ≡ true → is_placed (place_of J region) ≡ false
@@ -262,7 +288,7 @@ calm_shut J J' rooted grown works places before region p x to work is own stoppe
   | inr new ↦ absurd (false≢true (sym (ap is_stopped new.3) ∙ stopped))
 ]
 
-module _ (pid : Pid) (pick : Option Server) (out : StepOut) (J : Past) (legal : IsLegal (entry_is.Step pid pick out ∷ J)) (free : AllFree (entry_is.Step pid pick out ∷ J)) (before : AllShut J) where
+module _ (pid : Pid) (pick : Option Server) (out : StepOut) (J : Past) (legal : IsLegal (entry_is.Step pid pick out ∷ J)) (before : AllShut J) where
   abbrev J2 : Past
   J2 = entry_is.Step pid pick out ∷ J
 
@@ -272,11 +298,11 @@ module _ (pid : Pid) (pick : Option Server) (out : StepOut) (J : Past) (legal : 
   abbrev done : Does J pid.0 facts.node.args (last_answer J pid.0) facts.sheet.rows out
   done = does_of pid pick out J (grown_all J legal.0) facts
 
-  abbrev kept_here : Kept J
-  kept_here = kept_all J legal.0 free.0
+  abbrev kept_here : Lasting J
+  kept_here = kept_all J legal.0
 
   -- a step of no transit of the region leaves its place
-  place_same : (region : Region) → is_the_region region (moved_by facts.node.args) ≡ false → place_of J2 region ≡ place_of J region
+  pub place_same : (region : Region) → is_the_region region (moved_by facts.node.args) ≡ false → place_of J2 region ≡ place_of J region
   place_same region off = ap (λ n. placed_by region (region_if n) out.place (place_of J region)) facts.node_is ∙ by out.place refl
     where
       by : (o : Option Place) → out.place ≡ o → placed_by region (region_of facts.node.args) o (place_of J region) ≡ place_of J region
@@ -292,13 +318,13 @@ module _ (pid : Pid) (pick : Option Server) (out : StepOut) (J : Past) (legal : 
   step_shut : AllShut (entry_is.Step pid pick out ∷ J)
   step_shut region p x to work is own stopped = elim (the_region region (moved_by facts.node.args)) [
     | inl m ↦
-        let same : pid.0 ≡ p = same_Some pid.0 p (sym (work_now pid pick out J legal free region m) ∙ work) in
+        let same : pid.0 ≡ p = same_Some pid.0 p (sym (work_now pid pick out J legal region m) ∙ work) in
         let one : facts.node ≡ x = same_Some facts.node x (sym (old_node pid.0 facts.node facts.node_is) ∙ ap (node_of J2) same ∙ is) in
         let mine : facts.node.args ≡ args_are.Transit region goal_is.Unassign to = ap (λ (n : Node). n.args) one ∙ own in
-        unplaced_now pid pick out J legal free region to mine (at_all J legal.0 free.0 pid.0 facts.node region to facts.node_is mine)
+        unplaced_now pid pick out J legal region to mine (at_all J legal.0 pid.0 facts.node region to facts.node_is mine)
         (ap is_stopped (sym (answer_now pid pick out J)) ∙ ap (λ q. is_stopped (last_answer J2 q)) same ∙ stopped)
     | inr off ↦
-        let was : work_of J region ≡ Some p = sym (work_same pid pick out J legal free region off) ∙ work in
+        let was : work_of J region ≡ Some p = sym (work_same pid pick out J legal region off) ∙ work in
         let its = (kept_here.worker p region was).0 in
         let one : its.0 ≡ x = same_Some its.0 x (sym (old_node p its.0 its.1) ∙ is) in
         let differs : p ≢ pid.0 = (λ same.
@@ -307,19 +333,19 @@ module _ (pid : Pid) (pick : Option Server) (out : StepOut) (J : Past) (legal : 
         ap is_placed (place_same region off) ∙ before region p x to was (its.1 ∙ ap Some one) own (ap is_stopped (sym (other_answer pid pick out J p differs)) ∙ stopped)
   ]
 
-shut_all : (J : Past) → IsLegal J → AllFree J → AllShut J
-shut_all [] legal free region p x to work is own stopped = absurd (none-some x is)
-shut_all (entry_is.Start sheets ∷ J) legal free region p x to work is own stopped = shut_all J legal.0 free region p x to work is own stopped
-shut_all (entry_is.Submit nonce request ∷ J) legal free region p x to work is own stopped = let g = grown_all J legal.0 in calm_shut J (entry_is.Submit nonce request ∷ J) (submit_rooted nonce request J g) g (λ r. refl) (λ r. refl) (shut_all J legal.0 free) region p x to work is own stopped
-shut_all (entry_is.Step pid pick out ∷ J) legal free region p x to work is own stopped = step_shut pid pick out J legal free (shut_all J legal.0 free.0) region p x to work is own stopped
-shut_all (entry_is.Undo pid row out ∷ J) legal free region p x to work is own stopped = let g = grown_all J legal.0 in calm_shut J (entry_is.Undo pid row out ∷ J) (undo_rooted pid row out J g) g (λ r. refl) (λ r. refl) (shut_all J legal.0 free) region p x to work is own stopped
-shut_all (entry_is.Report call told ∷ J) legal free region p x to work is own stopped = shut_all J legal.0 free region p x to work is own stopped
-shut_all (entry_is.Up server ∷ J) legal free region p x to work is own stopped = shut_all J legal.0 free region p x to work is own stopped
-shut_all (entry_is.Down server ∷ J) legal free region p x to work is own stopped = let g = grown_all J legal.0 in calm_shut J (entry_is.Down server ∷ J) (down_rooted server J g) g (λ r. refl) (λ r. refl) (shut_all J legal.0 free) region p x to work is own stopped
-shut_all (entry_is.Abort pid ∷ J) legal free region p x to work is own stopped = shut_all J legal.0 free region p x to work is own stopped
+pub shut_all : (J : Past) → IsLegal J → AllShut J
+shut_all [] legal region p x to work is own stopped = absurd (none-some x is)
+shut_all (entry_is.Start sheets ∷ J) legal region p x to work is own stopped = shut_all J legal.0 region p x to work is own stopped
+shut_all (entry_is.Submit nonce request ∷ J) legal region p x to work is own stopped = let g = grown_all J legal.0 in calm_shut J (entry_is.Submit nonce request ∷ J) (submit_rooted nonce request J g) g (λ r. refl) (λ r. refl) (shut_all J legal.0) region p x to work is own stopped
+shut_all (entry_is.Step pid pick out ∷ J) legal region p x to work is own stopped = step_shut pid pick out J legal (shut_all J legal.0) region p x to work is own stopped
+shut_all (entry_is.Undo pid row out ∷ J) legal region p x to work is own stopped = let g = grown_all J legal.0 in calm_shut J (entry_is.Undo pid row out ∷ J) (undo_rooted pid row out J g) g (λ r. refl) (λ r. refl) (shut_all J legal.0) region p x to work is own stopped
+shut_all (entry_is.Report call told ∷ J) legal region p x to work is own stopped = shut_all J legal.0 region p x to work is own stopped
+shut_all (entry_is.Up server ∷ J) legal region p x to work is own stopped = shut_all J legal.0 region p x to work is own stopped
+shut_all (entry_is.Down server ∷ J) legal region p x to work is own stopped = let g = grown_all J legal.0 in calm_shut J (entry_is.Down server ∷ J) (down_rooted server J g) g (λ r. refl) (λ r. refl) (shut_all J legal.0) region p x to work is own stopped
+shut_all (entry_is.Abort pid ∷ J) legal region p x to work is own stopped = shut_all J legal.0 region p x to work is own stopped
 
 -- who worked on a region last while a root asks for it alone, whose tree has worked on it: one of its tree
-record Worked (J : Past) (root : ℕ) (region : Region) : Type 0 where
+pub record Worked (J : Past) (root : ℕ) (region : Region) : Type 0 where
   pub begun : last_answer J root ≢ None
   pub p : ℕ
   pub node : Node
@@ -327,13 +353,13 @@ record Worked (J : Past) (root : ℕ) (region : Region) : Type 0 where
   pub node_is : node_of J p ≡ Some node
   pub in_tree : node.root ≡ root
 
-abbrev AllWorked : Past → Type 0
+abbrev pub AllWorked : Past → Type 0
 AllWorked J =
     (root : ℕ) (top : Node) → TopIs J root top → root_ended J root ≡ false → (region : Region) → covers top.args (key_is.Region region) ≡ true
     → (q : ℕ) (x : Node) → MovesIn J root region q x → last_answer J q ≢ None → Worked J root region
 
 -- a root that hasn't ended hadn't before
-still_open : (J J' : Past) (root : ℕ) → Left J J' root → root_ended J' root ≡ false → root_ended J root ≡ false
+pub still_open : (J J' : Past) (root : ℕ) → Left J J' root → root_ended J' root ≡ false → root_ended J root ≡ false
 still_open J J' root left running = elim (cases_Bool (root_ended J root)) [
   | inr off ↦ off
   | inl over ↦ absurd (true≢false (sym (ended_left J J' root left over) ∙ running))
@@ -350,7 +376,7 @@ above_root J forest root top at (first ∷ rest) q x is e (inr later) =
     let up = forest.ups q x is first rest e in
     sym up.3 ∙ above_root J forest root top at rest first up.0 up.1 up.2 later
 
-module _ (pid : Pid) (pick : Option Server) (out : StepOut) (J : Past) (legal : IsLegal (entry_is.Step pid pick out ∷ J)) (free : AllFree (entry_is.Step pid pick out ∷ J)) (before : AllWorked J) where
+module _ (pid : Pid) (pick : Option Server) (out : StepOut) (J : Past) (legal : IsLegal (entry_is.Step pid pick out ∷ J)) (before : AllWorked J) where
   abbrev J3 : Past
   J3 = entry_is.Step pid pick out ∷ J
 
@@ -364,10 +390,10 @@ module _ (pid : Pid) (pick : Option Server) (out : StepOut) (J : Past) (legal : 
   all = falls_all J legal.0
 
   -- a transit of the region that isn't of the root's tree doesn't step
-  stranger : (root : ℕ) (top : Node) → TopHolds J root top → (region : Region) → covers top.args (key_is.Region region) ≡ true → moved_by fact.node.args ≡ Some region → fact.node.root ≢ root → ⊥
+  pub stranger : (root : ℕ) (top : Node) → TopHolds J root top → (region : Region) → covers top.args (key_is.Region region) ≡ true → moved_by fact.node.args ≡ Some region → fact.node.root ≢ root → ⊥
   stranger root top holds region c m differs =
       let not_me : pid.0 ≢ root = (λ same. differs (ap (λ (n : Node). n.root) (same_Some fact.node top (sym fact.node_is ∙ ap (node_of J) same ∙ holds.0.0)) ∙ (grown_all J legal.0).tops root top holds.0.0 holds.0.1)) in
-      free.1 root ((λ none. none-some top (sym none ∙ holds.0.0)), holds_open J root top holds, inl holds.1) (
+      (step_free pid pick out J legal) root ((λ none. none-some top (sym none ∙ holds.0.0)), holds_open J root top holds, inl holds.1) (
         not_me,
         (
           (λ up. subst (IsIn pid.0) holds.0.1 (subst (IsAbove pid.0) holds.0.0 up)),
@@ -396,7 +422,7 @@ module _ (pid : Pid) (pick : Option Server) (out : StepOut) (J : Past) (legal : 
           begun = subst (λ r. last_answer J3 r ≢ None) own (own_begun pid pick out J (grown_all J legal.0) all.falls fact acts (step_aside pid pick out J legal all));
           p = pid.0;
           node = fact.node;
-          work = work_now pid pick out J legal free region (ap (λ (n : Node). moved_by n.args) one ∙ moves.2);
+          work = work_now pid pick out J legal region (ap (λ (n : Node). moved_by n.args) one ∙ moves.2);
           node_is = still_there pid pick out J (grown_all J legal.0) fact acts pid.0 fact.node fact.node_is;
           in_tree = own;
         }
@@ -429,11 +455,11 @@ module _ (pid : Pid) (pick : Option Server) (out : StepOut) (J : Past) (legal : 
 
               last : (p : ℕ) × (node : Node) × (work_of J3 region ≡ Some p) × (node_of J3 p ≡ Some node) × (node.root ≡ root)
               last = elim (the_region region (moved_by fact.node.args)) [
-                | inr off ↦ (w.p, w.node, work_same pid pick out J legal free region off ∙ w.work, still_there pid pick out J (grown_all J legal.0) fact acts w.p w.node w.node_is, w.in_tree)
+                | inr off ↦ (w.p, w.node, work_same pid pick out J legal region off ∙ w.work, still_there pid pick out J (grown_all J legal.0) fact acts w.p w.node w.node_is, w.in_tree)
                 | inl m ↦ (
                   pid.0,
                   fact.node,
-                  work_now pid pick out J legal free region m,
+                  work_now pid pick out J legal region m,
                   still_there pid pick out J (grown_all J legal.0) fact acts pid.0 fact.node fact.node_is,
                   elim (cases_eq fact.node.root root) [
                     | inl own ↦ own
@@ -471,7 +497,7 @@ calm_worked J J' rooted grown works running before root top at open_still region
           in_tree = w.in_tree;
         }
 
-undo_open : (pid : Pid) (row : ℕ) (out : StepOut) (J : Past) → IsLegal (entry_is.Undo pid row out ∷ J) → (root : ℕ) (top : Node) → TopIs J root top → root_ended (entry_is.Undo pid row out ∷ J) root ≡ false → root_ended J root ≡ false
+pub undo_open : (pid : Pid) (row : ℕ) (out : StepOut) (J : Past) → IsLegal (entry_is.Undo pid row out ∷ J) → (root : ℕ) (top : Node) → TopIs J root top → root_ended (entry_is.Undo pid row out ∷ J) root ≡ false → root_ended J root ≡ false
 undo_open pid row out J legal root top at running =
     let grown = grown_all J legal.0 in
     let falls = (falls_all J legal.0).falls in
@@ -480,44 +506,35 @@ undo_open pid row out J legal root top at running =
       | inr other ↦ still_open J (entry_is.Undo pid row out ∷ J) root (rooted_left J (entry_is.Undo pid row out ∷ J) (undo_rooted pid row out J grown) grown root top at refl (stack_off pid row out J legal grown falls root other) refl) running
     ]
 
-worked_all : (J : Past) → IsLegal J → AllFree J → AllWorked J
-worked_all [] legal free root top at running region c q x moves some = absurd (none-some x moves.0)
-worked_all (entry_is.Start sheets ∷ J) legal free root top at running region c q x moves some = absurd (none-some x (sym (none_at J legal.1.0.0 q) ∙ moves.0))
-worked_all (entry_is.Submit nonce request ∷ J) legal free root top at running region c q x moves some =
+pub worked_all : (J : Past) → IsLegal J → AllWorked J
+worked_all [] legal root top at running region c q x moves some = absurd (none-some x moves.0)
+worked_all (entry_is.Start sheets ∷ J) legal root top at running region c q x moves some = absurd (none-some x (sym (none_at J legal.1.0.0 q) ∙ moves.0))
+worked_all (entry_is.Submit nonce request ∷ J) legal root top at running region c q x moves some =
     let g = grown_all J legal.0 in
     let rooted = submit_rooted nonce request J g in
-    calm_worked J (entry_is.Submit nonce request ∷ J) rooted g (λ r. refl) (λ r t is h. still_open J (entry_is.Submit nonce request ∷ J) r (rooted_left J (entry_is.Submit nonce request ∷ J) rooted g r t is refl refl refl) h) (worked_all J legal.0 free) root top at running region c q x moves some
-worked_all (entry_is.Step pid pick out ∷ J) legal free root top at running region c q x moves some = step_worked pid pick out J legal free (worked_all J legal.0 free.0) root top at running region c q x moves some
-worked_all (entry_is.Undo pid row out ∷ J) legal free root top at running region c q x moves some =
+    calm_worked J (entry_is.Submit nonce request ∷ J) rooted g (λ r. refl) (λ r t is h. still_open J (entry_is.Submit nonce request ∷ J) r (rooted_left J (entry_is.Submit nonce request ∷ J) rooted g r t is refl refl refl) h) (worked_all J legal.0) root top at running region c q x moves some
+worked_all (entry_is.Step pid pick out ∷ J) legal root top at running region c q x moves some = step_worked pid pick out J legal (worked_all J legal.0) root top at running region c q x moves some
+worked_all (entry_is.Undo pid row out ∷ J) legal root top at running region c q x moves some =
     let g = grown_all J legal.0 in
-    calm_worked J (entry_is.Undo pid row out ∷ J) (undo_rooted pid row out J g) g (λ r. refl) (undo_open pid row out J legal) (worked_all J legal.0 free) root top at running region c q x moves some
-worked_all (entry_is.Report call told ∷ J) legal free root top at running region c q x moves some =
-    let w = worked_all J legal.0 free root top at running region c q x moves some in record { begun = w.begun; p = w.p; node = w.node; work = w.work; node_is = w.node_is; in_tree = w.in_tree }
-worked_all (entry_is.Up server ∷ J) legal free root top at running region c q x moves some =
-    let w = worked_all J legal.0 free root top at running region c q x moves some in record { begun = w.begun; p = w.p; node = w.node; work = w.work; node_is = w.node_is; in_tree = w.in_tree }
-worked_all (entry_is.Down server ∷ J) legal free root top at running region c q x moves some =
+    calm_worked J (entry_is.Undo pid row out ∷ J) (undo_rooted pid row out J g) g (λ r. refl) (undo_open pid row out J legal) (worked_all J legal.0) root top at running region c q x moves some
+worked_all (entry_is.Report call told ∷ J) legal root top at running region c q x moves some =
+    let w = worked_all J legal.0 root top at running region c q x moves some in record { begun = w.begun; p = w.p; node = w.node; work = w.work; node_is = w.node_is; in_tree = w.in_tree }
+worked_all (entry_is.Up server ∷ J) legal root top at running region c q x moves some =
+    let w = worked_all J legal.0 root top at running region c q x moves some in record { begun = w.begun; p = w.p; node = w.node; work = w.work; node_is = w.node_is; in_tree = w.in_tree }
+worked_all (entry_is.Down server ∷ J) legal root top at running region c q x moves some =
     let g = grown_all J legal.0 in
     let rooted = down_rooted server J g in
-    calm_worked J (entry_is.Down server ∷ J) rooted g (λ r. refl) (λ r t is h. still_open J (entry_is.Down server ∷ J) r (rooted_left J (entry_is.Down server ∷ J) rooted g r t is refl refl refl) h) (worked_all J legal.0 free) root top at running region c q x moves some
-worked_all (entry_is.Abort pid ∷ J) legal free root top at running region c q x moves some =
-    let w = worked_all J legal.0 free root top at running region c q x moves some in record { begun = w.begun; p = w.p; node = w.node; work = w.work; node_is = w.node_is; in_tree = w.in_tree }
-
-pub unassigned : UnassignedAreUnplaced
-unassigned J legal free root top top_is nil running region c all =
-    let some = all.0 in
-    let stopped = (all.1 some.0 some.1 some.2).1 in
-    let w = worked_all J legal free root top (top_is, nil) running region c some.0 some.1 some.2 (λ none. false≢true (sym (ap is_stopped none) ∙ stopped)) in
-    let m = ((kept_all J legal free).worker w.p region w.work).0 in
-    let its = all.1 w.p w.node (w.node_is, w.in_tree, ap (λ (n : Node). moved_by n.args) (same_Some w.node m.0 (sym w.node_is ∙ m.1)) ∙ m.2) in
-    shut_all J legal free region w.p w.node its.0.0 w.work w.node_is its.0.1 its.1
+    calm_worked J (entry_is.Down server ∷ J) rooted g (λ r. refl) (λ r t is h. still_open J (entry_is.Down server ∷ J) r (rooted_left J (entry_is.Down server ∷ J) rooted g r t is refl refl refl) h) (worked_all J legal.0) root top at running region c q x moves some
+worked_all (entry_is.Abort pid ∷ J) legal root top at running region c q x moves some =
+    let w = worked_all J legal.0 root top at running region c q x moves some in record { begun = w.begun; p = w.p; node = w.node; work = w.work; node_is = w.node_is; in_tree = w.in_tree }
 
 pub held_stay : HeldPlacesStay
-held_stay pid pick out J legal free root top top_is nil begun running region c =
+held_stay pid pick out J legal root top top_is nil begun running region c =
     let step = step_of pid pick out J (grown_all J legal.0) legal in
     elim (the_region region (moved_by step.node.args)) [
-      | inr off ↦ inr (place_same pid pick out J legal free (shut_all J legal.0 free.0) region off)
+      | inr off ↦ inr (place_same pid pick out J legal (shut_all J legal.0) region off)
       | inl m ↦ elim (cases_eq step.node.root root) [
         | inl own ↦ inl (ap root_in step.node_is ∙ own)
-        | inr other ↦ absurd (stranger pid pick out J legal free (worked_all J legal.0 free.0) root top ((top_is, nil), begun, running) region c m other)
+        | inr other ↦ absurd (stranger pid pick out J legal (worked_all J legal.0) root top ((top_is, nil), begun, running) region c m other)
       ]
     ]

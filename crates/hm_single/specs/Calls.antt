@@ -1,5 +1,5 @@
 -- What the calls about a region find, and who moves it.
-use Rattle.std.specs.Prelude.{◌≡◌, ℕ, ◌<◌, [], ◌∷◌, Option, Some, None, true, ◌⊎◌}
+use Rattle.std.specs.Prelude.{◌+◌, ◌≤◌, Bool, false, ◌≡◌, ℕ, ◌<◌, [], Option, Some, None, true, ◌⊎◌}
 use Rattle.hm_names.specs.Region.{Region}
 use Rattle.hm_names.specs.Server.{Server}
 use Rattle.hm_names.specs.declared.range.KeyRange.{KeyRange}
@@ -8,18 +8,19 @@ use Rattle.hm_data.specs.declared.call.Peer.TheVariants as peer_is
 use Rattle.hm_data.specs.declared.call.Told.TheVariants as told_is
 use Rattle.hm_data.specs.declared.call.Verb.{Verb}
 use Rattle.hm_data.specs.declared.call.Verb.TheVariants as verb_is
-use Rattle.hm_data.specs.declared.entry.Entry.TheVariants as entry_is
 use Rattle.hm_data.specs.declared.place.Goal.TheVariants as goal_is
+use Rattle.hm_data.specs.declared.request.Request.{Request}
+use Rattle.hm_data.specs.declared.request.Request.TheVariants as request_is
 use Rattle.hm_model.specs.Answers.{is_stopped, last_answer, report_of, row_of}
 use Rattle.hm_model.specs.Catalog.{cat}
-use Rattle.hm_model.specs.Holding.{HoldsWith, IsFree}
+use Rattle.hm_model.specs.Holding.{HoldsWith}
 use Rattle.hm_model.specs.Journal.{Past}
 use Rattle.hm_model.specs.Places.{place_of}
 use Rattle.hm_model.specs.Ranges.{IsLiveWith}
 use Rattle.hm_model.specs.Reports.{verb_of, peer_of, last_call}
 use Rattle.hm_model.specs.Single.{IsOver, IsGone}
 use Rattle.hm_model.specs.TransitActs.{is_placed}
-use Rattle.hm_model.specs.Tree.{Node, node_of}
+use Rattle.hm_model.specs.Tree.{Node, new_ids, node_of}
 use Rattle.hm_model.specs.Whereabouts.{moved_by}
 
 -- a procedure is a transit of the region
@@ -30,12 +31,11 @@ Moves J p region = (node : Node) × (node_of J p ≡ Some node) × (moved_by nod
 abbrev pub MovesIn : Past → ℕ → Region → ℕ → Node → Type 0
 MovesIn J root region p node = (node_of J p ≡ Some node) × (node.root ≡ root) × (moved_by node.args ≡ Some region)
 
--- a root's tree has transits of the region, all of them Unassigns that have ended
-abbrev pub AllUnassigned : Past → ℕ → Region → Type 0
-AllUnassigned J root region =
-    ((p : ℕ) × (node : Node) × MovesIn J root region p node)
-    × ((p : ℕ) (node : Node) → MovesIn J root region p node
-    → ((to : Option Server) × (node.args ≡ args_are.Transit region goal_is.Unassign to)) × (is_stopped (last_answer J p) ≡ true))
+-- a transit of the region in a root's tree has ended, and all of that region there are Unassigns
+abbrev pub OneUnassigned : Past → ℕ → Region → Type 0
+OneUnassigned J root region =
+    ((p : ℕ) × (node : Node) × MovesIn J root region p node × (is_stopped (last_answer J p) ≡ true))
+    × ((p : ℕ) (node : Node) → MovesIn J root region p node → (to : Option Server) × (node.args ≡ args_are.Transit region goal_is.Unassign to))
 
 -- a transit of the region has a step and hasn't ended, and this is the row that it runs next
 abbrev pub NextIs : Past → Region → ℕ → Type 0
@@ -57,6 +57,17 @@ IsVoidCall J p = (report_of J p ≡ Some told_is.FailedOpen) ⊎ ((report_of J p
 abbrev pub IsVoid : Past → Option ℕ → Type 0
 IsVoid J None = Unit {0}
 IsVoid J (Some p) = IsVoidCall J p
+
+-- the requests that have regions closed before they go on
+abbrev pub closes_first : Request → Bool
+closes_first (request_is.DisableTable table) = true
+closes_first (request_is.SplitRegion region key) = true
+closes_first (request_is.MergeRegions regions) = true
+closes_first request = false
+
+-- a region has an id that a request drew
+abbrev pub IsNewOf : Request → ℕ → Region → Type 0
+IsNewOf request first region = (first ≤ region.id) × (region.id < first + new_ids request)
 
 -- the last call of a region opened it at the server
 abbrev pub IsOpenedBy : Past → Option ℕ → Server → Type 0
@@ -90,18 +101,6 @@ MayOpen before (Some (verb_is.CloseRegion region)) = Unit {0}
 MayOpen before (Some (verb_is.Fence server)) = Unit {0}
 MayOpen before (Some (verb_is.Layout root)) = Unit {0}
 MayOpen before (Some (verb_is.Sweep root)) = Unit {0}
-
--- each step was of a procedure that conflicted with none that held. Where locks are taken this is part of what may follow.
-abbrev pub AllFree : Past → Type 0
-AllFree [] = Unit {0}
-AllFree (entry_is.Start sheets ∷ before) = AllFree before
-AllFree (entry_is.Submit nonce request ∷ before) = AllFree before
-AllFree (entry_is.Step pid pick out ∷ before) = AllFree before × IsFree before [] pid.0
-AllFree (entry_is.Undo pid row out ∷ before) = AllFree before
-AllFree (entry_is.Report call told ∷ before) = AllFree before
-AllFree (entry_is.Up server ∷ before) = AllFree before
-AllFree (entry_is.Down server ∷ before) = AllFree before
-AllFree (entry_is.Abort pid ∷ before) = AllFree before
 
 -- each region that is open, or being opened or closed, is live
 abbrev pub PlacedAreLive : Past → Type 0

@@ -1,5 +1,5 @@
 //! The laws.
-ghost use Rattle.hm_single.specs.Theorem.{LastIsRecorded, OneTransit, PlaceByRow, CallsFind, OpeningsAreSingle, OpenedAreTold, UnplacedAreFree, PlacedWhereLive, HeldPlacesStay, UnassignedAreUnplaced, PlacedLive, PlacedWhereOn, SingleOverRanges};
+ghost use Rattle.hm_single.specs.Theorem.{LastIsRecorded, OneTransit, PlaceByRow, CallsFind, OpeningsAreSingle, OpenedAreTold, UnplacedAreFree, PlacedWhereLive, HeldPlacesStay, UnassignedAreUnplaced, ClosedAreUnplaced, PlacedLive, PlacedWhereOn, SingleOverRanges};
 
 /// The last call about a region is recorded.
 pub fn last_calls_are_recorded()
@@ -31,11 +31,13 @@ pub fn live_regions_are_placed()
 {}
 
 /// While a root that hasn't ended asks for a region alone, as a split, a merge and a table's disabling do, only its tree
-/// changes the region's place; and the region is neither open nor being opened or closed once its Unassigns under the root
-/// have ended.
+/// changes the region's place; and the region is neither open nor being opened or closed once an Unassign of it under the root
+/// has ended, where the tree moves it by Unassigns alone. So it is under a disabling, a split and a merge, of each region but
+/// those that a split or a merge makes.
 pub fn unassigned_are_unplaced()
     ensures held { HeldPlacesStay }
     ensures unplaced { UnassignedAreUnplaced }
+    ensures closed { ClosedAreUnplaced }
 {}
 
 /// A region that is open, or being opened or closed, is live, and its table is there and isn't disabled.

@@ -1,7 +1,7 @@
 //! What every legal journal says of the calls about a region and of its place: one transit at a time works on it, its
 //! place is that of the transit's row and tells of its calls, and an opening finds the earlier ones over, of overlapping
-//! regions too. A region has a place only while it is live, and none once its Unassigns under a root that asks for it alone
-//! have ended. Each function is a law: its contract is proved, and its body has nothing to do.
+//! regions too. A region has a place only while it is live, and none once its Unassign under a root that asks for it alone
+//! has ended. Each function is a law: its contract is proved, and its body has nothing to do.
 #![tactic(auto)]
 
 mod laws;

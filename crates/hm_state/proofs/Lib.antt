@@ -1,7 +1,3 @@
-mod Places
-mod Readings
-mod Keeps
-mod Ties
-mod Judged
-mod JudgedMore
-mod Starts
+mod Valid
+mod Ending
+mod Going

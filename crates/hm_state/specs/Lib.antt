@@ -1,5 +1,3 @@
-pub mod Nonces
-pub mod Rows
-pub mod Records
+pub mod Ended
 pub mod Ready
 pub mod State

@@ -1,12 +1,11 @@
-//! The state of a journal: its entries, and beside them what they say, to be found fast.
+//! The state of a journal: its entries, and what they say, to be found fast.
 #![tactic(auto)]
 
-mod nonces;
+mod ended;
 mod ready;
-mod records;
 mod room;
-mod rows;
+mod sheets;
 mod state;
 
 pub use ready::Ready;
-pub use state::{NotAllowed, State};
+pub use state::State;

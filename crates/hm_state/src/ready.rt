@@ -1,81 +1,44 @@
-ghost use Rattle.std.specs.Prelude.{◌≡◌, IfOk};
+//! An entry for which there is room.
+ghost use Rattle.std.specs.Prelude.{◌≡◌, drop};
+ghost use Rattle.hm_records.specs.Parts.{AreParts};
 
-use crate::room::beside;
-use hm_data::{Edit, Entry, Request};
-use hm_names::{Copied, List};
-use std::alloc::{AllocError, Global};
+use hm_data::Entry;
+use hm_procedures::Journal;
+use hm_records::Parts;
 use std::marker::Model;
 
-/// An entry for which there is room. Contracts see the entry.
+/// An entry for which there is room. Contracts see the entry and the journal that it was made ready for.
 #[derive(Drop)]
 pub struct Ready {
+    // The journal with the entry, for proofs alone.
+    pub(crate) journal: Journal,
     pub(crate) entry: Entry,
-    pub(crate) request: Option<Request>,
-    pub(crate) edits: List<Edit>,
+    pub(crate) parts: Parts,
 }
 
 impl Model for Ready {
-    ghost use Rattle.hm_data.specs.declared.entry.Entry.{Entry};
-    ghost use Rattle.hm_state.specs.Ready.{AreCopies};
+    ghost use Rattle.std.specs.Prelude.{drop};
+    ghost use Rattle.hm_records.specs.Parts.{AreParts};
+    ghost use Rattle.hm_state.specs.Ready.{ReadyView};
 
-    ghost Value = { Entry };
+    ghost Value = { ReadyView };
 
-    ghost view = { λ s. s.entry };
+    ghost view = { λ s. record { entry = s.entry; past = drop 1 s.journal.entries } };
 
-    ghost invariant = { λ s. AreCopies s.entry s.request s.edits };
-}
-
-ghost use Rattle.hm_state.specs.Ready.{entry_request, entry_edits, AreCopies};
-
-// A copy of what an entry asks for.
-fn request_of(alloc: Global, entry: &Entry) -> Result<Option<Request>, AllocError>
-    ensures { IfOk result (λ request. request ≡ entry_request entry.now) }
-{
-    match entry {
-        Entry::Submit { nonce: _, request } => Ok(Some(request.copy(alloc)?)),
-        _ => Ok(None),
-    }
-}
-
-// A copy of what an entry changes in the catalog.
-fn edits_of(alloc: Global, entry: &Entry) -> Result<List<Edit>, AllocError>
-    ensures { IfOk result (λ edits. edits ≡ entry_edits entry.now) }
-{
-    match entry {
-        Entry::Step {
-            pid: _,
-            pick: _,
-            out,
-        } => out.edits.copy(alloc),
-        Entry::Undo {
-            pid: _,
-            row: _,
-            out,
-        } => out.edits.copy(alloc),
-        _ => Ok(List::of(Vec::new(alloc))),
-    }
+    ghost invariant = { λ s. AreParts (drop 1 s.journal.entries) s.entry s.parts };
 }
 
 impl Ready {
-    // A copy of the entry, and of those parts of it that are kept beside the entries.
-    pub(crate) fn of(alloc: Global, entry: &Entry) -> Result<Ready, AllocError>
-        ensures { IfOk result (λ ready. ready ≡ entry.now) }
-    {
-        let edits = edits_of(alloc, entry)?;
-        let parts = beside(request_of(alloc, entry), edits)?;
-        let (copy, (request, edits)) = beside(entry.copy(alloc), parts)?;
-        Ok(Ready::with(copy, request, edits))
-    }
-
-    // An entry, and copies of those parts of it.
-    fn with(entry: Entry, request: Option<Request>, edits: List<Edit>) -> Ready
-        requires { AreCopies entry request edits }
-        ensures { result ≡ entry }
+    // An entry with what is kept of it behind the journal, which has it.
+    pub(crate) fn with(journal: Journal, entry: Entry, parts: Parts) -> Ready
+        requires { AreParts (drop 1 journal.entries) entry parts }
+        ensures entry { result.entry ≡ entry }
+        ensures past { result.past ≡ drop 1 journal.entries }
     {
         Ready {
+            journal,
             entry,
-            request,
-            edits,
+            parts,
         }
     }
 }

@@ -1,16 +1,16 @@
-//! Vectors in which there is room.
-ghost use Rattle.std.specs.Prelude.{◌≡◌, ◌+◌, ◌≤◌, ◌<◌, ◌++◌, ◌∷◌, [], vec_len, vec_capacity, Ok, IfOk};
+//! What was made beside a value, and a vector in which there is room.
+ghost use Rattle.std.specs.Prelude.{◌≡◌, ◌+◌, ◌<◌, ◌++◌, ◌∷◌, [], vec_len, vec_capacity, Ok, IfOk};
 
 use std::alloc::AllocError;
 
-// What a copy answered, with a value beside it.
+// What a call made, with a value beside it.
 pub(crate) fn beside<T: Drop, U: Drop>(
-    copy: Result<T, AllocError>,
+    made: Result<T, AllocError>,
     value: U,
 ) -> Result<(T, U), AllocError>
-    ensures { IfOk result (λ pair. (copy ≡ Ok pair.0) × (pair.1 ≡ value)) }
+    ensures { IfOk result (λ pair. (made ≡ Ok pair.0) × (pair.1 ≡ value)) }
 {
-    Ok((copy?, value))
+    Ok((made?, value))
 }
 
 // Adds an item at the end, in room that was made for it.

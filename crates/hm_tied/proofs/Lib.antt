@@ -1,11 +1,11 @@
-mod Going
+pub mod Going
 mod Rows
-mod Calls
+pub mod Calls
 mod Entering
 mod Picking
 mod Staying
-mod Others
-mod Stepping
-mod Undoing
-mod Uses
-mod Settled
+pub mod Others
+pub mod Stepping
+pub mod Undoing
+pub mod Uses
+pub mod Settled

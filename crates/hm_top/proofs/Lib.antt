@@ -1,7 +1,6 @@
 pub mod Agreeing
 pub mod Pieces
 pub mod Stores
-pub mod Roots
 pub mod Growth
 pub mod Offered
 pub mod Steps

@@ -1,5 +1,5 @@
 -- The steps that settling makes, and what they leave.
-use Rattle.std.proofs.Common.{◌≡◌, ◌≢◌, ℕ, List, [], ◌∷◌, ◌++◌, IsTrue, Option, Some, None, Result, Ok, Err, refl, sym, ap, ◌∙◌, subst, append-nil, append_assoc}
+use Rattle.std.proofs.Common.{◌≡◌, ◌≢◌, ℕ, List, [], ◌∷◌, ◌++◌, IsTrue, Option, Some, None, Result, Ok, Err, refl, inl, sym, ap, ◌∙◌, subst, append-nil, append_assoc}
 use Rattle.std.specs.Prelude.{IfOk, OnErr}
 use Rattle.hm_names.specs.Server.{Server}
 use Rattle.hm_names.specs.declared.pid.Pid.{Pid}
@@ -21,7 +21,8 @@ use Rattle.hm_model.proofs.Counting.{available_unstopped, may_step, picks_iff}
 use Rattle.hm_model.proofs.Prefixes.{back-push}
 use Rattle.hm_model.proofs.Sheets.{said_alike}
 use Rattle.hm_model.proofs.Stages.{flat_all, simple_all}
-use Rattle.hm_state.specs.State.{IsFirst, IsInput}
+use Rattle.hm_judge.specs.Inputs.{CanEvaluate, IsInput}
+use Rattle.hm_state.specs.State.{IsFirst}
 use Rattle.hm_top.specs.Answer.{AnswersAt}
 use Rattle.hm_top.specs.declared.answer.Answer.{Answer}
 use Rattle.hm_script.specs.declared.command.Command.TheVariants as command_is
@@ -49,11 +50,11 @@ same_sheet : (J : Past) → IsLegal J → (p : ℕ) (pick : Option Server) (at :
 same_sheet J legal p pick at sheets agree may is = agree at.kind (kind_runs J legal p pick at may is)
 
 -- the registry can be run there
-pub runs_there : (J : Past) → IsLegal J → (p : ℕ) (pick : Option Server) (at : StepIn) (sheets : List Sheet) → AgreeOn sheets (sheets_of J) → IsAvailable J [] [] p → IsInput J p pick at
-    → (MayStep J p → CanRun (sheets_of J) at) → CanRun sheets at
-runs_there J legal p pick at sheets agree available is runs =
+pub runs_there : (J : Past) → IsLegal J → (p : ℕ) (at : StepIn) (sheets : List Sheet) → AgreeOn sheets (sheets_of J) → IsAvailable J [] [] p → IsInput J p None at
+    → (CanEvaluate J p None → CanRun (sheets_of J) at) → CanRun sheets at
+runs_there J legal p at sheets agree available is runs =
     let may = may_on J legal p available in
-    subst (λ (o : Option Sheet). CanBeAsked o at) (sym (same_sheet J legal p pick at sheets agree may is)) (runs may)
+    subst (λ (o : Option Sheet). CanBeAsked o at) (sym (same_sheet J legal p None at sheets agree may is)) (runs (inl (may, (picks_iff J legal p None may).1 refl)))
 
 -- what the registry answers is what the journal's sheet says
 evaluated : (J : Past) → IsLegal J → (p : ℕ) (pick : Option Server) (at : StepIn) (sheets : List Sheet) (out : StepOut) → AgreeOn sheets (sheets_of J) → MayStep J p → IsInput J p pick at

@@ -1,7 +1,7 @@
 -- What a recorder keeps, as a run stands.
-use Rattle.std.proofs.Common.{◌≡◌, ◌≢◌, ℕ, List, [], ◌∷◌, ◌++◌, Option, Some, None, Result, Ok, All, refl, sym, ap, ◌∙◌, subst}
+use Rattle.std.proofs.Common.{◌≡◌, ◌≢◌, ℕ, ◌<◌, List, [], ◌∷◌, ◌++◌, length, Option, Some, None, Result, Ok, All, refl, arith, sym, ap, ◌∙◌, subst}
 use Rattle.std.specs.Prelude.{IfSome}
-use Rattle.std.proofs.lemmas.List.{reverse-append}
+use Rattle.std.proofs.lemmas.List.{length-reverse, reverse-append}
 use Rattle.std.proofs.lemmas.List.Elements.{All-append, All-cons, All-nil}
 use Rattle.hm_names.specs.Names.{IsNs}
 use Rattle.hm_names.specs.declared.nonce.Nonce.{Nonce}
@@ -11,13 +11,14 @@ use Rattle.hm_data.specs.declared.sheet.Sheet.{Sheet}
 use Rattle.hm_entry.specs.Fits.{EntryFits}
 use Rattle.hm_model.specs.Journal.{back}
 use Rattle.hm_model.specs.Rules.{Allowed, IsLegal}
+use Rattle.hm_model.specs.Sheets.{sheets_of}
 use Rattle.hm_hall.specs.Recording.{CanBeRecorded, Recording, Records, next_of, with_next}
 use Rattle.hm_hall.specs.declared.fault.Halt.{Halt}
 use Rattle.hm_hall.specs.declared.fault.Halt.TheVariants as halt_is
 use Rattle.hm_hall.specs.declared.fault.RecordFault.{RecordFault}
 use Rattle.hm_journal.proofs.Recorded.{submit_recorded}
 use Rattle.hm_journal.specs.Since.{with_tail}
-use Rattle.hm_journal.specs.Stored.{opened}
+use Rattle.hm_journal.specs.Stored.{IsJournal, opened}
 use Rattle.hm_journal.specs.declared.limits.Limits.{Limits}
 use Rattle.hm_top.specs.Answer.{submission}
 use Rattle.hm_top.specs.Standing.{Comes, Standing, begun, recorded_as}
@@ -90,3 +91,23 @@ legal_tail entries (Some entry) legal allowed = legal_next entries entry legal a
 -- the entry that asks for a namespace can be recorded
 pub submission_fits : (given : Nonce) (ns : List ℕ) → IsNs ns → CanBeRecorded (submission given ns)
 submission_fits given ns named = submit_recorded given (request_is.CreateNamespace ns) refl named
+
+-- a journal that was just opened, with its state
+pub opened_world : (entries : List Entry) (count : ℕ) (kept : Recording) → entries ≡ kept.entries → IsLegal (back entries) → count ≡ length entries → 0 < count → All EntryFits kept.entries
+    → kept.tail ≡ None → IsWorld entries kept
+opened_world entries count kept same legal is some fits tailless = record {
+  same = same;
+  legal = subst (λ (es : List Entry). IsLegal (back es)) same legal;
+  begun = λ none. (let size = ap length none in let turned = length-reverse kept.entries in let alike = ap length same in absurd (omega (arith, size, turned, alike, is, some)));
+  fits = fits;
+  tailless = λ going. tailless;
+  tail_allowed = subst (λ (t : Option Entry). IfSome t (Allowed (back kept.entries))) (sym tailless) tt;
+}
+
+-- it begins with its sheets
+pub opened_sheets : (sheets : List Sheet) (old entries : List Entry) → IsJournal sheets old → entries ≡ opened sheets old → sheets_of (back entries) ≡ sheets
+opened_sheets sheets old entries is are = ap (λ (es : List Entry). sheets_of (back es)) are ∙ by old is
+  where
+    by : (old : List Entry) → IsJournal sheets old → sheets_of (back (opened sheets old)) ≡ sheets
+    by [] is = refl
+    by (entry ∷ more) is = is.begins (λ none. cc)

@@ -1,5 +1,5 @@
 -- What each answer says, and which answers a command may have.
-use Rattle.std.specs.Prelude.{◌≡◌, ◌≢◌, ◌⊎◌, ℕ, ◌+◌, List, [], ◌∷◌, ◌++◌, length, codes, string_bytes, Option, Some, None, MatchOption}
+use Rattle.std.specs.Prelude.{◌≡◌, ◌≢◌, ◌⊎◌, ℕ, ◌+◌, List, [], ◌∷◌, ◌++◌, length, codes, Option, Some, None, MatchOption}
 use Rattle.std.specs.Fmt.{decimal}
 use Rattle.hm_names.specs.declared.nonce.Nonce.{Nonce}
 use Rattle.hm_data.specs.declared.args.Args.{Args}
@@ -21,7 +21,7 @@ use Rattle.hm_script.specs.declared.command.Command.{Command}
 use Rattle.hm_script.specs.declared.command.Command.TheVariants as command_is
 use Rattle.hm_top.specs.Settling.{AreSteps, IsNextStep, IsWorked}
 use Rattle.hm_top.specs.Standing.{Comes, Standing, recording}
-use Rattle.hm_top.specs.Table.{procs_table}
+use Rattle.hm_show.specs.Procs.{procs_table}
 
 -- what halted the run
 abbrev pub halt_text : Halt → List ℕ
@@ -37,7 +37,7 @@ answer_text (answer_is.NonceClash pid) = codes "refused NonceClash " ++ decimal 
 answer_text (answer_is.JournalFull bytes) = codes "refused JournalFull " ++ decimal bytes ++ codes "\n"
 answer_text (answer_is.Settled at) = codes "settled at " ++ decimal at ++ codes "\n"
 answer_text (answer_is.Waiting at roots) = codes "waiting at " ++ decimal at ++ codes ": " ++ decimal roots ++ codes "\n"
-answer_text (answer_is.Table text) = string_bytes text
+answer_text (answer_is.Table table) = table.items
 answer_text (answer_is.Halted why) = codes "halted " ++ halt_text why ++ codes "\n"
 
 -- the entry of a submission
@@ -91,7 +91,7 @@ AnswersSettle old answer new = ⊥
 abbrev pub AnswersAt : Command → Standing → Answer → Standing → Type 0
 AnswersAt (command_is.Namespace nonce ns) old answer new = AnswersNamespace nonce ns old answer new
 AnswersAt command_is.Settle old answer new = AnswersSettle old answer new
-AnswersAt command_is.Procs old (answer_is.Table text) new = (string_bytes text ≡ procs_table (back old.journal)) × (new ≡ old)
+AnswersAt command_is.Procs old (answer_is.Table table) new = (table.items ≡ procs_table (back old.journal)) × (new ≡ old)
 AnswersAt _ old _ new = ⊥
 
 -- From old, the command may have this answer, and then new is left. While the run is halted each answer says so.

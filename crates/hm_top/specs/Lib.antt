@@ -1,6 +1,5 @@
 pub mod Words
 pub mod Script
-pub mod Table
 pub mod Standing
 pub mod Settling
 pub mod Answer

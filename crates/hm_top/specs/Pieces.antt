@@ -7,4 +7,5 @@ use Rattle.hm_top.specs.declared.piece.Piece.TheVariants as piece_is
 -- the text of a piece
 abbrev pub piece_text : Piece → List ℕ
 piece_text (piece_is.Text text) = text.now
+piece_text (piece_is.Bytes bytes) = bytes.now
 piece_text (piece_is.Number number) = decimal number

@@ -5,7 +5,7 @@ ghost use Rattle.hm_top.specs.Answer.{answer_text};
 ghost use Rattle.hm_top.specs.Pieces.{piece_text};
 
 use crate::piece::{NONE, Piece};
-use Piece::{Number, Text};
+use Piece::{Bytes, Number, Text};
 use hm_hall::Halt;
 
 /// The lines that the run writes for the opening and for each command.
@@ -26,7 +26,7 @@ pub enum Answer {
     /// Nothing can go on, with so many entries in the journal, and so many roots haven't ended.
     Waiting(u64, u64),
     /// A table, whole.
-    Table(String),
+    Table(Vec<u8>),
     /// Nothing is recorded any more, for this reason, which came now or before.
     Halted(Halt),
 }
@@ -63,7 +63,7 @@ impl Answer {
                     end,
                 ]
             }
-            Answer::Table(text) => [Text(text.as_str()), NONE, NONE, NONE, NONE],
+            Answer::Table(table) => [Bytes(table.as_slice()), NONE, NONE, NONE, NONE],
             Answer::Halted(Halt::LogFault) => [Text("halted LogFault\n"), NONE, NONE, NONE, NONE],
             Answer::Halted(Halt::JournalFull(bytes)) => {
                 [Text("halted JournalFull "), Number(*bytes), end, NONE, NONE]

@@ -30,7 +30,7 @@ fn say<K: Sink>(alloc: Global, out: &mut K, answer: &Answer) -> Result<(), Faile
 {
     let pieces = answer.pieces();
     match joined(alloc, &pieces) {
-        Ok(text) => write_all(out, text.as_bytes()),
+        Ok(text) => write_all(out, text.as_slice()),
         Err(_) => put_all(out, &pieces),
     }
 }

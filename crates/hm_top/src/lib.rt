@@ -10,7 +10,6 @@ mod last_line;
 mod laws;
 mod piece;
 mod status;
-mod table;
 mod words;
 mod world;
 

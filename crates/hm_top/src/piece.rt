@@ -1,5 +1,5 @@
 //! Text in pieces, whose writing takes no memory.
-ghost use Rattle.std.specs.Prelude.{◌≡◌, ◌++◌, IfOk, OnOk, OnErr, string_bytes};
+ghost use Rattle.std.specs.Prelude.{◌≡◌, ◌++◌, IfOk, OnOk, OnErr};
 ghost use Rattle.std.specs.List.{flat_map};
 ghost use Rattle.hm_ports.specs.Faults.{HasCause};
 ghost use Rattle.hm_top.specs.Got.{IsPartOf};
@@ -8,16 +8,16 @@ ghost use Rattle.hm_top.specs.Pieces.{piece_text};
 use hm_ports::{Failed, Sink, write_all};
 use itoa::Buffer;
 use std::alloc::{AllocError, Global};
-use std::fmt::Write;
 
 /// A piece of a text.
 #[derive(Clone, Copy)]
 pub(crate) enum Piece<'a> {
     Text(&'a str),
+    Bytes(&'a [u8]),
     Number(u64),
 }
 
-use Piece::{Number, Text};
+use Piece::{Bytes, Number, Text};
 
 /// A piece that isn't there.
 pub(crate) const NONE: Piece<'static> = Text("");
@@ -30,6 +30,7 @@ fn put<K: Sink>(out: &mut K, piece: &Piece<'_>) -> Result<(), Failed>
 {
     match piece {
         Text(text) => write_all(out, text.as_bytes()),
+        Bytes(bytes) => write_all(out, bytes),
         Number(number) => write_all(out, Buffer::new().format(*number).as_bytes()),
     }
 }
@@ -47,20 +48,21 @@ pub(crate) fn put_all<K: Sink>(out: &mut K, pieces: &[Piece<'_>]) -> Result<(), 
 }
 
 // Appends a piece to a text.
-fn append(text: &mut String, piece: &Piece<'_>) -> Result<(), AllocError>
-    ensures { OnOk result (string_bytes text.new ≡ string_bytes text.old ++ piece_text piece.now) }
+fn append(text: &mut Vec<u8>, piece: &Piece<'_>) -> Result<(), AllocError>
+    ensures { OnOk result (text.new.items ≡ text.old.items ++ piece_text piece.now) }
 {
     match piece {
-        Text(part) => text.push_str(part),
-        Number(number) => write!(text, "{number}"),
+        Text(part) => text.extend_from_slice(part.as_bytes()),
+        Bytes(bytes) => text.extend_from_slice(bytes),
+        Number(number) => text.extend_from_slice(Buffer::new().format(*number).as_bytes()),
     }
 }
 
 /// The pieces as one text.
-pub(crate) fn joined(alloc: Global, pieces: &[Piece<'_>]) -> Result<String, AllocError>
-    ensures { IfOk result (λ text. string_bytes text ≡ flat_map piece_text pieces.now) }
+pub(crate) fn joined(alloc: Global, pieces: &[Piece<'_>]) -> Result<Vec<u8>, AllocError>
+    ensures { IfOk result (λ text. text.items ≡ flat_map piece_text pieces.now) }
 {
-    let mut text = String::new(alloc);
+    let mut text = Vec::new(alloc);
     for piece in pieces {
         append(&mut text, piece)?;
     }

@@ -30,7 +30,6 @@ ghost use Rattle.hm_top.specs.View.{Fits, IsLeftBy, standing_in, standing_of};
 
 use crate::answer::Answer;
 use crate::status::EarlyEnd;
-use crate::table::procs;
 use hm_data::{Answer as StepAnswer, Args, Entry, Request, Sheet, StepIn, StepOut};
 use hm_disk::Disk;
 use hm_hall::{Halt, RecordFault};
@@ -38,6 +37,7 @@ use hm_journal::{Journal, JournalWhy, Limits};
 use hm_names::{List, Nonce, Ns, Pid, Same};
 use hm_script::Command;
 use hm_sheet::{Handler, Registry};
+use hm_show::procs;
 use hm_state::State;
 use std::alloc::{AllocError, Global};
 use std::marker::Model;

@@ -27,17 +27,13 @@ use Rattle.hm_model.proofs.Calls.{reports_fit}
 use Rattle.hm_model.proofs.Grown.{nodes_stay}
 use Rattle.hm_single.specs.Calls.{Finds, IsLater, IsOpenedBy, IsVoid, IsVoidCall}
 use Rattle.hm_single.proofs.All.{calls_find}
-use Rattle.hm_world_model.specs.History.{IsHistory}
 use Rattle.hm_world_model.specs.Outside.{Outside}
 use Rattle.hm_world_model.specs.Runs.{IsMade, IsTrueReport}
 use Rattle.hm_world_model.specs.Safe.{CallsTo, HasServed, HeldBy, IsLast, Made, Runs, Safe}
-use Rattle.hm_world_model.proofs.Facts.{Touch, call_now, calls_back, calls_now, closes, fences_verb, fit_now, free_of, last_made, legal_of, node_called, one_server, opens, peer_same, same, same_verb, touch, verb_made, verb_now, verb_was}
+use Rattle.hm_world_model.proofs.Facts.{Touch, call_now, calls_back, calls_now, closes, fences_verb, fit_now, last_made, node_called, one_server, opens, peer_same, same, same_verb, touch, verb_made, verb_now, verb_was}
 
 -- what stays behind an entry
-module _ (entry : Entry) (J : Past) (history : IsHistory (entry ∷ J)) (o : Outside) (safe : Safe J o) where
-  abbrev legal : IsLegal (entry ∷ J)
-  legal = legal_of (entry ∷ J) history
-
+module _ (entry : Entry) (J : Past) (legal : IsLegal (entry ∷ J)) (o : Outside) (safe : Safe J o) where
   pub made_now : (p : ℕ) (told : Told) → Made J o p told → Made (entry ∷ J) o p told
   made_now p told h = record {
     verb = h.verb;
@@ -53,7 +49,7 @@ module _ (entry : Entry) (J : Past) (history : IsHistory (entry ∷ J)) (o : Out
       → ((r : Region) (s : Server) (a : Actor) → Runs (entry ∷ J) o s a → holds a r ≡ true → HeldBy (entry ∷ J) a r s)
       → ((s : Server) → is_fenced (entry ∷ J) s ≡ true → o.storage.fenced s ≡ true) → Safe (entry ∷ J) o
   safe_behind recorded done held fences = record {
-    history = history;
+    legal = legal;
     calls = record {
       sent_is = λ call h. call_now entry J legal call (safe.calls.sent_is call h);
       made_is = λ report h. let k = safe.calls.made_is report h in (made_now report.call.0 report.told k.0, peer_same entry J legal report.call.0 k.0.verb k.0.called ∙ k.1);
@@ -85,7 +81,7 @@ module _ (entry : Entry) (J : Past) (history : IsHistory (entry ∷ J)) (o : Out
       (λ s h. safe.fences_are s (sym (fences s) ∙ h))
 
 -- a report that was made
-module _ (call : Pid) (told : Told) (J : Past) (history : IsHistory (entry_is.Report call told ∷ J)) (o : Outside) (safe : Safe J o) (true_report : IsMade o call told) where
+module _ (call : Pid) (told : Told) (J : Past) (legal : IsLegal (entry_is.Report call told ∷ J)) (o : Outside) (safe : Safe J o) (true_report : IsMade o call told) where
   made_of : Made J o call.0 told
   made_of =
       let k = (safe.calls.made_is true_report.0 true_report.1).0 in
@@ -102,7 +98,7 @@ module _ (call : Pid) (told : Told) (J : Past) (history : IsHistory (entry_is.Re
 
   fenced_by : (s : Server) → fences_if (node_of J call.0) s ≡ true → o.storage.fenced s ≡ true
   fenced_by s h =
-      let v = node_called J (legal_of J safe.history) call.0 made_of.verb made_of.called in
+      let v = node_called J safe.legal call.0 made_of.verb made_of.called in
       let own : verb_in v.0.args ≡ Some (verb_is.Fence s) = fences_verb v.0.args s (ap (λ n. fences_if n s) (sym v.1) ∙ h) in
       made_of.fenced s (same_Some made_of.verb (verb_is.Fence s) (sym v.2 ∙ own))
 
@@ -113,10 +109,10 @@ module _ (call : Pid) (told : Told) (J : Past) (history : IsHistory (entry_is.Re
   ]
 
   pub safe_report : Safe (entry_is.Report call told ∷ J) o
-  safe_report = safe_behind (entry_is.Report call told) J history o safe
-      (λ p t h. made_now (entry_is.Report call told) J history o safe p t (report_recorded p t h))
-      (λ p r s a to run other_last. safe.servers.done p r s a (calls_back (entry_is.Report call told) J (legal_of (entry_is.Report call told ∷ J) history) p to.0 r s to.1 to) (run.0, unfenced s run.1) other_last)
-      (λ r s a run h. held_now (entry_is.Report call told) J history o safe r refl s a (safe.servers.held r s a (run.0, unfenced s run.1) h))
+  safe_report = safe_behind (entry_is.Report call told) J legal o safe
+      (λ p t h. made_now (entry_is.Report call told) J legal o safe p t (report_recorded p t h))
+      (λ p r s a to run other_last. safe.servers.done p r s a (calls_back (entry_is.Report call told) J legal p to.0 r s to.1 to) (run.0, unfenced s run.1) other_last)
+      (λ r s a run h. held_now (entry_is.Report call told) J legal o safe r refl s a (safe.servers.held r s a (run.0, unfenced s run.1) h))
       report_fences
 
 -- what is told of a call whose server runs and isn't fenced
@@ -170,15 +166,12 @@ module _ (J : Past) (o : Outside) (safe : Safe J o) where
       not_yet q lt t m e (inr x) = let f : m.id.0 ≡ h.0.id.0 = ap (λ (x : Served). x.id.0) e in let g = x.0 in omega (arith, f, lt, g)
 
 -- a step
-module _ (pid : Pid) (pick : Option Server) (out : StepOut) (J : Past) (history : IsHistory (entry_is.Step pid pick out ∷ J)) (o : Outside) (safe : Safe J o) where
+module _ (pid : Pid) (pick : Option Server) (out : StepOut) (J : Past) (legal : IsLegal (entry_is.Step pid pick out ∷ J)) (o : Outside) (safe : Safe J o) where
   abbrev entry : Entry
   entry = entry_is.Step pid pick out
 
-  abbrev step_legal : IsLegal (entry ∷ J)
-  step_legal = legal_of (entry ∷ J) history
-
   found : (node : Node) × (node_of J pid.0 ≡ Some node) × Finds J pid.0 node out.call
-  found = calls_find pid pick out J step_legal (free_of (entry ∷ J) history)
+  found = calls_find pid pick out J legal
 
   finds_open : (r : Region) → out.call ≡ Some (verb_is.AssignRegion r) → IsVoid J (last_call J r)
   finds_open r is = (subst (Finds J pid.0 found.0) is found.2).2
@@ -217,7 +210,7 @@ module _ (pid : Pid) (pick : Option Server) (out : StepOut) (J : Past) (history 
 
   done_now : (p : ℕ) (r : Region) (s : Server) (a : Actor) → CallsTo (entry ∷ J) p r s → Runs (entry ∷ J) o s a → last_call (entry ∷ J) r ≢ Some p → HasServed a r p
   done_now p r s a to run other_last = elim (verb_was pid pick out J p to.0 to.1) [
-    | inl old ↦ done_old p r s a (calls_back entry J step_legal p to.0 r s old to) run other_last
+    | inl old ↦ done_old p r s a (calls_back entry J legal p to.0 r s old to) run other_last
     | inr new ↦ absurd (other_last (last_made pid pick out J r to.0 new.1 to.2 ∙ ap Some (sym new.0)))
   ]
 
@@ -225,18 +218,18 @@ module _ (pid : Pid) (pick : Option Server) (out : StepOut) (J : Past) (history 
   close_last : (r : Region) (s : Server) → out.call ≡ Some (verb_is.CloseRegion r) → found.0.args ≡ args_are.CloseCall r s → IsLast (entry ∷ J) r pid.0 (verb_is.CloseRegion r) s
   close_last r s is args =
       let verb = verb_made pid pick out J (verb_is.CloseRegion r) is in
-      let v = node_called (entry ∷ J) step_legal pid.0 (verb_is.CloseRegion r) verb in
-      let same_node : v.0 ≡ found.0 = same_Some v.0 found.0 (sym v.1 ∙ nodes_stay entry J step_legal pid.0 found.0 found.1) in
+      let v = node_called (entry ∷ J) legal pid.0 (verb_is.CloseRegion r) verb in
+      let same_node : v.0 ≡ found.0 = same_Some v.0 found.0 (sym v.1 ∙ nodes_stay entry J legal pid.0 found.0 found.1) in
       (last_made pid pick out J r (verb_is.CloseRegion r) is refl, verb, v.3 ∙ ap (λ (n : Node). Some (peer_in n.args)) same_node ∙ ap (λ x. Some (peer_in x)) args)
 
   held_step : (r : Region) (s : Server) (a : Actor) → Runs (entry ∷ J) o s a → holds a r ≡ true → HeldBy (entry ∷ J) a r s
   held_step r s a run h = by (touch pid.0 out.call r (last_call J r)) (safe.servers.held r s a run h)
     where
       not_closed : (q : ℕ) → verb_of J q ≡ Some (verb_is.CloseRegion r) → report_of J q ≡ Some told_is.Opened → ⊥
-      not_closed q v told = let k = reports_fit J step_legal.0 q told_is.Opened told in false≢true (ap (λ x. fits_verb x told_is.Opened) (same_verb J q (verb_is.CloseRegion r) k.0 v k.1) ∙ k.2)
+      not_closed q v told = let k = reports_fit J legal.0 q told_is.Opened told in false≢true (ap (λ x. fits_verb x told_is.Opened) (same_verb J q (verb_is.CloseRegion r) k.0 v k.1) ∙ k.2)
 
       by : Touch pid.0 out.call r (last_call (entry ∷ J) r) (last_call J r) → HeldBy J a r s → HeldBy (entry ∷ J) a r s
-      by (same e) held = held_now entry J history o safe r e s a held
+      by (same e) held = held_now entry J legal o safe r e s a held
       by (opens v e) held = absurd (void_held J o safe r s a run (finds_open r v) held)
       by (closes v e) held = (let f = finds_close r v in elim held.3 [
         | inl own ↦
@@ -249,15 +242,15 @@ module _ (pid : Pid) (pick : Option Server) (out : StepOut) (J : Past) (history 
       ])
 
   pub safe_step : Safe (entry ∷ J) o
-  safe_step = safe_behind entry J history o safe (λ p told h. made_now entry J history o safe p told (safe.calls.recorded p told h)) done_now held_step safe.fences_are
+  safe_step = safe_behind entry J legal o safe (λ p told h. made_now entry J legal o safe p told (safe.calls.recorded p told h)) done_now held_step safe.fences_are
 
 -- an entry that may come next, a report only where it was made
-pub safe_append : (entry : Entry) (J : Past) → IsHistory (entry ∷ J) → (o : Outside) → Safe J o → IsTrueReport o entry → Safe (entry ∷ J) o
-safe_append (entry_is.Start sheets) J history o safe true_report = safe_calm (entry_is.Start sheets) J history o safe (λ p. refl) (λ p. refl) (λ r. refl) (λ s. refl)
-safe_append (entry_is.Submit nonce request) J history o safe true_report = safe_calm (entry_is.Submit nonce request) J history o safe (λ p. refl) (λ p. refl) (λ r. refl) (λ s. refl)
-safe_append (entry_is.Step pid pick out) J history o safe true_report = safe_step pid pick out J history o safe
-safe_append (entry_is.Undo pid row out) J history o safe true_report = safe_calm (entry_is.Undo pid row out) J history o safe (λ p. refl) (λ p. refl) (λ r. refl) (λ s. refl)
-safe_append (entry_is.Report call told) J history o safe true_report = safe_report call told J history o safe true_report
-safe_append (entry_is.Up server) J history o safe true_report = safe_calm (entry_is.Up server) J history o safe (λ p. refl) (λ p. refl) (λ r. refl) (λ s. refl)
-safe_append (entry_is.Down server) J history o safe true_report = safe_calm (entry_is.Down server) J history o safe (λ p. refl) (λ p. refl) (λ r. refl) (λ s. refl)
-safe_append (entry_is.Abort pid) J history o safe true_report = safe_calm (entry_is.Abort pid) J history o safe (λ p. refl) (λ p. refl) (λ r. refl) (λ s. refl)
+pub safe_append : (entry : Entry) (J : Past) → IsLegal (entry ∷ J) → (o : Outside) → Safe J o → IsTrueReport o entry → Safe (entry ∷ J) o
+safe_append (entry_is.Start sheets) J legal o safe true_report = safe_calm (entry_is.Start sheets) J legal o safe (λ p. refl) (λ p. refl) (λ r. refl) (λ s. refl)
+safe_append (entry_is.Submit nonce request) J legal o safe true_report = safe_calm (entry_is.Submit nonce request) J legal o safe (λ p. refl) (λ p. refl) (λ r. refl) (λ s. refl)
+safe_append (entry_is.Step pid pick out) J legal o safe true_report = safe_step pid pick out J legal o safe
+safe_append (entry_is.Undo pid row out) J legal o safe true_report = safe_calm (entry_is.Undo pid row out) J legal o safe (λ p. refl) (λ p. refl) (λ r. refl) (λ s. refl)
+safe_append (entry_is.Report call told) J legal o safe true_report = safe_report call told J legal o safe true_report
+safe_append (entry_is.Up server) J legal o safe true_report = safe_calm (entry_is.Up server) J legal o safe (λ p. refl) (λ p. refl) (λ r. refl) (λ s. refl)
+safe_append (entry_is.Down server) J legal o safe true_report = safe_calm (entry_is.Down server) J legal o safe (λ p. refl) (λ p. refl) (λ r. refl) (λ s. refl)
+safe_append (entry_is.Abort pid) J legal o safe true_report = safe_calm (entry_is.Abort pid) J legal o safe (λ p. refl) (λ p. refl) (λ r. refl) (λ s. refl)

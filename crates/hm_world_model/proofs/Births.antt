@@ -48,6 +48,7 @@ use Rattle.hm_model.specs.declared.lock.Resource.TheVariants as resource_is
 use Rattle.hm_model.proofs.ExactRows.{is_listed}
 use Rattle.hm_model.proofs.KeyTests.{same_table-is}
 use Rattle.hm_model.proofs.PlainActs.{is_plain}
+use Rattle.hm_kinds.proofs.LockForms.{IsRight}
 use Rattle.hm_world_model.proofs.Facts.{in_both}
 
 -- asks for all that a transit of the region asks for
@@ -82,19 +83,6 @@ BornOf up (args_are.CloseCall region server) = Unit {0}
 BornOf up (args_are.FenceCall server) = Unit {0}
 BornOf up (args_are.LayoutCall root) = Unit {0}
 BornOf up (args_are.SweepLayout root) = Unit {0}
-
--- a request that can be submitted; any other procedure
-abbrev pub IsSound : Args → Type 0
-IsSound (args_are.Root request first) = wrong_in request ≡ None
-IsSound (args_are.Transit region goal to) = Unit {0}
-IsSound (args_are.Crash server) = Unit {0}
-IsSound (args_are.AddRegions table first bounds) = Unit {0}
-IsSound (args_are.DropRegions table ids) = Unit {0}
-IsSound (args_are.AssignCall region server) = Unit {0}
-IsSound (args_are.CloseCall region server) = Unit {0}
-IsSound (args_are.FenceCall server) = Unit {0}
-IsSound (args_are.LayoutCall root) = Unit {0}
-IsSound (args_are.SweepLayout root) = Unit {0}
 
 -- all that children stand for may be born
 abbrev pub AllBorn : Args → List Child → Type 0
@@ -313,7 +301,7 @@ pub each_of : (P : Region → Type 0) (list : List Region) → ((region : Region
 each_of P [] each = tt
 each_of P (region ∷ more) each = (each region (inl refl), each_of P more (λ r among. each r (inr among)))
 
-parents_bears : (args : Args) → IsSound args → is_listed (kind_of args) act_is.CloseParents ≡ true → (next : ℕ) → Bears args (close_parents next args)
+parents_bears : (args : Args) → IsRight args → is_listed (kind_of args) act_is.CloseParents ≡ true → (next : ℕ) → Bears args (close_parents next args)
 parents_bears (args_are.Root (request_is.MergeRegions []) first) sound h next = bears_moving (args_are.Root (request_is.MergeRegions []) first) next goal_is.Unassign [] tt
 parents_bears (args_are.Root (request_is.MergeRegions (one ∷ more)) first) sound h next =
     let up : Args = args_are.Root (request_is.MergeRegions (one ∷ more)) first in
@@ -336,7 +324,7 @@ reassign_unlisted (args_are.Root (request_is.CreateNamespace ns) first) h = absu
 reassign_unlisted args h = absurd (false≢true h)
 
 -- what a procedure bears at an act that is listed for its kind
-pub act_bears : (act : Act) → is_plain act ≡ true → (at : StepIn) → is_listed (kind_of at.args) act ≡ true → IsSound at.args → (next : ℕ) → Bears at.args (act_answer act next at)
+pub act_bears : (act : Act) → is_plain act ≡ true → (at : StepIn) → is_listed (kind_of at.args) act ≡ true → IsRight at.args → (next : ℕ) → Bears at.args (act_answer act next at)
 act_bears act_is.CheckNamespaceFree h at l sound next = bears_given at.args (namespace_of at.args) next (λ ns. checked next (namespace_free (row_at at.rows (key_is.Ns ns)))) (λ ns. bears_checked at.args next (namespace_free (row_at at.rows (key_is.Ns ns))))
 act_bears act_is.AddNamespace h at l sound next = bears_given at.args (namespace_of at.args) next (λ ns. edits_rows next (set_to (row_at at.rows) (key_is.Ns ns) (Some row_is.Ns) ∷ [])) (λ ns. bears_on at.args next (set_to (row_at at.rows) (key_is.Ns ns) (Some row_is.Ns) ∷ []))
 act_bears act_is.CheckNamespaceEmpty h at l sound next = bears_given at.args (namespace_of at.args) next (λ ns. checked next (namespace_empty (row_at at.rows (key_is.Ns ns)) (has_table ns at.rows))) (λ ns. bears_checked at.args next (namespace_empty (row_at at.rows (key_is.Ns ns)) (has_table ns at.rows)))

@@ -11,11 +11,12 @@ use Rattle.hm_model.specs.Locks.{IsIn}
 use Rattle.hm_model.specs.Rest.{MayStepPicked, MayUndo}
 use Rattle.hm_model.specs.Rules.{IsLegal}
 use Rattle.hm_model.specs.Tree.{node_of}
-use Rattle.hm_world_model.specs.Claims.{IsApart}
+use Rattle.hm_world_model.specs.Claims.{AreOnce, IsApart}
 use Rattle.hm_world_model.specs.Events.{Claim, Commit, GiveUp, Works, happens, unclaimed, untaken}
 use Rattle.hm_world_model.specs.Runs.{IsWork, May}
 use Rattle.hm_world_model.specs.World.{Claimed, World, claimed_pids}
-use Rattle.hm_world_model.proofs.Apart.{StepsFree, apart_on, apart_taken, apart_within}
+use Rattle.hm_serial.specs.Taking.{StepsFree}
+use Rattle.hm_world_model.proofs.Apart.{apart_on, apart_taken, apart_within}
 
 -- who may go on is there
 available_there : (J : Past) (p : ℕ) → MayStepPicked J p ⊎ MayUndo J p → node_of J p ≢ None
@@ -61,6 +62,14 @@ still_claimed (claim ∷ claims) p q h = here (λ more. still_claimed claims p q
     here later false e (inr more) = let k = later more in (inr k.0, k.1)
     here later true e more = let k = later more in (inr k.0, k.1)
 
+still_once : (claims : List Claimed) (p : ℕ) → AreOnce (map (λ (claim : Claimed). claim.pid) claims) → AreOnce (map (λ (claim : Claimed). claim.pid) (unclaimed claims p))
+still_once [] p once = tt
+still_once (claim ∷ claims) p once = by (still_once claims p once.1) (claim.pid == p)
+  where
+    by : AreOnce (map (λ (c : Claimed). c.pid) (unclaimed claims p)) → (b : Bool) → AreOnce (map (λ (c : Claimed). c.pid) (cond (not b) (claim ∷ unclaimed claims p) (unclaimed claims p)))
+    by later false = ((λ h. once.0 (still_claimed claims p claim.pid h).0), later)
+    by later true = later
+
 claimed_in : (claim : Claimed) (claims : List Claimed) → IsIn claim claims → IsIn claim.pid (map (λ (c : Claimed). c.pid) claims)
 claimed_in claim [] h = absurd h
 claimed_in claim (first ∷ claims) (inl same) = inl (ap (λ (c : Claimed). c.pid) same)
@@ -83,15 +92,16 @@ module _ (w : World) (apart : IsApart w.past w.taken (claimed_pids w)) (legal : 
   apart_plain entry l free = apart_on entry w.past l w.taken (claimed_pids w) apart free
 
   pub apart_claim : (claim : Claimed) → May w (Works (Claim claim)) → IsApart w.past (claim.pid ∷ w.taken) (claim.pid ∷ claimed_pids w)
-  apart_claim claim may = apart_taken w.past w.taken (claimed_pids w) claim.pid apart (available_there w.past claim.pid may.1.2) may.2
+  apart_claim claim may = apart_taken w.past w.taken (claimed_pids w) claim.pid apart may.1.0 (available_there w.past claim.pid may.1.2) may.2
 
   pub apart_commit : (claim : Claimed) (entry : Entry) → IsLegal (entry ∷ w.past) → May w (Works (Commit claim entry)) → IsApart (entry ∷ w.past) w.taken (claimed_pids (happens w (Works (Commit claim entry))))
   apart_commit claim entry l may =
       let on = apart_on entry w.past l w.taken (claimed_pids w) apart (work_free w.past claim w.taken entry (apart.among claim.pid (claimed_in claim w.claimed may.0)) may.1) in
-      apart_within (entry ∷ w.past) w.taken (claimed_pids w) w.taken (claimed_pids (happens w (Works (Commit claim entry)))) on (λ p h. h) (λ p h. apart.among p (still_claimed w.claimed claim.pid p h).0)
+      apart_within (entry ∷ w.past) w.taken (claimed_pids w) w.taken (claimed_pids (happens w (Works (Commit claim entry)))) on (λ p h. h) (λ p h. apart.among p (still_claimed w.claimed claim.pid p h).0) (still_once w.claimed claim.pid apart.once)
 
   pub apart_give_up : (claim : Claimed) → IsApart w.past (happens w (Works (GiveUp claim))).taken (claimed_pids (happens w (Works (GiveUp claim))))
   apart_give_up claim =
       apart_within w.past w.taken (claimed_pids w) (untaken (is_some (last_answer w.past claim.pid)) w.taken claim.pid) (claimed_pids (happens w (Works (GiveUp claim)))) apart
       (λ p h. untaken_within (is_some (last_answer w.past claim.pid)) w.taken claim.pid p h)
       (λ p h. let k = still_claimed w.claimed claim.pid p h in untaken_keeps (is_some (last_answer w.past claim.pid)) w.taken claim.pid p k.1 (apart.among p k.0))
+      (still_once w.claimed claim.pid apart.once)

@@ -13,7 +13,8 @@ use Rattle.hm_model.specs.Whereabouts.{moved_by}
 use Rattle.hm_model.specs.declared.lock.Ask.{Ask}
 use Rattle.hm_model.specs.declared.lock.Resource.{Resource}
 use Rattle.hm_model.specs.declared.lock.Resource.TheVariants as resource_is
-use Rattle.hm_world_model.proofs.Births.{AllOf, IsSound, Over, each_of, ordered_all, pair_table, sound_pair}
+use Rattle.hm_kinds.proofs.LockForms.{IsRight}
+use Rattle.hm_world_model.proofs.Births.{AllOf, Over, each_of, ordered_all, pair_table, sound_pair}
 
 -- how a procedure takes part in locks
 pub data Locker (args : Args) : Type 0 where
@@ -70,7 +71,7 @@ alone_table table b among region e = asks_of table (table_alone table) (exclusiv
 moved_table : (own : Region) (b : Ask) → IsIn b (table_shared own.table ++ exclusive (resource_is.Region own) ∷ []) → (region : Region) → b.resource ≡ resource_is.Region region → AsksTable (table_shared own.table ++ exclusive (resource_is.Region own) ∷ []) region
 moved_table own b among region e = asks_of own.table (table_shared own.table ++ exclusive (resource_is.Region own) ∷ []) (shared (resource_is.Table own.table)) (inr (inl refl)) refl (tt, (tt, (refl, tt))) b among region e
 
-region_table : (args : Args) → IsSound args → (b : Ask) → IsIn b (asks args) → (region : Region) → b.resource ≡ resource_is.Region region → AsksTable (asks args) region
+region_table : (args : Args) → IsRight args → (b : Ask) → IsIn b (asks args) → (region : Region) → b.resource ≡ resource_is.Region region → AsksTable (asks args) region
 region_table (args_are.Root (request_is.CreateNamespace ns) first) sound b (inl same) region e = absurd (never (sym (ap (λ (a : Ask). a.resource) same) ∙ e))
   where
     never : resource_is.Ns ns ≡ resource_is.Region region → ⊥
@@ -114,7 +115,7 @@ region_table (args_are.LayoutCall root) sound b among region e = absurd among
 region_table (args_are.SweepLayout root) sound b among region e = absurd among
 
 -- who is over a region clashes with whom a transit of it clashes with
-pub over_clash : (list : List Ask) (region : Region) (goal : Goal) (to : Option Server) (args : Args) → Over list region → IsSound args → Clash (asks (args_are.Transit region goal to)) (asks args) → Clash list (asks args)
+pub over_clash : (list : List Ask) (region : Region) (goal : Goal) (to : Option Server) (args : Args) → Over list region → IsRight args → Clash (asks (args_are.Transit region goal to)) (asks args) → Clash list (asks args)
 over_clash list region goal to args over sound c = by c.2
   where
     same_ask : IsIn c.0 list → Clash list (asks args)

@@ -22,49 +22,17 @@ use Rattle.hm_model.specs.Journal.{Past}
 use Rattle.hm_model.specs.Keys.{same_region}
 use Rattle.hm_model.specs.Locks.{IsIn}
 use Rattle.hm_model.specs.Reports.{call_if, call_of, is_about, is_the_region, last_call, peer_if, peer_in, peer_of, region_called, verb_of}
-use Rattle.hm_model.specs.Rules.{Allowed, FitsCall, IsLegal}
+use Rattle.hm_model.specs.Rules.{FitsCall, IsLegal}
 use Rattle.hm_model.specs.Tree.{Node, node_of, pid_of}
 use Rattle.hm_model.specs.Verbs.{verb_in}
 use Rattle.hm_model.proofs.Calls.{calls_own, calls_stay}
 use Rattle.hm_model.proofs.Grown.{nodes_stay}
 use Rattle.hm_model.proofs.KeyTests.{same_region-is, same_region-refl}
 use Rattle.hm_model.proofs.NameTies.{same_server-is, same_server-refl}
-use Rattle.hm_single.specs.Calls.{AllFree}
 use Rattle.hm_single.proofs.All.{last_is_recorded}
-use Rattle.hm_world_model.specs.History.{Follows, IsHistory}
 use Rattle.hm_world_model.specs.Outside.{set_actor}
 use Rattle.hm_model.specs.Actors.{Actor}
 use Rattle.hm_world_model.specs.Safe.{CallsTo}
-
--- histories
-pub legal_of : (J : Past) → IsHistory J → IsLegal J
-legal_of J history = history.0
-
-pub free_of : (J : Past) → IsHistory J → AllFree J
-free_of J history = history.1
-
-pub history_before : (entry : Entry) (J : Past) → IsHistory (entry ∷ J) → IsHistory J
-history_before (entry_is.Start sheets) J history = (history.0.0, history.1)
-history_before (entry_is.Submit nonce request) J history = (history.0.0, history.1)
-history_before (entry_is.Step pid pick out) J history = (history.0.0, history.1.0)
-history_before (entry_is.Undo pid row out) J history = (history.0.0, history.1)
-history_before (entry_is.Report call told) J history = (history.0.0, history.1)
-history_before (entry_is.Up server) J history = (history.0.0, history.1)
-history_before (entry_is.Down server) J history = (history.0.0, history.1)
-history_before (entry_is.Abort pid) J history = (history.0.0, history.1)
-
-pub history_on : (entry : Entry) (J : Past) → IsHistory J → Follows J entry → IsHistory (entry ∷ J)
-history_on (entry_is.Start sheets) J history follows = ((history.0, follows.0), history.1)
-history_on (entry_is.Submit nonce request) J history follows = ((history.0, follows.0), history.1)
-history_on (entry_is.Step pid pick out) J history follows = ((history.0, follows.0), (history.1, follows.1))
-history_on (entry_is.Undo pid row out) J history follows = ((history.0, follows.0), history.1)
-history_on (entry_is.Report call told) J history follows = ((history.0, follows.0), history.1)
-history_on (entry_is.Up server) J history follows = ((history.0, follows.0), history.1)
-history_on (entry_is.Down server) J history follows = ((history.0, follows.0), history.1)
-history_on (entry_is.Abort pid) J history follows = ((history.0, follows.0), history.1)
-
-pub allowed_of : (entry : Entry) (J : Past) → Follows J entry → Allowed J entry
-allowed_of entry J follows = follows.0
 
 -- one server, one region, or two
 pub cases_server : (a b : Server) → ((same_server a b ≡ true) × (a ≡ b)) ⊎ ((same_server a b ≡ false) × (a ≢ b))

@@ -77,7 +77,7 @@ module _ (J : Past) (o : Outside) (safe : Safe J o) (actors : Server → Option 
       → ((report : ReportMsg) → IsIn report reports → Made J other report.call.0 report.told × (peer_of J report.call.0 ≡ Some report.from))
       → ((id : Pid) (told : Told) → storage.answer id ≡ Some told → Made J other id.0 told × (peer_of J id.0 ≡ Some peer_is.Storage)) → Safe J other
   safe_from sent_now made_now stored_now = record {
-    history = safe.history;
+    legal = safe.legal;
     calls = record {
       sent_is = sent_now;
       made_is = made_now;

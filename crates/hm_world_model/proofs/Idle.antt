@@ -38,7 +38,7 @@ module _ (w : World) (kept : IsKept w) (run : (server : Server) → is_live w.pa
     where
       by : (o : Option Node) → node_of w.past p ≡ o → p < made w.past + 1
       by None e = absurd (none-some peer (sym (ap (λ n. peer_if n (verb_of w.past p)) e) ∙ to))
-      by (Some node) e = (let le = is_there w.past (grown_all w.past (safe_past w kept).history.0) p node e in omega (arith, le))
+      by (Some node) e = (let le = is_there w.past (grown_all w.past (safe_past w kept).legal) p node e in omega (arith, le))
 
   runs_there : (peer : Peer) → can_answer w.past peer ≡ true → runs w.outside peer ≡ true
   runs_there (peer_is.Server s) h = run s h
@@ -55,4 +55,4 @@ module _ (w : World) (kept : IsKept w) (run : (server : Server) → is_live w.pa
   ]
 
 pub idle_ended : IdleIsEnded
-idle_ended w kept kinds live run carried still = still_ended w.past (safe_past w kept).history kinds live (all_settled w kept run carried) still
+idle_ended w kept kinds live run carried still = still_ended w.past (safe_past w kept).legal kinds live (all_settled w kept run carried) still

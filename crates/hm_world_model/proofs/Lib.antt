@@ -11,6 +11,7 @@ pub mod Storing
 pub mod Appending
 pub mod Tails
 pub mod Opening
+pub mod Keeping
 pub mod Ranges
 pub mod Points
 pub mod Fleets

@@ -51,13 +51,15 @@ use Rattle.hm_model.proofs.CallSteps.{CallOut, Ending, is_laying}
 use Rattle.hm_model.proofs.ExactRows.{IsLed, led_row, row_passes}
 use Rattle.hm_model.proofs.Forest.{roots_wait}
 use Rattle.hm_model.proofs.Grown.{down_new, nodes_stay, submit_new, undo_new}
+use Rattle.hm_model.proofs.Listed.{in_slice}
 use Rattle.hm_model.proofs.LegalSteps.{StepFacts, ready_stops}
 use Rattle.hm_model.proofs.NameTies.{same_server-is}
 use Rattle.hm_model.proofs.PlainActs.{GoesTo, IsPlainOut, is_caller, is_plain, plain_act, plain_fails}
 use Rattle.hm_model.proofs.StepDoes.{Does, GoesNear, IsMoveOut, bears, bears_by, calls, crash, exact_row, is_moving, lined, move_act, move_fails, move_row, moves, part_of, row_by}
 use Rattle.hm_model.proofs.Trees.{Grown, IsRooted, answer_now, does_of, down_rooted, grown_all, is_there, le_or_lt, new_child, node_new, node_same, old_or_new, other_answer, other_verb, step_of, still, submit_rooted, undo_rooted, verb_now}
 use Rattle.hm_model.proofs.UndoMakes.{undo_of}
-use Rattle.hm_world_model.proofs.Births.{AllOf, Bears, BornOf, IsSound, MayMove, act_bears, bears_moves, moved_all}
+use Rattle.hm_kinds.proofs.LockForms.{IsRight}
+use Rattle.hm_world_model.proofs.Births.{AllOf, Bears, BornOf, MayMove, act_bears, bears_moves, moved_all}
 use Rattle.hm_world_model.proofs.Servers.{up_before}
 use Rattle.hm_model.specs.Locks.{IsIn}
 
@@ -66,11 +68,6 @@ slice_in : {A : Type 0} (xs : List A) (i : ℕ) (x : A) → slice_get xs i ≡ S
 slice_in [] i x h = absurd (none-some x h)
 slice_in (y ∷ ys) zero x h = inl (sym (same_Some y x h))
 slice_in (y ∷ ys) (suc i) x h = inr (slice_in ys i x h)
-
-in_slice : {A : Type 0} (xs : List A) (x : A) → IsIn x xs → (i : ℕ) × (slice_get xs i ≡ Some x)
-in_slice [] x h = absurd h
-in_slice (y ∷ ys) x (inl same) = (0, ap Some (sym same))
-in_slice (y ∷ ys) x (inr more) = let i = in_slice ys x more in (suc i.0, i.1)
 
 -- what a step bears, and that it calls where it awaits
 bears_fails : (up : Args) (cause : Cause) → Bears up (fails cause)
@@ -100,7 +97,7 @@ caller_born up (args_are.AssignCall region server) h = tt
 caller_born up (args_are.CloseCall region server) h = tt
 caller_born up made h = absurd (false≢true h)
 
-born_sound : (up made : Args) → BornOf up made → IsSound made
+born_sound : (up made : Args) → BornOf up made → IsRight made
 born_sound up (args_are.Root request first) born = absurd born
 born_sound up (args_are.Transit region goal to) born = tt
 born_sound up (args_are.Crash server) born = absurd born
@@ -117,7 +114,7 @@ crash_args (args_are.Crash server) h = (server, refl)
 crash_args (args_are.Root (request_is.CreateNamespace ns) first) h = absurd (false≢true h)
 crash_args args h = absurd (false≢true h)
 
-module _ (pid : Pid) (pick : Option Server) (out : StepOut) (J : Past) (grown : Grown J) (step : StepFacts J pid.0 pick out) (d : Does J pid.0 step.node.args (last_answer J pid.0) step.sheet.rows out) (sound : IsSound step.node.args) where
+module _ (pid : Pid) (pick : Option Server) (out : StepOut) (J : Past) (grown : Grown J) (step : StepFacts J pid.0 pick out) (d : Does J pid.0 step.node.args (last_answer J pid.0) step.sheet.rows out) (sound : IsRight step.node.args) where
   abbrev at : StepIn
   at = step_input J pid.0 step.node pick
 
@@ -138,7 +135,7 @@ module _ (pid : Pid) (pick : Option Server) (out : StepOut) (J : Past) (grown : 
         let s = crash_args step.node.args (eq-eqb (kind_of step.node.args) 11 kind) in
         subst (λ a. Bears a out) (sym s.1) (subst (Bears (args_are.Crash s.0)) (sym step.out_is) (row_by (Bears (args_are.Crash s.0)) step.row at (λ c. bears_fails (args_are.Crash s.0) c) (crash_bears step.row.act crashing step.row.next at s.0 s.1)))
     | moves r m kind uncalled ↦ λ made h.
-        let i = in_slice (args_in out.children) made h in
+        let i = in_slice made (args_in out.children) h in
         caller_born step.node.args made (sym (ap (λ o. bears_by (is_some o) (is_some (verb_in step.node.args)) (is_caller made)) m) ∙ d.bearing i.0 made i.1)
     | calls verb v unmoved exact ↦ λ made h. absurd (subst (λ c. IsIn made (args_in c)) (d.calls verb v).childless h)
   ]
@@ -192,12 +189,12 @@ module _ (pid : Pid) (pick : Option Server) (out : StepOut) (J : Past) (grown : 
 
 -- what may be a root
 abbrev MayStand : Args → Type 0
-MayStand args = IsSound args × (is_caller args ≡ false)
+MayStand args = IsRight args × (is_caller args ≡ false)
 
 -- what is kept
 pub record Lineage (J : Past) : Type 0 where
   pub born : (p : ℕ) (node up : Node) (u : ℕ) (rest : List ℕ) → node_of J p ≡ Some node → node.above ≡ u ∷ rest → node_of J u ≡ Some up → BornOf up.args node.args
-  pub sound : (p : ℕ) (node : Node) → node_of J p ≡ Some node → IsSound node.args
+  pub sound : (p : ℕ) (node : Node) → node_of J p ≡ Some node → IsRight node.args
   pub below : (p : ℕ) (node : Node) → node_of J p ≡ Some node → is_caller node.args ≡ true → is_top node.above ≡ false
   pub awaits : (p n : ℕ) → last_answer J p ≡ Some (answer_is.Await n) → verb_of J p ≢ None
   pub done : (p : ℕ) (node : Node) → node_of J p ≡ Some node → is_stopped (last_answer J p) ≡ true → cause J node.root ≡ None → done_with (last_answer J p) ≢ None
@@ -293,13 +290,13 @@ module _ (pid : Pid) (pick : Option Server) (out : StepOut) (J : Past) (legal : 
       same_head : (a b : ℕ) (xs ys : List ℕ) → a ∷ xs ≡ b ∷ ys → a ≡ b
       same_head a b xs ys e = cc
 
-  sound_now : (p : ℕ) (node : Node) → node_of J' p ≡ Some node → IsSound node.args
+  sound_now : (p : ℕ) (node : Node) → node_of J' p ≡ Some node → IsRight node.args
   sound_now p node is = elim (le_or_lt p (made J)) [
     | inl le ↦ l.sound p node (sym (node_same pid pick out J p le) ∙ is)
     | inr lt ↦
         let s = step_of pid pick out J (grown_all J legal.0) legal in
         let c = new_child pid pick out J s.node s.node_is p lt node is in
-        subst (λ (n : Node). IsSound n.args) (sym c.2) (born_sound s.node.args c.0 (bears_now c.0 (slice_in (args_in out.children) (p - made J - 1) c.0 c.1)))
+        subst (λ (n : Node). IsRight n.args) (sym c.2) (born_sound s.node.args c.0 (bears_now c.0 (slice_in (args_in out.children) (p - made J - 1) c.0 c.1)))
   ]
 
   below_now : (p : ℕ) (node : Node) → node_of J' p ≡ Some node → is_caller node.args ≡ true → is_top node.above ≡ false
@@ -348,7 +345,7 @@ module _ (pid : Pid) (pick : Option Server) (out : StepOut) (J : Past) (legal : 
       no_failure None e h = h
       no_failure (Some c) e h = absurd (none-some c (sym h))
 
-      by : (a : Answer) → Rattle.hm_model.proofs.StepDoes.IsSound a → is_stopped (Some a) ≡ true → failing a ≡ None → done_with (Some a) ≡ None → ⊥
+      by : (a : Answer) → Rattle.hm_model.proofs.StepDoes.IsStepAnswer a → is_stopped (Some a) ≡ true → failing a ≡ None → done_with (Some a) ≡ None → ⊥
       by (answer_is.More n) sane stopped fine undone = false≢true stopped
       by (answer_is.Wait n) sane stopped fine undone = false≢true stopped
       by (answer_is.Await n) sane stopped fine undone = false≢true stopped

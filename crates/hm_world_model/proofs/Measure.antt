@@ -33,7 +33,7 @@ use Rattle.hm_world_model.specs.Outside.{Outside, answer_by, answer_of_actor, be
 use Rattle.hm_world_model.specs.Runs.{May}
 use Rattle.hm_world_model.specs.Safe.{IsKept}
 use Rattle.hm_world_model.specs.World.{World}
-use Rattle.hm_world_model.proofs.Facts.{cases_server, legal_of, parts_of, set_other}
+use Rattle.hm_world_model.proofs.Facts.{cases_server, parts_of, set_other}
 use Rattle.hm_world_model.proofs.Tails.{safe_past}
 use Rattle.hm_world_model.proofs.Progress.{open_answered}
 
@@ -219,14 +219,14 @@ module _ (w : World) (kept : IsKept w) where
 
     made_there : call.id.0 < made w.past + 1
     made_there =
-        let legal = legal_of w.past (safe_past w kept).history in
+        let legal = (safe_past w kept).legal in
         let peer : (x : Option Peer) → peer_of w.past call.id.0 ≡ x → runs_if w.outside x ≡ true → call.id.0 ≤ made w.past = λ x e h. by_peer x e h in
         let le = peer (peer_of w.past call.id.0) refl (and_parts (runs_if w.outside (peer_of w.past call.id.0)) _ wanted).0 in
         omega (arith, le)
       where
         by_node : (n : Option Node) → node_of w.past call.id.0 ≡ n → peer_if n (verb_of w.past call.id.0) ≢ None → call.id.0 ≤ made w.past
         by_node None e some = absurd (some refl)
-        by_node (Some node) e some = is_there w.past (grown_all w.past (legal_of w.past (safe_past w kept).history)) call.id.0 node e
+        by_node (Some node) e some = is_there w.past (grown_all w.past (safe_past w kept).legal) call.id.0 node e
 
         by_peer : (x : Option Peer) → peer_of w.past call.id.0 ≡ x → runs_if w.outside x ≡ true → call.id.0 ≤ made w.past
         by_peer None e h = absurd (false≢true h)

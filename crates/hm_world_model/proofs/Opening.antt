@@ -24,13 +24,14 @@ use Rattle.hm_model.specs.Verbs.{verb_in}
 use Rattle.hm_model.proofs.Calls.{reports_fit}
 use Rattle.hm_model.proofs.NameTies.{same_server-refl}
 use Rattle.hm_world_model.specs.Events.{Event}
-use Rattle.hm_world_model.specs.History.{IsHistory}
 use Rattle.hm_world_model.specs.Outside.{Outside, nobody}
 use Rattle.hm_world_model.specs.Runs.{IsRun, after}
 use Rattle.hm_world_model.specs.Safe.{HeldBy, IsKept, Safe}
-use Rattle.hm_world_model.specs.Twice.{EventsKeep, Holds, KeptIsNeverTwice, NeverClash, NeverTwice, OpenedIsKept, Twice}
+use Rattle.hm_world_model.specs.Claimed.{ClaimedOnce, NeverClash}
+use Rattle.hm_world_model.specs.Kept.{EventsKeep, OpenedIsKept}
+use Rattle.hm_world_model.specs.Twice.{HeldByOne, Holds, IsHeldByTwo, KeptIsHeldByOne}
 use Rattle.hm_world_model.specs.World.{World, opened, shown_storage, whole}
-use Rattle.hm_world_model.proofs.Facts.{legal_of, node_called, one_server, same_verb, verb_now}
+use Rattle.hm_world_model.proofs.Facts.{node_called, one_server, same_verb, verb_now}
 use Rattle.hm_world_model.proofs.Apart.{apart_opened}
 use Rattle.hm_world_model.proofs.Tails.{event_keeps, within_whole}
 
@@ -89,18 +90,18 @@ reported_fence (entry_is.Up server ∷ J) legal p told s h v = reported_fence J 
 reported_fence (entry_is.Down server ∷ J) legal p told s h v = reported_fence J legal.0 p told s h (verb_before (entry_is.Down server) J legal p told s v h)
 reported_fence (entry_is.Abort pid ∷ J) legal p told s h v = reported_fence J legal.0 p told s h (verb_before (entry_is.Abort pid) J legal p told s v h)
 
-safe_opened : (J : Past) → IsHistory J → Safe J (nobody (shown_storage J))
-safe_opened J history = record {
-  history = history;
+safe_opened : (J : Past) → IsLegal J → Safe J (nobody (shown_storage J))
+safe_opened J legal = record {
+  legal = legal;
   calls = record {
     sent_is = λ call h. absurd h;
     made_is = λ report h. absurd h;
-    recorded = λ p told h. let f = reports_fit J (legal_of J history) p told h in record {
+    recorded = λ p told h. let f = reports_fit J legal p told h in record {
       verb = f.0;
       called = f.1;
       fits = f.2;
       told_by = λ r s to a run. absurd (none-some a run);
-      fenced = λ s e. reported_fence J (legal_of J history) p told s h (f.1 ∙ ap Some e);
+      fenced = λ s e. reported_fence J legal p told s h (f.1 ∙ ap Some e);
     };
     stored = λ id told h. absurd (none-some told h);
   };
@@ -114,13 +115,13 @@ safe_opened J history = record {
 }
 
 pub opened_kept : OpenedIsKept
-opened_kept J history = record {
+opened_kept J legal = record {
   within = omega arith;
   tailless = λ e. refl;
   wire_is = λ call h. absurd h;
   waiting_is = λ report h. absurd h;
-  apart = apart_opened J history;
-  tails = λ n h. let zero_is : n ≡ 0 = omega (arith, h) in rw zero_is (safe_opened J history);
+  apart = apart_opened J legal;
+  tails = λ n h. let zero_is : n ≡ 0 = omega (arith, h) in rw zero_is (safe_opened J legal);
 }
 
 pub events_keep : EventsKeep
@@ -137,21 +138,24 @@ module _ (J : Past) (o : Outside) (safe : Safe J o) where
   pub held_last : (r : Region) (s : Server) → Holds o s r → (p : ℕ) × (last_call J r ≡ Some p) × (peer_of J p ≡ Some (peer_is.Server s))
   held_last r s h = last_server h.0 r s (safe.servers.held r s h.0 (h.1, unfenced_of s h.3) h.2)
 
-  pub not_twice : Twice o → ⊥
-  not_twice h =
+  pub not_by_two : IsHeldByTwo o → ⊥
+  not_by_two h =
       let one = held_last h.0 h.1 h.4 in
       let other = held_last h.0 h.2 h.5 in
       h.3 (one_server (peer_of J one.0) h.1 h.2 one.2 (ap (peer_of J) (same_Some one.0 other.0 (sym one.1 ∙ other.1)) ∙ other.2))
 
-pub kept_never_twice : KeptIsNeverTwice
-kept_never_twice w kept h = not_twice (whole w) w.outside (kept.tails 0 (within_whole w kept)) h
+pub kept_by_one : KeptIsHeldByOne
+kept_by_one w kept h = not_by_two (whole w) w.outside (kept.tails 0 (within_whole w kept)) h
 
 pub kept_after : (w : World) → IsKept w → (events : List Event) → IsRun w events → IsKept (after w events)
 kept_after w kept [] run = kept
 kept_after w kept (event ∷ before) run = event_keeps (after w before) event (kept_after w kept before run.0) run.1
 
-pub never_clash_is : NeverClash
-never_clash_is J history events run = (kept_after (opened J) (opened_kept J history) events run).apart.none_clash
+pub claimed_once_is : ClaimedOnce
+claimed_once_is J legal events run = (kept_after (opened J) (opened_kept J legal) events run).apart.once
 
-pub never_twice_is : NeverTwice
-never_twice_is J history events run h = kept_never_twice (after (opened J) events) (kept_after (opened J) (opened_kept J history) events run) h
+pub never_clash_is : NeverClash
+never_clash_is J legal events run = (kept_after (opened J) (opened_kept J legal) events run).apart.none_clash
+
+pub held_by_one_is : HeldByOne
+held_by_one_is J legal events run h = kept_by_one (after (opened J) events) (kept_after (opened J) (opened_kept J legal) events run) h

@@ -30,14 +30,13 @@ use Rattle.hm_single.proofs.Live.{all_live}
 use Rattle.hm_single.proofs.Stage.{StageFor, child_of_step, work_of}
 use Rattle.hm_single.proofs.Transit.{AtRest, AtRow, Calls, at_place}
 use Rattle.hm_world_model.specs.Outside.{Outside}
-use Rattle.hm_world_model.specs.Overlaps.{KeptIsNeverTwiceOver, NeverTwiceOver, TwiceOver}
 use Rattle.hm_world_model.specs.Points.{HeldAreLive, IsShut, MayHold, Points, PointsHold}
 use Rattle.hm_world_model.specs.Runs.{after}
 use Rattle.hm_world_model.specs.Safe.{CallsTo, IsKept, Runs, Safe}
-use Rattle.hm_world_model.specs.Twice.{Holds}
+use Rattle.hm_world_model.specs.Twice.{Holds, KeptIsNeverTwice, NeverTwice, Twice}
 use Rattle.hm_world_model.specs.World.{World, first, opened, whole}
 use Rattle.hm_world_model.proofs.Appending.{reported_served, void_held, void_told}
-use Rattle.hm_world_model.proofs.Facts.{free_of, legal_of, one_server}
+use Rattle.hm_world_model.proofs.Facts.{one_server}
 use Rattle.hm_world_model.proofs.Known.{uncalled}
 use Rattle.hm_world_model.proofs.Ranges.{live_apart}
 use Rattle.hm_world_model.proofs.Opening.{held_last, kept_after, last_server, opened_kept, unfenced_of}
@@ -110,7 +109,7 @@ module _ (J : Past) (o : Outside) (safe : Safe J o) where
     row_here p place (Some answer_is.Undone) q made answer h = absurd h
 
     place_here : Here (place_of J r)
-    place_here = by (work_of J r) ((kept_all J (legal_of J safe.history) (free_of J safe.history)).stage r)
+    place_here = by (work_of J r) ((kept_all J safe.legal).stage r)
       where
         by : (w : Option ℕ) → StageFor J r w → Here (place_of J r)
         by None h = rest_here (place_of J r).state (place_of J r).server h
@@ -133,16 +132,16 @@ module _ (J : Past) (o : Outside) (safe : Safe J o) where
   points = record {
     calls = record {
       served = λ p r s a to other_last run. safe.servers.done p r s a to run other_last;
-      never_again = λ p r s to allowed. uncalled J (legal_of J safe.history) s (not_up J s (newer_of J s allowed)) p r to;
+      never_again = λ p r s to allowed. uncalled J safe.legal s (not_up J s (newer_of J s allowed)) p r to;
       sent = safe.calls.sent_is;
       fenced = safe.fences_are;
     };
     holders = record { alone = λ r s a run may. (last_of r s a run may).0; closed = closed_at; placed = placed_at };
     transits = record {
-      single = λ r p q. one_transit_is J (legal_of J safe.history) (free_of J safe.history) r p q;
-      rows = λ r. place_by_row J (legal_of J safe.history) (free_of J safe.history) r;
+      single = λ r p q. one_transit_is J safe.legal r p q;
+      rows = λ r. place_by_row J safe.legal r;
     };
-    rows = record { live = all_live J (legal_of J safe.history) (free_of J safe.history); apart = never_overlap J (legal_of J safe.history) };
+    rows = record { live = all_live J safe.legal; apart = never_overlap J safe.legal };
   }
 
   -- a region that is held is placed
@@ -151,12 +150,12 @@ module _ (J : Past) (o : Outside) (safe : Safe J o) where
 
   -- and live
   pub held_at : (r : Region) (s : Server) (a : Actor) → Runs J o s a → holds a r ≡ true → (range : KeyRange) × IsLiveWith (cat J) r range
-  held_at r s a run held = all_live J (legal_of J safe.history) (free_of J safe.history) r (placed_is r s a run held)
+  held_at r s a run held = all_live J safe.legal r (placed_is r s a run held)
 
-  pub never_over : TwiceOver J o → ⊥
-  never_over h =
+  pub not_twice : Twice J o → ⊥
+  not_twice h =
       let live_of : (r : Region) (s : Server) → Holds o s r → (range : KeyRange) × IsLiveWith (cat J) r range = λ r s x. held_at r s x.0 (x.1, unfenced_of J o safe s x.3) x.2 in
-      let same_region : h.0 ≡ h.1 = live_apart J (never_overlap J (legal_of J safe.history)) h.0 h.1 (live_of h.0 h.2 h.6) (live_of h.1 h.3 h.7) h.4 in
+      let same_region : h.0 ≡ h.1 = live_apart J (never_overlap J safe.legal) h.0 h.1 (live_of h.0 h.2 h.6) (live_of h.1 h.3 h.7) h.4 in
       elim h.5 [
         | inl servers ↦
             let one = held_last J o safe h.0 h.2 h.6 in
@@ -175,8 +174,8 @@ points_hold w kept k low high = points (first k (whole w)) w.outside (safe_first
 pub held_live : HeldAreLive
 held_live w kept k low high r s a run held = held_at (first k (whole w)) w.outside (safe_first w kept k low high) r s a run held
 
-pub kept_never_over : KeptIsNeverTwiceOver
-kept_never_over w kept h = never_over w.past w.outside (safe_past w kept) h
+pub kept_never_twice : KeptIsNeverTwice
+kept_never_twice w kept h = not_twice w.past w.outside (safe_past w kept) h
 
-pub never_twice_over_is : NeverTwiceOver
-never_twice_over_is J history events run h = kept_never_over (after (opened J) events) (kept_after (opened J) (opened_kept J history) events run) h
+pub never_twice_is : NeverTwice
+never_twice_is J legal events run h = kept_never_twice (after (opened J) events) (kept_after (opened J) (opened_kept J legal) events run) h

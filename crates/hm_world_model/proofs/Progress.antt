@@ -27,6 +27,7 @@ use Rattle.hm_model.specs.Journal.{Past}
 use Rattle.hm_model.specs.Phase.{ended, ended_node, root_ended}
 use Rattle.hm_model.specs.Places.{place_of}
 use Rattle.hm_model.specs.Reports.{fits_verb, is_reported, last_call, peer_in, peer_of, region_called, verb_of}
+use Rattle.hm_model.specs.Rules.{IsLegal}
 use Rattle.hm_model.specs.Tree.{Node, is_top, node_of}
 use Rattle.hm_model.specs.Verbs.{verb_in}
 use Rattle.hm_model.proofs.Calls.{calls_own}
@@ -36,11 +37,10 @@ use Rattle.hm_single.specs.Calls.{Finds, IsLater}
 use Rattle.hm_single.proofs.All.{calls_find, kept_all}
 use Rattle.hm_single.proofs.Stage.{StageFor, called_region, child_of_step}
 use Rattle.hm_single.proofs.Transit.{AtRow, Calls}
-use Rattle.hm_world_model.specs.History.{IsHistory}
 use Rattle.hm_world_model.specs.Outside.{Outside, answer_by, answer_of_actor, runs}
 use Rattle.hm_world_model.specs.Progress.{EarlierHaveEnded, OpenIsAnswered, ReportsAreHeard}
 use Rattle.hm_world_model.specs.Safe.{CallsTo, Safe}
-use Rattle.hm_world_model.proofs.Facts.{Touch, closes, free_of, history_before, last_made, legal_of, node_called, not_storage, opens, parts_of, region_peer, same, same_verb, touch, verb_was}
+use Rattle.hm_world_model.proofs.Facts.{Touch, closes, last_made, node_called, not_storage, opens, parts_of, region_peer, same, same_verb, touch, verb_was}
 use Rattle.hm_world_model.proofs.Known.{caller_below, peer_called}
 use Rattle.hm_world_model.proofs.Tails.{safe_past}
 
@@ -54,7 +54,7 @@ calls_last J q t last Before verb called (Some (answer_is.Done told)) at runs h 
 calls_last J q t last Before verb called (Some (answer_is.Fail cause)) at runs h = absurd h
 calls_last J q t last Before verb called (Some answer_is.Undone) at runs h = absurd h
 
-module _ (J : Past) (history : IsHistory J) (p : ℕ) (r : Region) (verb : Verb) (called : verb_of J p ≡ Some verb) (about : region_called verb ≡ Some r) (goes : is_stopped (last_answer J p) ≡ false) where
+module _ (J : Past) (legal : IsLegal J) (p : ℕ) (r : Region) (verb : Verb) (called : verb_of J p ≡ Some verb) (about : region_called verb ≡ Some r) (goes : is_stopped (last_answer J p) ≡ false) where
   row_last : (w : ℕ) (o : Option Answer) (q : ℕ) → q ≡ p → IsWaiting o → AtRow J w r (place_of J r) (last_call J r) o q (node_of J q) (last_answer J q) → last_call J r ≡ Some p
   row_last w None q e waits h = absurd waits
   row_last w (Some (answer_is.More n)) q e waits h = absurd waits
@@ -63,7 +63,6 @@ module _ (J : Past) (history : IsHistory J) (p : ℕ) (r : Region) (verb : Verb)
   row_last w (Some (answer_is.Fail cause)) q e waits h = absurd waits
   row_last w (Some answer_is.Undone) q e waits h = absurd waits
   row_last w (Some (answer_is.Wait n)) q e waits h =
-      let legal = legal_of J history in
       let v = calls_own J legal p verb called in
       let here : verb_of J q ≡ Some verb = ap (verb_of J) e ∙ called in
       let at : CallerAt verb (verb_of J q) (last_answer J q) = (grown_all J legal).calls q v.0 (ap (node_of J) e ∙ v.1) verb v.2 in
@@ -76,18 +75,18 @@ module _ (J : Past) (history : IsHistory J) (p : ℕ) (r : Region) (verb : Verb)
   -- whose last step didn't end it made the last call of its region
   open_last : last_call J r ≡ Some p
   open_last =
-      let kept = kept_all J (legal_of J history) (free_of J history) in
-      let v = calls_own J (legal_of J history) p verb called in
+      let kept = kept_all J legal in
+      let v = calls_own J legal p verb called in
       let c = kept.calling p v.0 r v.1 (sym (called_region v.0.args verb v.2) ∙ about) goes in
       row_last c.0 (last_answer J c.0) (child_of_step J c.0) c.2 c.3 (subst (StageFor J r) c.1 (kept.stage r))
 
 -- ids rise
-ids : (J : Past) → IsHistory J → (p : ℕ) (r : Region) (verb : Verb) → verb_of J p ≡ Some verb → region_called verb ≡ Some r → (q : ℕ) × (last_call J r ≡ Some q) × (p ≤ q)
-ids [] history p r verb called about = absurd (none-some verb called)
-ids (entry_is.Start sheets ∷ J) history p r verb called about = ids J (history_before (entry_is.Start sheets) J history) p r verb called about
-ids (entry_is.Submit nonce request ∷ J) history p r verb called about = ids J (history_before (entry_is.Submit nonce request) J history) p r verb called about
-ids (entry_is.Step pid pick out ∷ J) history p r verb called about = elim (verb_was pid pick out J p verb called) [
-  | inl old ↦ later (ids J (history_before (entry_is.Step pid pick out) J history) p r verb old about) (touch pid.0 out.call r (last_call J r))
+ids : (J : Past) → IsLegal J → (p : ℕ) (r : Region) (verb : Verb) → verb_of J p ≡ Some verb → region_called verb ≡ Some r → (q : ℕ) × (last_call J r ≡ Some q) × (p ≤ q)
+ids [] legal p r verb called about = absurd (none-some verb called)
+ids (entry_is.Start sheets ∷ J) legal p r verb called about = ids J legal.0 p r verb called about
+ids (entry_is.Submit nonce request ∷ J) legal p r verb called about = ids J legal.0 p r verb called about
+ids (entry_is.Step pid pick out ∷ J) legal p r verb called about = elim (verb_was pid pick out J p verb called) [
+  | inl old ↦ later (ids J legal.0 p r verb old about) (touch pid.0 out.call r (last_call J r))
   | inr new ↦ (pid.0, last_made pid pick out J r verb new.1 about, equal new.0)
 ]
   where
@@ -95,7 +94,7 @@ ids (entry_is.Step pid pick out ∷ J) history p r verb called about = elim (ver
     equal e = omega (arith, e)
 
     found : (node : Node) × (node_of J pid.0 ≡ Some node) × Finds J pid.0 node out.call
-    found = calls_find pid pick out J (legal_of (entry_is.Step pid pick out ∷ J) history) (free_of (entry_is.Step pid pick out ∷ J) history)
+    found = calls_find pid pick out J legal
 
     above : (q : ℕ) → last_call J r ≡ Some q → p ≤ q → IsLater pid.0 (last_call J r) → p ≤ pid.0
     above q e le lt = let less : q < pid.0 = subst (IsLater pid.0) e lt in omega (arith, le, less)
@@ -104,28 +103,28 @@ ids (entry_is.Step pid pick out ∷ J) history p r verb called about = elim (ver
     later q (same k) = (q.0, k ∙ q.1, q.2)
     later q (opens v k) = (pid.0, k, above q.0 q.1 q.2 (subst (Finds J pid.0 found.0) v found.2).1)
     later q (closes v k) = (pid.0, k, above q.0 q.1 q.2 (subst (Finds J pid.0 found.0) v found.2).1)
-ids (entry_is.Undo pid row out ∷ J) history p r verb called about = ids J (history_before (entry_is.Undo pid row out) J history) p r verb called about
-ids (entry_is.Report call told ∷ J) history p r verb called about = ids J (history_before (entry_is.Report call told) J history) p r verb called about
-ids (entry_is.Up server ∷ J) history p r verb called about = ids J (history_before (entry_is.Up server) J history) p r verb called about
-ids (entry_is.Down server ∷ J) history p r verb called about = ids J (history_before (entry_is.Down server) J history) p r verb called about
-ids (entry_is.Abort pid ∷ J) history p r verb called about = ids J (history_before (entry_is.Abort pid) J history) p r verb called about
+ids (entry_is.Undo pid row out ∷ J) legal p r verb called about = ids J legal.0 p r verb called about
+ids (entry_is.Report call told ∷ J) legal p r verb called about = ids J legal.0 p r verb called about
+ids (entry_is.Up server ∷ J) legal p r verb called about = ids J legal.0 p r verb called about
+ids (entry_is.Down server ∷ J) legal p r verb called about = ids J legal.0 p r verb called about
+ids (entry_is.Abort pid ∷ J) legal p r verb called about = ids J legal.0 p r verb called about
 
 -- who calls a region server has a parent, and has ended where its last step ended it
-module _ (J : Past) (history : IsHistory J) (p : ℕ) (r : Region) (s : Server) (to : CallsTo J p r s) where
+module _ (J : Past) (legal : IsLegal J) (p : ℕ) (r : Region) (s : Server) (to : CallsTo J p r s) where
   ended_is : ended J p ≡ is_stopped (last_answer J p)
   ended_is =
-      let v = node_called J (legal_of J history) p to.0 to.1 in
-      let below = caller_below J (legal_of J history) p v.0 s v.1 (peer_called v.0.args s (same_Some (peer_in v.0.args) (peer_is.Server s) (sym v.3 ∙ to.3))) in
+      let v = node_called J legal p to.0 to.1 in
+      let below = caller_below J legal p v.0 s v.1 (peer_called v.0.args s (same_Some (peer_in v.0.args) (peer_is.Server s) (sym v.3 ∙ to.3))) in
       ap (ended_node J p) v.1 ∙ cond-false (is_top v.0.above) (root_ended J p) (is_stopped (last_answer J p)) below
 
   ended_unless : (last : ℕ) → last_call J r ≡ Some last → p ≢ last → ended J p ≡ true
   ended_unless last is differs = elim (cases_Bool (is_stopped (last_answer J p))) [
     | inl stopped ↦ ended_is ∙ stopped
-    | inr goes ↦ absurd (differs (same_Some p last (sym (open_last J history p r to.0 to.1 to.2 goes) ∙ is)))
+    | inr goes ↦ absurd (differs (same_Some p last (sym (open_last J legal p r to.0 to.1 to.2 goes) ∙ is)))
   ]
 
 pub earlier_ended : EarlierHaveEnded
-earlier_ended J history p r s to = (let q = ids J history p r to.0 to.1 to.2 in (q.0, q.1, q.2, λ differs. ended_unless J history p r s to q.0 q.1 differs))
+earlier_ended J legal p r s to = (let q = ids J legal p r to.0 to.1 to.2 in (q.0, q.1, q.2, λ differs. ended_unless J legal p r s to q.0 q.1 differs))
 
 -- what a call is answered
 abbrev Answers : Option ReportMsg → Pid → Type 0
@@ -137,11 +136,11 @@ module _ (J : Past) (o : Outside) (safe : Safe J o) (id : Pid) (unended : ended 
     not_later : (last : Served) → a.last r ≡ Some last → id.0 < last.id.0 → ⊥
     not_later last is lt =
         let theirs = (safe.servers.served_is s a r last run is).0 in
-        let q = ids J safe.history last.id.0 r theirs.0 theirs.1 theirs.2 in
+        let q = ids J safe.legal last.id.0 r theirs.0 theirs.1 theirs.2 in
         let le = q.2 in
         elim (cases_eq id.0 q.0) [
           | inl own ↦ omega (arith, lt, le, own)
-          | inr differs ↦ true≢false (sym (ended_unless J safe.history id.0 r s to q.0 q.1 differs) ∙ unended)
+          | inr differs ↦ true≢false (sym (ended_unless J safe.legal id.0 r s to q.0 q.1 differs) ∙ unended)
         ]
 
     by_age : (order : Ordering) (l : Option Served) → a.last r ≡ l → age l id ≡ order → Answers (serve_by order a id r service).1 id
@@ -193,14 +192,14 @@ module _ (J : Past) (o : Outside) (safe : Safe J o) (call : Call) (called : verb
   by_actor : (s : Server) → peer_of J call.id.0 ≡ Some (peer_is.Server s) → (x : Option Actor) → o.actors s ≡ x → is_some x ≡ true → Answers (answer_of_actor x call) call.id
   by_actor s peer None run there = absurd (false≢true there)
   by_actor s peer (Some a) run there =
-      let v = node_called J (legal_of J safe.history) call.id.0 call.verb called in
+      let v = node_called J safe.legal call.id.0 call.verb called in
       let r = server_region v.0.args call.verb s v.2 (same_Some (peer_in v.0.args) (peer_is.Server s) (sym v.3 ∙ peer)) in
       server_answers J o safe call.id unended s a run call.verb called peer r.0 r.1
 
   no_region : peer_of J call.id.0 ≡ Some peer_is.Storage → (x : Option Region) → region_called call.verb ≡ x → x ≡ None
   no_region peer None is = refl
   no_region peer (Some r) is =
-      let v = node_called J (legal_of J safe.history) call.id.0 call.verb called in
+      let v = node_called J safe.legal call.id.0 call.verb called in
       let s = region_peer v.0.args call.verb r v.2 is in
       absurd (not_storage (peer_of J call.id.0) s.0 (v.3 ∙ ap Some s.1) peer)
 

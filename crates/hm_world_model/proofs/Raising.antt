@@ -22,8 +22,8 @@ use Rattle.hm_world_model.specs.Outside.{Outside, runs}
 use Rattle.hm_world_model.specs.Runs.{GoesOn, May, MayEnter, MayHear}
 use Rattle.hm_world_model.specs.Safe.{IsKept}
 use Rattle.hm_world_model.specs.World.{World, durable_part}
-use Rattle.hm_world_model.proofs.Apart.{open_before}
-use Rattle.hm_world_model.proofs.Facts.{allowed_of, legal_of, node_called, peer_same, verb_was}
+use Rattle.hm_serial.proofs.Taken.{open_before}
+use Rattle.hm_world_model.proofs.Facts.{node_called, peer_same, verb_was}
 use Rattle.hm_world_model.proofs.Measure.{deliver_nearer, hear_nearer, ignore_nearer, send_nearer}
 use Rattle.hm_world_model.proofs.Progress.{reports_heard}
 use Rattle.hm_world_model.proofs.Tails.{event_keeps, safe_past}
@@ -141,10 +141,10 @@ sent_called w q h = called_if w.outside (node_of w.past q) (verb_of w.past q) (a
 -- whom an entry leaves as it is
 module _ (w : World) (kept : IsKept w) (entry : Entry) (may : MayEnter w entry) where
   legal : IsLegal w.past
-  legal = legal_of w.past (safe_past w kept).history
+  legal = (safe_past w kept).legal
 
   next : IsLegal (entry ∷ w.past)
-  next = (legal, allowed_of entry w.past may.1)
+  next = (legal, may.1)
 
   unmade_off : (q : ℕ) → made w.past + 1 ≤ q → is_to_send w q ≡ false
   unmade_off q le = ap (λ n. runs_if w.outside (peer_if n (verb_of w.past q)) && (not (is_settled w.past q) && not (travels w q))) ((grown_all w.past legal).numbered q (omega (arith, le)))
@@ -195,7 +195,7 @@ carrying_stays w kept = ((λ k. refl), (λ claim. refl), (λ claim. refl), (λ c
 module _ (come : ReportsMayCome) (w : World) (kept : IsKept w) (going : GoesOn w) where
   ignorable : (report : ReportMsg) → is_settled w.past report.call.0 ≡ true → MayHear w report → ⊥
   ignorable report settled hear =
-      let out = hear.0.1.0.1.0.1 in
+      let out = hear.0.1.1.0.1 in
       true≢false (sym settled ∙ or_from (is_reported w.past report.call.0) (ended w.past report.call.0) (ap is_some out.1) out.2)
 
   waits_on : (report : ReportMsg) (rest : List ReportMsg) → w.waiting ≡ report ∷ rest → CanCarry w
@@ -203,7 +203,7 @@ module _ (come : ReportsMayCome) (w : World) (kept : IsKept w) (going : GoesOn w
     | inl settled ↦ (let may : May w (Travels (Ignore report)) = (going, (rest, e), ignorable report settled) in inr (inr (inl (report, (may, ignore_nearer w kept report may settled)))))
     | inr unsettled ↦ (
         let h = reports_heard w kept report (kept.waiting_is report (subst (IsIn report) (sym e) (inl refl))) unsettled in
-        let may : May w (Travels (Hear report)) = (((going, (((λ none. h.0.0 (ap (λ J. verb_of J report.call.0) none)), ((come report.call report.told, h.0), (h.1, tt))), tt)), h.2), (rest, e)) in
+        let may : May w (Travels (Hear report)) = (((going, ((λ none. h.0.0 (ap (λ J. verb_of J report.call.0) none)), ((come report.call report.told, h.0), (h.1, tt)))), h.2), (rest, e)) in
         inr (inl (report, (may, hear_nearer w kept report may)))
         )
   ]

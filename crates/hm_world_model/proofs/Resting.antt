@@ -35,9 +35,10 @@ use Rattle.hm_model.proofs.Forest.{rooted_all}
 use Rattle.hm_model.proofs.PlainActs.{is_caller}
 use Rattle.hm_model.proofs.StepDoes.{bears_by}
 use Rattle.hm_model.proofs.Trees.{IsWaiting, grown_all}
-use Rattle.hm_world_model.specs.History.{IsHistory}
 use Rattle.hm_world_model.specs.Rest.{AllHaveEnded, CallsAreSettled, IsStill, KindsRun, StillIsEnded, can_answer}
-use Rattle.hm_world_model.proofs.Apart.{ended_below, ended_top, history_apart, root_open, some_node}
+use Rattle.hm_model.proofs.Tops.{ended_top}
+use Rattle.hm_serial.proofs.Taken.{legal_apart, some_node}
+use Rattle.hm_world_model.proofs.Apart.{ended_below, root_open}
 use Rattle.hm_world_model.proofs.Births.{BornOf, Over}
 use Rattle.hm_world_model.proofs.Clashing.{askless, crash_clash, crashing, locker, moved_crash, moving, over_clash, requesting}
 use Rattle.hm_world_model.proofs.Facts.{node_called}
@@ -54,10 +55,7 @@ caller_parts (args_are.AssignCall region server) h = (refl, refl, refl)
 caller_parts (args_are.CloseCall region server) h = (refl, refl, refl)
 caller_parts args h = absurd (false≢true h)
 
-module _ (J : Past) (history : IsHistory J) (kinds : KindsRun J) (live : has_live J ≡ true) (settled : CallsAreSettled J) (still : IsStill J) where
-  abbrev legal : IsLegal J
-  legal = history.0
-
+module _ (J : Past) (legal : IsLegal J) (kinds : KindsRun J) (live : has_live J ≡ true) (settled : CallsAreSettled J) (still : IsStill J) where
   -- who can step can go on, if it is free
   module _ (p : ℕ) (x : Node) (is : node_of J p ≡ Some x) (runs : is_stopped (last_answer J p) ≡ false) (uncaused : x.above ≡ [] → cause J p ≡ None) (done : children_ended J p ≡ true) where
     steps : ((n : ℕ) → last_answer J p ≡ Some (answer_is.Await n) → IsAnswered J p x) → IsFree J [] p → ⊥
@@ -73,12 +71,12 @@ module _ (J : Past) (history : IsHistory J) (kinds : KindsRun J) (live : has_liv
       cons_nil u rest e = cc
 
       by : (above : List ℕ) → x.above ≡ above → ended J p ≡ false
-      by [] e = ended_top J p x is e ∙ ap (root_ended J) (sym ((grown_all J history.0).tops p x is e)) ∙ root_open J history.0 p x is runs uncaused
+      by [] e = ended_top J p x is e ∙ ap (root_ended J) (sym ((grown_all J legal).tops p x is e)) ∙ root_open J legal p x is runs uncaused
       by (u ∷ rest) e = ended_below J p x is (λ none. cons_nil u rest (sym e ∙ none)) ∙ runs
 
   -- who holds is free
   held_free : (p : ℕ) → HoldsWith J [] p → IsFree J [] p
-  held_free p hp q hq c = history_apart J history p q hp hq c
+  held_free p hp q hq c = legal_apart J legal p q hp hq c
 
   -- so is who asks for nothing
   askless_free : (p : ℕ) (x : Node) → node_of J p ≡ Some x → asks x.args ≡ [] → IsFree J [] p
@@ -90,10 +88,10 @@ module _ (J : Past) (history : IsHistory J) (kinds : KindsRun J) (live : has_liv
 
   -- who makes a call has no children
   call_alone : (p : ℕ) (x : Node) → node_of J p ≡ Some x → moved_by x.args ≡ None → is_some (verb_in x.args) ≡ true → children_ended J p ≡ true
-  call_alone p x is unmoved called = elim (children J history.0 p) [
+  call_alone p x is unmoved called = elim (children J legal p) [
     | inl done ↦ done
     | inr c ↦
-        let up = (grown_all J history.0).ups c.child c.node c.there p c.rest c.above in
+        let up = (grown_all J legal).ups c.child c.node c.there p c.rest c.above in
         let one : up.0 ≡ x = same_Some up.0 x (sym up.1 ∙ is) in
         let bears_it = subst (λ (n : Node). bears_by (is_some (moved_by n.args)) (is_some (verb_in n.args)) (is_caller c.node.args) ≡ true) one up.4 in
         absurd (false≢true (sym (ap (λ o. bears_by (is_some o) (is_some (verb_in x.args)) (is_caller c.node.args)) unmoved ∙ ap (λ b. bears_by false b (is_caller c.node.args)) called) ∙ bears_it))
@@ -109,24 +107,24 @@ module _ (J : Past) (history : IsHistory J) (kinds : KindsRun J) (live : has_liv
   -- a call to fence comes to its end
   fence_done : (f : ℕ) (x : Node) (s : Server) → node_of J f ≡ Some x → x.args ≡ args_are.FenceCall s → x.above ≢ [] → is_fenced J s ≡ true
   fence_done f x s is own below = elim (cases_Bool (is_stopped (last_answer J f))) [
-    | inl stopped ↦ shown (report_of J f) refl ((lineage_all J history.0).told f x s is own stopped)
+    | inl stopped ↦ shown (report_of J f) refl ((lineage_all J legal).told f x s is own stopped)
     | inr runs ↦ absurd (steps f x is runs (λ top. absurd (below top)) (call_alone f x is (ap moved_by own) (ap (λ a. is_some (verb_in a)) own)) (λ n awaits. inl (answered n awaits runs)) (askless_free f x is (ap asks own)))
   ]
     where
       own_verb : (verb : Verb) → verb_of J f ≡ Some verb → verb ≡ verb_is.Fence s
       own_verb verb v =
-          let n = (grown_all J history.0).verbs f verb v in
+          let n = (grown_all J legal).verbs f verb v in
           let one : n.0 ≡ x = same_Some n.0 x (sym n.1 ∙ is) in
           same_Some verb (verb_is.Fence s) (sym n.2 ∙ ap (λ (k : Node). verb_in k.args) one ∙ ap verb_in own)
 
       shown : (o : Option Told) → report_of J f ≡ o → o ≢ None → is_fenced J s ≡ true
       shown None e some = absurd (some refl)
-      shown (Some told) e some = let v = (grown_all J history.0).fits f told e in reported_fence J history.0 f told s e (v.1 ∙ ap Some (own_verb v.0 v.1))
+      shown (Some told) e some = let v = (grown_all J legal).fits f told e in reported_fence J legal f told s e (v.1 ∙ ap Some (own_verb v.0 v.1))
 
       answered : (n : ℕ) → last_answer J f ≡ Some (answer_is.Await n) → is_stopped (last_answer J f) ≡ false → report_of J f ≢ None
       answered n awaits runs =
-          let verb = some_verb (verb_of J f) refl ((lineage_all J history.0).awaits f n awaits) in
-          let called = node_called J history.0 f verb.0 verb.1 in
+          let verb = some_verb (verb_of J f) refl ((lineage_all J legal).awaits f n awaits) in
+          let called = node_called J legal f verb.0 verb.1 in
           let one : called.0 ≡ x = same_Some called.0 x (sym called.1 ∙ is) in
           reported f peer_is.Storage (called.3 ∙ ap (λ (k : Node). Some (peer_in k.args)) one ∙ ap (λ a. Some (peer_in a)) own) refl (unended f x is runs (λ top. absurd (below top)))
         where
@@ -135,25 +133,25 @@ module _ (J : Past) (history : IsHistory J) (kinds : KindsRun J) (live : has_liv
           some_verb (Some verb) e some = (verb, e)
 
   crash_fenced : (c : ℕ) (x : Node) (s : Server) → node_of J c ≡ Some x → x.args ≡ args_are.Crash s → last_answer J c ≢ None → is_fenced J s ≡ true
-  crash_fenced c x s is own begun = let f = (lineage_all J history.0).fences c x s is own begun in fence_done f.0 f.1 s f.2 f.3 f.4
+  crash_fenced c x s is own begun = let f = (lineage_all J legal).fences c x s is own begun in fence_done f.0 f.1 s f.2 f.3 f.4
 
   -- a server that went down is fenced
   down_fenced : (s : Server) → came_up J s ≡ true → is_live J s ≡ false → is_fenced J s ≡ true
-  down_fenced s up down = (let c = crashed J history.0 s up down in by c.0 c.1 (last_answer J c.0) refl)
+  down_fenced s up down = (let c = crashed J legal s up down in by c.0 c.1 (last_answer J c.0) refl)
     where
       none_waits : (o : Option Answer) → o ≡ None → IsWaiting o → ⊥
       none_waits None e h = h
       none_waits (Some a) e h = none-some a (sym e)
 
       no_child : (c : ℕ) → last_answer J c ≡ None → children_ended J c ≡ true
-      no_child c none = elim (children J history.0 c) [
+      no_child c none = elim (children J legal c) [
         | inl done ↦ done
-        | inr k ↦ absurd (none_waits (last_answer J c) none ((grown_all J history.0).waits k.child k.node k.there c k.rest k.above k.runs))
+        | inr k ↦ absurd (none_waits (last_answer J c) none ((grown_all J legal).waits k.child k.node k.there c k.rest k.above k.runs))
       ]
 
       no_cause : (c : ℕ) → last_answer J c ≡ None → (k : Option Cause) → cause J c ≡ k → k ≡ None
       no_cause c none None e = refl
-      no_cause c none (Some k) e = absurd ((lineage_all J history.0).begun c (λ e2. none-some k (sym e2 ∙ e)) none)
+      no_cause c none (Some k) e = absurd ((lineage_all J legal).begun c (λ e2. none-some k (sym e2 ∙ e)) none)
 
       free_crash : (c : ℕ) → node_of J c ≡ Some (root_node c (args_are.Crash s) 1) → is_fenced J s ≡ false → IsFree J [] c
       free_crash c is unfenced q hq conflict = by_node (node_of J q) refl (subst (λ o. AsksClash o (node_of J q)) is conflict.1.2)
@@ -174,7 +172,7 @@ module _ (J : Past) (history : IsHistory J) (kinds : KindsRun J) (live : has_liv
 
   -- who awaits an answer has it, or calls a server that is fenced
   answered : (p : ℕ) (x : Node) → node_of J p ≡ Some x → is_stopped (last_answer J p) ≡ false → (x.above ≡ [] → cause J p ≡ None) → (n : ℕ) → last_answer J p ≡ Some (answer_is.Await n) → IsAnswered J p x
-  answered p x is runs uncaused n awaits = by_verb (verb_of J p) refl ((lineage_all J history.0).awaits p n awaits)
+  answered p x is runs uncaused n awaits = by_verb (verb_of J p) refl ((lineage_all J legal).awaits p n awaits)
     where
       by_peer : peer_of J p ≡ Some (peer_in x.args) → (peer : Peer) → peer_in x.args ≡ peer → IsAnswered J p x
       by_peer to peer_is.Storage e = inl (reported p peer_is.Storage (to ∙ ap Some e) refl (unended p x is runs uncaused))
@@ -182,13 +180,13 @@ module _ (J : Past) (history : IsHistory J) (kinds : KindsRun J) (live : has_liv
         | inl on ↦ inl (reported p (peer_is.Server s) (to ∙ ap Some e) on (unended p x is runs uncaused))
         | inr off ↦
             let called = peer_called x.args s e in
-            inr (ap (fenced_if J) called ∙ down_fenced s (called_up J history.0 p x s is called) off)
+            inr (ap (fenced_if J) called ∙ down_fenced s (called_up J legal p x s is called) off)
       ]
 
       by_verb : (o : Option Verb) → verb_of J p ≡ o → o ≢ None → IsAnswered J p x
       by_verb None e some = absurd (some refl)
       by_verb (Some verb) e some =
-          let called = node_called J history.0 p verb e in
+          let called = node_called J legal p verb e in
           let one : called.0 ≡ x = same_Some called.0 x (sym called.1 ∙ is) in
           by_peer (called.3 ∙ ap (λ (k : Node). Some (peer_in k.args)) one) (peer_in x.args) refl
 
@@ -203,13 +201,13 @@ module _ (J : Past) (history : IsHistory J) (kinds : KindsRun J) (live : has_liv
   caller_goes : (p : ℕ) (x : Node) → node_of J p ≡ Some x → is_caller x.args ≡ true → is_stopped (last_answer J p) ≡ false → ⊥
   caller_goes p x is caller runs =
       let parts = caller_parts x.args caller in
-      let below = λ (top : x.above ≡ []). true≢false (sym (ap is_top top) ∙ (lineage_all J history.0).below p x is caller) in
+      let below = λ (top : x.above ≡ []). true≢false (sym (ap is_top top) ∙ (lineage_all J legal).below p x is caller) in
       steps p x is runs (λ top. absurd (below top)) (call_alone p x is parts.0 parts.1) (λ n awaits. answered p x is runs (λ top. absurd (below top)) n awaits) (askless_free p x is parts.2)
 
   -- a transit's child calls a region server
   moved_child : (p : ℕ) (x : Node) (r : Region) → node_of J p ≡ Some x → moved_by x.args ≡ Some r → OpenChild J p → ⊥
   moved_child p x r is m c =
-      let up = (grown_all J history.0).ups c.child c.node c.there p c.rest c.above in
+      let up = (grown_all J legal).ups c.child c.node c.there p c.rest c.above in
       let one : up.0 ≡ x = same_Some up.0 x (sym up.1 ∙ is) in
       let bears_it = subst (λ (n : Node). bears_by (is_some (moved_by n.args)) (is_some (verb_in n.args)) (is_caller c.node.args) ≡ true) one up.4 in
       caller_goes c.child c.node c.there (sym (ap (λ o. bears_by (is_some o) (is_some (verb_in x.args)) (is_caller c.node.args)) m) ∙ bears_it) c.runs
@@ -228,15 +226,15 @@ module _ (J : Past) (history : IsHistory J) (kinds : KindsRun J) (live : has_liv
       by : (above : List ℕ) → x.above ≡ above → ⊥
       by (u ∷ rest) e =
           let runs = sym (ended_below J q x is (λ none. cons_nil u rest (sym e ∙ none))) ∙ holds.1 in
-          elim (children J history.0 q) [
+          elim (children J legal q) [
             | inl done ↦ steps q x is runs (λ top. absurd (cons_nil u rest (sym e ∙ top))) done (λ n awaits. answered q x is runs (λ top. absurd (cons_nil u rest (sym e ∙ top))) n awaits) (held_free q holds)
             | inr c ↦ moved_child q x r is m c
           ]
-      by [] e = elim (tree_goes J history.0 q x is e (sym (ended_top J q x is e) ∙ holds.1)) [
+      by [] e = elim (tree_goes J legal q x is e (sym (ended_top J q x is e) ∙ holds.1)) [
         | inr undo ↦ no_undo q holds undo
         | inl g ↦ elim (cases_eq g.pid q) [
           | inl own ↦ goer_not_free q g (subst (IsFree J []) (sym own) (held_free q holds))
-          | inr differs ↦ caller_goes g.pid g.node g.there (kin_of J (grown_all J history.0) q (record { node = x; node_is = is; region = r; moved = m; top = e }) g.pid g.node g.there g.root differs).0 g.runs
+          | inr differs ↦ caller_goes g.pid g.node g.there (kin_of J (grown_all J legal) q (record { node = x; node_is = is; region = r; moved = m; top = e }) g.pid g.node g.there g.root differs).0 g.runs
         ]
       ]
 
@@ -246,14 +244,14 @@ module _ (J : Past) (history : IsHistory J) (kinds : KindsRun J) (live : has_liv
     where
       by : (above : List ℕ) → x.above ≡ above → above ≡ []
       by [] e = refl
-      by (u ∷ rest) e = let up = (grown_all J history.0).ups q x is u rest e in absurd (subst (BornOf up.0.args) own ((lineage_all J history.0).born q x up.0 u rest is e up.1))
+      by (u ∷ rest) e = let up = (grown_all J legal).ups q x is u rest e in absurd (subst (BornOf up.0.args) own ((lineage_all J legal).born q x up.0 u rest is e up.1))
 
   crash_top : (q : ℕ) (x : Node) (s : Server) → node_of J q ≡ Some x → x.args ≡ args_are.Crash s → x.above ≡ []
   crash_top q x s is own = by x.above refl
     where
       by : (above : List ℕ) → x.above ≡ above → above ≡ []
       by [] e = refl
-      by (u ∷ rest) e = let up = (grown_all J history.0).ups q x is u rest e in absurd (subst (BornOf up.0.args) own ((lineage_all J history.0).born q x up.0 u rest is e up.1))
+      by (u ∷ rest) e = let up = (grown_all J legal).ups q x is u rest e in absurd (subst (BornOf up.0.args) own ((lineage_all J legal).born q x up.0 u rest is e up.1))
 
   -- a transit without a step is free, if no request that holds is in its way
   transit_free : (p : ℕ) (y : Node) (region : Region) (goal : Goal) (to : Option Server) → node_of J p ≡ Some y → y.args ≡ args_are.Transit region goal to
@@ -271,7 +269,7 @@ module _ (J : Past) (history : IsHistory J) (kinds : KindsRun J) (live : has_liv
 
   -- no request that holds
   requesting_not : (q : ℕ) (x : Node) (request : Request) (first : ℕ) → node_of J q ≡ Some x → x.args ≡ args_are.Root request first → HoldsWith J [] q → ⊥
-  requesting_not q x request first is own holds = elim (tree_goes J history.0 q x is top (sym (ended_top J q x is top) ∙ holds.1)) [
+  requesting_not q x request first is own holds = elim (tree_goes J legal q x is top (sym (ended_top J q x is top) ∙ holds.1)) [
     | inr undo ↦ no_undo q holds undo
     | inl g ↦ goes_on g (last_answer J g.pid) refl
   ]
@@ -289,8 +287,8 @@ module _ (J : Past) (history : IsHistory J) (kinds : KindsRun J) (live : has_liv
         | inl same ↦ c.1.1 (subst (IsAbove s) (sym at) (subst (IsIn s) (sym above) (inl same)))
         | inr differs ↦
             let clash : Clash (asks y.args) (asks z.args) = subst (AsksClash (Some y)) there (subst (λ o. AsksClash o (node_of J s)) at c.1.2) in
-            let wide = over_clash (asks x.args) region goal to z.args over ((lineage_all J history.0).sound s z there) (subst (λ a. Clash (asks a) (asks z.args)) mine clash) in
-            history_apart J history q s holds held (
+            let wide = over_clash (asks x.args) region goal to z.args over ((lineage_all J legal).sound s z there) (subst (λ a. Clash (asks a) (asks z.args)) mine clash) in
+            legal_apart J legal q s holds held (
               (λ e. differs (sym e)),
               (
                 (λ up. subst (IsIn q) (request_top s z other its there theirs) (subst (IsAbove q) there up)),
@@ -320,10 +318,10 @@ module _ (J : Past) (history : IsHistory J) (kinds : KindsRun J) (live : has_liv
               nil_cons : (u : ℕ) (rest : List ℕ) → [] ≡ u ∷ rest → ⊥
               nil_cons u rest h = cc
           by_args u rest e (args_are.Transit region goal to) a =
-              let up = (grown_all J history.0).ups g.pid g.node g.there u rest e in
-              let born = subst (BornOf up.0.args) a ((lineage_all J history.0).born g.pid g.node up.0 u rest g.there e up.1) in
+              let up = (grown_all J legal).ups g.pid g.node g.there u rest e in
+              let born = subst (BornOf up.0.args) a ((lineage_all J legal).born g.pid g.node up.0 u rest g.there e up.1) in
               let up_top : up.0.above ≡ [] = bearer_top up.0.args u up.0 region goal to up.1 refl born in
-              let mine : u ≡ q = sym ((grown_all J history.0).tops u up.0 up.1 up_top) ∙ up.3 ∙ g.root in
+              let mine : u ≡ q = sym ((grown_all J legal).tops u up.0 up.1 up_top) ∙ up.3 ∙ g.root in
               let one : up.0 ≡ x = same_Some up.0 x (sym up.1 ∙ ap (node_of J) mine ∙ is) in
               transit_free g.pid g.node region goal to g.there a (in_way g.pid g.node region goal to rest g.there a (e ∙ ap (λ k. k ∷ rest) mine) (parent_over region goal to up.0.args born (ap (λ (n : Node). n.args) one)))
             where
@@ -340,7 +338,7 @@ module _ (J : Past) (history : IsHistory J) (kinds : KindsRun J) (live : has_liv
           by_args u rest e (args_are.SweepLayout root) a = askless_free g.pid g.node g.there (ap asks a)
 
           by_above : (above : List ℕ) → g.node.above ≡ above → IsFree J [] g.pid
-          by_above [] e = absurd (differs (sym ((grown_all J history.0).tops g.pid g.node g.there e) ∙ g.root))
+          by_above [] e = absurd (differs (sym ((grown_all J legal).tops g.pid g.node g.there e) ∙ g.root))
           by_above (u ∷ rest) e = by_args u rest e g.node.args refl
 
       goes_on : (g : Goer J q) → (o : Option Answer) → last_answer J g.pid ≡ o → ⊥
@@ -349,7 +347,7 @@ module _ (J : Past) (history : IsHistory J) (kinds : KindsRun J) (live : has_liv
 
   -- nobody who holds what a procedure waits for is a crash: it asks for its server alone, and its transits wait for the others
   crashing_not : (q : ℕ) (x : Node) (s : Server) → node_of J q ≡ Some x → x.args ≡ args_are.Crash s → HoldsWith J [] q → ⊥
-  crashing_not q x s is own holds = elim (tree_goes J history.0 q x is top (sym (ended_top J q x is top) ∙ holds.1)) [
+  crashing_not q x s is own holds = elim (tree_goes J legal q x is top (sym (ended_top J q x is top) ∙ holds.1)) [
     | inr undo ↦ no_undo q holds undo
     | inl g ↦ goes_on g (last_answer J g.pid) refl
   ]
@@ -376,7 +374,7 @@ module _ (J : Past) (history : IsHistory J) (kinds : KindsRun J) (live : has_liv
           not_crash : (t : Server) → g.node.args ≡ args_are.Crash t → ⊥
           not_crash t mine =
               let at_top = crash_top g.pid g.node t g.there mine in
-              let same : g.pid ≡ q = sym ((grown_all J history.0).tops g.pid g.node g.there at_top) ∙ g.root in
+              let same : g.pid ≡ q = sym ((grown_all J legal).tops g.pid g.node g.there at_top) ∙ g.root in
               elim holds.2 [ inl some ↦ some (ap (last_answer J) (sym same) ∙ none) | inr never ↦ never ]
 
           by : (o : Option Node) → node_of J p ≡ o → AsksClash (Some g.node) o → ⊥
@@ -407,7 +405,7 @@ module _ (J : Past) (history : IsHistory J) (kinds : KindsRun J) (live : has_liv
       ]
 
   root_done : (r : ℕ) (top : Node) → node_of J r ≡ Some top → top.above ≡ [] → root_ended J r ≡ false → ⊥
-  root_done r top is at_top open_root = elim (tree_goes J history.0 r top is at_top open_root) [
+  root_done r top is at_top open_root = elim (tree_goes J legal r top is at_top open_root) [
     | inl g ↦ goer_not_free r g (all_free g.pid)
     | inr undo ↦ still r (all_free r, inr undo)
   ]
@@ -426,8 +424,8 @@ module _ (J : Past) (history : IsHistory J) (kinds : KindsRun J) (live : has_liv
       by x is open_one (u ∷ rest) e =
           let below = λ (none : x.above ≡ []). cons_nil u rest (sym e ∙ none) in
           let runs = sym (ended_below J p x is below) ∙ open_one in
-          let root = rooted_all J history.0 p x is in
-          root_done x.root root.root root.there root.at_top (root_open J history.0 p x is runs (λ none. absurd (below none)))
+          let root = rooted_all J legal p x is in
+          root_done x.root root.root root.there root.at_top (root_open J legal p x is runs (λ none. absurd (below none)))
 
 pub still_ended : StillIsEnded
-still_ended J history kinds live settled still = all_ended J history kinds live settled still
+still_ended J legal kinds live settled still = all_ended J legal kinds live settled still

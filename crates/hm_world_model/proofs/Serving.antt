@@ -199,7 +199,7 @@ module _ (J : Past) (o : Outside) (safe : Safe J o) (r : Region) (s : Server) (i
 
   pub safe_changed : Safe J changed
   safe_changed = record {
-    history = safe.history;
+    legal = safe.legal;
     calls = record {
       sent_is = safe.calls.sent_is;
       made_is = made_changed;

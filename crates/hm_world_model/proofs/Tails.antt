@@ -15,7 +15,6 @@ use Rattle.hm_model.specs.Locks.{IsIn}
 use Rattle.hm_model.specs.Reports.{call_of}
 use Rattle.hm_model.specs.Rules.{Allowed, IsLegal}
 use Rattle.hm_world_model.specs.Events.{Abort, Arm, Claim, Commit, Deliver, DeliverAgain, Die, Ends, Event, Expire, Fault, Flush, Full, GiveUp, Hear, HearAgain, Ignore, Lives, Lose, Repeat, Send, Start, Stop, Submit, Travels, Works, happens, with_older_down}
-use Rattle.hm_world_model.specs.History.{Follows, IsHistory}
 use Rattle.hm_world_model.specs.Outside.{Outside, answer_by, deliver_by, delivered, report_to, started, with_report, with_sent, armed}
 use Rattle.hm_world_model.specs.Runs.{GoesOn, IsTrueReport, IsWork, May, MayEnter, MayStart}
 use Rattle.hm_world_model.specs.Safe.{IsKept, Safe}
@@ -24,7 +23,7 @@ use Rattle.hm_world_model.specs.Claims.{IsApart}
 use Rattle.hm_world_model.proofs.Apart.{apart_on, apart_opened}
 use Rattle.hm_world_model.proofs.Appending.{safe_append}
 use Rattle.hm_world_model.proofs.Claiming.{apart_claim, apart_commit, apart_give_up, apart_plain}
-use Rattle.hm_world_model.proofs.Facts.{allowed_of, call_now, history_before, history_on, in_both, in_pushed, legal_of, pushed_new, pushed_old}
+use Rattle.hm_world_model.proofs.Facts.{call_now, in_both, in_pushed, pushed_new, pushed_old}
 use Rattle.hm_world_model.proofs.From.{safe_arm, safe_die, safe_send, safe_start}
 use Rattle.hm_world_model.proofs.Known.{uncalled}
 use Rattle.hm_world_model.proofs.Servers.{not_up, up_stays}
@@ -64,10 +63,10 @@ pushed entry past d o all safe zero h = safe
 pushed entry past d o all safe (suc n) h = all n (omega (arith, h))
 
 -- what a shorter journal recorded stays
-calls_grow : (past : Past) → IsHistory past → (n : ℕ) (call : Call) → call_of (drop n past) call.id.0 ≡ Some call → call_of past call.id.0 ≡ Some call
-calls_grow past history zero call h = h
-calls_grow [] history (suc n) call h = h
-calls_grow (e ∷ past) history (suc n) call h = call_now e past (legal_of (e ∷ past) history) call (calls_grow past (history_before e past history) n call h)
+calls_grow : (past : Past) → IsLegal past → (n : ℕ) (call : Call) → call_of (drop n past) call.id.0 ≡ Some call → call_of past call.id.0 ≡ Some call
+calls_grow past legal zero call h = h
+calls_grow [] legal (suc n) call h = h
+calls_grow (e ∷ past) legal (suc n) call h = call_now e past legal call (calls_grow past legal.0 n call h)
 
 ups_grow : (past : Past) (n : ℕ) (s : Server) → came_up (drop n past) s ≡ true → came_up past s ≡ true
 ups_grow past zero s h = h
@@ -81,27 +80,27 @@ pub newer_of : (past : Past) (s : Server) → Allowed past (entry_is.Up s) → h
 newer_of past s allowed = allowed.1.0.1
 
 -- a server that may come up never did
-never_up : (past : Past) (s : Server) → Follows past (entry_is.Up s) → came_up past s ≡ false
-never_up past s follows = not_up past s (newer_of past s (allowed_of (entry_is.Up s) past follows))
+never_up : (past : Past) (s : Server) → Allowed past (entry_is.Up s) → came_up past s ≡ false
+never_up past s follows = not_up past s (newer_of past s follows)
 
 module _ (past : Past) (d : ℕ) (o : Outside) (within : d ≤ length past) (all : AllTails None past d o) where
   safe_here : Safe past o
   safe_here = all 0 (omega (arith, within))
 
-  recorded : (entry : Entry) → Follows past entry → IsTrueReport o entry → AllTails None (entry ∷ past) d o
-  recorded entry follows true_report = pushed entry past d o all (safe_append entry past (history_on entry past safe_here.history follows) o safe_here true_report)
+  recorded : (entry : Entry) → Allowed past entry → IsTrueReport o entry → AllTails None (entry ∷ past) d o
+  recorded entry follows true_report = pushed entry past d o all (safe_append entry past (safe_here.legal, follows) o safe_here true_report)
 
-  begins : (s : Server) → Follows past (entry_is.Up s) → AllTails None (entry_is.Up s ∷ past) d (started o s)
+  begins : (s : Server) → Allowed past (entry_is.Up s) → AllTails None (entry_is.Up s ∷ past) d (started o s)
   begins s follows zero h =
-      safe_append (entry_is.Up s) past (history_on (entry_is.Up s) past safe_here.history follows) (started o s)
-      (safe_start past o s safe_here (uncalled past (legal_of past safe_here.history) s (never_up past s follows))) tt
+      safe_append (entry_is.Up s) past (safe_here.legal, follows) (started o s)
+      (safe_start past o s safe_here (uncalled past safe_here.legal s (never_up past s follows))) tt
   begins s follows (suc n) h =
       let safe = all n (omega (arith, h)) in
-      safe_start (drop n past) o s safe (uncalled (drop n past) (legal_of (drop n past) safe.history) s (not_up_before past n s (never_up past s follows)))
+      safe_start (drop n past) o s safe (uncalled (drop n past) safe.legal s (not_up_before past n s (never_up past s follows)))
 
 -- what is durable is in each longer journal
 sent_tail : (past : Past) (d : ℕ) (o : Outside) → AllTails None past d o → (call : Call) → call_of (first d past) call.id.0 ≡ Some call → (n : ℕ) → n + d ≤ length past → call_of (drop n past) call.id.0 ≡ Some call
-sent_tail past d o all call is n h = calls_grow (drop n past) (all n h).history (length past - d - n) call (rw (drop_again (length past - d - n) n past, same_place) is)
+sent_tail past d o all call is n h = calls_grow (drop n past) (all n h).legal (length past - d - n) call (rw (drop_again (length past - d - n) n past, same_place) is)
   where
     same_place : n + (length past - d - n) ≡ length past - d
     same_place = omega (arith, h)
@@ -188,13 +187,13 @@ module _ (w : World) (kept : IsKept w) where
   stop_within k high = omega (arith, high, length-drop (length (whole w) - k) (whole w))
 
   legal_here : IsLegal w.past
-  legal_here = legal_of w.past (safe_past w kept).history
+  legal_here = (safe_past w kept).legal
 
   legal_next : (entry : Entry) → MayEnter w entry → IsLegal (entry ∷ w.past)
-  legal_next entry may = (legal_here, allowed_of entry w.past may.1)
+  legal_next entry may = (legal_here, may.1)
 
   apart_stopped : (k : ℕ) → d ≤ k → k ≤ length (whole w) → IsApart (first k (whole w)) [] []
-  apart_stopped k low high = apart_opened (first k (whole w)) (kept.tails (length (whole w) - k) (omega (arith, low, high))).history
+  apart_stopped k low high = apart_opened (first k (whole w)) (kept.tails (length (whole w) - k) (omega (arith, low, high))).legal
 
 one_longer : (entry : Entry) (past : Past) (d : ℕ) → d ≤ length past → d ≤ length (entry ∷ past)
 one_longer entry past d h = omega (arith, h)
@@ -273,7 +272,7 @@ event_keeps w (Lives (Start server older)) k may = record { within = up_within o
     apart_of None m = apart_plain w k.apart (legal_here w k) (entry_is.Up server) (legal_next w k (entry_is.Up server) m) tt
     apart_of (Some o) m =
         let down = legal_next w k (entry_is.Down o) m.1 in
-        apart_on (entry_is.Up server) (entry_is.Down o ∷ w.past) (down, m.2.0) w.taken (claimed_pids w) (apart_plain w k.apart (legal_here w k) (entry_is.Down o) down tt) tt
+        apart_on (entry_is.Up server) (entry_is.Down o ∷ w.past) (down, m.2) w.taken (claimed_pids w) (apart_plain w k.apart (legal_here w k) (entry_is.Down o) down tt) tt
 
     tails_of : (x : Option Server) → MayStart w server x → (n : ℕ) → n + (happens w (Lives (Start server x))).durable ≤ length (whole (happens w (Lives (Start server x)))) → Safe (drop n (whole (happens w (Lives (Start server x))))) (started w.outside server)
     tails_of None m = start_tails w k server None m

@@ -1,13 +1,13 @@
-pub mod History
 pub mod Outside
 pub mod World
 pub mod Events
 pub mod Runs
 pub mod Claims
 pub mod Safe
+pub mod Kept
+pub mod Claimed
 pub mod Twice
 pub mod Points
-pub mod Overlaps
 pub mod Fleets
 pub mod Progress
 pub mod Measure

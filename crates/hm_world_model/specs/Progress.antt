@@ -8,8 +8,7 @@ use Rattle.hm_model.specs.Journal.{Past}
 use Rattle.hm_model.specs.Locks.{IsIn}
 use Rattle.hm_model.specs.Phase.{ended}
 use Rattle.hm_model.specs.Reports.{call_of, is_settled, last_call, peer_of}
-use Rattle.hm_model.specs.Rules.{FitsCall, IsOutstanding}
-use Rattle.hm_world_model.specs.History.{IsHistory}
+use Rattle.hm_model.specs.Rules.{FitsCall, IsLegal, IsOutstanding}
 use Rattle.hm_world_model.specs.Outside.{report_to, runs}
 use Rattle.hm_world_model.specs.Safe.{CallsTo, IsKept}
 use Rattle.hm_world_model.specs.World.{World}
@@ -21,7 +20,7 @@ IsOpen J call = (call_of J call.id.0 ≡ Some call) × (is_settled J call.id.0 �
 -- calls about a region have rising ids, and all but the last are of procedures that have ended
 abbrev pub EarlierHaveEnded : Type 0
 EarlierHaveEnded =
-    (J : Past) → IsHistory J → (p : ℕ) (region : Region) (server : Server) → CallsTo J p region server
+    (J : Past) → IsLegal J → (p : ℕ) (region : Region) (server : Server) → CallsTo J p region server
     → (last : ℕ) × (last_call J region ≡ Some last) × (p ≤ last) × (p ≢ last → ended J p ≡ true)
 
 -- an open call is answered when it is delivered, where who is called runs

@@ -10,8 +10,8 @@ use Rattle.hm_model.specs.Kinds.{is_running_kind, kind_of}
 use Rattle.hm_model.specs.Phase.{ended}
 use Rattle.hm_model.specs.Reports.{is_settled, peer_of}
 use Rattle.hm_model.specs.Rest.{MayStepPicked, MayUndo}
+use Rattle.hm_model.specs.Rules.{IsLegal}
 use Rattle.hm_model.specs.Tree.{Node, node_of}
-use Rattle.hm_world_model.specs.History.{IsHistory}
 use Rattle.hm_world_model.specs.Measure.{left_to_carry}
 use Rattle.hm_world_model.specs.Outside.{runs}
 use Rattle.hm_world_model.specs.Safe.{IsKept}
@@ -46,7 +46,7 @@ AllHaveEnded J = (p : ℕ) → node_of J p ≢ None → ended J p ≡ true
 -- where a server is live, each call is settled and nothing can go on, nothing is unfinished
 abbrev pub StillIsEnded : Type 0
 StillIsEnded =
-    (J : Past) → IsHistory J → KindsRun J → has_live J ≡ true → CallsAreSettled J → IsStill J → AllHaveEnded J
+    (J : Past) → IsLegal J → KindsRun J → has_live J ≡ true → CallsAreSettled J → IsStill J → AllHaveEnded J
 
 -- where a server is live, each live one runs, nothing is left to carry and nothing can go on, nothing is unfinished
 abbrev pub IdleIsEnded : Type 0

@@ -14,9 +14,9 @@ use Rattle.hm_model.specs.Locks.{IsIn}
 use Rattle.hm_model.specs.Picks.{PicksRight}
 use Rattle.hm_model.specs.Reports.{call_of, peer_of}
 use Rattle.hm_model.specs.Rest.{IsAvailable}
+use Rattle.hm_model.specs.Rules.{Allowed}
 use Rattle.hm_model.specs.Tree.{root_of}
 use Rattle.hm_world_model.specs.Events.{End, Event, Life, Travel, Work, Works, Travels, Lives, Ends, Submit, Claim, Commit, GiveUp, Flush, Expire, Abort, Send, Deliver, DeliverAgain, Hear, Ignore, HearAgain, Lose, Repeat, Start, Die, Arm, Fault, Full, Stop, happens}
-use Rattle.hm_world_model.specs.History.{Follows}
 use Rattle.hm_world_model.specs.Outside.{Outside, runs}
 use Rattle.hm_world_model.specs.World.{Claimed, World, claimed_pids, durable_part, whole}
 use Rattle.hm_data.specs.declared.call.Call.{Call}
@@ -27,7 +27,7 @@ GoesOn w = w.halted ≡ None
 
 -- an entry may be recorded next
 abbrev pub MayEnter : World → Entry → Type 0
-MayEnter w entry = GoesOn w × Follows w.past entry
+MayEnter w entry = GoesOn w × Allowed w.past entry
 
 -- the step of a claimed procedure with the server that was picked, or what undoes one of its tree
 abbrev pub IsWork : Past → Claimed → Entry → Type 0
@@ -70,7 +70,7 @@ abbrev pub MayStart : World → Server → Option Server → Type 0
 MayStart w server None = MayEnter w (entry_is.Up server)
 MayStart w server (Some older) =
     (same_address server older ≡ true) × MayEnter w (entry_is.Down older)
-    × Follows (entry_is.Down older ∷ w.past) (entry_is.Up server)
+    × Allowed (entry_is.Down older ∷ w.past) (entry_is.Up server)
 
 -- a master may work so
 abbrev pub MayWork : World → Work → Type 0

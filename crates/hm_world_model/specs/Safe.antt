@@ -16,9 +16,8 @@ use Rattle.hm_model.specs.Fleet.{is_fenced}
 use Rattle.hm_model.specs.Journal.{Past}
 use Rattle.hm_model.specs.Locks.{IsIn}
 use Rattle.hm_model.specs.Reports.{call_of, fits_verb, last_call, peer_of, region_called, verb_of}
-use Rattle.hm_model.specs.Rules.{FitsCall}
+use Rattle.hm_model.specs.Rules.{FitsCall, IsLegal}
 use Rattle.hm_world_model.specs.Claims.{IsApart}
-use Rattle.hm_world_model.specs.History.{IsHistory}
 use Rattle.hm_world_model.specs.Outside.{Outside}
 use Rattle.hm_world_model.specs.World.{World, claimed_pids, whole}
 
@@ -86,7 +85,7 @@ pub record ServersSafe (J : Past) (o : Outside) : Type 0 where
 
 -- what a journal and what is outside keep
 pub record Safe (J : Past) (o : Outside) : Type 0 where
-  pub history : IsHistory J
+  pub legal : IsLegal J
   pub calls : CallsSafe J o
   pub servers : ServersSafe J o
   pub fences_are : (server : Server) → is_fenced J server ≡ true → o.storage.fenced server ≡ true

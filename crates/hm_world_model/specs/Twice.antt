@@ -1,14 +1,14 @@
 -- Double service: what is never so.
-use Rattle.std.specs.Prelude.{◌≡◌, ◌≢◌, List, Some, true, false}
+use Rattle.std.specs.Prelude.{◌≡◌, ◌≢◌, List, Some, true, false, ◌⊎◌}
 use Rattle.hm_names.specs.Region.{Region}
 use Rattle.hm_names.specs.Server.{Server}
 use Rattle.hm_model.specs.Actors.{Actor, holds}
-use Rattle.hm_model.specs.Holding.{NoneClash}
 use Rattle.hm_model.specs.Journal.{Past}
-use Rattle.hm_world_model.specs.Events.{Event, happens}
-use Rattle.hm_world_model.specs.History.{IsHistory}
+use Rattle.hm_model.specs.Rules.{IsLegal}
+use Rattle.hm_model.specs.Single.{touches}
+use Rattle.hm_world_model.specs.Events.{Event}
 use Rattle.hm_world_model.specs.Outside.{Outside}
-use Rattle.hm_world_model.specs.Runs.{IsRun, May, after}
+use Rattle.hm_world_model.specs.Runs.{IsRun, after}
 use Rattle.hm_world_model.specs.Safe.{IsKept}
 use Rattle.hm_world_model.specs.World.{World, opened}
 
@@ -17,28 +17,29 @@ abbrev pub Holds : Outside → Server → Region → Type 0
 Holds o server region =
     (actor : Actor) × (o.actors server ≡ Some actor) × (holds actor region ≡ true) × (o.storage.fenced server ≡ false)
 
--- two such servers hold one region
-abbrev pub Twice : Outside → Type 0
-Twice o = (region : Region) × (one other : Server) × (one ≢ other) × Holds o one region × Holds o other region
+-- one region, or two of one table whose ranges overlap, are held by two such servers, or two such regions by one
+abbrev pub Twice : Past → Outside → Type 0
+Twice J o =
+    (a b : Region) × (one other : Server) × (touches J a b ≡ true) × ((one ≢ other) ⊎ (a ≢ b)) × Holds o one a × Holds o other b
 
--- a master that opens a journal keeps what a world keeps
-abbrev pub OpenedIsKept : Type 0
-OpenedIsKept = (J : Past) → IsHistory J → IsKept (opened J)
-
--- so does each event
-abbrev pub EventsKeep : Type 0
-EventsKeep = (w : World) (event : Event) → IsKept w → May w event → IsKept (happens w event)
-
--- where it is kept, no region is held twice
+-- where it is kept, nothing is held twice
 abbrev pub KeptIsNeverTwice : Type 0
-KeptIsNeverTwice = (w : World) → IsKept w → Twice w.outside → ⊥
+KeptIsNeverTwice = (w : World) → IsKept w → Twice w.past w.outside → ⊥
 
--- after every list of events no region is held twice
+-- after every list of events nothing is held twice
 abbrev pub NeverTwice : Type 0
-NeverTwice = (J : Past) → IsHistory J → (events : List Event) → IsRun (opened J) events → Twice (after (opened J) events).outside → ⊥
+NeverTwice =
+    (J : Past) → IsLegal J → (events : List Event) → IsRun (opened J) events
+    → Twice (after (opened J) events).past (after (opened J) events).outside → ⊥
 
--- no two procedures that hold conflict, after every list of events
-abbrev pub NeverClash : Type 0
-NeverClash =
-    (J : Past) → IsHistory J → (events : List Event) → IsRun (opened J) events
-    → NoneClash (after (opened J) events).past (after (opened J) events).taken
+-- one region is held by two such servers, whatever its range is
+abbrev pub IsHeldByTwo : Outside → Type 0
+IsHeldByTwo o = (region : Region) × (one other : Server) × (one ≢ other) × Holds o one region × Holds o other region
+
+-- where it is kept, none is
+abbrev pub KeptIsHeldByOne : Type 0
+KeptIsHeldByOne = (w : World) → IsKept w → IsHeldByTwo w.outside → ⊥
+
+-- nor is one after any list of events
+abbrev pub HeldByOne : Type 0
+HeldByOne = (J : Past) → IsLegal J → (events : List Event) → IsRun (opened J) events → IsHeldByTwo (after (opened J) events).outside → ⊥

@@ -1,11 +1,12 @@
 //! The laws.
+ghost use Rattle.hm_world_model.specs.Claimed.{ClaimedOnce, NeverClash};
 ghost use Rattle.hm_world_model.specs.Fleets.{FitsTheFirst, ResumedIsKept, ResumedIsStopped};
+ghost use Rattle.hm_world_model.specs.Kept.{EntriesKeep, EventsKeep, OpenedIsKept, OutsideKeeps};
 ghost use Rattle.hm_world_model.specs.Measure.{CarryingGoesOn, CarryingIsPossible, CarryingStays};
-ghost use Rattle.hm_world_model.specs.Overlaps.{KeptIsNeverTwiceOver, NeverTwiceOver};
 ghost use Rattle.hm_world_model.specs.Progress.{EarlierHaveEnded, OpenIsAnswered, ReportsAreHeard};
 ghost use Rattle.hm_world_model.specs.Points.{HeldAreLive, PointsHold};
 ghost use Rattle.hm_world_model.specs.Rest.{IdleIsEnded, StillIsEnded};
-ghost use Rattle.hm_world_model.specs.Twice.{EventsKeep, KeptIsNeverTwice, NeverClash, NeverTwice, OpenedIsKept};
+ghost use Rattle.hm_world_model.specs.Twice.{HeldByOne, KeptIsHeldByOne, KeptIsNeverTwice, NeverTwice};
 
 /// What is kept of a world: a master that opens a journal has it, and each event keeps it.
 pub fn worlds_are_kept()
@@ -13,18 +14,34 @@ pub fn worlds_are_kept()
     ensures events { EventsKeep }
 {}
 
-/// After every list of events no region is held by two running servers that aren't fenced, and no two procedures that hold what
-/// they ask for conflict, those that were claimed too.
+/// What one journal and what is outside keep, for each length of a journal that a stop may leave: an allowed entry keeps it,
+/// a report where it was ever made.
+pub fn entries_keep()
+    ensures { EntriesKeep }
+{}
+
+/// So does each event outside.
+pub fn outside_keeps()
+    ensures { OutsideKeeps }
+{}
+
+/// Double service never happens: after every list of events no region is held by two running servers that aren't fenced, nor
+/// are two of one table whose ranges overlap, by two such servers or by one.
 pub fn never_twice()
     ensures kept { KeptIsNeverTwice }
     ensures never { NeverTwice }
-    ensures locks { NeverClash }
 {}
 
-/// Nor are two regions of one table whose ranges overlap, by two such servers or by one.
-pub fn never_twice_over()
-    ensures kept { KeptIsNeverTwiceOver }
-    ensures never { NeverTwiceOver }
+/// One region is held by one such server at most, whatever is known of ranges.
+pub fn held_by_one()
+    ensures kept { KeptIsHeldByOne }
+    ensures never { HeldByOne }
+{}
+
+/// A procedure is claimed once at a time, and no two that hold what they ask for conflict, those that were claimed too.
+pub fn claims_are_apart()
+    ensures once { ClaimedOnce }
+    ensures locks { NeverClash }
 {}
 
 /// What holds for each region, for every length of the journal that a stop may leave.

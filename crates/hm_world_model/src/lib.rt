@@ -1,12 +1,12 @@
 //! The world of a master: its journal, the calls and reports that travel, the region servers and the storage, and the stops
 //! that leave some of it. Definitions of what may happen and of what is kept, and laws about them: no region is open on two
-//! servers that run and aren't fenced, whatever comes. Each function is a law: its contract is proved, and its body has
-//! nothing to do.
+//! servers that run and aren't fenced, nor are two that overlap, whatever comes. Each function is a law: its contract is
+//! proved, and its body has nothing to do.
 #![tactic(auto)]
 
 mod laws;
 
 pub use laws::{
-    calls_are_answered, carrying_goes_on, fleets_fit, never_twice, never_twice_over, points_hold,
-    rest_is_the_end, worlds_are_kept,
+    calls_are_answered, carrying_goes_on, claims_are_apart, entries_keep, fleets_fit, held_by_one,
+    never_twice, outside_keeps, points_hold, rest_is_the_end, worlds_are_kept,
 };

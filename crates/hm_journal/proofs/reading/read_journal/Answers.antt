@@ -1,5 +1,11 @@
 use Rattle.std.proofs.lemmas.Result.{err_from_is_err_and}
+use Rattle.hm_journal.proofs.Spelled.{spells_first}
 use Rattle.hm_journal.proofs.reading.read_journal.Goals as goal
+
+pub read_others-requires : goal.read_others-requires
+read_others-requires c =
+    let first = c.in_ok-state.ensures.first in
+    spells_first c.args.frames.now c.in_ok-state.state.entries first.0 first.1 first.2
 
 pub returns-in_err-read_others-clause-why : goal.returns-in_err-read_others-clause-why
 returns-in_err-read_others-clause-why c entries spells =

@@ -1,7 +1,7 @@
 use Rattle.std.proofs.Common.{◌+◌, ◌-◌, ◌&&◌, ◌==◌, slice_get, ap, sym, ◌∙◌, arith, refl}
 use Rattle.std.specs.Option.{option_map}
 use Rattle.hm_procedures.specs.Changes.{child_ended, is_this, stepped, tree_stepped}
-use Rattle.hm_procedures.specs.declared.kept.Kept.{Kept}
+use Rattle.hm_procedures.specs.declared.kept.Tracked.{Tracked}
 use Rattle.hm_procedures.proofs.Enters.{same_length}
 use Rattle.hm_procedures.proofs.Places.{from_map, three_maps}
 use Rattle.hm_procedures.proofs.changes.note_all.Goals as goal
@@ -16,7 +16,7 @@ pub note_end_if-requires-clause-some : goal.note_end_if-requires-clause-some
 note_end_if-requires-clause-some c = λ ends up is one here.
     let m = from_map (stepped (up.0 - 1 + 1 == c.args.pid.0) c.args.out.now c.args.made c.args.count) (slice_get c.args.kept.now (up.0 - 1)) one (sym (c.note_step.ensures (up.0 - 1)) ∙ here) in
     let was = c.requires.child (sym c.is_stop-ended.ensures ∙ ends) up is m.0 m.1 in
-    let value = ap (λ (k : Kept). k.open_children) m.2 in
+    let value = ap (λ (k : Tracked). k.open_children) m.2 in
     omega (arith, was, value)
 
 pub returns : goal.returns

@@ -12,8 +12,11 @@ use Rattle.hm_model.specs.Sheets.{sheets_of as begun_with}
 use Rattle.hm_top.specs.Hands.{AgreeOn, first_sheets}
 use Rattle.hm_top.specs.Ports.{sink_use}
 use Rattle.hm_journal.specs.Opened.{Opened as OpenedAt}
+use Rattle.hm_top.specs.declared.status.EarlyEnd.{EarlyEnd}
+use Rattle.hm_top.specs.declared.status.EarlyEnd.TheVariants as early_is
 use Rattle.hm_top.specs.declared.status.EarlyEnd.TheVariants.{WriteFault}
-use Rattle.hm_top.specs.Ending.{halted_status, unopened_status}
+use Rattle.hm_top.specs.declared.status.RunStatus.TheVariants as run_is
+use Rattle.hm_top.specs.Ending.{early_status, halted_status, unopened_status}
 use Rattle.hm_top.specs.View.{IsLeftBy, standing_of}
 use Rattle.hm_top.proofs.Ran.{run_less, run_none}
 use Rattle.hm_top.proofs.Registries.{agree_own, all_first, first_is, used_are}
@@ -24,6 +27,11 @@ use Rattle.hm_top.proofs.ending.converse.Goals as goal
 unrefused : (cause : JournalWhy) (why : LogWhy) → IsUnjudged cause → unopened_status cause ≡ LogRefused why → ⊥
 unrefused cause why (inl fault) is = let no : LogFault ≡ LogRefused why = sym (ap unopened_status fault) ∙ is in cc
 unrefused cause why (inr short) is = let no : Memory ≡ LogRefused why = sym (ap unopened_status short) ∙ is in cc
+
+-- nor is an early end
+early_unrefused : (end : EarlyEnd) (why : LogWhy) → early_status end ≡ LogRefused why → ⊥
+early_unrefused early_is.WriteFault why is = let no : run_is.WriteFault ≡ LogRefused why = is in cc
+early_unrefused early_is.Memory why is = let no : run_is.Memory ≡ LogRefused why = is in cc
 
 pub answer_all-requires-clause-hands : goal.answer_all-requires-clause-hands
 answer_all-requires-clause-hands g c =
@@ -93,3 +101,6 @@ returns-in-Err-clause-accepts g c told journal on why is =
     let listed = used_are f (λ (r : _). r.list) c.args.hands.now.items c.requires.agree c.requires.each c.index.result.now c.index.ensures c.as_slice.result.now (c.as_slice.ensures ∙ c.running_sheets-sheets.ensures) in
     let unjudged : IsUnjudged c.in-Err.why = c.in-Err.ensures.accepts told journal (subst (λ s. IsOnDisk s (g.D.Disk.seen c.args.disk) journal) listed on) in
     unrefused c.in-Err.why why unjudged (sym c.status_of.ensures ∙ is)
+
+pub returns-in-Err-answer_all-clause-accepts : goal.returns-in-Err-answer_all-clause-accepts
+returns-in-Err-answer_all-clause-accepts g c told journal on why is = early_unrefused c.in-Err-answer_all.end why (sym c.status_of_end.ensures ∙ is)

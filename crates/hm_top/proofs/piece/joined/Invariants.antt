@@ -1,7 +1,7 @@
-use Rattle.std.proofs.Common.{◌≡◌, string_bytes, take}
+use Rattle.std.proofs.Common.{◌≡◌, take}
 use Rattle.std.specs.List.{flat_map}
 use Rattle.hm_top.specs.Pieces.{piece_text}
 use Rattle.hm_top.proofs.piece.joined.Given as goal
 
 abbrev pub invariant-loop-piece : goal.invariant-loop-piece
-invariant-loop-piece l = string_bytes l.text ≡ flat_map piece_text (take l.piece-index l.pieces)
+invariant-loop-piece l = l.text.items ≡ flat_map piece_text (take l.piece-index l.pieces)

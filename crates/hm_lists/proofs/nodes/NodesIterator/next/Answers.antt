@@ -3,7 +3,7 @@ use Rattle.hm_lists.specs.declared.node.Node.{Node}
 use Rattle.hm_lists.specs.Chains.{Chains, free, node_at}
 use Rattle.hm_lists.specs.Links.{chains_of, rest_from, IsOnWay}
 use Rattle.hm_lists.proofs.Held.{element_at}
-use Rattle.hm_lists.proofs.Ways.{goes_on, is_over}
+use Rattle.hm_lists.proofs.Ways.{goes_on, walk_is_over}
 use Rattle.hm_lists.proofs.nodes.NodesIterator.next.Goals as goal
 
 -- the node that was read

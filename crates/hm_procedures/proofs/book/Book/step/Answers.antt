@@ -10,7 +10,7 @@ use Rattle.hm_model.specs.Undo.{is_empty, stack}
 use Rattle.hm_procedures.specs.Changes.{added, has_ended, noted}
 use Rattle.hm_procedures.specs.Kept.{kept_at, root_shown}
 use Rattle.hm_procedures.specs.declared.book.Book.{Book}
-use Rattle.hm_procedures.specs.declared.kept.Kept.{Kept}
+use Rattle.hm_procedures.specs.declared.kept.Tracked.{Tracked}
 use Rattle.hm_procedures.proofs.Enters.{count_more}
 use Rattle.hm_procedures.proofs.Facts.{parent_shown}
 use Rattle.hm_procedures.proofs.InTrees.{step_tree}
@@ -377,7 +377,7 @@ less_if-self-requires c =
     let left = c.requires.left ∙ ap (λ r. is_empty (stack (entry_is.Step c.args.pid c.args._pick.now c.args.out.now ∷ J) r)) (step_tree c.args.pid c.args._pick.now c.args.out.now J c.requires.legal me is_me) in
     let new_long = step_long J b.kept.items b.trees.roots b.unfinished c.requires.book c.args.pid c.args._pick.now c.args.out.now c.requires.legal me is_me three each c.show_phases.new.kept c.args.nothing_left left shown in
     let twice = written c.add_all.new.self.kept.items c.show_phases.new.kept c.add_all.new.self.kept.len (new_long ∙ sym (ap length mid_is)) (omega (arith, c.add_all.new.self.kept.ok.0)) in
-    let told : (k : Kept) → slice_get c.show_phases.new.kept (c.requires.legal.1.1.0.0.root - 1) ≡ Some k → c.has_ended-over.result ≡ has_ended k = λ k at. c.has_ended-over.ensures k (rw er (ap (λ l. slice_get l (c.requires.legal.1.1.0.0.root - 1)) (c.deref-2.ensures.value ∙ twice) ∙ at)) in
+    let told : (k : Tracked) → slice_get c.show_phases.new.kept (c.requires.legal.1.1.0.0.root - 1) ≡ Some k → c.has_ended-over.result ≡ has_ended k = λ k at. c.has_ended-over.ensures k (rw er (ap (λ l. slice_get l (c.requires.legal.1.1.0.0.root - 1)) (c.deref-2.ensures.value ∙ twice) ∙ at)) in
     let enough = step_enough J b.kept.items b.trees.roots b.unfinished c.requires.book c.args.pid c.args._pick.now c.args.out.now c.requires.legal me is_me three each c.show_phases.new.kept c.args.nothing_left c.has_ended-over.result 0 left shown told in
     let same = c.add_all.ensures.unfinished in
     omega (arith, enough, same)
@@ -405,5 +405,5 @@ returns-clause-book c =
     let left = c.requires.left ∙ ap (λ r. is_empty (stack (entry_is.Step c.args.pid c.args._pick.now c.args.out.now ∷ J) r)) (step_tree c.args.pid c.args._pick.now c.args.out.now J c.requires.legal me is_me) in
     let new_long = step_long J b.kept.items b.trees.roots b.unfinished c.requires.book c.args.pid c.args._pick.now c.args.out.now c.requires.legal me is_me three each c.show_phases.new.kept c.args.nothing_left left shown in
     let twice = written c.add_all.new.self.kept.items c.show_phases.new.kept c.add_all.new.self.kept.len (new_long ∙ sym (ap length mid_is)) (omega (arith, c.add_all.new.self.kept.ok.0)) in
-    let told : (k : Kept) → slice_get c.show_phases.new.kept (c.requires.legal.1.1.0.0.root - 1) ≡ Some k → c.has_ended-over.result ≡ has_ended k = λ k at. c.has_ended-over.ensures k (rw er (ap (λ l. slice_get l (c.requires.legal.1.1.0.0.root - 1)) (c.deref-2.ensures.value ∙ twice) ∙ at)) in
+    let told : (k : Tracked) → slice_get c.show_phases.new.kept (c.requires.legal.1.1.0.0.root - 1) ≡ Some k → c.has_ended-over.result ≡ has_ended k = λ k at. c.has_ended-over.ensures k (rw er (ap (λ l. slice_get l (c.requires.legal.1.1.0.0.root - 1)) (c.deref-2.ensures.value ∙ twice) ∙ at)) in
     rw (twice, roots_is) (step_kept J b.kept.items b.trees.roots b.unfinished c.requires.book c.args.pid c.args._pick.now c.args.out.now c.requires.legal me is_me three each c.show_phases.new.kept c.args.nothing_left c.has_ended-over.result c.less_if-self.result left shown told (c.less_if-self.ensures ∙ c.add_all.ensures.unfinished))

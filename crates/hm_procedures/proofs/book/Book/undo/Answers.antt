@@ -10,7 +10,7 @@ use Rattle.hm_model.specs.Undo.{is_empty, stack}
 use Rattle.hm_procedures.specs.Changes.{added, has_ended}
 use Rattle.hm_procedures.specs.Kept.{args_made, kept_at, root_shown}
 use Rattle.hm_procedures.specs.declared.book.Book.{Book}
-use Rattle.hm_procedures.specs.declared.kept.Kept.{Kept}
+use Rattle.hm_procedures.specs.declared.kept.Tracked.{Tracked}
 use Rattle.hm_procedures.proofs.Enters.{count_more}
 use Rattle.hm_procedures.proofs.Facts.{parent_shown}
 use Rattle.hm_procedures.proofs.InTrees.{undo_tree, undone_there}
@@ -232,7 +232,7 @@ less_if-self-requires c =
     let left = left_is ∙ ap (λ r. is_empty (stack (entry_is.Undo c.in-Undo.pid c.in-Undo._row c.in-Undo._out ∷ J) r)) (undo_tree c.in-Undo.pid c.in-Undo._row c.in-Undo._out J legal me is_me) in
     let new_long = undo_long c.args.past.now.entries c.args.self.now.kept.items c.args.self.now.trees.roots c.args.self.now.unfinished c.requires.book c.in-Undo.pid c.in-Undo._row c.in-Undo._out legal me is_me c.show_phases.new.kept c.args.nothing_left left shown in
     let once = written c.add_all.new.self.kept.items c.show_phases.new.kept c.add_all.new.self.kept.len (new_long ∙ sym (ap length mid_is)) (omega (arith, c.add_all.new.self.kept.ok.0)) in
-    let told : (k : Kept) → slice_get c.show_phases.new.kept (found.0.root - 1) ≡ Some k → c.has_ended-over.result ≡ has_ended k = λ k at. c.has_ended-over.ensures k (rw er (ap (λ l. slice_get l (me.root - 1)) (c.deref-2.ensures.value ∙ once) ∙ at)) in
+    let told : (k : Tracked) → slice_get c.show_phases.new.kept (found.0.root - 1) ≡ Some k → c.has_ended-over.result ≡ has_ended k = λ k at. c.has_ended-over.ensures k (rw er (ap (λ l. slice_get l (me.root - 1)) (c.deref-2.ensures.value ∙ once) ∙ at)) in
     let m = ap length (c.as_slice.ensures ∙ made_is) in
     let same = c.add_all.ensures.unfinished in
     let enough = undo_enough c.args.past.now.entries c.args.self.now.kept.items c.args.self.now.trees.roots c.args.self.now.unfinished c.requires.book c.in-Undo.pid c.in-Undo._row c.in-Undo._out legal me is_me c.show_phases.new.kept c.args.nothing_left c.has_ended-over.result 0 left shown told in
@@ -260,7 +260,7 @@ returns-clause-book c =
     let left = left_is ∙ ap (λ r. is_empty (stack (entry_is.Undo c.in-Undo.pid c.in-Undo._row c.in-Undo._out ∷ J) r)) (undo_tree c.in-Undo.pid c.in-Undo._row c.in-Undo._out J legal me is_me) in
     let new_long = undo_long c.args.past.now.entries c.args.self.now.kept.items c.args.self.now.trees.roots c.args.self.now.unfinished c.requires.book c.in-Undo.pid c.in-Undo._row c.in-Undo._out legal me is_me c.show_phases.new.kept c.args.nothing_left left shown in
     let once = written c.add_all.new.self.kept.items c.show_phases.new.kept c.add_all.new.self.kept.len (new_long ∙ sym (ap length mid_is)) (omega (arith, c.add_all.new.self.kept.ok.0)) in
-    let told : (k : Kept) → slice_get c.show_phases.new.kept (found.0.root - 1) ≡ Some k → c.has_ended-over.result ≡ has_ended k = λ k at. c.has_ended-over.ensures k (rw er (ap (λ l. slice_get l (me.root - 1)) (c.deref-2.ensures.value ∙ once) ∙ at)) in
+    let told : (k : Tracked) → slice_get c.show_phases.new.kept (found.0.root - 1) ≡ Some k → c.has_ended-over.result ≡ has_ended k = λ k at. c.has_ended-over.ensures k (rw er (ap (λ l. slice_get l (me.root - 1)) (c.deref-2.ensures.value ∙ once) ∙ at)) in
     let m = ap length (c.as_slice.ensures ∙ made_is) in
     let same = c.add_all.ensures.unfinished in
     let rest = c.less_if-self.ensures in

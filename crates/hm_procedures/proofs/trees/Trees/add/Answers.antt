@@ -1,9 +1,11 @@
 use Rattle.std.proofs.Common.{◌≡◌, ℕ, ◌+◌, ◌-◌, ◌++◌, ◌∷◌, ◌==◌, [], None, length, ap, sym, ◌∙◌, subst, arith, slice_get, take, drop}
 use Rattle.std.specs.Option.{option_map}
+use Rattle.std.proofs.lemmas.Option.{slice_get_within}
 use Rattle.hm_procedures.proofs.Enters.{same_length}
 use Rattle.hm_procedures.proofs.Members.{linked_more, roots_new}
 use Rattle.hm_procedures.proofs.Places.{written}
-use Rattle.hm_procedures.specs.Trees.{AreLinked, IsLast, TreesView, lasted, nexted, roots_of}
+use Rattle.hm_procedures.proofs.Tops.{tops_other}
+use Rattle.hm_procedures.specs.Trees.{AreLinked, IsLast, TreesView, lasted, nexted, roots_of, tops_from}
 use Rattle.hm_names.specs.declared.pid.Pid.{Pid}
 use Rattle.hm_procedures.proofs.trees.Trees.add.Goals as goal
 
@@ -23,7 +25,11 @@ invariant_of-self c =
     let longer = same_length (λ i. lasted (c.args.root.0 == i + 1) own) c.set_last.new.members c.set_next.new.members second in
     let twice = ap (λ l. take f.len (c.set_last.new.members ++ drop (length c.set_last.new.members) l)) once ∙ written c.set_next.new.members c.set_last.new.members f.len longer (omega (arith, ok, long)) in
     let all = c.push_reserved.ensures.items ∙ ap (λ l. l ++ record { root = c.args.root; next = None; last = own } ∷ []) twice in
-    subst AreLinked (sym all) (linked_more f.items c.set_next.new.members c.set_last.new.members c.args.root own last c.self.invariant c.requires.low rooted last_is count first second)
+    let within = slice_get_within (roots_of f.items) (c.args.root.0 - 1) c.args.root rooted in
+    let least = c.requires.low in (
+      subst AreLinked (sym all) (linked_more f.items c.set_next.new.members c.set_last.new.members c.args.root own last c.self.invariant.0 c.requires.low rooted last_is count first second),
+      c.self.invariant.1 ∙ sym (ap (λ ms. tops_from 1 (roots_of ms)) all ∙ ap (tops_from 1) (roots_new f.items c.set_next.new.members c.set_last.new.members c.args.root own last c.self.invariant.0 c.requires.low rooted last_is count first second) ∙ tops_other (roots_of f.items) c.args.root (omega (arith, within, least))),
+    )
 
 pub returns-clause-roots : goal.returns-clause-roots
 returns-clause-roots c =
@@ -41,4 +47,4 @@ returns-clause-roots c =
     let longer = same_length (λ i. lasted (c.args.root.0 == i + 1) own) c.set_last.new.members c.set_next.new.members second in
     let twice = ap (λ l. take f.len (c.set_last.new.members ++ drop (length c.set_last.new.members) l)) once ∙ written c.set_next.new.members c.set_last.new.members f.len longer (omega (arith, ok, long)) in
     let all = c.push_reserved.ensures.items ∙ ap (λ l. l ++ record { root = c.args.root; next = None; last = own } ∷ []) twice in
-    ap roots_of all ∙ roots_new f.items c.set_next.new.members c.set_last.new.members c.args.root own last c.self.invariant c.requires.low rooted last_is count first second ∙ ap (λ (v : TreesView). v.roots ++ c.args.root ∷ []) c.self.view_is
+    ap roots_of all ∙ roots_new f.items c.set_next.new.members c.set_last.new.members c.args.root own last c.self.invariant.0 c.requires.low rooted last_is count first second ∙ ap (λ (v : TreesView). v.roots ++ c.args.root ∷ []) c.self.view_is

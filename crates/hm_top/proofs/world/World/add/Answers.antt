@@ -20,5 +20,5 @@ invariant_of-self-in-Ok-None g c =
     (c.in-Ok-None.ensures.fits c.in-Ok-None.field-0-is)
     (subst (λ (halt : Option Halt). Comes (standing_in was) entry halt (standing_in new)) c.in-Ok-None.field-0-is c.in-Ok-None.ensures.comes)
     (c.apply.ensures.entries
-    ∙ ap (λ (es : List Entry). es ++ c.in_ok-ready.ready ∷ []) c.prepare.ensures.entries
-    ∙ ap (λ (e : Entry). world.state.entries ++ e ∷ []) c.in_ok-ready.ensures.entry)
+    ∙ ap (λ (es : List Entry). es ++ c.in_ok-ready.ready.entry ∷ []) c.prepare.ensures.entries
+    ∙ ap (λ (e : Entry). world.state.entries ++ e ∷ []) c.in_ok-ready.ensures.ready.0)

@@ -1,11 +1,10 @@
 use Rattle.std.proofs.Common.{◌≢◌, List, [], None, All, ap, subst, ◌∙◌}
 use Rattle.hm_data.specs.declared.entry.Entry.{Entry}
 use Rattle.hm_model.specs.Journal.{back}
-use Rattle.hm_model.specs.Rest.{MayStep}
 use Rattle.hm_model.specs.Rules.{IsLegal}
 use Rattle.hm_model.specs.Sheets.{sheets_of}
 use Rattle.hm_model.specs.Evaluation.{CanRun}
-use Rattle.hm_state.specs.State.{IsInput}
+use Rattle.hm_judge.specs.Inputs.{CanEvaluate, IsInput}
 use Rattle.hm_top.specs.View.{WorldView}
 use Rattle.std.proofs.lemmas.List.Sorted.{All-permutation, IsPermutation-reverse}
 use Rattle.hm_entry.specs.Fits.{EntryFits}
@@ -19,8 +18,8 @@ run_once-out-requires-clause-runs g c =
     let same = c.self.invariant.same ∙ ap (λ (w : WorldView _). w.kept.entries) c.self.view_is in
     let legal = subst (λ (w : WorldView _). IsLegal (back w.kept.entries)) c.self.view_is c.self.invariant.legal in
     let is = subst (λ (es : List Entry). IsInput (back es) c.args.pid.0 None c.in_ok-at.at) same c.in_ok-at.ensures.input in
-    let runs = subst (λ (es : List Entry). MayStep (back es) c.args.pid.0 → CanRun (sheets_of (back es)) c.in_ok-at.at) same c.in_ok-at.ensures.runs in
-    runs_there (back c.args.self.now.kept.entries) legal c.args.pid.0 None c.in_ok-at.at _ c.requires.hands.begins c.requires.available is runs
+    let runs = subst (λ (es : List Entry). CanEvaluate (back es) c.args.pid.0 None → CanRun (sheets_of (back es)) c.in_ok-at.at) same c.in_ok-at.ensures.runs in
+    runs_there (back c.args.self.now.kept.entries) legal c.args.pid.0 c.in_ok-at.at _ c.requires.hands.begins c.requires.available is runs
 
 pub returns-clause-step : goal.returns-clause-step
 returns-clause-step g c =

@@ -1,7 +1,7 @@
 use Rattle.std.proofs.Common.{List}
 use Rattle.std.proofs.lemmas.Result.{err_from_is_err_and}
 use Rattle.hm_data.specs.declared.entry.Entry.{Entry}
-use Rattle.hm_top.proofs.Stores.{opened_standing}
+use Rattle.hm_top.proofs.Stores.{opened_sheets, opened_standing, opened_world}
 use Rattle.hm_top.proofs.world.World.open.Goals as goal
 
 pub returns-in_err-journal-clause-same : goal.returns-in_err-journal-clause-same
@@ -23,3 +23,13 @@ returns-clause-journal g c =
       found.3,
       found.4,
     )
+
+pub returns-clause-sheets : goal.returns-clause-sheets
+returns-clause-sheets g c =
+    let found = c.in_ok-journal.ensures.journal in
+    opened_sheets c.args.sheets.now found.0 c.in_ok-journal.journal.kept.entries found.1 found.2
+
+pub invariant_of-result : goal.invariant_of-result
+invariant_of-result g c =
+    opened_world c.in_ok-journal.state.entries c.entries-legal.result c.in_ok-journal.journal.kept c.in_ok-journal.ensures.state c.entries-legal.ensures.legal c.entries-legal.ensures.count c.entries-legal.ensures.begun
+    c.durable-fits.ensures.fits c.in_ok-journal.ensures.fresh.1

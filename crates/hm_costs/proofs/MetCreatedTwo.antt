@@ -1,0 +1,209 @@
+-- A table of two regions is created: worked by hand.
+use Rattle.std.proofs.Common.{◌≡◌, [], ◌∷◌, Some, None, refl, inl, inr, arith, subst, ◌+◌, ◌≤◌}
+use Rattle.hm_data.specs.declared.answer.Answer.TheVariants as answer_is
+use Rattle.hm_data.specs.declared.args.Args.TheVariants as args_are
+use Rattle.hm_data.specs.declared.args.Child.TheVariants as child_is
+use Rattle.hm_data.specs.declared.call.Told.TheVariants as told_is
+use Rattle.hm_data.specs.declared.call.Verb.TheVariants as verb_is
+use Rattle.hm_data.specs.declared.catalog.CatKey.TheVariants as key_is
+use Rattle.hm_data.specs.declared.catalog.CatRow.TheVariants as row_is
+use Rattle.hm_data.specs.declared.catalog.Status.TheVariants as status_is
+use Rattle.hm_data.specs.declared.catalog.TableState.TheVariants as state_is
+use Rattle.hm_data.specs.declared.entry.Entry.TheVariants as entry_is
+use Rattle.hm_data.specs.declared.place.Goal.TheVariants as goal_is
+use Rattle.hm_data.specs.declared.place.RegionState.TheVariants as place_is
+use Rattle.hm_data.specs.declared.request.Request.TheVariants as request_is
+use Rattle.hm_model.specs.Journal.{Past}
+use Rattle.hm_model.specs.Outs.{calls, gives, places, spawns}
+use Rattle.hm_model.specs.Tree.{Node, child_of, drawn, root_node}
+use Rattle.std.proofs.lemmas.Option.{same_Some}
+use Rattle.hm_model.proofs.ByHand.{edit, one, pid, region, table, two}
+use Rattle.hm_names.specs.declared.range.KeyRange.{KeyRange}
+use Rattle.hm_costs.specs.Met.{IsMet, IsPlayed}
+use Rattle.hm_costs.proofs.Sheets.{sheets, sheets_valid}
+
+abbrev pub node1 : Node
+node1 = root_node 1 (args_are.Root (request_is.CreateTable table ((1 ∷ []) ∷ [])) 1) 1
+
+abbrev pub node2 : Node
+node2 = child_of 1 node1 (args_are.LayoutCall (pid 1))
+
+abbrev pub node3 : Node
+node3 = child_of 1 node1 (args_are.AddRegions table 1 ([] ∷ (1 ∷ []) ∷ [] ∷ []))
+
+abbrev pub node4 : Node
+node4 = child_of 1 node1 (args_are.Transit (region 1) goal_is.Assign None)
+
+abbrev pub node5 : Node
+node5 = child_of 1 node1 (args_are.Transit (region 2) goal_is.Assign None)
+
+abbrev pub node6 : Node
+node6 = child_of 4 node4 (args_are.AssignCall (region 1) one)
+
+abbrev pub node7 : Node
+node7 = child_of 5 node5 (args_are.AssignCall (region 2) one)
+
+abbrev played0 : Past
+played0 = entry_is.Start sheets ∷ []
+
+is_played0 : IsPlayed played0
+is_played0 = (refl, refl, sheets_valid)
+
+abbrev played1 : Past
+played1 = entry_is.Up one ∷ played0
+
+is_played1 : IsPlayed played1
+is_played1 = (is_played0, (refl, refl))
+
+abbrev played2 : Past
+played2 = entry_is.Submit (record { group = 1; number = 1 }) (request_is.CreateTable table ((1 ∷ []) ∷ [])) ∷ played1
+
+is_played2 : IsPlayed played2
+is_played2 = (is_played1, (refl, inr refl, λ own e. let few : drawn played1 table ≡ 0 = refl in subst (λ t. drawn played1 t + 2 ≤ 4096) (same_Some table own e) (omega (arith, few))))
+
+abbrev played3 : Past
+played3 = entry_is.Step (pid 1) None (gives (answer_is.More 1) []) ∷ played2
+
+is_played3 : IsPlayed played3
+is_played3 = (is_played2, (node1, refl, inl refl, refl, refl, refl))
+
+abbrev played4 : Past
+played4 = entry_is.Step (pid 1) None (gives (answer_is.More 2) (edit (key_is.Table table) (None) (Some (row_is.Table state_is.Disabled 1)) ∷ [])) ∷ played3
+
+is_played4 : IsPlayed played4
+is_played4 = (is_played3, (node1, refl, inl refl, refl, refl, refl))
+
+abbrev played5 : Past
+played5 = entry_is.Step (pid 1) None (spawns 3 (child_is.One (args_are.LayoutCall (pid 1)) ∷ [])) ∷ played4
+
+is_played5 : IsPlayed played5
+is_played5 = (is_played4, (node1, refl, inl refl, refl, refl, refl))
+
+abbrev played6 : Past
+played6 = entry_is.Step (pid 2) None (calls 1 (verb_is.Layout (pid 1))) ∷ played5
+
+is_played6 : IsPlayed played6
+is_played6 = (is_played5, (node2, refl, inl refl, refl, refl, refl))
+
+abbrev played7 : Past
+played7 = entry_is.Report (pid 2) told_is.LaidOut ∷ played6
+
+is_played7 : IsPlayed played7
+is_played7 = (is_played6, (verb_is.Layout (pid 1), refl, refl, refl, refl))
+
+abbrev played8 : Past
+played8 = entry_is.Step (pid 2) None (gives (answer_is.Done told_is.LaidOut) []) ∷ played7
+
+is_played8 : IsPlayed played8
+is_played8 = (is_played7, (node2, refl, inr (refl, inl (λ none. cc)), refl, refl, refl))
+
+abbrev played9 : Past
+played9 = entry_is.Step (pid 1) None (spawns 4 (child_is.One (args_are.AddRegions table 1 ([] ∷ (1 ∷ []) ∷ [] ∷ [])) ∷ [])) ∷ played8
+
+is_played9 : IsPlayed played9
+is_played9 = (is_played8, (node1, refl, inl refl, refl, refl, refl))
+
+abbrev played10 : Past
+played10 = entry_is.Step (pid 3) None (gives (answer_is.Done told_is.Nothing) (edit (key_is.Region (region 1)) None (Some (row_is.Region (let range : KeyRange = record { start = []; end = (1 ∷ []) } in range) status_is.Live ([]))) ∷ edit (key_is.Region (region 2)) None (Some (row_is.Region (let range : KeyRange = record { start = (1 ∷ []); end = [] } in range) status_is.Live ([]))) ∷ [])) ∷ played9
+
+is_played10 : IsPlayed played10
+is_played10 = (is_played9, (node3, refl, inl refl, refl, refl, refl))
+
+abbrev played11 : Past
+played11 = entry_is.Step (pid 1) None (gives (answer_is.More 5) (edit (key_is.Table table) (Some (row_is.Table state_is.Disabled 1)) (Some (row_is.Table state_is.Enabling 1)) ∷ [])) ∷ played10
+
+is_played11 : IsPlayed played11
+is_played11 = (is_played10, (node1, refl, inl refl, refl, refl, refl))
+
+abbrev played12 : Past
+played12 = entry_is.Step (pid 1) None (spawns 6 (child_is.Transits table (1 ∷ 2 ∷ []) goal_is.Assign ∷ [])) ∷ played11
+
+is_played12 : IsPlayed played12
+is_played12 = (is_played11, (node1, refl, inl refl, refl, refl, refl))
+
+abbrev played13 : Past
+played13 = entry_is.Step (pid 4) (Some one) (places (answer_is.More 1) (Some (record { state = place_is.Opening; server = Some one }))) ∷ played12
+
+is_played13 : IsPlayed played13
+is_played13 = (is_played12, (node4, refl, inl refl, refl, refl, refl))
+
+abbrev played14 : Past
+played14 = entry_is.Step (pid 4) None (spawns 2 (child_is.One (args_are.AssignCall (region 1) one) ∷ [])) ∷ played13
+
+is_played14 : IsPlayed played14
+is_played14 = (is_played13, (node4, refl, inl refl, refl, refl, refl))
+
+abbrev played15 : Past
+played15 = entry_is.Step (pid 6) None (calls 1 (verb_is.AssignRegion (region 1))) ∷ played14
+
+is_played15 : IsPlayed played15
+is_played15 = (is_played14, (node6, refl, inl refl, refl, refl, refl))
+
+abbrev played16 : Past
+played16 = entry_is.Report (pid 6) told_is.Opened ∷ played15
+
+is_played16 : IsPlayed played16
+is_played16 = (is_played15, (verb_is.AssignRegion (region 1), refl, refl, refl, refl))
+
+abbrev played17 : Past
+played17 = entry_is.Step (pid 6) None (gives (answer_is.Done told_is.Opened) []) ∷ played16
+
+is_played17 : IsPlayed played17
+is_played17 = (is_played16, (node6, refl, inr (refl, inl (λ none. cc)), refl, refl, refl))
+
+abbrev played18 : Past
+played18 = entry_is.Step (pid 4) None (places (answer_is.Done told_is.Opened) (Some (record { state = place_is.Opened; server = Some one }))) ∷ played17
+
+is_played18 : IsPlayed played18
+is_played18 = (is_played17, (node4, refl, inl refl, refl, refl, refl))
+
+abbrev played19 : Past
+played19 = entry_is.Step (pid 5) (Some one) (places (answer_is.More 1) (Some (record { state = place_is.Opening; server = Some one }))) ∷ played18
+
+is_played19 : IsPlayed played19
+is_played19 = (is_played18, (node5, refl, inl refl, refl, refl, refl))
+
+abbrev played20 : Past
+played20 = entry_is.Step (pid 5) None (spawns 2 (child_is.One (args_are.AssignCall (region 2) one) ∷ [])) ∷ played19
+
+is_played20 : IsPlayed played20
+is_played20 = (is_played19, (node5, refl, inl refl, refl, refl, refl))
+
+abbrev played21 : Past
+played21 = entry_is.Step (pid 7) None (calls 1 (verb_is.AssignRegion (region 2))) ∷ played20
+
+is_played21 : IsPlayed played21
+is_played21 = (is_played20, (node7, refl, inl refl, refl, refl, refl))
+
+abbrev played22 : Past
+played22 = entry_is.Report (pid 7) told_is.Opened ∷ played21
+
+is_played22 : IsPlayed played22
+is_played22 = (is_played21, (verb_is.AssignRegion (region 2), refl, refl, refl, refl))
+
+abbrev played23 : Past
+played23 = entry_is.Step (pid 7) None (gives (answer_is.Done told_is.Opened) []) ∷ played22
+
+is_played23 : IsPlayed played23
+is_played23 = (is_played22, (node7, refl, inr (refl, inl (λ none. cc)), refl, refl, refl))
+
+abbrev played24 : Past
+played24 = entry_is.Step (pid 5) None (places (answer_is.Done told_is.Opened) (Some (record { state = place_is.Opened; server = Some one }))) ∷ played23
+
+is_played24 : IsPlayed played24
+is_played24 = (is_played23, (node5, refl, inl refl, refl, refl, refl))
+
+abbrev played25 : Past
+played25 = entry_is.Step (pid 1) None (gives (answer_is.Done told_is.Nothing) (edit (key_is.Table table) (Some (row_is.Table state_is.Enabling 1)) (Some (row_is.Table state_is.Enabled 1)) ∷ [])) ∷ played24
+
+is_played25 : IsPlayed played25
+is_played25 = (is_played24, (node1, refl, inl refl, refl, refl, refl))
+
+abbrev pub created : Past
+created = played25
+
+pub created_played : IsPlayed created
+created_played = is_played25
+
+pub creates_table : IsMet created 1 3 24
+creates_table = (node1, refl, refl, refl, (((tt, λ e. refl), λ e. refl), λ e. refl), refl, refl, refl)

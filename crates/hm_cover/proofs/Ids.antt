@@ -1,0 +1,431 @@
+-- The ids of regions that acts name are numbers from 1 on. No journal.
+use Rattle.std.proofs.Common.{◌≡◌, ◌≢◌, ℕ, zero, suc, ◌+◌, ◌-◌, ◌≤◌, ◌<◌, ◌^◌, Bool, true, false, cond, nat_le, List, [], ◌∷◌, ◌++◌, length, length-drop, take, drop, map, Option, Some, None, refl, sym, subst, ◌∙◌, ◌&&◌, ◌==◌, arith, slice_get}
+use Rattle.std.specs.List.{AllByRecursion, filter, list_any}
+use Rattle.std.specs.declared.cmp.Ordering.{Ordering}
+use Rattle.std.specs.declared.cmp.Ordering.TheVariants.{Less, Equal, Greater}
+use Rattle.std.proofs.lemmas.Bool.{leb-false, ne_eqb, or_from}
+use Rattle.std.proofs.lemmas.Option.{none-some, same_Some}
+use Rattle.hm_names.specs.Order.{region_cmp}
+use Rattle.hm_names.specs.Region.{Region}
+use Rattle.hm_names.specs.Server.{Server}
+use Rattle.hm_names.specs.declared.pid.Pid.{Pid}
+use Rattle.hm_names.specs.declared.table.TableName.{TableName}
+use Rattle.hm_data.specs.declared.act.Act.{Act}
+use Rattle.hm_data.specs.declared.act.Act.TheVariants as act_is
+use Rattle.hm_data.specs.declared.act.Back.{Back}
+use Rattle.hm_data.specs.declared.act.Back.TheVariants as back_is
+use Rattle.hm_data.specs.declared.answer.Answer.TheVariants as answer_is
+use Rattle.hm_data.specs.declared.answer.Cause.{Cause}
+use Rattle.hm_data.specs.declared.args.Args.{Args}
+use Rattle.hm_data.specs.declared.args.Args.TheVariants as args_are
+use Rattle.hm_data.specs.declared.args.Child.{Child}
+use Rattle.hm_data.specs.declared.args.Child.TheVariants as child_is
+use Rattle.hm_data.specs.declared.call.Told.{Told}
+use Rattle.hm_data.specs.declared.call.Told.TheVariants as told_is
+use Rattle.hm_data.specs.declared.call.Verb.TheVariants as verb_is
+use Rattle.hm_data.specs.declared.catalog.CatKey.{CatKey}
+use Rattle.hm_data.specs.declared.catalog.CatKey.TheVariants as key_is
+use Rattle.hm_data.specs.declared.catalog.CatRow.{CatRow}
+use Rattle.hm_data.specs.declared.catalog.CatRow.TheVariants as row_is
+use Rattle.hm_data.specs.declared.catalog.TableState.TheVariants as state_is
+use Rattle.hm_data.specs.declared.place.Goal.{Goal}
+use Rattle.hm_data.specs.declared.place.Goal.TheVariants as goal_is
+use Rattle.hm_data.specs.declared.place.Place.{Place}
+use Rattle.hm_data.specs.declared.place.RegionState.TheVariants as place_is
+use Rattle.hm_data.specs.declared.request.Request.{Request}
+use Rattle.hm_data.specs.declared.request.Request.TheVariants as request_is
+use Rattle.hm_data.specs.declared.sheet.Row.{Row}
+use Rattle.hm_data.specs.declared.step.StepIn.{StepIn}
+use Rattle.hm_data.specs.declared.step.StepOut.{StepOut}
+use Rattle.hm_model.proofs.StepDoes.{row_by}
+use Rattle.hm_model.specs.Acts.{act_answer}
+use Rattle.hm_model.specs.CallActs.{ends_as_told, layout_told, settle_layout, unless_gone}
+use Rattle.hm_model.specs.Catalog.{Catalog, keep, row_at, rows_at, set_to}
+use Rattle.hm_model.specs.Changes.{add_ranges, changed, remove_regions, split_edits}
+use Rattle.hm_model.specs.Checks.{can_split, namespace_empty, namespace_free, region_ready, table_disabled, table_enabled, table_free}
+use Rattle.hm_model.specs.CrashActs.{reassign_all}
+use Rattle.hm_model.specs.Evaluation.{ids_in, row_answer}
+use Rattle.hm_model.specs.Keys.{same_table}
+use Rattle.hm_model.specs.Kinds.{table_of_first}
+use Rattle.hm_model.specs.Locks.{in_name_order, with_region, with_region_at}
+use Rattle.hm_model.specs.NamespaceActs.{has_table, version_of}
+use Rattle.hm_model.specs.Outs.{calls, checked, edits_rows, ends_with, given, places, spawns}
+use Rattle.hm_model.specs.Pieces.{Batch, adding, batches, dropping, numbers_from, pieces_of, ranges_between, transits, with_batch}
+use Rattle.hm_model.specs.Places.{joined_at, joined_by}
+use Rattle.hm_model.specs.RegionActs.{cut_of, merge_cause, regions_for}
+use Rattle.hm_model.specs.RowsSaid.{Rows, all_among, in_state, in_version, is_live_status, keep_region, regions_among, status_in}
+use Rattle.hm_model.specs.TransitActs.{candidate, close_at, close_or_go, is_open, is_told, may_open_in, opened_or_not, told_place}
+use Rattle.hm_model.specs.Tree.{args_in}
+use Rattle.hm_model.specs.Undoing.{closed_by, closed_by_request, undo_followers}
+use Rattle.hm_model.specs.Views.{asked_of, bounds_of, first_id_of, namespace_of, region_of, region_of_request, regions_in, table_of}
+use Rattle.hm_model.specs.Wanted.{goal_in, ids_of, layout_of, server_of}
+use Rattle.hm_cover.proofs.Drawn.{ArgsDrawn, bounds_fit}
+use Rattle.hm_cover.specs.RegionIds.{AreIds, NamesIds, is_of_none}
+
+-- regions with their ids
+abbrev pub AreRegions : List Region → Type 0
+AreRegions regions = AllByRecursion (λ (region : Region). 1 ≤ region.id) regions
+
+-- the transits that are asked for are of ids, and other procedures name ids
+abbrev pub ChildrenNameIds : List Child → Type 0
+ChildrenNameIds [] = Unit {0}
+ChildrenNameIds (child_is.Transits table ids goal ∷ more) = AreIds ids × ChildrenNameIds more
+ChildrenNameIds (child_is.One args ∷ more) = NamesIds args × ChildrenNameIds more
+
+-- lists
+module _ {A : Type 0} (P : A → Type 0) where
+  pub all_take : (n : ℕ) (list : List A) → AllByRecursion P list → AllByRecursion P (take n list)
+  all_take zero list all = tt
+  all_take (suc n) [] all = tt
+  all_take (suc n) (x ∷ more) all = (all.0, all_take n more all.1)
+
+  all_drop : (n : ℕ) (list : List A) → AllByRecursion P list → AllByRecursion P (drop n list)
+  all_drop zero list all = all
+  all_drop (suc n) [] all = tt
+  all_drop (suc n) (x ∷ more) all = all_drop n more all.1
+
+  pub all_filter : (test : A → Bool) (list : List A) → AllByRecursion P list → AllByRecursion P (filter test list)
+  all_filter test [] all = tt
+  all_filter test (x ∷ more) all = by (all_filter test more all.1) (test x)
+    where
+      by : AllByRecursion P (filter test more) → (b : Bool) → AllByRecursion P (cond b (x ∷ filter test more) (filter test more))
+      by rest true = (all.0, rest)
+      by rest false = rest
+
+-- ids from 1 on that are small
+abbrev pub Small : TableName → ℕ → Type 0
+Small table id = (1 ≤ id) × (id < 2 ^ 32)
+
+-- a region's key has an id
+abbrev pub IsIdAt : CatKey → Type 0
+IsIdAt (key_is.Ns ns) = Unit {0}
+IsIdAt (key_is.Table table) = Unit {0}
+IsIdAt (key_is.Region region) = 1 ≤ region.id
+
+abbrev pub RowsHaveIds : Rows → Type 0
+RowsHaveIds [] = Unit {0}
+RowsHaveIds ((key, row) ∷ more) = IsIdAt key × RowsHaveIds more
+
+-- the procedures that children stand for name ids
+made_transits : (table : TableName) (goal : Goal) (ids : List ℕ) → AreIds ids → (more : List Args) → ((i : ℕ) (args : Args) → slice_get more i ≡ Some args → NamesIds args) → (i : ℕ) (args : Args) → slice_get (map (λ id. args_are.Transit (record { table = table; id = id }) goal None) ids ++ more) i ≡ Some args → NamesIds args
+made_transits table goal [] all more rest i args is = rest i args is
+made_transits table goal (id ∷ ids) all more rest zero args is = subst NamesIds (same_Some _ args is) ((all.0, tt), omega arith)
+made_transits table goal (id ∷ ids) all more rest (suc i) args is = made_transits table goal ids all.1 more rest i args is
+
+pub made_names : (children : List Child) → ChildrenNameIds children → (i : ℕ) (args : Args) → slice_get (args_in children) i ≡ Some args → NamesIds args
+made_names [] all i args is = absurd (none-some args is)
+made_names (child_is.Transits table ids goal ∷ more) all i args is = made_transits table goal ids all.0 (args_in more) (λ k a g. made_names more all.1 k a g) i args is
+made_names (child_is.One own ∷ more) all zero args is = subst NamesIds (same_Some own args is) all.0
+made_names (child_is.One own ∷ more) all (suc i) args is = made_names more all.1 i args is
+
+-- none of the children is a transit of the number 0
+no_zero : (ids : List ℕ) → AreIds ids → list_any (λ id. id == 0) ids ≡ false
+no_zero [] all = refl
+no_zero (id ∷ ids) all = let one = all.0 in or_from (id == 0) (list_any (λ i. i == 0) ids) (ne_eqb id 0 (λ e. omega (arith, one, e))) (no_zero ids all.1)
+
+pub none_of_none : (children : List Child) → ChildrenNameIds children → list_any is_of_none children ≡ false
+none_of_none [] all = refl
+none_of_none (child_is.Transits table ids goal ∷ more) all = or_from (list_any (λ id. id == 0) ids) (list_any is_of_none more) (no_zero ids all.0) (none_of_none more all.1)
+none_of_none (child_is.One args ∷ more) all = none_of_none more all.1
+
+-- transits of regions
+with_at : (o : Ordering) (region first : Region) (more rest : List Region) → 1 ≤ region.id → AreRegions (first ∷ more) → AreRegions rest → AreRegions (with_region_at o region first more rest)
+with_at Less region first more rest one all others = (one, all)
+with_at Equal region first more rest one all others = (one, all)
+with_at Greater region first more rest one all others = (all.0, others)
+
+with_one : (region : Region) (regions : List Region) → 1 ≤ region.id → AreRegions regions → AreRegions (with_region region regions)
+with_one region [] one all = (one, tt)
+with_one region (first ∷ more) one all = with_at (region_cmp region first) region first more (with_region region more) one all (with_one region more one all.1)
+
+ordered : (regions : List Region) → AreRegions regions → AreRegions (in_name_order regions)
+ordered [] all = tt
+ordered (region ∷ more) all = with_one region (in_name_order more) all.0 (ordered more all.1)
+
+join_at : (o : Ordering) (region first : Region) (more rest : List Region) → 1 ≤ region.id → AreRegions (first ∷ more) → AreRegions rest → AreRegions (joined_at o region first more rest)
+join_at Less region first more rest one all others = (one, all)
+join_at Equal region first more rest one all others = all
+join_at Greater region first more rest one all others = (all.0, others)
+
+pub join_one : (region : Region) (regions : List Region) → 1 ≤ region.id → AreRegions regions → AreRegions (joined_by region regions)
+join_one region [] one all = (one, tt)
+join_one region (first ∷ more) one all = join_at (region_cmp region first) region first more (joined_by region more) one all (join_one region more one all.1)
+
+abbrev AreBatches : List Batch → Type 0
+AreBatches list = AllByRecursion (λ (batch : Batch). AreIds batch.ids) list
+
+batch_one : (region : Region) (list : List Batch) → 1 ≤ region.id → AreBatches list → AreBatches (with_batch region list)
+batch_one region [] one all = ((one, tt), tt)
+batch_one region (batch ∷ more) one all = by (same_table region.table batch.table)
+  where
+    by : (b : Bool) → AreBatches (cond b (record { table = batch.table; ids = region.id ∷ batch.ids } ∷ more) (record { table = region.table; ids = region.id ∷ [] } ∷ batch ∷ more))
+    by true = ((one, all.0), all.1)
+    by false = ((one, tt), all)
+
+batched : (regions : List Region) → AreRegions regions → AreBatches (batches regions)
+batched [] all = tt
+batched (region ∷ more) all = batch_one region (batches more) all.0 (batched more all.1)
+
+sent : (goal : Goal) (list : List Batch) → AreBatches list → ChildrenNameIds (map (λ batch. child_is.Transits batch.table batch.ids goal) list)
+sent goal [] all = tt
+sent goal (batch ∷ more) all = (all.0, sent goal more all.1)
+
+transits_name : (goal : Goal) (regions : List Region) → AreRegions regions → ChildrenNameIds (transits goal regions)
+transits_name goal regions all = sent goal (batches (in_name_order regions)) (batched (in_name_order regions) (ordered regions all))
+
+-- regions by their ids
+numbered : (table : TableName) (first count : ℕ) → 1 ≤ first → AreRegions (regions_in table (numbers_from first count))
+numbered table first zero one = tt
+numbered table first (suc count) one = (one, numbered table (first + 1) count (omega (arith, one)))
+
+kept_name : (table : TableName) (test : CatRow → Bool) (key : CatKey) (row : CatRow) (more : List Region) → IsIdAt key → AreRegions more → AreRegions (keep_region table test key row more)
+kept_name table test (key_is.Ns ns) row more one all = all
+kept_name table test (key_is.Table other) row more one all = all
+kept_name table test (key_is.Region region) row more one all = by (same_table table region.table && test row)
+  where
+    by : (b : Bool) → AreRegions (cond b (region ∷ more) more)
+    by true = (one, all)
+    by false = all
+
+among : (table : TableName) (test : CatRow → Bool) (rows : Rows) → RowsHaveIds rows → AreRegions (regions_among table test rows)
+among table test [] all = tt
+among table test ((key, row) ∷ rows) all = kept_name table test key row (regions_among table test rows) all.0 (among table test rows all.1)
+
+ids_of_regions : (regions : List Region) → AreRegions regions → AreIds (map (λ region. region.id) regions)
+ids_of_regions [] all = tt
+ids_of_regions (region ∷ more) all = (all.0, ids_of_regions more all.1)
+
+regions_of_ids : (regions : List Region) → AreIds (map (λ region. region.id) regions) → AreRegions regions
+regions_of_ids [] all = tt
+regions_of_ids (region ∷ more) all = (all.0, regions_of_ids more all.1)
+
+-- the rows that are read of a catalog
+pub read_ids : (asked : CatKey → Bool) (there : Catalog) (keys : List CatKey) → ((region : Region) → there (key_is.Region region) ≢ None → 1 ≤ region.id) → RowsHaveIds (rows_at asked there keys)
+read_ids asked there [] rows = tt
+read_ids asked there (key ∷ keys) rows = by (read_ids asked there keys rows) (asked key) (there key) refl
+  where
+    own : (k : CatKey) → there k ≢ None → IsIdAt k
+    own (key_is.Ns ns) some = tt
+    own (key_is.Table table) some = tt
+    own (key_is.Region region) some = rows region some
+
+    by : RowsHaveIds (rows_at asked there keys) → (b : Bool) (o : Option CatRow) → there key ≡ o → RowsHaveIds (keep b key o (rows_at asked there keys))
+    by rest false o e = rest
+    by rest true None e = rest
+    by rest true (Some row) e = (own key (λ none. none-some row (sym none ∙ e)), rest)
+
+-- pieces
+pieces_name : (table : TableName) (most : ℕ) (ids : List ℕ) → AreIds ids → ChildrenNameIds (map (λ piece. child_is.One (args_are.DropRegions table piece)) (pieces_of 64 most ids))
+pieces_name table zero ids all = tt
+pieces_name table (suc most) [] all = tt
+pieces_name table (suc most) (id ∷ ids) all =
+    ((all_take (λ i. 1 ≤ i) 64 (id ∷ ids) all, omega arith), pieces_name table most (drop 64 (id ∷ ids)) (all_drop (λ i. 1 ≤ i) 64 (id ∷ ids) all))
+
+drops_name : (table : TableName) (ids : List ℕ) → AreIds ids → ChildrenNameIds (dropping table ids)
+drops_name table ids all = pieces_name table (length ids) ids all
+
+adds_name : (most : ℕ) (table : TableName) (first : ℕ) (bounds : List (List ℕ)) → ((i : ℕ) → first ≤ i → i + 1 < first + length bounds → Small table i) → ChildrenNameIds (adding most table first bounds)
+adds_name zero table first bounds fits = tt
+adds_name (suc most) table first bounds fits =
+    by (adds_name most table (first + 64) (drop 64 bounds) (λ i low high. (let size = length-drop 64 bounds in fits i (omega (arith, low)) (omega (arith, size, low, high))))) (nat_le (length bounds) 1) refl
+  where
+    by : ChildrenNameIds (adding most table (first + 64) (drop 64 bounds)) → (b : Bool) → nat_le (length bounds) 1 ≡ b → ChildrenNameIds (cond b [] (child_is.One (args_are.AddRegions table first (take 65 bounds)) ∷ adding most table (first + 64) (drop 64 bounds)))
+    by rest true e = tt
+    by rest false e = let more = leb-false (length bounds) 1 e in let own = fits first (omega arith) (omega (arith, more)) in (((own.0, tt), own.1), rest)
+
+-- what a procedure names
+first_named : (args : Args) (bounds : List (List ℕ)) → NamesIds args → bounds_of args ≡ Some bounds → 1 ≤ first_id_of args
+first_named (args_are.Root request first) bounds names is = names.0.0
+first_named (args_are.AddRegions table first own) bounds names is = names.0.0
+first_named (args_are.Transit region goal to) bounds names is = absurd (none-some bounds is)
+first_named (args_are.Crash server) bounds names is = absurd (none-some bounds is)
+first_named (args_are.DropRegions table ids) bounds names is = absurd (none-some bounds is)
+first_named (args_are.AssignCall region server) bounds names is = absurd (none-some bounds is)
+first_named (args_are.CloseCall region server) bounds names is = absurd (none-some bounds is)
+first_named (args_are.FenceCall server) bounds names is = absurd (none-some bounds is)
+first_named (args_are.LayoutCall root) bounds names is = absurd (none-some bounds is)
+first_named (args_are.SweepLayout root) bounds names is = absurd (none-some bounds is)
+
+region_in : (request : Request) (region : Region) → AreIds (ids_in request) → region_of_request request ≡ Some region → 1 ≤ region.id
+region_in (request_is.CreateNamespace ns) region names is = absurd (none-some region is)
+region_in (request_is.DropNamespace ns) region names is = absurd (none-some region is)
+region_in (request_is.CreateTable table keys) region names is = absurd (none-some region is)
+region_in (request_is.DeleteTable table) region names is = absurd (none-some region is)
+region_in (request_is.EnableTable table) region names is = absurd (none-some region is)
+region_in (request_is.DisableTable table) region names is = absurd (none-some region is)
+region_in (request_is.ModifyTable table version) region names is = absurd (none-some region is)
+region_in (request_is.SplitRegion own key) region names is = subst (λ (r : Region). 1 ≤ r.id) (same_Some own region is) names.0
+region_in (request_is.MergeRegions regions) region names is = absurd (none-some region is)
+region_in (request_is.Move own to) region names is = subst (λ (r : Region). 1 ≤ r.id) (same_Some own region is) names.0
+
+pub region_named : (args : Args) (region : Region) → NamesIds args → region_of args ≡ Some region → 1 ≤ region.id
+region_named (args_are.Root request first) region names is = region_in request region names.0.1 is
+region_named (args_are.Transit own goal to) region names is = subst (λ (r : Region). 1 ≤ r.id) (same_Some own region is) names.0.0
+region_named (args_are.AssignCall own server) region names is = subst (λ (r : Region). 1 ≤ r.id) (same_Some own region is) names.0.0
+region_named (args_are.CloseCall own server) region names is = subst (λ (r : Region). 1 ≤ r.id) (same_Some own region is) names.0.0
+region_named (args_are.Crash server) region names is = absurd (none-some region is)
+region_named (args_are.AddRegions table first bounds) region names is = absurd (none-some region is)
+region_named (args_are.DropRegions table ids) region names is = absurd (none-some region is)
+region_named (args_are.FenceCall server) region names is = absurd (none-some region is)
+region_named (args_are.LayoutCall root) region names is = absurd (none-some region is)
+region_named (args_are.SweepLayout root) region names is = absurd (none-some region is)
+
+closed_in : (request : Request) → AreIds (ids_in request) → AreRegions (closed_by_request request)
+closed_in (request_is.CreateNamespace ns) names = tt
+closed_in (request_is.DropNamespace ns) names = tt
+closed_in (request_is.CreateTable table keys) names = tt
+closed_in (request_is.DeleteTable table) names = tt
+closed_in (request_is.EnableTable table) names = tt
+closed_in (request_is.DisableTable table) names = tt
+closed_in (request_is.ModifyTable table version) names = tt
+closed_in (request_is.SplitRegion region key) names = names
+closed_in (request_is.MergeRegions regions) names = regions_of_ids regions names
+closed_in (request_is.Move region to) names = tt
+
+closed_named : (args : Args) → NamesIds args → AreRegions (closed_by args)
+closed_named (args_are.Root request first) names = closed_in request names.0.1
+closed_named (args_are.Transit region goal to) names = tt
+closed_named (args_are.Crash server) names = tt
+closed_named (args_are.AddRegions table first bounds) names = tt
+closed_named (args_are.DropRegions table ids) names = tt
+closed_named (args_are.AssignCall region server) names = tt
+closed_named (args_are.CloseCall region server) names = tt
+closed_named (args_are.FenceCall server) names = tt
+closed_named (args_are.LayoutCall root) names = tt
+closed_named (args_are.SweepLayout root) names = tt
+
+regions_named : (table : TableName) (args : Args) (rows : Rows) → NamesIds args → RowsHaveIds rows → (o : Option (List (List ℕ))) → bounds_of args ≡ o → AreRegions (regions_for table (first_id_of args) o rows)
+regions_named table args rows names read None e = among table (λ row. is_live_status (status_in (Some row))) rows read
+regions_named table args rows names read (Some bounds) e = numbered table (first_id_of args) (length bounds - 1) (first_named args bounds names e)
+
+-- what undoes a step
+pub followers_name : (undo : Back) (args : Args) (root : Pid) → NamesIds args → ChildrenNameIds (undo_followers undo args root)
+followers_name back_is.Nothing args root names = tt
+followers_name back_is.Edits args root names = tt
+followers_name back_is.Sweep args root names = ((tt, omega arith), tt)
+followers_name back_is.Reopen args root names = transits_name goal_is.Assign (closed_by args) (closed_named args names)
+
+-- forms of answers
+abbrev pub NamesAll : StepOut → Type 0
+NamesAll out = ChildrenNameIds out.children
+
+names_checked : (next : ℕ) (cause : Option Cause) → NamesAll (checked next cause)
+names_checked next None = tt
+names_checked next (Some cause) = tt
+
+names_spawns : (next : ℕ) (children : List Child) → ChildrenNameIds children → NamesAll (spawns next children)
+names_spawns next [] all = tt
+names_spawns next (child ∷ more) all = all
+
+names_reassign : (next : ℕ) (children : List Child) → ChildrenNameIds children → NamesAll (reassign_all next children)
+names_reassign next [] all = tt
+names_reassign next (child ∷ more) all = all
+
+names_given : {A : Type 0} (part : Option A) (next : ℕ) (does : A → StepOut) → ((x : A) → part ≡ Some x → NamesAll (does x)) → NamesAll (given part next does)
+names_given None next does each = tt
+names_given (Some part) next does each = each part refl
+
+names_unless : (gone : Bool) (out : StepOut) → NamesAll out → NamesAll (unless_gone gone out)
+names_unless true out all = tt
+names_unless false out all = all
+
+names_ends : (told : Option Told) → NamesAll (ends_as_told told)
+names_ends None = tt
+names_ends (Some told) = tt
+
+names_told : (told : Told) → NamesAll (layout_told told)
+names_told told_is.Nothing = tt
+names_told told_is.Opened = tt
+names_told told_is.FailedOpen = tt
+names_told told_is.Closed = tt
+names_told told_is.Gone = tt
+names_told told_is.Fenced = tt
+names_told told_is.LaidOut = tt
+names_told told_is.Refused = tt
+names_told told_is.Swept = tt
+
+names_layout : (told : Option Told) → NamesAll (settle_layout told)
+names_layout None = tt
+names_layout (Some told) = names_told told
+
+names_candidate : (next : ℕ) (may : Bool) (place : Place) (fenced : Bool) (pick : Option Server) → NamesAll (candidate next may place fenced pick)
+names_candidate next false place fenced pick = tt
+names_candidate next true place fenced pick = by (is_open place fenced)
+  where
+    by : (b : Bool) → NamesAll (cond b (ends_with told_is.Nothing) (places (answer_is.More next) (Some (record { state = place_is.Opening; server = pick }))))
+    by true = tt
+    by false = tt
+
+names_opened : (next : ℕ) (server : Option Server) (b : Bool) → NamesAll (opened_or_not next server b)
+names_opened next server true = tt
+names_opened next server false = tt
+
+names_close : (next : ℕ) (goal : Goal) (region : Region) (place : Place) (b : Bool) → 1 ≤ region.id → NamesAll (close_or_go next goal region place b)
+names_close next goal region place true one = names_given place.server next (close_at next region) (λ server is. (((one, tt), omega arith), tt))
+names_close next goal region place false one = tt
+
+-- the acts that open the regions that a request drew
+abbrev pub opens_new : Act → Bool
+opens_new act_is.OpenDaughters = true
+opens_new act_is.OpenMerged = true
+opens_new act = false
+
+-- what a step sees: ids alone
+pub record SeesIds (act : Act) (at : StepIn) : Type 0 where
+  pub names : NamesIds at.args
+  pub drawn : ArgsDrawn Small at.args
+  pub first : opens_new act ≡ true → 1 ≤ first_id_of at.args
+  pub rows : RowsHaveIds at.rows
+  pub on_server : AreRegions at.on_server
+
+-- what each act makes
+names_act : (act : Act) (next : ℕ) (at : StepIn) → SeesIds act at → NamesAll (act_answer act next at)
+names_act act_is.CheckNamespaceFree next at sees = names_given (namespace_of at.args) next (λ ns. checked next (namespace_free (row_at at.rows (key_is.Ns ns)))) (λ ns ns_is. names_checked next (namespace_free (row_at at.rows (key_is.Ns ns))))
+names_act act_is.AddNamespace next at sees = names_given (namespace_of at.args) next (λ ns. edits_rows next (set_to (row_at at.rows) (key_is.Ns ns) (Some row_is.Ns) ∷ [])) (λ ns ns_is. tt)
+names_act act_is.CheckNamespaceEmpty next at sees = names_given (namespace_of at.args) next (λ ns. checked next (namespace_empty (row_at at.rows (key_is.Ns ns)) (has_table ns at.rows))) (λ ns ns_is. names_checked next (namespace_empty (row_at at.rows (key_is.Ns ns)) (has_table ns at.rows)))
+names_act act_is.DropNamespace next at sees = names_given (namespace_of at.args) next (λ ns. edits_rows next (set_to (row_at at.rows) (key_is.Ns ns) None ∷ [])) (λ ns ns_is. tt)
+names_act act_is.CheckTableFree next at sees = names_given (table_of at.args) next (λ table. checked next (table_free (row_at at.rows (key_is.Ns table.ns)) (row_at at.rows (key_is.Table table)))) (λ table table_is. names_checked next (table_free (row_at at.rows (key_is.Ns table.ns)) (row_at at.rows (key_is.Table table))))
+names_act act_is.AddTable next at sees = names_given (table_of at.args) next (λ table. edits_rows next (set_to (row_at at.rows) (key_is.Table table) (Some (row_is.Table state_is.Disabled 1)) ∷ [])) (λ table table_is. tt)
+names_act act_is.Layout next at sees = names_spawns next (child_is.One (args_are.LayoutCall at.root) ∷ []) ((tt, omega arith), tt)
+names_act act_is.AddRegions next at sees = names_given (table_of at.args) next (λ table. given (bounds_of at.args) next (λ bounds. spawns next (adding (length bounds) table (first_id_of at.args) bounds))) (λ table table_is. names_given (bounds_of at.args) next (λ bounds. spawns next (adding (length bounds) table (first_id_of at.args) bounds)) (λ bounds bounds_is. names_spawns next (adding (length bounds) table (first_id_of at.args) bounds) (adds_name (length bounds) table (first_id_of at.args) bounds (bounds_fit Small at.args table bounds sees.drawn table_is bounds_is))))
+names_act act_is.SetEnabling next at sees = names_given (table_of at.args) next (λ table. edits_rows next (changed (row_at at.rows) (key_is.Table table) (in_state state_is.Enabling) ∷ [])) (λ table table_is. tt)
+names_act act_is.OpenRegions next at sees = names_given (table_of at.args) next (λ table. spawns next (transits goal_is.Assign (regions_for table (first_id_of at.args) (bounds_of at.args) at.rows))) (λ table table_is. names_spawns next (transits goal_is.Assign (regions_for table (first_id_of at.args) (bounds_of at.args) at.rows)) (transits_name goal_is.Assign (regions_for table (first_id_of at.args) (bounds_of at.args) at.rows) (regions_named table at.args at.rows sees.names sees.rows (bounds_of at.args) refl)))
+names_act act_is.SetEnabled next at sees = names_given (table_of at.args) next (λ table. edits_rows next (changed (row_at at.rows) (key_is.Table table) (in_state state_is.Enabled) ∷ [])) (λ table table_is. tt)
+names_act act_is.CheckTableDisabled next at sees = names_given (table_of at.args) next (λ table. checked next (table_disabled (row_at at.rows (key_is.Table table)))) (λ table table_is. names_checked next (table_disabled (row_at at.rows (key_is.Table table))))
+names_act act_is.DropRegions next at sees = names_given (table_of at.args) next (λ table. spawns next (dropping table (map (λ region. region.id) (all_among table at.rows)))) (λ table table_is. names_spawns next (dropping table (map (λ region. region.id) (all_among table at.rows))) (drops_name table (map (λ region. region.id) (all_among table at.rows)) (ids_of_regions (all_among table at.rows) (among table (λ row. true) at.rows sees.rows))))
+names_act act_is.DropTable next at sees = names_given (table_of at.args) next (λ table. edits_rows next (set_to (row_at at.rows) (key_is.Table table) None ∷ [])) (λ table table_is. tt)
+names_act act_is.CheckTableEnabled next at sees = names_given (table_of at.args) next (λ table. checked next (table_enabled (row_at at.rows (key_is.Table table)))) (λ table table_is. names_checked next (table_enabled (row_at at.rows (key_is.Table table))))
+names_act act_is.SetDisabling next at sees = names_given (table_of at.args) next (λ table. edits_rows next (changed (row_at at.rows) (key_is.Table table) (in_state state_is.Disabling) ∷ [])) (λ table table_is. tt)
+names_act act_is.CloseRegions next at sees = names_given (table_of at.args) next (λ table. spawns next (transits goal_is.Unassign (regions_for table (first_id_of at.args) (bounds_of at.args) at.rows))) (λ table table_is. names_spawns next (transits goal_is.Unassign (regions_for table (first_id_of at.args) (bounds_of at.args) at.rows)) (transits_name goal_is.Unassign (regions_for table (first_id_of at.args) (bounds_of at.args) at.rows) (regions_named table at.args at.rows sees.names sees.rows (bounds_of at.args) refl)))
+names_act act_is.SetDisabled next at sees = names_given (table_of at.args) next (λ table. edits_rows next (changed (row_at at.rows) (key_is.Table table) (in_state state_is.Disabled) ∷ [])) (λ table table_is. tt)
+names_act act_is.SetVersion next at sees = names_given (table_of at.args) next (λ table. given (version_of (asked_of at.args)) next (λ version. edits_rows next (changed (row_at at.rows) (key_is.Table table) (in_version version) ∷ []))) (λ table table_is. names_given (version_of (asked_of at.args)) next (λ version. edits_rows next (changed (row_at at.rows) (key_is.Table table) (in_version version) ∷ [])) (λ version version_is. tt))
+names_act act_is.CheckSplit next at sees = names_given (region_of at.args) next (λ region. given (cut_of (asked_of at.args)) next (λ key. checked next (can_split (row_at at.rows (key_is.Table region.table)) (row_at at.rows (key_is.Region region)) key))) (λ region region_is. names_given (cut_of (asked_of at.args)) next (λ key. checked next (can_split (row_at at.rows (key_is.Table region.table)) (row_at at.rows (key_is.Region region)) key)) (λ key cut_is. names_checked next (can_split (row_at at.rows (key_is.Table region.table)) (row_at at.rows (key_is.Region region)) key)))
+names_act act_is.CloseParent next at sees = names_spawns next (transits goal_is.Unassign (closed_by at.args)) (transits_name goal_is.Unassign (closed_by at.args) (closed_named at.args sees.names))
+names_act act_is.UpdateSplitMeta next at sees = names_given (region_of at.args) next (λ region. given (cut_of (asked_of at.args)) next (λ key. edits_rows next (split_edits (row_at at.rows) region key (first_id_of at.args)))) (λ region region_is. names_given (cut_of (asked_of at.args)) next (λ key. edits_rows next (split_edits (row_at at.rows) region key (first_id_of at.args))) (λ key cut_is. tt))
+names_act act_is.OpenDaughters next at sees = names_given (table_of at.args) next (λ table. spawns next (transits goal_is.Assign (regions_in table (numbers_from (first_id_of at.args) 2)))) (λ table table_is. names_spawns next (transits goal_is.Assign (regions_in table (numbers_from (first_id_of at.args) 2))) (transits_name goal_is.Assign (regions_in table (numbers_from (first_id_of at.args) 2)) (numbered table (first_id_of at.args) 2 (sees.first refl))))
+names_act act_is.Finish next at sees = tt
+names_act act_is.CheckMerge next at sees = names_checked next (merge_cause (table_of_first (closed_by at.args)) at.rows (closed_by at.args))
+names_act act_is.CloseParents next at sees = names_spawns next (transits goal_is.Unassign (closed_by at.args)) (transits_name goal_is.Unassign (closed_by at.args) (closed_named at.args sees.names))
+names_act act_is.UpdateMergeMeta next at sees = tt
+names_act act_is.OpenMerged next at sees = names_given (table_of at.args) next (λ table. spawns next (transits goal_is.Assign (regions_in table (numbers_from (first_id_of at.args) 1)))) (λ table table_is. names_spawns next (transits goal_is.Assign (regions_in table (numbers_from (first_id_of at.args) 1))) (transits_name goal_is.Assign (regions_in table (numbers_from (first_id_of at.args) 1)) (numbered table (first_id_of at.args) 1 (sees.first refl))))
+names_act act_is.AddRegionRows next at sees = names_given (table_of at.args) next (λ table. given (bounds_of at.args) next (λ bounds. edits_rows next (add_ranges (row_at at.rows) table (first_id_of at.args) (ranges_between bounds)))) (λ table table_is. names_given (bounds_of at.args) next (λ bounds. edits_rows next (add_ranges (row_at at.rows) table (first_id_of at.args) (ranges_between bounds))) (λ bounds bounds_is. tt))
+names_act act_is.DropRegionRows next at sees = names_given (table_of at.args) next (λ table. edits_rows next (remove_regions (row_at at.rows) (regions_in table (ids_of at.args)))) (λ table table_is. tt)
+names_act act_is.Fence next at sees = names_given (server_of at.args) next (λ server. spawns next (child_is.One (args_are.FenceCall server) ∷ [])) (λ server server_is. names_spawns next (child_is.One (args_are.FenceCall server) ∷ []) ((tt, omega arith), tt))
+names_act act_is.Reassign next at sees = names_reassign next (transits goal_is.Assign at.on_server) (transits_name goal_is.Assign at.on_server sees.on_server)
+names_act act_is.CallAssign next at sees = names_unless at.fenced (given (region_of at.args) next (λ region. calls next (verb_is.AssignRegion region))) (names_given (region_of at.args) next (λ region. calls next (verb_is.AssignRegion region)) (λ region is. tt))
+names_act act_is.CallClose next at sees = names_unless at.fenced (given (region_of at.args) next (λ region. calls next (verb_is.CloseRegion region))) (names_given (region_of at.args) next (λ region. calls next (verb_is.CloseRegion region)) (λ region is. tt))
+names_act act_is.Settle next at sees = names_unless at.fenced (ends_as_told at.report) (names_ends at.report)
+names_act act_is.CallFence next at sees = names_given (server_of at.args) next (λ server. calls next (verb_is.Fence server)) (λ server is. tt)
+names_act act_is.CallLayout next at sees = names_given (layout_of at.args) next (λ root. calls next (verb_is.Layout root)) (λ root is. tt)
+names_act act_is.SettleLayout next at sees = names_layout at.report
+names_act act_is.CallSweep next at sees = names_given (layout_of at.args) next (λ root. calls next (verb_is.Sweep root)) (λ root is. tt)
+names_act act_is.GetAssignCandidate next at sees = names_given (region_of at.args) next (λ region. candidate next (may_open_in at.rows region) (told_place at.place) at.fenced at.pick) (λ region is. names_candidate next (may_open_in at.rows region) (told_place at.place) at.fenced at.pick)
+names_act act_is.Open next at sees = names_given (region_of at.args) next (λ region. given ((told_place at.place).server) next (λ server. spawns next (child_is.One (args_are.AssignCall region server) ∷ []))) (λ region is. names_given ((told_place at.place).server) next (λ server. spawns next (child_is.One (args_are.AssignCall region server) ∷ [])) (λ server there. (((region_named at.args region sees.names is, tt), omega arith), tt)))
+names_act act_is.ConfirmOpened next at sees = names_opened next (told_place at.place).server (is_told told_is.Opened at.ends)
+names_act act_is.Close next at sees = names_given (region_of at.args) next (λ region. close_or_go next (goal_in at.args) region (told_place at.place) (is_open (told_place at.place) at.fenced)) (λ region is. names_close next (goal_in at.args) region (told_place at.place) (is_open (told_place at.place) at.fenced) (region_named at.args region sees.names is))
+names_act act_is.ConfirmClosed next at sees = tt
+names_act act_is.CheckMove next at sees = names_given (region_of at.args) next (λ region. checked next (region_ready (row_at at.rows (key_is.Table region.table)) (row_at at.rows (key_is.Region region)))) (λ region is. names_checked next (region_ready (row_at at.rows (key_is.Table region.table)) (row_at at.rows (key_is.Region region))))
+
+-- and so a row
+pub row_names : (row : Row) (at : StepIn) → SeesIds row.act at → NamesAll (row_answer row at)
+row_names row at sees = row_by NamesAll row at (λ cause. tt) (names_act row.act row.next at sees)

@@ -1,0 +1,4 @@
+pub mod Moment
+pub mod Submitting
+pub mod Claiming
+pub mod Hearing

@@ -1,0 +1,307 @@
+-- Of the procedures that a step makes at most one moves a region.
+use Rattle.std.proofs.Common.{◌≡◌, ℕ, zero, suc, ◌+◌, ◌-◌, ◌≤◌, ◌==◌, List, [], ◌∷◌, length, map, nat_le, take, drop, Bool, true, false, not, ◌&&◌, cond, Option, Some, None, refl, ap, sym, ◌∙◌, subst, arith, inl, inr, ◌⊎◌, slice_get}
+use Rattle.std.proofs.lemmas.Bool.{and_parts, eq-eqb, false≢true, not-true, true≢false}
+use Rattle.std.proofs.lemmas.Option.{none-some, same_Some}
+use Rattle.std.specs.declared.cmp.Ordering.{Ordering}
+use Rattle.std.specs.declared.cmp.Ordering.TheVariants.{Equal, Greater, Less}
+use Rattle.hm_names.specs.Order.{region_cmp}
+use Rattle.hm_names.specs.Region.{Region}
+use Rattle.hm_names.specs.declared.table.TableName.{TableName}
+use Rattle.hm_data.specs.Keys.{key_cmp}
+use Rattle.hm_data.specs.declared.act.Act.{Act}
+use Rattle.hm_data.specs.declared.act.Act.TheVariants as act_is
+use Rattle.hm_data.specs.declared.answer.Cause.{Cause}
+use Rattle.hm_data.specs.declared.args.Args.{Args}
+use Rattle.hm_data.specs.declared.args.Args.TheVariants as args_are
+use Rattle.hm_data.specs.declared.args.Child.{Child}
+use Rattle.hm_data.specs.declared.args.Child.TheVariants as child_is
+use Rattle.hm_data.specs.declared.catalog.CatKey.{CatKey}
+use Rattle.hm_data.specs.declared.catalog.CatKey.TheVariants as key_is
+use Rattle.hm_data.specs.declared.catalog.CatRow.{CatRow}
+use Rattle.hm_data.specs.declared.catalog.CatRow.TheVariants as row_is
+use Rattle.hm_data.specs.declared.catalog.TableState.TheVariants as state_is
+use Rattle.hm_data.specs.declared.place.Goal.{Goal}
+use Rattle.hm_data.specs.declared.place.Goal.TheVariants as goal_is
+use Rattle.hm_data.specs.declared.request.Request.{Request}
+use Rattle.hm_data.specs.declared.request.Request.TheVariants as request_is
+use Rattle.hm_data.specs.declared.step.StepIn.{StepIn}
+use Rattle.hm_data.specs.declared.step.StepOut.{StepOut}
+use Rattle.hm_model.specs.Acts.{act_answer}
+use Rattle.hm_model.specs.Catalog.{Catalog, keep, row_at, rows_at, set_to}
+use Rattle.hm_model.specs.Changes.{add_ranges, changed, remove_regions, split_edits}
+use Rattle.hm_model.specs.Checks.{can_split, namespace_empty, namespace_free, table_disabled, table_enabled, table_free}
+use Rattle.hm_model.specs.CrashActs.{reassign_all}
+use Rattle.hm_model.specs.Keys.{same_table}
+use Rattle.hm_model.specs.Kinds.{table_of_first}
+use Rattle.hm_model.specs.Locks.{IsIn, in_name_order, with_region, with_region_at}
+use Rattle.hm_model.specs.NamespaceActs.{has_table, version_of}
+use Rattle.hm_model.specs.Outs.{checked, edits_rows, given, spawns}
+use Rattle.hm_model.specs.Pieces.{Batch, adding, batches, by_64, dropping, numbers_from, ranges_between, transits, with_batch}
+use Rattle.hm_model.specs.RegionActs.{cut_of, merge_cause, regions_for}
+use Rattle.hm_model.specs.Requests.{is_pair, wrong_in}
+use Rattle.hm_model.specs.RowLaws.{AllBehind, AreInOrder}
+use Rattle.hm_model.specs.RowsSaid.{all_among, in_state, in_version, keep_region, live_among, regions_among}
+use Rattle.hm_model.specs.Tree.{args_in}
+use Rattle.hm_model.specs.Undoing.{closed_by}
+use Rattle.hm_model.specs.Views.{asked_of, bounds_of, first_id_of, namespace_of, region_of, regions_in, table_of}
+use Rattle.hm_model.specs.Wanted.{ids_of, server_of}
+use Rattle.hm_model.specs.Whereabouts.{moved_by}
+use Rattle.hm_model.proofs.KeyTests.{key_cmp-same, same_table-is}
+use Rattle.hm_model.proofs.PlainActs.{is_plain}
+use Rattle.hm_model.proofs.InOrder.{InOrder, not_later}
+
+-- each region once
+abbrev pub AreDistinct : List Region → Type 0
+AreDistinct [] = Unit {0}
+AreDistinct (region ∷ more) = (IsIn region more → ⊥) × AreDistinct more
+
+pub distinct_order : (list : List Region) → InOrder list → AreDistinct list
+distinct_order [] order = tt
+distinct_order (region ∷ more) order = ((λ among. not_later region more order.0 among), distinct_order more order.1)
+
+in_taken : {A : Type 0} (x : A) (n : ℕ) (list : List A) → IsIn x (take n list) → IsIn x list
+in_taken x zero list h = elim h [ ]
+in_taken x (suc n) [] h = elim h [ ]
+in_taken x (suc n) (y ∷ list) h = elim h [ inl here ↦ inl here | inr later ↦ inr (in_taken x n list later) ]
+
+pub distinct_taken : (n : ℕ) (list : List Region) → AreDistinct list → AreDistinct (take n list)
+distinct_taken zero list each = tt
+distinct_taken (suc n) [] each = tt
+distinct_taken (suc n) (x ∷ list) each = ((λ among. each.0 (in_taken x n list among)), distinct_taken n list each.1)
+
+out_with : (y region : Region) (list : List Region) → IsIn y (with_region region list) → (y ≡ region) ⊎ IsIn y list
+out_with y region [] h = h
+out_with y region (first ∷ more) h = by (region_cmp region first) (out_with y region more) h
+  where
+    by : (o : Ordering) → (IsIn y (with_region region more) → (y ≡ region) ⊎ IsIn y more) → IsIn y (with_region_at o region first more (with_region region more)) → (y ≡ region) ⊎ IsIn y (first ∷ more)
+    by Less on h = h
+    by Equal on h = h
+    by Greater on h = elim h [ inl here ↦ inr (inl here) | inr later ↦ elim (on later) [ inl new ↦ inl new | inr old ↦ inr (inr old) ] ]
+
+distinct_with : (region : Region) (list : List Region) → (IsIn region list → ⊥) → AreDistinct list → AreDistinct (with_region region list)
+distinct_with region [] new each = (new, tt)
+distinct_with region (first ∷ more) new each = by (region_cmp region first) (distinct_with region more (λ h. new (inr h)) each.1)
+  where
+    by : (o : Ordering) → AreDistinct (with_region region more) → AreDistinct (with_region_at o region first more (with_region region more))
+    by Less on = (new, each)
+    by Equal on = (new, each)
+    by Greater on = ((λ h. elim (out_with first region more h) [ inl same ↦ new (inl (sym same)) | inr later ↦ each.0 later ]), on)
+
+out_ordered : (y : Region) (list : List Region) → IsIn y (in_name_order list) → IsIn y list
+out_ordered y [] h = h
+out_ordered y (region ∷ more) h = elim (out_with y region (in_name_order more) h) [ inl here ↦ inl here | inr later ↦ inr (out_ordered y more later) ]
+
+distinct_ordered : (list : List Region) → AreDistinct list → AreDistinct (in_name_order list)
+distinct_ordered [] each = tt
+distinct_ordered (region ∷ more) each = distinct_with region (in_name_order more) (λ h. each.0 (out_ordered region more h)) (distinct_ordered more each.1)
+
+-- regions of a table by rising numbers
+in_numbered : (table : TableName) (y : Region) (first count : ℕ) → IsIn y (regions_in table (numbers_from first count)) → first ≤ y.id
+in_numbered table y first zero h = elim h [ ]
+in_numbered table y first (suc count) h = elim h [
+  | inl here ↦ let e = ap (λ (r : Region). r.id) here in omega (arith, e)
+  | inr later ↦ let more = in_numbered table y (first + 1) count later in omega (arith, more)
+]
+
+distinct_numbered : (table : TableName) (first count : ℕ) → AreDistinct (regions_in table (numbers_from first count))
+distinct_numbered table first zero = tt
+distinct_numbered table first (suc count) = ((λ h. let more = in_numbered table (record { table = table; id = first }) (first + 1) count h in omega (arith, more)), distinct_numbered table (first + 1) count)
+
+-- regions among rows whose keys are in order
+among_keys : (table : TableName) (test : CatRow → Bool) (asked : CatKey → Bool) (there : Catalog) (keys : List CatKey) (y : Region) → IsIn y (regions_among table test (rows_at asked there keys)) → IsIn (key_is.Region y) keys
+among_keys table test asked there [] y h = elim h [ ]
+among_keys table test asked there (key ∷ keys) y h = by (asked key) (there key) (among_keys table test asked there keys y) h
+  where
+    by_keep : (key : CatKey) (b : Bool) (row : CatRow) → (IsIn y (regions_among table test (rows_at asked there keys)) → IsIn (key_is.Region y) keys) → IsIn y (keep_region table test key row (regions_among table test (rows_at asked there keys))) → IsIn (key_is.Region y) (key ∷ keys)
+    by_keep (key_is.Ns ns) b row on h = inr (on h)
+    by_keep (key_is.Table other) b row on h = inr (on h)
+    by_keep (key_is.Region region) b row on h = at (same_table table region.table && test row) h
+      where
+        at : (b : Bool) → IsIn y (cond b (region ∷ regions_among table test (rows_at asked there keys)) (regions_among table test (rows_at asked there keys))) → IsIn (key_is.Region y) (key_is.Region region ∷ keys)
+        at true h = elim h [ inl here ↦ inl (ap key_is.Region here) | inr later ↦ inr (on later) ]
+        at false h = inr (on h)
+
+    by : (b : Bool) (o : Option CatRow) → (IsIn y (regions_among table test (rows_at asked there keys)) → IsIn (key_is.Region y) keys) → IsIn y (regions_among table test (keep b key o (rows_at asked there keys))) → IsIn (key_is.Region y) (key ∷ keys)
+    by false o on h = inr (on h)
+    by true None on h = inr (on h)
+    by true (Some row) on h = by_keep key true row on h
+
+key_out : (key : CatKey) (keys : List CatKey) → AllBehind key keys → IsIn key keys → ⊥
+key_out key [] behind h = elim h [ ]
+key_out key (first ∷ keys) behind h = elim h [
+  | inl same ↦ let tied : key_cmp key first ≡ Equal = key_cmp-same key first same in cc (tied, behind.0)
+  | inr later ↦ key_out key keys behind.1 later
+]
+
+pub distinct_among : (table : TableName) (test : CatRow → Bool) (asked : CatKey → Bool) (there : Catalog) (keys : List CatKey) → AreInOrder keys → AreDistinct (regions_among table test (rows_at asked there keys))
+distinct_among table test asked there [] order = tt
+distinct_among table test asked there (key ∷ keys) order = by (asked key) (there key) (distinct_among table test asked there keys order.1)
+  where
+    by_keep : (own : CatKey) (row : CatRow) → key ≡ own → AreDistinct (regions_among table test (rows_at asked there keys)) → AreDistinct (keep_region table test own row (regions_among table test (rows_at asked there keys)))
+    by_keep (key_is.Ns ns) row e on = on
+    by_keep (key_is.Table other) row e on = on
+    by_keep (key_is.Region region) row e on = at (same_table table region.table && test row)
+      where
+        at : (b : Bool) → AreDistinct (cond b (region ∷ regions_among table test (rows_at asked there keys)) (regions_among table test (rows_at asked there keys)))
+        at true = ((λ h. key_out key keys order.0 (subst (λ k. IsIn k keys) (sym e) (among_keys table test asked there keys region h))), on)
+        at false = on
+
+    by : (b : Bool) (o : Option CatRow) → AreDistinct (regions_among table test (rows_at asked there keys)) → AreDistinct (regions_among table test (keep b key o (rows_at asked there keys)))
+    by false o on = on
+    by true None on = on
+    by true (Some row) on = by_keep key row refl on
+
+-- the regions that a request closes
+pub asked_distinct : (request : Request) (first : ℕ) → wrong_in request ≡ None → AreDistinct (closed_by (args_are.Root request first))
+asked_distinct (request_is.SplitRegion region key) first fine = ((λ h. elim h [ ]), tt)
+asked_distinct (request_is.MergeRegions regions) first fine = by regions (paired (is_pair regions) fine)
+  where
+    paired : (b : Bool) → cond {A = Option ℕ} b None (Some 4) ≡ None → b ≡ true
+    paired true e = refl
+    paired false e = absurd (none-some {A = ℕ} 4 (sym e))
+
+    by : (regions : List Region) → is_pair regions ≡ true → AreDistinct regions
+    by [] h = absurd (false≢true h)
+    by (one ∷ []) h = absurd (false≢true h)
+    by (one ∷ other ∷ []) h = (
+      (λ among. elim among [
+        | inl same ↦ true≢false (sym (eq-eqb one.id other.id (ap (λ (r : Region). r.id) same)) ∙ not-true (one.id == other.id) (and_parts (same_table one.table other.table) (not (one.id == other.id)) h).1)
+        | inr none ↦ none
+      ]),
+      ((λ none. none), tt),
+    )
+    by (one ∷ other ∷ third ∷ more) h = absurd (false≢true h)
+asked_distinct request first fine = tt
+
+-- at most one of these moves a region
+abbrev pub OnePerRegion : List Args → Type 0
+OnePerRegion list = (i j : ℕ) (a b : Args) (region : Region) → slice_get list i ≡ Some a → slice_get list j ≡ Some b → moved_by a ≡ Some region → moved_by b ≡ Some region → i ≡ j
+
+abbrev AreStill : List Args → Type 0
+AreStill [] = Unit {0}
+AreStill (args ∷ more) = (moved_by args ≡ None) × AreStill more
+
+still_one : (list : List Args) → AreStill list → OnePerRegion list
+still_one [] still i j a b region at there m n = absurd (none-some a at)
+still_one (args ∷ more) still zero j a b region at there m n = absurd (none-some region (sym still.0 ∙ ap moved_by (same_Some args a at) ∙ m))
+still_one (args ∷ more) still (suc i) zero a b region at there m n = absurd (none-some region (sym still.0 ∙ ap moved_by (same_Some args b there) ∙ n))
+still_one (args ∷ more) still (suc i) (suc j) a b region at there m n = ap suc (still_one more still.1 i j a b region at there m n)
+
+moved_in : (goal : Goal) (list : List Region) (i : ℕ) (a : Args) (region : Region) → slice_get (map (λ r. args_are.Transit r goal None) list) i ≡ Some a → moved_by a ≡ Some region → IsIn region list
+moved_in goal [] i a region at m = absurd (none-some a at)
+moved_in goal (x ∷ list) zero a region at m = inl (sym (same_Some x region (ap moved_by (same_Some (args_are.Transit x goal None) a at) ∙ m)))
+moved_in goal (x ∷ list) (suc i) a region at m = inr (moved_in goal list i a region at m)
+
+transits_one : (goal : Goal) (list : List Region) → AreDistinct list → OnePerRegion (map (λ r. args_are.Transit r goal None) list)
+transits_one goal [] each i j a b region at there m n = absurd (none-some a at)
+transits_one goal (x ∷ list) each zero zero a b region at there m n = refl
+transits_one goal (x ∷ list) each zero (suc j) a b region at there m n =
+    let here : x ≡ region = same_Some x region (ap moved_by (same_Some (args_are.Transit x goal None) a at) ∙ m) in
+    absurd (each.0 (subst (λ r. IsIn r list) (sym here) (moved_in goal list j b region there n)))
+transits_one goal (x ∷ list) each (suc i) zero a b region at there m n =
+    let here : x ≡ region = same_Some x region (ap moved_by (same_Some (args_are.Transit x goal None) b there) ∙ n) in
+    absurd (each.0 (subst (λ r. IsIn r list) (sym here) (moved_in goal list i a region at m)))
+transits_one goal (x ∷ list) each (suc i) (suc j) a b region at there m n = ap suc (transits_one goal list each.1 i j a b region at there m n)
+
+batch_args : (goal : Goal) (region : Region) (list : List Batch) → args_in (map (λ batch. child_is.Transits batch.table batch.ids goal) (with_batch region list)) ≡ args_are.Transit region goal None ∷ args_in (map (λ batch. child_is.Transits batch.table batch.ids goal) list)
+batch_args goal region [] = refl
+batch_args goal region (batch ∷ more) = by (same_table region.table batch.table) refl
+  where
+    by : (b : Bool) → same_table region.table batch.table ≡ b → args_in (map (λ batch. child_is.Transits batch.table batch.ids goal) (cond b (record { table = batch.table; ids = region.id ∷ batch.ids } ∷ more) (record { table = region.table; ids = region.id ∷ [] } ∷ batch ∷ more))) ≡ args_are.Transit region goal None ∷ args_in (map (λ batch. child_is.Transits batch.table batch.ids goal) (batch ∷ more))
+    by false e = refl
+    by true e = ap (λ t. args_are.Transit (record { table = t; id = region.id }) goal None ∷ args_in (map (λ batch. child_is.Transits batch.table batch.ids goal) (batch ∷ more))) (sym (same_table-is region.table batch.table e))
+
+batches_args : (goal : Goal) (list : List Region) → args_in (map (λ batch. child_is.Transits batch.table batch.ids goal) (batches list)) ≡ map (λ r. args_are.Transit r goal None) list
+batches_args goal [] = refl
+batches_args goal (region ∷ more) = batch_args goal region (batches more) ∙ ap (λ l. args_are.Transit region goal None ∷ l) (batches_args goal more)
+
+moves_one : (goal : Goal) (regions : List Region) → AreDistinct regions → OnePerRegion (args_in (transits goal regions))
+moves_one goal regions each = subst OnePerRegion (sym (batches_args goal (in_name_order regions))) (transits_one goal (in_name_order regions) (distinct_ordered regions each))
+
+none_one : (list : List Args) → list ≡ [] → OnePerRegion list
+none_one list none = subst OnePerRegion (sym none) (still_one [] tt)
+
+given_one : {A : Type 0} (part : Option A) (next : ℕ) (act : A → StepOut) → ((x : A) → OnePerRegion (args_in (act x).children)) → OnePerRegion (args_in (given part next act).children)
+given_one None next act each = still_one [] tt
+given_one (Some part) next act each = each part
+
+checked_one : (next : ℕ) (cause : Option Cause) → OnePerRegion (args_in (checked next cause).children)
+checked_one next None = still_one [] tt
+checked_one next (Some cause) = still_one [] tt
+
+spawned_one : (next : ℕ) (children : List Child) → OnePerRegion (args_in children) → OnePerRegion (args_in (spawns next children).children)
+spawned_one next [] one = one
+spawned_one next (child ∷ more) one = one
+
+reassigned_one : (next : ℕ) (children : List Child) → OnePerRegion (args_in children) → OnePerRegion (args_in (reassign_all next children).children)
+reassigned_one next [] one = one
+reassigned_one next (child ∷ more) one = one
+
+adding_still : (most : ℕ) (table : TableName) (first : ℕ) (bounds : List (List ℕ)) → AreStill (args_in (adding most table first bounds))
+adding_still zero table first bounds = tt
+adding_still (suc most) table first bounds = by (nat_le (length bounds) 1) (adding_still most table (first + 64) (drop 64 bounds))
+  where
+    by : (b : Bool) → AreStill (args_in (adding most table (first + 64) (drop 64 bounds))) → AreStill (args_in (cond b [] (child_is.One (args_are.AddRegions table first (take 65 bounds)) ∷ adding most table (first + 64) (drop 64 bounds))))
+    by true more = tt
+    by false more = (refl, more)
+
+dropping_still : (table : TableName) (pieces : List (List ℕ)) → AreStill (args_in (map (λ piece. child_is.One (args_are.DropRegions table piece)) pieces))
+dropping_still table [] = tt
+dropping_still table (piece ∷ more) = (refl, dropping_still table more)
+
+-- what a step sees has each region once
+pub record SeesEachOnce (at : StepIn) : Type 0 where
+  pub rows : (table : TableName) → AreDistinct (live_among table at.rows)
+  pub closed : AreDistinct (closed_by at.args)
+  pub lost : AreDistinct at.on_server
+
+distinct_for : (at : StepIn) → SeesEachOnce at → (table : TableName) (first : ℕ) (bounds : Option (List (List ℕ))) → AreDistinct (regions_for table first bounds at.rows)
+distinct_for at sees table first None = sees.rows table
+distinct_for at sees table first (Some bounds) = distinct_numbered table first (length bounds - 1)
+
+pub act_one : (act : Act) → is_plain act ≡ true → (next : ℕ) (at : StepIn) → SeesEachOnce at → OnePerRegion (args_in (act_answer act next at).children)
+act_one act_is.CheckNamespaceFree h next at sees = given_one (namespace_of at.args) next (λ ns. checked next (namespace_free (row_at at.rows (key_is.Ns ns)))) (λ ns. checked_one next (namespace_free (row_at at.rows (key_is.Ns ns))))
+act_one act_is.AddNamespace h next at sees = given_one (namespace_of at.args) next (λ ns. edits_rows next (set_to (row_at at.rows) (key_is.Ns ns) (Some row_is.Ns) ∷ [])) (λ ns. still_one [] tt)
+act_one act_is.CheckNamespaceEmpty h next at sees = given_one (namespace_of at.args) next (λ ns. checked next (namespace_empty (row_at at.rows (key_is.Ns ns)) (has_table ns at.rows))) (λ ns. checked_one next (namespace_empty (row_at at.rows (key_is.Ns ns)) (has_table ns at.rows)))
+act_one act_is.DropNamespace h next at sees = given_one (namespace_of at.args) next (λ ns. edits_rows next (set_to (row_at at.rows) (key_is.Ns ns) None ∷ [])) (λ ns. still_one [] tt)
+act_one act_is.CheckTableFree h next at sees = given_one (table_of at.args) next (λ table. checked next (table_free (row_at at.rows (key_is.Ns table.ns)) (row_at at.rows (key_is.Table table)))) (λ table. checked_one next (table_free (row_at at.rows (key_is.Ns table.ns)) (row_at at.rows (key_is.Table table))))
+act_one act_is.AddTable h next at sees = given_one (table_of at.args) next (λ table. edits_rows next (set_to (row_at at.rows) (key_is.Table table) (Some (row_is.Table state_is.Disabled 1)) ∷ [])) (λ table. still_one [] tt)
+act_one act_is.Layout h next at sees = still_one (args_are.LayoutCall at.root ∷ []) (refl, tt)
+act_one act_is.AddRegions h next at sees = given_one (table_of at.args) next (λ table. given (bounds_of at.args) next (λ bounds. spawns next (adding (length bounds) table (first_id_of at.args) bounds))) (λ table. given_one (bounds_of at.args) next (λ bounds. spawns next (adding (length bounds) table (first_id_of at.args) bounds)) (λ bounds. spawned_one next (adding (length bounds) table (first_id_of at.args) bounds) (still_one (args_in (adding (length bounds) table (first_id_of at.args) bounds)) (adding_still (length bounds) table (first_id_of at.args) bounds))))
+act_one act_is.SetEnabling h next at sees = given_one (table_of at.args) next (λ table. edits_rows next (changed (row_at at.rows) (key_is.Table table) (in_state state_is.Enabling) ∷ [])) (λ table. still_one [] tt)
+act_one act_is.OpenRegions h next at sees = given_one (table_of at.args) next (λ table. spawns next (transits goal_is.Assign (regions_for table (first_id_of at.args) (bounds_of at.args) at.rows))) (λ table. spawned_one next (transits goal_is.Assign (regions_for table (first_id_of at.args) (bounds_of at.args) at.rows)) (moves_one goal_is.Assign (regions_for table (first_id_of at.args) (bounds_of at.args) at.rows) (distinct_for at sees table (first_id_of at.args) (bounds_of at.args))))
+act_one act_is.SetEnabled h next at sees = given_one (table_of at.args) next (λ table. edits_rows next (changed (row_at at.rows) (key_is.Table table) (in_state state_is.Enabled) ∷ [])) (λ table. still_one [] tt)
+act_one act_is.CheckTableDisabled h next at sees = given_one (table_of at.args) next (λ table. checked next (table_disabled (row_at at.rows (key_is.Table table)))) (λ table. checked_one next (table_disabled (row_at at.rows (key_is.Table table))))
+act_one act_is.DropRegions h next at sees = given_one (table_of at.args) next (λ table. spawns next (dropping table (map (λ region. region.id) (all_among table at.rows)))) (λ table. spawned_one next (dropping table (map (λ region. region.id) (all_among table at.rows))) (still_one (args_in (dropping table (map (λ region. region.id) (all_among table at.rows)))) (dropping_still table (by_64 (map (λ (region : Region). region.id) (all_among table at.rows))))))
+act_one act_is.DropTable h next at sees = given_one (table_of at.args) next (λ table. edits_rows next (set_to (row_at at.rows) (key_is.Table table) None ∷ [])) (λ table. still_one [] tt)
+act_one act_is.CheckTableEnabled h next at sees = given_one (table_of at.args) next (λ table. checked next (table_enabled (row_at at.rows (key_is.Table table)))) (λ table. checked_one next (table_enabled (row_at at.rows (key_is.Table table))))
+act_one act_is.SetDisabling h next at sees = given_one (table_of at.args) next (λ table. edits_rows next (changed (row_at at.rows) (key_is.Table table) (in_state state_is.Disabling) ∷ [])) (λ table. still_one [] tt)
+act_one act_is.CloseRegions h next at sees = given_one (table_of at.args) next (λ table. spawns next (transits goal_is.Unassign (regions_for table (first_id_of at.args) (bounds_of at.args) at.rows))) (λ table. spawned_one next (transits goal_is.Unassign (regions_for table (first_id_of at.args) (bounds_of at.args) at.rows)) (moves_one goal_is.Unassign (regions_for table (first_id_of at.args) (bounds_of at.args) at.rows) (distinct_for at sees table (first_id_of at.args) (bounds_of at.args))))
+act_one act_is.SetDisabled h next at sees = given_one (table_of at.args) next (λ table. edits_rows next (changed (row_at at.rows) (key_is.Table table) (in_state state_is.Disabled) ∷ [])) (λ table. still_one [] tt)
+act_one act_is.SetVersion h next at sees = given_one (table_of at.args) next (λ table. given (version_of (asked_of at.args)) next (λ version. edits_rows next (changed (row_at at.rows) (key_is.Table table) (in_version version) ∷ []))) (λ table. given_one (version_of (asked_of at.args)) next (λ version. edits_rows next (changed (row_at at.rows) (key_is.Table table) (in_version version) ∷ [])) (λ version. still_one [] tt))
+act_one act_is.CheckSplit h next at sees = given_one (region_of at.args) next (λ region. given (cut_of (asked_of at.args)) next (λ key. checked next (can_split (row_at at.rows (key_is.Table region.table)) (row_at at.rows (key_is.Region region)) key))) (λ region. given_one (cut_of (asked_of at.args)) next (λ key. checked next (can_split (row_at at.rows (key_is.Table region.table)) (row_at at.rows (key_is.Region region)) key)) (λ key. checked_one next (can_split (row_at at.rows (key_is.Table region.table)) (row_at at.rows (key_is.Region region)) key)))
+act_one act_is.CloseParent h next at sees = spawned_one next (transits goal_is.Unassign (closed_by at.args)) (moves_one goal_is.Unassign (closed_by at.args) sees.closed)
+act_one act_is.UpdateSplitMeta h next at sees = given_one (region_of at.args) next (λ region. given (cut_of (asked_of at.args)) next (λ key. edits_rows next (split_edits (row_at at.rows) region key (first_id_of at.args)))) (λ region. given_one (cut_of (asked_of at.args)) next (λ key. edits_rows next (split_edits (row_at at.rows) region key (first_id_of at.args))) (λ key. still_one [] tt))
+act_one act_is.OpenDaughters h next at sees = given_one (table_of at.args) next (λ table. spawns next (transits goal_is.Assign (regions_in table (numbers_from (first_id_of at.args) 2)))) (λ table. spawned_one next (transits goal_is.Assign (regions_in table (numbers_from (first_id_of at.args) 2))) (moves_one goal_is.Assign (regions_in table (numbers_from (first_id_of at.args) 2)) (distinct_numbered table (first_id_of at.args) 2)))
+act_one act_is.Finish h next at sees = still_one [] tt
+act_one act_is.CheckMerge h next at sees = checked_one next (merge_cause (table_of_first (closed_by at.args)) at.rows (closed_by at.args))
+act_one act_is.CloseParents h next at sees = spawned_one next (transits goal_is.Unassign (closed_by at.args)) (moves_one goal_is.Unassign (closed_by at.args) sees.closed)
+act_one act_is.UpdateMergeMeta h next at sees = still_one [] tt
+act_one act_is.OpenMerged h next at sees = given_one (table_of at.args) next (λ table. spawns next (transits goal_is.Assign (regions_in table (numbers_from (first_id_of at.args) 1)))) (λ table. spawned_one next (transits goal_is.Assign (regions_in table (numbers_from (first_id_of at.args) 1))) (moves_one goal_is.Assign (regions_in table (numbers_from (first_id_of at.args) 1)) (distinct_numbered table (first_id_of at.args) 1)))
+act_one act_is.AddRegionRows h next at sees = given_one (table_of at.args) next (λ table. given (bounds_of at.args) next (λ bounds. edits_rows next (add_ranges (row_at at.rows) table (first_id_of at.args) (ranges_between bounds)))) (λ table. given_one (bounds_of at.args) next (λ bounds. edits_rows next (add_ranges (row_at at.rows) table (first_id_of at.args) (ranges_between bounds))) (λ bounds. still_one [] tt))
+act_one act_is.DropRegionRows h next at sees = given_one (table_of at.args) next (λ table. edits_rows next (remove_regions (row_at at.rows) (regions_in table (ids_of at.args)))) (λ table. still_one [] tt)
+act_one act_is.Fence h next at sees = given_one (server_of at.args) next (λ server. spawns next (child_is.One (args_are.FenceCall server) ∷ [])) (λ server. still_one (args_are.FenceCall server ∷ []) (refl, tt))
+act_one act_is.Reassign h next at sees = reassigned_one next (transits goal_is.Assign at.on_server) (moves_one goal_is.Assign at.on_server sees.lost)
+act_one act_is.GetAssignCandidate h next at sees = absurd (false≢true h)
+act_one act_is.Open h next at sees = absurd (false≢true h)
+act_one act_is.ConfirmOpened h next at sees = absurd (false≢true h)
+act_one act_is.Close h next at sees = absurd (false≢true h)
+act_one act_is.ConfirmClosed h next at sees = absurd (false≢true h)
+act_one act_is.CheckMove h next at sees = absurd (false≢true h)
+act_one act_is.CallAssign h next at sees = absurd (false≢true h)
+act_one act_is.CallClose h next at sees = absurd (false≢true h)
+act_one act_is.Settle h next at sees = absurd (false≢true h)
+act_one act_is.CallFence h next at sees = absurd (false≢true h)
+act_one act_is.CallLayout h next at sees = absurd (false≢true h)
+act_one act_is.SettleLayout h next at sees = absurd (false≢true h)
+act_one act_is.CallSweep h next at sees = absurd (false≢true h)

@@ -1,0 +1,3 @@
+mod Aborting
+mod Hearing
+mod Submitting

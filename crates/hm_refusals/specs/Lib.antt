@@ -1,0 +1,3 @@
+pub mod Submissions
+pub mod Aborts
+pub mod Reports

@@ -1,0 +1,9 @@
+mod Awaiting
+mod Placing
+mod Giving
+mod Following
+mod Stepped
+mod Unclaimed
+mod Ranging
+mod Desks
+mod Lacking

@@ -1,0 +1,51 @@
+-- A procedure that is looked at, and one that has ended.
+use Rattle.std.proofs.Common.{◌≡◌, ◌≢◌, ℕ, List, Option, Some, None, Bool, true, false, not, ◌==◌, ◌&&◌, refl, inl, inr, ap, sym, ◌∙◌}
+use Rattle.std.proofs.lemmas.Bool.{and_parts, false≢true, true≢false}
+use Rattle.hm_names.specs.Server.{Server}
+use Rattle.hm_model.specs.Journal.{Past}
+use Rattle.hm_model.specs.Locks.{IsIn}
+use Rattle.hm_model.specs.Phase.{ended}
+use Rattle.hm_model.specs.Rules.{IsLegal}
+use Rattle.hm_model.specs.Tree.{node_of}
+use Rattle.hm_sched.specs.Effects.{Joins, WakesOne}
+use Rattle.hm_sched.specs.Queues.{Stands, ready_list}
+use Rattle.hm_sched.specs.declared.queue.Queue.TheVariants.{Servers, Suspended, Tables}
+use Rattle.hm_tied.specs.Calls.{without}
+use Rattle.hm_tied.specs.Tied.{Awaits, CanGo, Debts, IsBusy, IsOpen, IsTiedBut, Roster, called_in}
+use Rattle.hm_tied.proofs.Calls.{join_owes, over_less, owed_less, wake_owes}
+use Rattle.hm_tied.proofs.Going.{busy_open}
+use Rattle.hm_tied.proofs.Uses.{debts_rise}
+
+module _ (J : Past) (n : Option Server → ℕ) (roster : Roster) (debts : Debts) (p : ℕ) (tied : IsTiedBut J n roster debts) where
+  -- who becomes ready
+  pub readied : IsLegal J → IsOpen J p → (IsIn p roster.claimed → ⊥) → (lists : List (List ℕ)) (servers : Bool) → Joins roster.lists lists (ready_list servers) p
+      → IsTiedBut J n (record roster { lists = lists }) (record debts { owed = without debts.owed p })
+  readied legal opens free lists true joins = join_owes J n roster debts lists Servers p legal tied opens free tt joins
+  readied legal opens free lists false joins = join_owes J n roster debts lists Tables p legal tied opens free tt joins
+
+  -- who waits for the answer to its call
+  pub suspended : IsLegal J → IsOpen J p → (IsIn p roster.claimed → ⊥) → (lists : List (List ℕ)) (s : ℕ) → s ≡ n (called_in (node_of J p)) → (CanGo J p → ⊥) → Joins roster.lists lists (Suspended s) p
+      → IsTiedBut J n (record roster { lists = lists }) (record debts { owed = without debts.owed p })
+  suspended legal opens free lists s is stuck joins = join_owes J n roster debts lists (Suspended s) p legal tied opens free (sym is, stuck) joins
+
+  -- who neither can go on nor waits for an answer
+  pub idle : (CanGo J p → ⊥) → (Awaits J p → ⊥) → IsTiedBut J n roster (record debts { owed = without debts.owed p })
+  idle stuck quiet = owed_less J n roster debts p tied (λ free busy. elim busy [ inl go ↦ absurd (stuck go) | inr waits ↦ absurd (quiet waits) ])
+
+  -- who is woken
+  pub woken : (lists : List (List ℕ)) → WakesOne roster.lists lists p → IsTiedBut J n (record roster { lists = lists }) (record debts { slack = without debts.slack p })
+  woken lists wakes = wake_owes J n roster debts lists p tied wakes
+
+  -- who is claimed, has ended, or stands somewhere
+  pub claimed_is : IsIn p roster.claimed → IsTiedBut J n roster (record debts { owed = without debts.owed p })
+  claimed_is mine = owed_less J n roster debts p tied (λ free busy. absurd (free mine))
+
+  pub ended_is : IsLegal J → ended J p ≡ true → IsTiedBut J n roster (record debts { owed = without debts.owed p })
+  ended_is legal over = owed_less J n roster debts p tied (λ free busy. absurd (true≢false (sym over ∙ (busy_open J legal p busy).1)))
+
+  pub stands_is : Stands roster.lists p → IsTiedBut J n roster (record debts { owed = without debts.owed p })
+  stands_is there = owed_less J n roster debts p tied (λ free busy. there)
+
+  -- who hasn't ended
+  pub goes_on : IsOpen J p → IsTiedBut J n roster (record debts { over = without debts.over p })
+  goes_on opens = over_less J n roster debts p tied opens

@@ -1,0 +1,9 @@
+use Rattle.std.proofs.Common.{◌≡◌, ◌≢◌, ◌↔◌, ℕ, vec_len}
+use Rattle.hm_model.specs.Locks.{IsIn}
+use Rattle.hm_roster.proofs.claims.unclaim.Given as goal
+
+abbrev pub invariant-loop-place : goal.invariant-loop-place
+invariant-loop-place l = (q : ℕ) → q ≢ l.pid → IsIn q l.claimed.items ↔ IsIn q l.fn.claimed.items
+
+abbrev pub decreases-loop-place : goal.decreases-loop-place
+decreases-loop-place l = vec_len l.claimed

@@ -1,0 +1,7 @@
+mod Joining
+mod Rest
+mod Shown
+mod RegionRows
+mod Values
+mod Tables
+mod JsonTexts

@@ -1,0 +1,62 @@
+-- The table `locks`.
+use Rattle.std.specs.Prelude.{ℕ, List, [], ◌∷◌, ◌++◌, Bool, not, ◌&&◌, codes, filter, is_some, map}
+use Rattle.std.specs.Fmt.{decimal}
+use Rattle.std.specs.List.{flat_map}
+use Rattle.std.specs.declared.cmp.Ordering.{Ordering}
+use Rattle.std.specs.declared.cmp.Ordering.TheVariants.{Less, Equal, Greater}
+use Rattle.hm_data.specs.declared.record.Record.{Record}
+use Rattle.hm_model.specs.Answers.{last_answer}
+use Rattle.hm_model.specs.Journal.{Past}
+use Rattle.hm_model.specs.Locks.{asks}
+use Rattle.hm_model.specs.Phase.{ended}
+use Rattle.hm_model.specs.declared.lock.Ask.{Ask}
+use Rattle.hm_model.specs.declared.lock.Resource.{Resource}
+use Rattle.hm_locks.specs.Kept.{key_of, lock_cmp}
+use Rattle.hm_show.specs.Procs.{pids, shown}
+use Rattle.hm_show.specs.Tables.{Line, table_of}
+use Rattle.hm_show.specs.Words.{mode_text, resource_words}
+
+-- an ask that a procedure holds
+pub record Lock : Type 0 where
+  pub ask : Ask
+  pub pid : ℕ
+
+-- a procedure has a step and hasn't ended: it holds what it asks for
+abbrev pub holds : Past → ℕ → Bool
+holds past p = is_some (last_answer past p) && not (ended past p)
+
+-- what a procedure asks for
+abbrev pub locks_of : Record → List Lock
+locks_of one = map (λ ask. record { ask = ask; pid = one.pid.0 }) (asks one.args)
+
+-- namespaces, tables, regions, servers, each in name order
+abbrev pub resource_cmp : Resource → Resource → Ordering
+resource_cmp a b = lock_cmp (key_of a) (key_of b)
+
+-- a lock beside the first of some by resource, by how their resources compare
+abbrev pub with_lock_at : Ordering → Lock → Lock → List Lock → List Lock → List Lock
+with_lock_at Less lock first more rest = lock ∷ first ∷ more
+with_lock_at Equal lock first more rest = lock ∷ first ∷ more
+with_lock_at Greater lock first more rest = first ∷ rest
+
+-- locks by resource, with one more in front of those of its resource
+abbrev pub with_lock : Lock → List Lock → List Lock
+with_lock lock [] = lock ∷ []
+with_lock lock (first ∷ more) = with_lock_at (resource_cmp lock.ask.resource first.ask.resource) lock first more (with_lock lock more)
+
+-- locks by resource, those of one resource in the order in which they stand
+abbrev pub by_resource : List Lock → List Lock
+by_resource [] = []
+by_resource (lock ∷ more) = with_lock lock (by_resource more)
+
+-- the line of a lock
+abbrev pub lock_line : Lock → Line
+lock_line lock = resource_words lock.ask.resource ++ mode_text lock.ask.exclusive ∷ decimal lock.pid ∷ []
+
+-- what is held, by the number of who holds it
+abbrev pub held : Past → List Lock
+held past = flat_map locks_of (shown past (filter (holds past) (pids past)))
+
+-- one line for each ask that is held, by resource and then by the number of who holds it
+abbrev pub locks_table : Past → List ℕ
+locks_table past = table_of (codes "locks") past (map lock_line (by_resource (held past)))

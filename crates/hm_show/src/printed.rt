@@ -1,0 +1,38 @@
+//! The tables of a state.
+ghost use Rattle.std.specs.Prelude.{◌≡◌, IfOk};
+ghost use Rattle.hm_model.specs.Journal.{back};
+ghost use Rattle.hm_show.specs.Procs.{procs_json as json_of, procs_table};
+ghost use Rattle.hm_show.specs.Regions.{regions_table};
+ghost use Rattle.hm_show.specs.Servers.{servers_table};
+
+use crate::{json, proc_lines, region_lines, server_lines};
+use hm_state::State;
+use std::alloc::{AllocError, Global};
+
+/// The table `procs`: the roots in the order of their numbers.
+pub fn procs(alloc: Global, state: &State) -> Result<Vec<u8>, AllocError>
+    ensures { IfOk result (λ table. table.items ≡ procs_table (back state.now.entries)) }
+{
+    proc_lines::procs(alloc, state.entries(), state.records())
+}
+
+/// All procedures in the order of their numbers, as one line of JSON.
+pub fn procs_json(alloc: Global, state: &State) -> Result<Vec<u8>, AllocError>
+    ensures { IfOk result (λ text. text.items ≡ json_of (back state.now.entries)) }
+{
+    json::procs_json(alloc, state.records())
+}
+
+/// The table `regions`: the regions that have a row, in name order, each with its range, its status, its place and its server.
+pub fn regions(alloc: Global, state: &State) -> Result<Vec<u8>, AllocError>
+    ensures { IfOk result (λ table. table.items ≡ regions_table (back state.now.entries)) }
+{
+    region_lines::regions(alloc, state.entries(), state.records())
+}
+
+/// The table `servers`: the servers that ever came up, in name order, each with how it stands and its load.
+pub fn servers(alloc: Global, state: &State) -> Result<Vec<u8>, AllocError>
+    ensures { IfOk result (λ table. table.items ≡ servers_table (back state.now.entries)) }
+{
+    server_lines::servers(alloc, state.entries(), state.records())
+}

@@ -1,0 +1,248 @@
+-- What the trees of disablings, splits and merges move: regions that they close, by Unassigns, and those that they make.
+use Rattle.std.proofs.Common.{◌≡◌, ◌≢◌, ℕ, zero, suc, ◌+◌, ◌-◌, ◌<◌, ◌≤◌, List, [], ◌∷◌, map, cond, ◌&&◌, Bool, true, false, Option, Some, None, refl, ap, sym, ◌∙◌, subst, inl, inr, ◌⊎◌, slice_get, arith}
+use Rattle.std.proofs.lemmas.Bool.{and_parts, false≢true}
+use Rattle.std.proofs.lemmas.Option.{none-some, same_Some}
+use Rattle.hm_names.specs.Region.{Region}
+use Rattle.hm_names.specs.Server.{Server}
+use Rattle.hm_names.specs.declared.pid.Pid.{Pid}
+use Rattle.hm_names.specs.declared.table.TableName.{TableName}
+use Rattle.hm_data.specs.declared.act.Act.{Act}
+use Rattle.hm_data.specs.declared.act.Act.TheVariants as act_is
+use Rattle.hm_data.specs.declared.args.Args.{Args}
+use Rattle.hm_data.specs.declared.args.Args.TheVariants as args_are
+use Rattle.hm_data.specs.declared.args.Child.{Child}
+use Rattle.hm_data.specs.declared.args.Child.TheVariants as child_is
+use Rattle.hm_data.specs.declared.catalog.CatKey.{CatKey}
+use Rattle.hm_data.specs.declared.catalog.CatKey.TheVariants as key_is
+use Rattle.hm_data.specs.declared.catalog.CatRow.{CatRow}
+use Rattle.hm_data.specs.declared.entry.Entry.TheVariants as entry_is
+use Rattle.hm_data.specs.declared.place.Goal.{Goal}
+use Rattle.hm_data.specs.declared.place.Goal.TheVariants as goal_is
+use Rattle.hm_data.specs.declared.request.Request.{Request}
+use Rattle.hm_data.specs.declared.request.Request.TheVariants as request_is
+use Rattle.hm_data.specs.declared.step.StepIn.{StepIn}
+use Rattle.hm_data.specs.declared.step.StepOut.{StepOut}
+use Rattle.hm_model.specs.declared.lock.Resource.TheVariants as resource_is
+use Rattle.hm_model.specs.Acts.{act_answer}
+use Rattle.hm_model.specs.Answers.{last_answer, row_of}
+use Rattle.hm_model.specs.Inputs.{step_input}
+use Rattle.hm_model.specs.Journal.{Past}
+use Rattle.hm_model.specs.Keys.{same_region, same_table}
+use Rattle.hm_model.specs.Kinds.{kind_of, request_kind, table_of_first}
+use Rattle.hm_model.specs.Lists.{exact_rows}
+use Rattle.hm_model.specs.Locks.{IsIn, in_name_order}
+use Rattle.hm_model.specs.Outs.{given, spawns}
+use Rattle.hm_model.specs.Pieces.{Batch, batches, numbers_from, transits, with_batch}
+use Rattle.hm_model.specs.Reads.{covers}
+use Rattle.hm_model.specs.RegionActs.{close_regions}
+use Rattle.hm_model.specs.RowsSaid.{Rows, keep_region, live_among, regions_among}
+use Rattle.hm_model.specs.Rules.{IsLegal}
+use Rattle.hm_model.specs.Tree.{Node, args_in, made, node_of}
+use Rattle.hm_model.specs.Undoing.{closed_by}
+use Rattle.hm_model.specs.Views.{first_id_of, regions_in, table_of}
+use Rattle.hm_model.specs.Whereabouts.{moved_by}
+use Rattle.hm_model.proofs.ExactRows.{is_listed, led_row}
+use Rattle.hm_model.proofs.Highs.{own_all}
+use Rattle.hm_model.proofs.KeyTests.{same_region-refl, same_table-is, same_table-refl}
+use Rattle.hm_model.proofs.Kin.{makes_one}
+use Rattle.hm_model.proofs.LegalSteps.{StepFacts, ready_stops}
+use Rattle.hm_model.proofs.PlainActs.{is_plain}
+use Rattle.hm_model.proofs.StepDoes.{row_by}
+use Rattle.hm_model.proofs.Tops.{TopIs}
+use Rattle.hm_model.proofs.Trees.{Grown, IsRooted, down_rooted, grown_all, is_there, le_or_lt, new_child, node_same, old_or_new, step_of, submit_rooted, undo_rooted}
+use Rattle.hm_kinds.proofs.Covering.{covers_from, merge_own, order_has}
+use Rattle.hm_kinds.proofs.Kids.{made_at}
+use Rattle.hm_serial.proofs.Apart.{step_top}
+use Rattle.hm_serial.proofs.Fallen.{root_of_node}
+use Rattle.hm_serial.proofs.FallAll.{none_at}
+use Rattle.hm_single.specs.Calls.{IsNewOf, MovesIn, closes_first}
+use Rattle.hm_single.specs.Theorem.{ClosedAreUnplaced}
+use Rattle.hm_single.proofs.Makes.{GoalIs, kids_goal, makes}
+use Rattle.hm_single.proofs.Tidy.{moved_goal}
+use Rattle.hm_single.proofs.Vacated.{unassigned}
+
+slice_in : {A : Type 0} (xs : List A) (i : ℕ) (x : A) → slice_get xs i ≡ Some x → IsIn x xs
+slice_in [] i x h = absurd (none-some x h)
+slice_in (y ∷ ys) zero x h = inl (sym (same_Some y x h))
+slice_in (y ∷ ys) (suc i) x h = inr (slice_in ys i x h)
+
+-- transits are of the regions that they are made for
+module _ (goal : Goal) where
+  abbrev sends : List Batch → List Args
+  sends list = args_in (map (λ batch. child_is.Transits batch.table batch.ids goal) list)
+
+  from_batch : (it : Args) (region : Region) (list : List Batch) → IsIn it (sends (with_batch region list)) → (it ≡ args_are.Transit region goal None) ⊎ IsIn it (sends list)
+  from_batch it region [] h = elim h [ inl here ↦ inl here | inr later ↦ elim later [ ] ]
+  from_batch it region (batch ∷ more) h = by (same_table region.table batch.table) refl h
+    where
+      by : (b : Bool) → same_table region.table batch.table ≡ b → IsIn it (sends (cond b (record { table = batch.table; ids = region.id ∷ batch.ids } ∷ more) (record { table = region.table; ids = region.id ∷ [] } ∷ batch ∷ more))) → (it ≡ args_are.Transit region goal None) ⊎ IsIn it (sends (batch ∷ more))
+      by false e k = elim k [ inl here ↦ inl here | inr later ↦ inr later ]
+      by true e k = elim k [ inl here ↦ inl (here ∙ ap (λ t. args_are.Transit (record { table = t; id = region.id }) goal None) (sym (same_table-is region.table batch.table e))) | inr later ↦ inr later ]
+
+  from_batches : (it : Args) (list : List Region) → IsIn it (sends (batches list)) → (region : Region) × (it ≡ args_are.Transit region goal None) × IsIn region list
+  from_batches it [] h = elim h [ ]
+  from_batches it (region ∷ more) h = elim (from_batch it region (batches more) h) [
+    | inl here ↦ (region, here, inl refl)
+    | inr later ↦ let on = from_batches it more later in (on.0, on.1, inr on.2)
+  ]
+
+  sent_for : (next : ℕ) (regions : List Region) (i : ℕ) (it : Args) → slice_get (args_in (spawns next (transits goal regions)).children) i ≡ Some it → (region : Region) → moved_by it ≡ Some region → (it ≡ args_are.Transit region goal None) × IsIn region regions
+  sent_for next regions i it is region m =
+      let s = from_batches it (in_name_order regions) (slice_in (args_in (transits goal regions)) i it (ap (λ c. slice_get (args_in c) i) (sym (spawned (transits goal regions))) ∙ is)) in
+      let same : s.0 ≡ region = same_Some s.0 region (sym (ap moved_by s.1) ∙ m) in
+      (s.1 ∙ ap (λ r. args_are.Transit r goal None) same, subst (λ r. IsIn r regions) same (order_has s.0 regions s.2))
+    where
+      spawned : (children : List Child) → (spawns next children).children ≡ children
+      spawned [] = refl
+      spawned (child ∷ more) = refl
+
+-- live regions among rows are of the table
+among_table : (table : TableName) (test : CatRow → Bool) (rows : Rows) (r : Region) → IsIn r (regions_among table test rows) → r.table ≡ table
+among_table table test [] r h = elim h [ ]
+among_table table test ((key, row) ∷ rows) r h = by (λ k. among_table table test rows r k) key h
+  where
+    by : (IsIn r (regions_among table test rows) → r.table ≡ table) → (k : CatKey) → IsIn r (keep_region table test k row (regions_among table test rows)) → r.table ≡ table
+    by on (key_is.Ns ns) h = on h
+    by on (key_is.Table other) h = on h
+    by on (key_is.Region region) h = at (same_table table region.table && test row) refl h
+      where
+        at : (b : Bool) → (same_table table region.table && test row) ≡ b → IsIn r (cond b (region ∷ regions_among table test rows) (regions_among table test rows)) → r.table ≡ table
+        at false e k = on k
+        at true e k = elim k [
+          | inl here ↦ ap (λ (x : Region). x.table) here ∙ sym (same_table-is table region.table (and_parts (same_table table region.table) (test row) e).0)
+          | inr later ↦ on later
+        ]
+
+in_numbers : (table : TableName) (r : Region) (first count : ℕ) → IsIn r (regions_in table (numbers_from first count)) → (first ≤ r.id) × (r.id < first + count)
+in_numbers table r first zero h = elim h [ ]
+in_numbers table r first (suc count) h = elim h [
+  | inl here ↦ (let e = ap (λ (x : Region). x.id) here in (omega (arith, e), omega (arith, e)))
+  | inr later ↦ (let on = in_numbers table r (first + 1) count later in let a = on.0 in let b = on.1 in (omega (arith, a), omega (arith, b)))
+]
+
+-- the root closes the region by an Unassign, or the region is new
+abbrev Says : Request → ℕ → Region → Args → Type 0
+Says request first region it =
+    ((to : Option Server) × (it ≡ args_are.Transit region goal_is.Unassign to) × (covers (args_are.Root request first) (key_is.Region region) ≡ true)) ⊎ IsNewOf request first region
+
+act_says : (request : Request) (first : ℕ) (act : Act) → closes_first request ≡ true → is_listed (request_kind request) act ≡ true → is_plain act ≡ true → (next : ℕ) (at : StepIn) → at.args ≡ args_are.Root request first
+    → (i : ℕ) (it : Args) → slice_get (args_in (act_answer act next at).children) i ≡ Some it → (region : Region) → moved_by it ≡ Some region → Says request first region it
+act_says (request_is.DisableTable t) first act_is.CloseRegions h l p next at e i it is region m =
+    let s = sent_for goal_is.Unassign next (live_among t at.rows) i it (ap (λ a. slice_get (args_in (close_regions next a at.rows).children) i) (sym e) ∙ is) region m in
+    inl (None, s.0, covers_from (args_are.Root (request_is.DisableTable t) first) (resource_is.Table t) (key_is.Region region) (inr (inl refl)) (ap (same_table t) (among_table t _ at.rows region s.1) ∙ same_table-refl t))
+act_says (request_is.DisableTable t) first act_is.OpenRegions h l p next at e i it is region m = absurd (false≢true l)
+act_says (request_is.DisableTable t) first act_is.CloseParent h l p next at e i it is region m = absurd (false≢true l)
+act_says (request_is.DisableTable t) first act_is.CloseParents h l p next at e i it is region m = absurd (false≢true l)
+act_says (request_is.DisableTable t) first act_is.OpenDaughters h l p next at e i it is region m = absurd (false≢true l)
+act_says (request_is.DisableTable t) first act_is.OpenMerged h l p next at e i it is region m = absurd (false≢true l)
+act_says (request_is.DisableTable t) first act_is.Reassign h l p next at e i it is region m = absurd (false≢true l)
+act_says (request_is.DisableTable t) first act h l p next at e i it is region m = (let g = moved_goal act it region (made_at (GoalIs act) (act_answer act next at).children (kids_goal act p next at) i it is) m in absurd (none-some g.0 g.3))
+act_says (request_is.SplitRegion own key) first act_is.CloseParent h l p next at e i it is region m =
+    let s = sent_for goal_is.Unassign next (closed_by at.args) i it is region m in
+    let same : region ≡ own = elim (subst (λ a. IsIn region (closed_by a)) e s.1) [ inl one ↦ one | inr none ↦ elim none [ ] ] in
+    inl (None, s.0, covers_from (args_are.Root (request_is.SplitRegion own key) first) (resource_is.Region own) (key_is.Region region) (inr (inr (inl refl))) (ap (same_region own) same ∙ same_region-refl own))
+act_says (request_is.SplitRegion own key) first act_is.OpenDaughters h l p next at e i it is region m =
+    let s = sent_for goal_is.Assign next (regions_in own.table (numbers_from first 2)) i it
+    (ap (λ a. slice_get (args_in (given (table_of a) next (λ table. spawns next (transits goal_is.Assign (regions_in table (numbers_from (first_id_of a) 2))))).children) i) (sym e) ∙ is) region m in
+    inr (in_numbers own.table region first 2 s.1)
+act_says (request_is.SplitRegion own key) first act_is.OpenRegions h l p next at e i it is region m = absurd (false≢true l)
+act_says (request_is.SplitRegion own key) first act_is.CloseRegions h l p next at e i it is region m = absurd (false≢true l)
+act_says (request_is.SplitRegion own key) first act_is.CloseParents h l p next at e i it is region m = absurd (false≢true l)
+act_says (request_is.SplitRegion own key) first act_is.OpenMerged h l p next at e i it is region m = absurd (false≢true l)
+act_says (request_is.SplitRegion own key) first act_is.Reassign h l p next at e i it is region m = absurd (false≢true l)
+act_says (request_is.SplitRegion own key) first act h l p next at e i it is region m = (let g = moved_goal act it region (made_at (GoalIs act) (act_answer act next at).children (kids_goal act p next at) i it is) m in absurd (none-some g.0 g.3))
+act_says (request_is.MergeRegions regions) first act_is.CloseParents h l p next at e i it is region m =
+    let s = sent_for goal_is.Unassign next (closed_by at.args) i it is region m in
+    inl (None, s.0, covers_from (args_are.Root (request_is.MergeRegions regions) first) (resource_is.Region region) (key_is.Region region) (merge_own regions first region (subst (λ a. IsIn region (closed_by a)) e s.1)) (same_region-refl region))
+act_says (request_is.MergeRegions regions) first act_is.OpenMerged h l p next at e i it is region m =
+    by (table_of_first regions) (ap (λ a. slice_get (args_in (given (table_of a) next (λ table. spawns next (transits goal_is.Assign (regions_in table (numbers_from (first_id_of a) 1))))).children) i) (sym e) ∙ is)
+  where
+    by : (o : Option TableName) → slice_get (args_in (given o next (λ table. spawns next (transits goal_is.Assign (regions_in table (numbers_from first 1))))).children) i ≡ Some it → Says (request_is.MergeRegions regions) first region it
+    by None k = absurd (none-some it k)
+    by (Some table) k = inr (in_numbers table region first 1 (sent_for goal_is.Assign next (regions_in table (numbers_from first 1)) i it k region m).1)
+act_says (request_is.MergeRegions regions) first act_is.OpenRegions h l p next at e i it is region m = absurd (false≢true l)
+act_says (request_is.MergeRegions regions) first act_is.CloseRegions h l p next at e i it is region m = absurd (false≢true l)
+act_says (request_is.MergeRegions regions) first act_is.CloseParent h l p next at e i it is region m = absurd (false≢true l)
+act_says (request_is.MergeRegions regions) first act_is.OpenDaughters h l p next at e i it is region m = absurd (false≢true l)
+act_says (request_is.MergeRegions regions) first act_is.Reassign h l p next at e i it is region m = absurd (false≢true l)
+act_says (request_is.MergeRegions regions) first act h l p next at e i it is region m = (let g = moved_goal act it region (made_at (GoalIs act) (act_answer act next at).children (kids_goal act p next at) i it is) m in absurd (none-some g.0 g.3))
+act_says request first act h l p next at e i it is region m = absurd (false≢true h)
+
+-- such roots list their rows, and move no region themselves
+closing_lined : (request : Request) (first : ℕ) → closes_first request ≡ true → (exact_rows (kind_of (args_are.Root request first)) ≡ []) × (moved_by (args_are.Root request first) ≡ None)
+closing_lined (request_is.DisableTable t) first h = (refl, refl)
+closing_lined (request_is.SplitRegion own key) first h = (refl, refl)
+closing_lined (request_is.MergeRegions regions) first h = (refl, refl)
+closing_lined request first h = absurd (false≢true h)
+
+abbrev AllSaid : Past → Type 0
+AllSaid J =
+    (root : ℕ) (top : Node) (request : Request) (first : ℕ) → TopIs J root top → top.args ≡ args_are.Root request first → closes_first request ≡ true
+    → (q : ℕ) (x : Node) (region : Region) → MovesIn J root region q x → Says request first region x.args
+
+calm_said : (J J' : Past) → IsRooted J J' → Grown J → Grown J' → AllSaid J → AllSaid J'
+calm_said J J' rooted grown later before root top request first at own h q x region m = elim (old_or_new J J' rooted grown q x m.0) [
+  | inr new ↦
+      let mine : q ≡ root = ap (λ (n : Node). n.root) (sym new.2) ∙ m.1 in
+      let one : x ≡ top = same_Some x top (sym m.0 ∙ ap (node_of J') mine ∙ at.0) in
+      absurd (none-some region (sym (closing_lined request first h).1 ∙ ap moved_by (sym own) ∙ ap (λ (n : Node). moved_by n.args) (sym one) ∙ m.2))
+  | inl old ↦ elim (old_or_new J J' rooted grown root top at.0) [
+    | inl was ↦ before root top request first (was, at.1) own h q x region (old, m.1, m.2)
+    | inr new ↦ absurd (not_new old new.4)
+  ]
+]
+  where
+    not_new : node_of J q ≡ Some x → made J < root → ⊥
+    not_new old lt =
+        let r = root_of_node J grown q x old in
+        let le = is_there J grown root r.0 (ap (node_of J) (sym m.1) ∙ r.1.0) in
+        omega (arith, lt, le)
+
+module _ (pid : Pid) (pick : Option Server) (out : StepOut) (J : Past) (legal : IsLegal (entry_is.Step pid pick out ∷ J)) (before : AllSaid J) where
+  abbrev grown : Grown J
+  grown = grown_all J legal.0
+
+  abbrev step : StepFacts J pid.0 pick out
+  step = step_of pid pick out J (grown_all J legal.0) legal
+
+  -- what a root makes that closes regions
+  made_says : (request : Request) (first : ℕ) → step.node.args ≡ args_are.Root request first → closes_first request ≡ true → (i : ℕ) (it : Args) → slice_get (args_in out.children) i ≡ Some it → (region : Region) → moved_by it ≡ Some region → Says request first region it
+  made_says request first own h i it is region m =
+      let exact : exact_rows (kind_of step.node.args) ≡ [] = ap (λ a. exact_rows (kind_of a)) own ∙ (closing_lined request first h).0 in
+      let row = led_row (kind_of step.node.args) step.sheet step.valid (row_of J pid.0 step.node) (grown.led pid.0 step.node step.node_is exact step.sheet step.sheet_is (ready_stops J pid.0 step.node (last_answer J pid.0) step.ready)) step.row step.row_is in
+      row_by (λ o. slice_get (args_in o.children) i ≡ Some it → Says request first region it) step.row (step_input J pid.0 step.node pick) (λ c k. absurd (none-some it k))
+      (λ k. act_says request first step.row.act h (ap (λ a. is_listed (kind_of a) step.row.act) (sym own) ∙ row.listed) row.plain step.row.next (step_input J pid.0 step.node pick) own i it k region m)
+      (ap (λ (o : StepOut). slice_get (args_in o.children) i) (sym step.out_is) ∙ is)
+
+  step_said : AllSaid (entry_is.Step pid pick out ∷ J)
+  step_said root top request first at own h q x region m = elim (le_or_lt q (made J)) [
+    | inl le ↦ before root top request first (step_top pid pick out J step root top at) own h q x region (sym (node_same pid pick out J q le) ∙ m.0, m.1, m.2)
+    | inr lt ↦
+        let new = new_child pid pick out J step.node step.node_is q lt x m.0 in
+        let moved : moved_by new.0 ≡ Some region = ap (λ (n : Node). moved_by n.args) (sym new.2) ∙ m.2 in
+        let nil = (own_all J legal.0 pid.0 step.node step.node_is).high ((makes_one pid pick out J legal).1 (q - made J - 1) new.0 region new.1 moved) in
+        let mine : pid.0 ≡ root = sym (grown.tops pid.0 step.node step.node_is nil) ∙ ap (λ (n : Node). n.root) (sym new.2) ∙ m.1 in
+        let one : step.node ≡ top = same_Some step.node top (sym step.node_is ∙ ap (node_of J) mine ∙ (step_top pid pick out J step root top at).0) in
+        subst (λ (n : Node). Says request first region n.args) (sym new.2) (made_says request first (ap (λ (n : Node). n.args) one ∙ own) h (q - made J - 1) new.0 new.1 region moved)
+  ]
+
+said_all : (J : Past) → IsLegal J → AllSaid J
+said_all [] legal = λ root top request first at. absurd (none-some top at.0)
+said_all (entry_is.Start sheets ∷ J) legal = λ root top request first at. absurd (none-some top (sym (none_at J legal.1.0.0 root) ∙ at.0))
+said_all (entry_is.Submit nonce asked ∷ J) legal = let g = grown_all J legal.0 in calm_said J (entry_is.Submit nonce asked ∷ J) (submit_rooted nonce asked J g) g (grown_all (entry_is.Submit nonce asked ∷ J) legal) (said_all J legal.0)
+said_all (entry_is.Step pid pick out ∷ J) legal = step_said pid pick out J legal (said_all J legal.0)
+said_all (entry_is.Undo pid row out ∷ J) legal = let g = grown_all J legal.0 in calm_said J (entry_is.Undo pid row out ∷ J) (undo_rooted pid row out J g) g (grown_all (entry_is.Undo pid row out ∷ J) legal) (said_all J legal.0)
+said_all (entry_is.Report call told ∷ J) legal = said_all J legal.0
+said_all (entry_is.Up server ∷ J) legal = said_all J legal.0
+said_all (entry_is.Down server ∷ J) legal = let g = grown_all J legal.0 in calm_said J (entry_is.Down server ∷ J) (down_rooted server J g) g (grown_all (entry_is.Down server ∷ J) legal) (said_all J legal.0)
+said_all (entry_is.Abort pid ∷ J) legal = said_all J legal.0
+
+pub closed_unplaced : ClosedAreUnplaced
+closed_unplaced J legal root top request first is nil own h running p node region to moves unassign stopped old =
+    unassigned J legal root top is nil running region (ap (λ a. covers a (key_is.Region region)) own ∙ covered) (
+      (p, node, moves, stopped),
+      λ q x m. elim (said_all J legal root top request first (is, nil) own h q x region m) [ inl says ↦ (says.0, says.1) | inr new ↦ absurd (old new) ],
+    )
+  where
+    covered : covers (args_are.Root request first) (key_is.Region region) ≡ true
+    covered = elim (said_all J legal root top request first (is, nil) own h p node region moves) [ inl says ↦ says.2 | inr new ↦ absurd (old new) ]
