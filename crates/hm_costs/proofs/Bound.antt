@@ -8,7 +8,7 @@ use Rattle.hm_costs.proofs.RegionsLeave.{within_stays}
 use Rattle.hm_model.specs.Costs.{regions_lost, cost}
 use Rattle.hm_model.specs.Places.{at_server, load}
 use Rattle.hm_model.specs.Tree.{root_node, Node, is_root_in, is_top, made, node_of, root_in, submitted}
-use Rattle.hm_model.proofs.Trees.{is_there, Grown, grown_all, new_child, node_same, le_or_lt, some_of, step_of, at_top}
+use Rattle.hm_model.proofs.Trees.{is_there, Grown, grown_all, some_of, step_of, at_top}
 use Rattle.hm_data.specs.declared.request.Request.{Request}
 use Rattle.hm_model.specs.Kinds.{request_kind, kind_of}
 use Rattle.hm_costs.proofs.CrashPaid.{crash_paid}
@@ -56,8 +56,8 @@ use Rattle.hm_costs.proofs.Spend.{price}
 use Rattle.hm_costs.proofs.Stays.{all_stays}
 use Rattle.hm_costs.proofs.GoesOn.{sound_all}
 use Rattle.hm_costs.proofs.TransitPaid.{transit_paid}
-use Rattle.hm_model.proofs.RootTrees.{ended_by, step_root}
-use Rattle.hm_costs.proofs.Trees.{quiet_unaborted}
+use Rattle.hm_model.proofs.RootTrees.{ended_by}
+use Rattle.hm_costs.proofs.Trees.{no_root_by_step, quiet_unaborted}
 
 -- a new root is one of these
 new_fresh : (entry : Entry) (J : Past) → IsLegal (entry ∷ J) → (r : ℕ) (top : Node) → node_of J r ≡ None → node_of (entry ∷ J) r ≡ Some top → top.above ≡ [] → Fresh (entry ∷ J) r top
@@ -66,15 +66,7 @@ new_fresh (entry_is.Submit nonce request) J legal r top none is at_top = elim (c
   | inl new ↦ (subst (λ (n : Node). IsFreshArgs n.args ⊎ IsFreshCrash (entry_is.Submit nonce request ∷ J) r n.args) (same_Some (submitted J request r) top (sym (cond-true (r == made J + 1) (Some (submitted J request r)) (node_of J r) (eq-eqb r (made J + 1) new)) ∙ is)) (inl tt), at_top)
   | inr old ↦ absurd (none-some top (sym none ∙ sym (cond-false (r == made J + 1) (Some (submitted J request r)) (node_of J r) (ne_eqb r (made J + 1) old)) ∙ is))
 ]
-new_fresh (entry_is.Step pid pick out) J legal r top none is at_top =
-    let me = step_root pid pick out J legal in
-    elim (le_or_lt r (made J)) [
-      | inl le ↦ absurd (none-some top (sym none ∙ sym (node_same pid pick out J r le) ∙ is))
-      | inr lt ↦ let c = new_child pid pick out J me.0 me.1 r lt top is in absurd (cons_nil pid.0 me.0.above (ap (λ (n : Node). n.above) (sym c.2) ∙ at_top))
-    ]
-  where
-    cons_nil : (u : ℕ) (rest : List ℕ) → u ∷ rest ≡ [] → ⊥
-    cons_nil u rest e = cc
+new_fresh (entry_is.Step pid pick out) J legal r top none is at_top = absurd (no_root_by_step pid pick out J legal r top none is at_top)
 new_fresh (entry_is.Undo pid row out) J legal r top none is at_top = (inl (follower_fresh pid row out J legal r top none is), at_top)
 new_fresh (entry_is.Report call told) J legal r top none is at_top = absurd (none-some top (sym none ∙ is))
 new_fresh (entry_is.Up server) J legal r top none is at_top = absurd (none-some top (sym none ∙ is))

@@ -1,4 +1,5 @@
 pub mod Sheets
+pub mod MetBegun
 pub mod MetCreated
 pub mod MetDisabled
 pub mod MetDeleted

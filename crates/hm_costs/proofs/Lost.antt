@@ -17,7 +17,6 @@ use Rattle.hm_model.specs.Places.{at_server, is_at, joined_at, joined_by, joined
 use Rattle.hm_model.specs.Tree.{Node, child_of, node_of}
 use Rattle.hm_model.specs.Answers.{is_stopped, last_answer}
 use Rattle.hm_model.specs.Fleet.{is_fenced}
-use Rattle.hm_model.specs.Pieces.{transits}
 use Rattle.hm_data.specs.declared.answer.Answer.{Answer}
 use Rattle.hm_data.specs.declared.answer.Answer.TheVariants as answer_is
 use Rattle.hm_data.specs.declared.args.Args.TheVariants as args_are

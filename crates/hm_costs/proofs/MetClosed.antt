@@ -1,4 +1,4 @@
--- A split has closed its region: worked by hand.
+-- A split has closed its region and called for its layout: worked by hand.
 use Rattle.std.proofs.Common.{◌≡◌, [], ◌∷◌, codes, Some, None, refl, inl, inr}
 use Rattle.hm_data.specs.declared.answer.Answer.TheVariants as answer_is
 use Rattle.hm_data.specs.declared.args.Args.TheVariants as args_are
@@ -27,6 +27,9 @@ node7 = child_of 6 node6 (args_are.Transit (region 1) goal_is.Unassign None)
 
 abbrev pub node8 : Node
 node8 = child_of 7 node7 (args_are.CloseCall (region 1) one)
+
+abbrev pub node9 : Node
+node9 = child_of 6 node6 (args_are.LayoutCall (pid 6))
 
 abbrev played20 : Past
 played20 = entry_is.Submit (record { group = 1; number = 2 }) (request_is.SplitRegion (region 1) (codes "k")) ∷ created
@@ -76,8 +79,20 @@ played27 = entry_is.Step (pid 7) None (places (answer_is.Done told_is.Closed) (S
 is_played27 : IsPlayed played27
 is_played27 = (is_played26, (node7, refl, inl refl, refl, refl, refl))
 
-abbrev pub closed : Past
-closed = played27
+abbrev played28 : Past
+played28 = entry_is.Step (pid 6) None (spawns 3 (child_is.One (args_are.LayoutCall (pid 6)) ∷ [])) ∷ played27
 
-pub closed_played : IsPlayed closed
-closed_played = is_played27
+is_played28 : IsPlayed played28
+is_played28 = (is_played27, (node6, refl, inl refl, refl, refl, refl))
+
+abbrev played29 : Past
+played29 = entry_is.Step (pid 9) None (calls 1 (verb_is.Layout (pid 6))) ∷ played28
+
+is_played29 : IsPlayed played29
+is_played29 = (is_played28, (node9, refl, inl refl, refl, refl, refl))
+
+abbrev pub laid : Past
+laid = played29
+
+pub laid_played : IsPlayed laid
+laid_played = is_played29

@@ -12,21 +12,17 @@ use Rattle.hm_data.specs.declared.catalog.TableState.TheVariants as state_is
 use Rattle.hm_data.specs.declared.entry.Entry.TheVariants as entry_is
 use Rattle.hm_data.specs.declared.place.Goal.TheVariants as goal_is
 use Rattle.hm_data.specs.declared.place.RegionState.TheVariants as place_is
-use Rattle.hm_data.specs.declared.request.Request.TheVariants as request_is
 use Rattle.hm_model.specs.Journal.{Past}
 use Rattle.hm_model.specs.Outs.{calls, gives, places, spawns}
-use Rattle.hm_model.specs.Tree.{Node, child_of, drawn, root_node}
+use Rattle.hm_model.specs.Tree.{Node, child_of, drawn}
 use Rattle.std.proofs.lemmas.Option.{same_Some}
-use Rattle.hm_model.proofs.ByHand.{edit, one, pid, region, table, two}
+use Rattle.hm_model.proofs.ByHand.{edit, one, pid, region, table}
 use Rattle.hm_names.specs.declared.range.KeyRange.{KeyRange}
 use Rattle.hm_costs.specs.Met.{IsMet, IsPlayed}
-use Rattle.hm_costs.proofs.Sheets.{sheets, sheets_valid}
+use Rattle.hm_costs.proofs.MetBegun.{begun, begun_played, node1 as begun_node, played1}
 
 abbrev pub node1 : Node
-node1 = root_node 1 (args_are.Root (request_is.CreateTable table ((1 ∷ []) ∷ [])) 1) 1
-
-abbrev pub node2 : Node
-node2 = child_of 1 node1 (args_are.LayoutCall (pid 1))
+node1 = begun_node ((1 ∷ []) ∷ [])
 
 abbrev pub node3 : Node
 node3 = child_of 1 node1 (args_are.AddRegions table 1 ([] ∷ (1 ∷ []) ∷ [] ∷ []))
@@ -43,59 +39,11 @@ node6 = child_of 4 node4 (args_are.AssignCall (region 1) one)
 abbrev pub node7 : Node
 node7 = child_of 5 node5 (args_are.AssignCall (region 2) one)
 
-abbrev played0 : Past
-played0 = entry_is.Start sheets ∷ []
-
-is_played0 : IsPlayed played0
-is_played0 = (refl, refl, sheets_valid)
-
-abbrev played1 : Past
-played1 = entry_is.Up one ∷ played0
-
-is_played1 : IsPlayed played1
-is_played1 = (is_played0, (refl, refl))
-
-abbrev played2 : Past
-played2 = entry_is.Submit (record { group = 1; number = 1 }) (request_is.CreateTable table ((1 ∷ []) ∷ [])) ∷ played1
-
-is_played2 : IsPlayed played2
-is_played2 = (is_played1, (refl, inr refl, λ own e. let few : drawn played1 table ≡ 0 = refl in subst (λ t. drawn played1 t + 2 ≤ 4096) (same_Some table own e) (omega (arith, few))))
-
-abbrev played3 : Past
-played3 = entry_is.Step (pid 1) None (gives (answer_is.More 1) []) ∷ played2
-
-is_played3 : IsPlayed played3
-is_played3 = (is_played2, (node1, refl, inl refl, refl, refl, refl))
-
-abbrev played4 : Past
-played4 = entry_is.Step (pid 1) None (gives (answer_is.More 2) (edit (key_is.Table table) (None) (Some (row_is.Table state_is.Disabled 1)) ∷ [])) ∷ played3
-
-is_played4 : IsPlayed played4
-is_played4 = (is_played3, (node1, refl, inl refl, refl, refl, refl))
-
-abbrev played5 : Past
-played5 = entry_is.Step (pid 1) None (spawns 3 (child_is.One (args_are.LayoutCall (pid 1)) ∷ [])) ∷ played4
-
-is_played5 : IsPlayed played5
-is_played5 = (is_played4, (node1, refl, inl refl, refl, refl, refl))
-
-abbrev played6 : Past
-played6 = entry_is.Step (pid 2) None (calls 1 (verb_is.Layout (pid 1))) ∷ played5
-
-is_played6 : IsPlayed played6
-is_played6 = (is_played5, (node2, refl, inl refl, refl, refl, refl))
-
-abbrev played7 : Past
-played7 = entry_is.Report (pid 2) told_is.LaidOut ∷ played6
-
-is_played7 : IsPlayed played7
-is_played7 = (is_played6, (verb_is.Layout (pid 1), refl, refl, refl, refl))
-
 abbrev played8 : Past
-played8 = entry_is.Step (pid 2) None (gives (answer_is.Done told_is.LaidOut) []) ∷ played7
+played8 = begun ((1 ∷ []) ∷ [])
 
 is_played8 : IsPlayed played8
-is_played8 = (is_played7, (node2, refl, inr (refl, inl (λ none. cc)), refl, refl, refl))
+is_played8 = begun_played ((1 ∷ []) ∷ []) refl (λ own e. let few : drawn played1 table ≡ 0 = refl in subst (λ t. drawn played1 t + 2 ≤ 4096) (same_Some table own e) (omega (arith, few)))
 
 abbrev played9 : Past
 played9 = entry_is.Step (pid 1) None (spawns 4 (child_is.One (args_are.AddRegions table 1 ([] ∷ (1 ∷ []) ∷ [] ∷ [])) ∷ [])) ∷ played8

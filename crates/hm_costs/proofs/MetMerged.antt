@@ -22,16 +22,13 @@ use Rattle.std.proofs.lemmas.Option.{same_Some}
 use Rattle.hm_model.proofs.ByHand.{edit, one, pid, region, table}
 use Rattle.hm_costs.specs.Met.{IsMet, IsPlayed}
 use Rattle.hm_costs.proofs.Sheets.{whole}
-use Rattle.hm_costs.proofs.MetClosed.{closed, closed_played, node6}
+use Rattle.hm_costs.proofs.MetClosed.{laid, laid_played, node6, node9}
 
 abbrev below : KeyRange
 below = record { start = []; end = codes "k" }
 
 abbrev above : KeyRange
 above = record { start = codes "k"; end = [] }
-
-abbrev pub node9 : Node
-node9 = child_of 6 node6 (args_are.LayoutCall (pid 6))
 
 abbrev pub node10 : Node
 node10 = child_of 6 node6 (args_are.Transit (region 2) goal_is.Assign None)
@@ -69,23 +66,11 @@ node20 = child_of 14 node14 (args_are.Transit (region 4) goal_is.Assign None)
 abbrev pub node21 : Node
 node21 = child_of 20 node20 (args_are.AssignCall (region 4) one)
 
-abbrev played28 : Past
-played28 = entry_is.Step (pid 6) None (spawns 3 (child_is.One (args_are.LayoutCall (pid 6)) ∷ [])) ∷ closed
-
-is_played28 : IsPlayed played28
-is_played28 = (closed_played, (node6, refl, inl refl, refl, refl, refl))
-
-abbrev played29 : Past
-played29 = entry_is.Step (pid 9) None (calls 1 (verb_is.Layout (pid 6))) ∷ played28
-
-is_played29 : IsPlayed played29
-is_played29 = (is_played28, (node9, refl, inl refl, refl, refl, refl))
-
 abbrev played30 : Past
-played30 = entry_is.Report (pid 9) told_is.LaidOut ∷ played29
+played30 = entry_is.Report (pid 9) told_is.LaidOut ∷ laid
 
 is_played30 : IsPlayed played30
-is_played30 = (is_played29, (verb_is.Layout (pid 6), refl, refl, refl, refl))
+is_played30 = (laid_played, (verb_is.Layout (pid 6), refl, refl, refl, refl))
 
 abbrev played31 : Past
 played31 = entry_is.Step (pid 9) None (gives (answer_is.Done told_is.LaidOut) []) ∷ played30

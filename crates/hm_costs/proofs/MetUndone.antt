@@ -16,10 +16,7 @@ use Rattle.hm_model.specs.Tree.{Node, child_of, root_node}
 use Rattle.hm_model.specs.Undoing.{undo_out}
 use Rattle.hm_model.proofs.ByHand.{one, pid, region}
 use Rattle.hm_costs.specs.Met.{IsMet, IsPlayed}
-use Rattle.hm_costs.proofs.MetClosed.{closed, closed_played, node6}
-
-abbrev pub node9 : Node
-node9 = child_of 6 node6 (args_are.LayoutCall (pid 6))
+use Rattle.hm_costs.proofs.MetClosed.{laid, laid_played, node6, node9}
 
 abbrev pub node10 : Node
 node10 = root_node 10 (args_are.SweepLayout (pid 6)) 1
@@ -30,23 +27,11 @@ node11 = root_node 11 (args_are.Transit (region 1) goal_is.Assign None) 1
 abbrev pub node12 : Node
 node12 = child_of 11 node11 (args_are.AssignCall (region 1) one)
 
-abbrev played28 : Past
-played28 = entry_is.Step (pid 6) None (spawns 3 (child_is.One (args_are.LayoutCall (pid 6)) ∷ [])) ∷ closed
-
-is_played28 : IsPlayed played28
-is_played28 = (closed_played, (node6, refl, inl refl, refl, refl, refl))
-
-abbrev played29 : Past
-played29 = entry_is.Step (pid 9) None (calls 1 (verb_is.Layout (pid 6))) ∷ played28
-
-is_played29 : IsPlayed played29
-is_played29 = (is_played28, (node9, refl, inl refl, refl, refl, refl))
-
 abbrev played30 : Past
-played30 = entry_is.Report (pid 9) told_is.Refused ∷ played29
+played30 = entry_is.Report (pid 9) told_is.Refused ∷ laid
 
 is_played30 : IsPlayed played30
-is_played30 = (is_played29, (verb_is.Layout (pid 6), refl, refl, refl, refl))
+is_played30 = (laid_played, (verb_is.Layout (pid 6), refl, refl, refl, refl))
 
 abbrev played31 : Past
 played31 = entry_is.Step (pid 9) None (fails cause_is.LayoutRefused) ∷ played30

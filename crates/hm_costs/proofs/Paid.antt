@@ -29,7 +29,7 @@ use Rattle.hm_model.proofs.Trees.{Grown, IsRooted, answer_now, does_of, down_roo
 use Rattle.hm_costs.proofs.Prices.{ArePriced, Going, IsPaid, Spares}
 use Rattle.hm_costs.proofs.Sums.{price_of, sum_append, sum_below, sum_same, sum_swap, sum_total, total}
 use Rattle.hm_model.proofs.RootTrees.{absent_all, ended_by, of_tree, over_stopped, step_root, call_root, undo_root}
-use Rattle.hm_costs.proofs.Trees.{entries_other, one_if_true, quiet_before}
+use Rattle.hm_costs.proofs.Trees.{entries_other, no_root_by_step, one_if_true, quiet_before}
 use Rattle.hm_model.proofs.PlainActs.{ChildrenWait}
 use Rattle.hm_data.specs.declared.act.Back.{Back}
 use Rattle.hm_data.specs.declared.catalog.Edit.{Edit}
@@ -540,15 +540,7 @@ module _ (At : Past → ℕ → Node → ℕ → Type 0) (Fresh : Past → ℕ �
   new_entry priced (entry_is.Submit nonce request) J legal r top none is at_top quiet =
       new_lone priced (entry_is.Submit nonce request) J legal (submit_rooted nonce request J (grown_all J legal.0)) r top none is at_top quiet
       (one_if_true (r == made J + 1) (entries_of J r) (elim (cases_Bool (r == made J + 1)) [ inl on ↦ on | inr off ↦ absurd (none-some top (sym none ∙ sym (cond-false (r == made J + 1) _ (node_of J r) off) ∙ is)) ])) refl refl
-  new_entry priced (entry_is.Step pid pick out) J legal r top none is at_top quiet =
-      let me = step_root pid pick out J legal in
-      elim (le_or_lt r (made J)) [
-        | inl le ↦ absurd (none-some top (sym none ∙ sym (node_same pid pick out J r le) ∙ is))
-        | inr lt ↦ let c = new_child pid pick out J me.0 me.1 r lt top is in absurd (cons_nil pid.0 me.0.above (ap (λ (n : Node). n.above) (sym c.2) ∙ at_top))
-      ]
-    where
-      cons_nil : (u : ℕ) (rest : List ℕ) → u ∷ rest ≡ [] → ⊥
-      cons_nil u rest e = cc
+  new_entry priced (entry_is.Step pid pick out) J legal r top none is at_top quiet = absurd (no_root_by_step pid pick out J legal r top none is at_top)
   new_entry priced (entry_is.Undo pid row out) J legal r top none is at_top quiet =
       let rooted = undo_rooted pid row out J (grown_all J legal.0) in
       let root = undo_root pid row out J legal in

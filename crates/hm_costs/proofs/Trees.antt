@@ -1,15 +1,21 @@
--- The entries of a tree, and its quiet, over an entry that isn't of it.
-use Rattle.std.proofs.Common.{◌≡◌, ◌≢◌, ℕ, ◌+◌, ◌≤◌, [], ◌∷◌, length, Bool, true, false, ◌||◌, ◌==◌, nat_lt, nat_le, refl, ap, sym, ◌∙◌}
+-- The entries of a tree, and its quiet, over an entry that isn't of it; and that a step makes no root.
+use Rattle.std.proofs.Common.{◌≡◌, ◌≢◌, ℕ, ◌+◌, ◌≤◌, [], ◌∷◌, length, Bool, true, false, ◌||◌, ◌==◌, nat_lt, nat_le, List, Option, Some, None, inl, inr, refl, ap, sym, ◌∙◌}
 use Rattle.std.proofs.lemmas.Bool.{cond-false, le-ltb, ne_eqb, or_from, and_left}
+use Rattle.std.proofs.lemmas.Option.{none-some}
+use Rattle.hm_names.specs.Server.{Server}
+use Rattle.hm_names.specs.declared.pid.Pid.{Pid}
 use Rattle.hm_data.specs.declared.entry.Entry.{Entry}
 use Rattle.hm_data.specs.declared.entry.Entry.TheVariants as entry_is
+use Rattle.hm_data.specs.declared.step.StepOut.{StepOut}
 use Rattle.hm_model.specs.Answers.{is_aborted}
 use Rattle.hm_model.specs.Apart.{tree_of}
 use Rattle.hm_model.specs.Counts.{one_if}
 use Rattle.hm_model.specs.Entries.{IsQuiet, entries_of, makes}
 use Rattle.hm_model.specs.Journal.{Past}
-use Rattle.hm_model.specs.Tree.{args_in, made, root_of}
-use Rattle.hm_model.proofs.RootTrees.{zero_if_false}
+use Rattle.hm_model.specs.Rules.{IsLegal}
+use Rattle.hm_model.specs.Tree.{Node, args_in, made, node_of, root_of}
+use Rattle.hm_model.proofs.RootTrees.{step_root, zero_if_false}
+use Rattle.hm_model.proofs.Trees.{le_or_lt, new_child, node_same}
 
 pub one_if_true : (b : Bool) (n : ℕ) → b ≡ true → n + one_if b ≡ n + 1
 one_if_true b n on = ap (λ x. n + one_if x) on
@@ -49,3 +55,15 @@ quiet_unaborted (entry_is.Report call told ∷ J) r quiet = quiet_unaborted J r 
 quiet_unaborted (entry_is.Up server ∷ J) r quiet = quiet_unaborted J r quiet
 quiet_unaborted (entry_is.Down server ∷ J) r quiet = quiet_unaborted J r quiet.0
 quiet_unaborted (entry_is.Abort pid ∷ J) r quiet = cond-false (r == pid.0) true (is_aborted J r) (ne_eqb r pid.0 (λ e. quiet.1 (sym e))) ∙ quiet_unaborted J r quiet.0
+
+-- a step makes no root
+pub no_root_by_step : (pid : Pid) (pick : Option Server) (out : StepOut) (J : Past) → IsLegal (entry_is.Step pid pick out ∷ J) → (r : ℕ) (top : Node) → node_of J r ≡ None → node_of (entry_is.Step pid pick out ∷ J) r ≡ Some top → top.above ≡ [] → ⊥
+no_root_by_step pid pick out J legal r top none is at_top =
+    let me = step_root pid pick out J legal in
+    elim (le_or_lt r (made J)) [
+      | inl le ↦ none-some top (sym none ∙ sym (node_same pid pick out J r le) ∙ is)
+      | inr lt ↦ let c = new_child pid pick out J me.0 me.1 r lt top is in cons_nil pid.0 me.0.above (ap (λ (n : Node). n.above) (sym c.2) ∙ at_top)
+    ]
+  where
+    cons_nil : (u : ℕ) (rest : List ℕ) → u ∷ rest ≡ [] → ⊥
+    cons_nil u rest e = cc

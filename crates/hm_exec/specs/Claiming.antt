@@ -1,5 +1,5 @@
 -- What claims and commits are answered, and what is left.
-use Rattle.std.specs.Prelude.{◌≡◌, ◌≢◌, ◌⊎◌, ℕ, List, ◌∷◌, Result, Ok, Err, Option, Some, None}
+use Rattle.std.specs.Prelude.{◌≡◌, ◌⊎◌, ℕ, Result, Ok, Err, Option, Some, None}
 use Rattle.hm_names.specs.Server.{Server}
 use Rattle.hm_data.specs.declared.entry.Entry.{Entry}
 use Rattle.hm_data.specs.declared.entry.Entry.TheVariants as entry_is
@@ -20,6 +20,7 @@ use Rattle.hm_model.specs.Picks.{PicksRight}
 use Rattle.hm_model.specs.Rules.{Allowed}
 use Rattle.hm_model.specs.Sheets.{sheets_of}
 use Rattle.hm_model.specs.Tree.{Node, node_of}
+use Rattle.hm_roster.specs.Desk.{IsClaimedToo}
 use Rattle.hm_tied.specs.Calls.{Unclaims}
 use Rattle.hm_tied.specs.Tied.{IsAvailableFree}
 use Rattle.hm_exec.specs.Moment.{FaultsAt, IsGoing, IsHalted, Moment, past_of}
@@ -39,7 +40,7 @@ abbrev pub Claims : Moment → Taken → Moment → Type 0
 Claims old taken new =
     let pid = taken.pid in
     IsGoing old × IsAvailableFree (past_of old) old.claimed old.claimed pid.0 × IsHandedOut (past_of old) taken
-    × (new ≡ record old { claimed = pid.0 ∷ old.claimed })
+    × (new.kept ≡ old.kept) × IsClaimedToo pid.0 old.claimed new.claimed
 
 -- what `claim` answers, and what is left: None exactly where no procedure is available
 abbrev pub AnswersClaim : Moment → Result (Option Taken) HallFault → Moment → Type 0
@@ -69,21 +70,32 @@ IsNow J taken now =
     let pid = taken.pid in (let was = taken.was in
     ((PicksRight J pid.0 was.pick × SeesNow J pid.0 was.pick now) ⊎ ((PicksRight J pid.0 was.pick → ⊥) × SeesNow J pid.0 None now)))
 
--- what `commit` answers, and what is left: the entry is recorded and the claim ends; or the input is another one now, exactly where
--- it isn't fresh, and the claim is given up; or nothing is recorded, and what was taken is given back
-abbrev pub AnswersCommit : Moment → Taken → StepOut → Result Given (Taken × HallFault) → Moment → Type 0
-AnswersCommit old taken out (Ok (given_is.Kept number)) new =
+-- a fresh answer is recorded, and its claim ends
+abbrev pub Commits : Moment → Taken → StepOut → ℕ → Moment → Type 0
+Commits old taken out number new =
     let pid = taken.pid in
     IsGoing old × IsFresh (past_of old) taken × Allowed (past_of old) (entry_of taken out)
     × Records old.kept (entry_of taken out) (Ok number) new.kept × Unclaims pid.0 old.claimed new.claimed
-AnswersCommit old taken out (Ok (given_is.Stale was now)) new =
+
+-- the input is another one now, or its pick doesn't fit any more: the claim is given up
+abbrev pub GivesUp : Moment → Taken → StepIn → Moment → Type 0
+GivesUp old taken now new =
     let pid = taken.pid in
-    IsGoing old × (IsFresh (past_of old) taken → ⊥) × (was ≡ taken.was) × IsNow (past_of old) taken now
-    × (new.kept ≡ old.kept) × Unclaims pid.0 old.claimed new.claimed
-AnswersCommit old taken out (Err (back, fault_is.Halted why)) new = (back ≡ taken) × IsHalted old why new
-AnswersCommit old taken out (Err (back, fault_is.Memory)) new = (back ≡ taken) × IsGoing old × (new ≡ old)
-AnswersCommit old taken out (Err (back, fault)) new =
-    (back ≡ taken) × IsFresh (past_of old) taken × FaultsAt old (entry_of taken out) fault new
+    IsGoing old × (IsFresh (past_of old) taken → ⊥) × IsNow (past_of old) taken now × (new.kept ≡ old.kept) × Unclaims pid.0 old.claimed new.claimed
+
+-- why nothing is recorded of an answer, and what is left
+abbrev pub RefusesCommit : Moment → Taken → StepOut → HallFault → Moment → Type 0
+RefusesCommit old taken out (fault_is.Halted why) new = IsHalted old why new
+RefusesCommit old taken out fault_is.Memory new = IsGoing old × (new ≡ old)
+RefusesCommit old taken out fault_is.LogFault new = IsFresh (past_of old) taken × FaultsAt old (entry_of taken out) fault_is.LogFault new
+RefusesCommit old taken out (fault_is.JournalFull bytes) new = IsFresh (past_of old) taken × FaultsAt old (entry_of taken out) (fault_is.JournalFull bytes) new
+
+-- what `commit` answers, and what is left: the entry is recorded; or the input is another one now, exactly where it isn't fresh; or
+-- nothing is recorded, and what was taken is given back
+abbrev pub AnswersCommit : Moment → Taken → StepOut → Result Given (Taken × HallFault) → Moment → Type 0
+AnswersCommit old taken out (Ok (given_is.Kept number)) new = Commits old taken out number new
+AnswersCommit old taken out (Ok (given_is.Stale was now)) new = (was ≡ taken.was) × GivesUp old taken now new
+AnswersCommit old taken out (Err (back, fault)) new = (back ≡ taken) × RefusesCommit old taken out fault new
 
 -- a claim that is put back: nothing is recorded, halted or not
 abbrev pub PutsBack : Moment → Taken → Moment → Type 0

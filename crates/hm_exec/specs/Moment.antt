@@ -1,5 +1,5 @@
 -- What an executor has, and what recording an entry does to it.
-use Rattle.std.specs.Prelude.{◌≡◌, ℕ, List, [], ◌∷◌, ◌++◌, length, Some, None, Ok, Err}
+use Rattle.std.specs.Prelude.{◌≡◌, ℕ, List, Some, None, Ok, Err}
 use Rattle.hm_data.specs.declared.entry.Entry.{Entry}
 use Rattle.hm_hall.specs.Recording.{Accepts, Recording, Records}
 use Rattle.hm_hall.specs.declared.fault.Halt.{Halt}

@@ -1,5 +1,5 @@
 -- What a submission and an abort are answered, and what is left.
-use Rattle.std.specs.Prelude.{◌≡◌, ◌⊎◌, ℕ, ◌+◌, Bool, Result, Ok, Err, Option, Some, None, true, false}
+use Rattle.std.specs.Prelude.{◌≡◌, ◌⊎◌, ℕ, ◌+◌, Bool, Result, Ok, Err, Some, None, true, false}
 use Rattle.hm_names.specs.declared.nonce.Nonce.{Nonce}
 use Rattle.hm_names.specs.declared.pid.Pid.{Pid}
 use Rattle.hm_data.specs.declared.entry.Entry.TheVariants as entry_is
@@ -49,6 +49,13 @@ RefusesToSubmit old nonce request (refused_is.TooManyRegions count) new = IsRefu
 RefusesToSubmit old nonce request (refused_is.JournalFull bytes) new = IsTooFull old nonce request bytes new
 RefusesToSubmit old nonce request refused_is.Memory new = IsWelcome old nonce request × IsFault old (entry_is.Submit nonce request) fault_is.Memory new
 RefusesToSubmit old nonce request refused_is.LogFault new = IsWelcome old nonce request × IsFault old (entry_is.Submit nonce request) fault_is.LogFault new
+
+-- the refusal of a submission that wasn't recorded
+abbrev pub refused_by : HallFault → Refused
+refused_by fault_is.LogFault = refused_is.LogFault
+refused_by (fault_is.JournalFull bytes) = refused_is.JournalFull bytes
+refused_by (fault_is.Halted why) = refused_is.Halted why
+refused_by fault_is.Memory = refused_is.Memory
 
 -- what `submit` answers, and what is left
 abbrev pub AnswersSubmit : Moment → Nonce → Request → Result Accepted Refused → Moment → Type 0

@@ -1,7 +1,7 @@
 -- What a recorder has recorded, and what recording one entry more does.
-use Rattle.std.specs.Prelude.{◌≡◌, ℕ, ◌+◌, ◌<◌, ◌≤◌, List, [], ◌∷◌, ◌++◌, length, sum_by, Option, Some, None, Result, Ok, Err, if◌then◌else◌, nat_le}
+use Rattle.std.specs.Prelude.{◌≡◌, ℕ, ◌+◌, ◌<◌, ◌≤◌, List, [], ◌∷◌, ◌++◌, length, sum_by, All, Option, Some, None, Result, Ok, Err, if◌then◌else◌, nat_le}
 use Rattle.hm_data.specs.declared.entry.Entry.{Entry}
-use Rattle.hm_entry.specs.Fits.{EntryIsSpelled}
+use Rattle.hm_entry.specs.Fits.{EntryFits, EntryIsSpelled}
 use Rattle.hm_entry.specs.Spelling.{entry as spelling}
 use Rattle.hm_hall.specs.declared.fault.Halt.{Halt}
 use Rattle.hm_hall.specs.declared.fault.Halt.TheVariants as halt_is
@@ -25,6 +25,14 @@ next_of kept = kept.next
 -- what halted it
 abbrev pub halt_of : Recording → Option Halt
 halt_of kept = kept.halted
+
+-- the entries that it recorded
+abbrev pub entries_of : Recording → List Entry
+entries_of kept = kept.entries
+
+-- each entry that it recorded has a spelling
+abbrev pub AllFit : Recording → Type 0
+AllFit kept = All EntryFits kept.entries
 
 -- the same, with this entry ready
 abbrev pub with_next : Recording → Entry → Recording

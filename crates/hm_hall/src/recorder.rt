@@ -2,7 +2,7 @@
 ghost use Rattle.std.specs.Prelude.{◌≡◌, ◌≢◌, ◌≤◌, ◌↔◌, ℕ, MatchResult, OnErr, IsErrOf, IsTrue, Some, None};
 ghost use Rattle.hm_ports.specs.Faults.{Rose};
 ghost use Rattle.hm_data.specs.declared.entry.Entry.{Entry as EntryValue};
-ghost use Rattle.hm_hall.specs.Recording.{Recording, CanBeRecorded, Accepts, Records, full_at, next_of, with_next, halt_of};
+ghost use Rattle.hm_hall.specs.Recording.{Recording, AllFit, CanBeRecorded, Accepts, Records, full_at, next_of, with_next, halt_of};
 
 use crate::fault::{Halt, RecordFault};
 use hm_data::Entry;
@@ -58,5 +58,6 @@ pub trait Recorder {
 
     /// What halted it.
     fn halted(&self) -> Option<Halt>
-        ensures { result ≡ halt_of (kept self.now) };
+        ensures halted { result ≡ halt_of (kept self.now) }
+        ensures fits { AllFit (kept self.now) };
 }

@@ -138,6 +138,7 @@ impl<D: Disk> Journal<D> {
     pub fn halted(&self) -> Option<Halt>
         ensures halted { result ≡ self.now.kept.halted }
         ensures tail { self.now.kept.tail ≢ None → result ≡ Some halt_is.LogFault }
+        ensures fits { All EntryFits self.now.kept.entries }
     {
         self.halted
     }

@@ -2,7 +2,6 @@
 #![tactic(auto)]
 
 mod journal;
-mod laws;
 mod limits;
 mod next;
 mod opened;
@@ -11,8 +10,8 @@ mod reading;
 mod sheets;
 mod why;
 
+pub use hm_frames::entries_fit_frames;
 pub use journal::Journal;
-pub use laws::entries_fit_frames;
 pub use limits::Limits;
 pub use opened::Opening;
 pub use why::JournalWhy;

@@ -87,7 +87,7 @@ steps_unstopped J p may =
     unstopped_by (cause J node.root) (rolled_back J node.root) (is_top node.above) (last_answer J p) (children_ended J p) goes.0 goes.1 goes.3
 
 -- nothing is undone of a procedure that may make a step
-steps_only : (J : Past) → IsLegal J → (p : ℕ) (may : MayStep J p) → undoes J p may.0 ≡ false
+pub steps_only : (J : Past) → IsLegal J → (p : ℕ) (may : MayStep J p) → undoes J p may.0 ≡ false
 steps_only J legal p may = elim (cases_Bool (undoes J p may.0)) [
   | inr off ↦ off
   | inl on ↦
@@ -103,7 +103,8 @@ steps_only J legal p may = elim (cases_Bool (undoes J p may.0)) [
       absurd (true≢false (sym failed ∙ goes.2))
 ]
 
-begun : (J : Past) (p : ℕ) (node : Node) → node_of J p ≡ Some node → J ≢ []
+-- a journal that made a procedure isn't empty
+pub begun : (J : Past) (p : ℕ) (node : Node) → node_of J p ≡ Some node → J ≢ []
 begun J p node is e = none-some node (sym (ap (λ b. node_of b p) e) ∙ is)
 
 -- the kind of a procedure that may make a step has a sheet

@@ -10,3 +10,6 @@ mod RowsThere
 mod Asking
 mod Judging
 mod Living
+mod OwnSteps
+mod Fresh
+mod Choosing

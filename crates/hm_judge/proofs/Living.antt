@@ -1,14 +1,12 @@
 -- Whether some server is live.
-use Rattle.std.proofs.Common.{Bor, ◌≡◌, List, [], ◌∷◌, map, Bool, true, false, not, is_some, Option, Some, None, ℕ, if◌then◌else◌, refl, ap, sym, ◌∙◌}
+use Rattle.std.proofs.Common.{Bor, ◌≡◌, List, [], ◌∷◌, map, Bool, true, false, is_some, Option, Some, None, ℕ, refl, ◌∙◌}
 use Rattle.std.specs.List.{list_any}
 use Rattle.std.specs.Option.{option_copied}
-use Rattle.std.proofs.lemmas.Bool.{cases_Bool}
 use Rattle.hm_names.specs.Server.{Server}
 use Rattle.hm_model.specs.Fleet.{has_live, is_live, servers_of}
 use Rattle.hm_model.specs.Journal.{Past}
 use Rattle.hm_places.specs.Laws.{standing_of, standings_of}
 use Rattle.hm_places.specs.Servers.{live_servers, lowest, or_else, without}
-use Rattle.hm_places.specs.declared.standing.Standing.{Standing}
 
 -- there is one
 abbrev pub is_there : List Server → Bool
@@ -16,9 +14,13 @@ is_there [] = false
 is_there (server ∷ more) = true
 
 -- one is picked exactly where there is one
-picked : (load : Server → ℕ) (servers : List Server) → is_some (lowest load (or_else (without None servers) servers)) ≡ is_there servers
-picked load [] = refl
-picked load (server ∷ more) = refl
+picked : (load : Server → ℕ) (avoid : Option Server) (servers : List Server) → is_some (lowest load (or_else (without avoid servers) servers)) ≡ is_there servers
+picked load avoid [] = refl
+picked load avoid (server ∷ more) = by (without avoid (server ∷ more))
+  where
+    by : (left : List Server) → is_some (lowest load (or_else left (server ∷ more))) ≡ true
+    by [] = refl
+    by (first ∷ rest) = refl
 
 -- the live ones among these
 one_more : (J : Past) (server : Server) (more : List Server) (b : Bool) → is_live J server ≡ b → is_there (live_servers (map (λ s. (s, standing_of J s)) more)) ≡ list_any (is_live J) more
@@ -35,5 +37,5 @@ pub copied : {X : Type 0} (o : Option (Bor X)) → is_some (option_copied o) ≡
 copied None = refl
 copied (Some r) = refl
 
-pub some_live : (J : Past) (load : Server → ℕ) → is_some (lowest load (or_else (without None (live_servers (standings_of J))) (live_servers (standings_of J)))) ≡ has_live J
-some_live J load = picked load (live_servers (standings_of J)) ∙ live_there J (servers_of J)
+pub some_live : (J : Past) (load : Server → ℕ) (avoid : Option Server) → is_some (lowest load (or_else (without avoid (live_servers (standings_of J))) (live_servers (standings_of J)))) ≡ has_live J
+some_live J load avoid = picked load avoid (live_servers (standings_of J)) ∙ live_there J (servers_of J)

@@ -123,7 +123,8 @@ pub no_pick : (o : Option Row) (at : StepIn) → is_step at.turn ≡ false → p
 no_pick None at e = refl
 no_pick (Some row) at e = and_off (is_picking row.act) (is_step at.turn) (not (is_cut_off row at) && wants_server (region_of at.args) at) e
 
-turned : (J : Past) (undoing : Bool) (steps : List Undoable) (at : StepIn) → undoing ≡ true → AllThere J steps → not (is_empty steps) ≡ true → is_step (let now = turn_input J undoing steps at in now.turn) ≡ false
+-- where a step is undone, the turn is no step
+pub turned : (J : Past) (undoing : Bool) (steps : List Undoable) (at : StepIn) → undoing ≡ true → AllThere J steps → not (is_empty steps) ≡ true → is_step (let now = turn_input J undoing steps at in now.turn) ≡ false
 turned J false steps at e all some = absurd (false≢true e)
 turned J true [] at e all some = absurd (false≢true some)
 turned J true (latest ∷ below) at e all some =

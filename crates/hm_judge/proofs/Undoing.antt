@@ -45,7 +45,7 @@ over_by None rolled told some = absurd (some refl)
 over_by (Some c) rolled told some = refl
 
 -- such a root hasn't ended
-undoes_open : (J : Past) (p : ℕ) → MayUndo J p → (is_empty (stack J p) ≡ false) × (ended J p ≡ false)
+pub undoes_open : (J : Past) (p : ℕ) → MayUndo J p → (is_empty (stack J p) ≡ false) × (ended J p ≡ false)
 undoes_open J p may =
     let parts = undoes_parts J p may.0 may.2 in (
       parts.3,

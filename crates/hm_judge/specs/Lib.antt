@@ -1,7 +1,9 @@
 pub mod Judge
 pub mod Picks
+pub mod Choice
 pub mod Reports
 pub mod Aborts
 pub mod Inputs
 pub mod Turns
 pub mod Laws
+pub mod Fresh

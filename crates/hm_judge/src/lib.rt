@@ -4,6 +4,7 @@
 
 mod aborts;
 mod capabilities;
+mod choice;
 mod copies;
 mod evaluation;
 mod inputs;
@@ -20,6 +21,7 @@ mod undos;
 mod why;
 
 pub use aborts::is_before_point;
+pub use choice::candidate;
 pub use inputs::step_in;
 pub use judge::{allowed, unrefused};
 pub use picks::{has_pick, picks_right};

@@ -104,8 +104,8 @@ fn places(row: Row, aborted: bool) -> bool
     row.act == Act::GetAssignCandidate && (!aborted || row.after)
 }
 
-// Whether the next step of a procedure needs a server to be picked.
-fn needs_server(records: &Records, pid: Pid, found: &Record) -> bool
+/// Whether the next step of a procedure needs a server to be picked.
+pub(crate) fn needs_server(records: &Records, pid: Pid, found: &Record) -> bool
     ensures { (node : Node) → node_of records.now.past pid.0 ≡ Some node → found.now ≡ record_at records.now.past pid.0 node → result ≡ needs records.now.past pid.0 node }
 {
     if records.procedures().undoes(pid) {
@@ -127,8 +127,8 @@ pub fn has_pick(records: &Records, pid: Pid) -> bool
     !needs_server(records, pid, found) || has_live(records)
 }
 
-// The server that a procedure is to bring its region to, where one is named.
-fn wanted_of(args: &Args) -> Option<&ServerName>
+/// The server that a procedure is to bring its region to, where one is named.
+pub(crate) fn wanted_of(args: &Args) -> Option<&ServerName>
     ensures { option_copied result ≡ wanted args.now }
 {
     match args {

@@ -7,8 +7,8 @@ use hm_names::ServerName;
 use hm_places::{Servers, servers_follow};
 use hm_records::Records;
 
-// The servers, which tell what a legal journal says of them.
-fn standings(records: &Records) -> &Servers
+/// The servers, which tell what a legal journal says of them.
+pub(crate) fn standings(records: &Records) -> &Servers
     ensures are { result.now.servers ≡ standings_of records.now.past }
     ensures tell { StandingsTell records.now.past }
 {

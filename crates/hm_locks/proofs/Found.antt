@@ -1,10 +1,10 @@
 -- The rows that entries make, where each is found by its pid.
-use Rattle.std.proofs.Common.{◌≡◌, ◌≢◌, ℕ, zero, suc, ◌<◌, Bool, true, false, List, [], ◌∷◌, ◌++◌, length, set, eqb, cond, Option, Some, None, refl, sym, ap, ◌∙◌, inl, inr, ◌⊎◌, arith, length-append}
+use Rattle.std.proofs.Common.{◌≡◌, ◌≢◌, ℕ, Bor, zero, suc, ◌<◌, Bool, true, false, List, [], ◌∷◌, ◌++◌, length, set, eqb, cond, Option, Some, None, is_some, refl, sym, ap, ◌∙◌, inl, inr, ◌⊎◌, arith, length-append}
 use Rattle.std.proofs.lemmas.Bool.{cases_eq, eq-eqb, ne_eqb}
 use Rattle.std.proofs.lemmas.Cmp.{ranked, tied_itself, nat_cmp_total}
 use Rattle.std.proofs.lemmas.List.{length-set}
 use Rattle.std.proofs.lemmas.Option.{same_Some, none-some}
-use Rattle.std.specs.Option.{option_and_then, option_map}
+use Rattle.std.specs.Option.{option_and_then, option_copied, option_map}
 use Rattle.std.specs.Ordering.{is_eq, nat_cmp}
 use Rattle.std.specs.declared.cmp.Ordering.{Ordering}
 use Rattle.std.specs.declared.cmp.Ordering.TheVariants.{Less, Equal, Greater}
@@ -202,6 +202,16 @@ module _ (places more : List (ℕ × ℕ)) (es : List (Option Entry)) (index : I
   rows_push q =
       row_is more new found_push q ∙ ap (option_map row_for) (entry_push q) ∙ mapped (eqb e.pid q) (Some e) (entry_of places es q)
       ∙ ap (λ r. cond (eqb e.pid q) (Some (row_for e)) r) (sym (row_is places es index q))
+
+-- what is copied is there where what it is copied from is
+pub copied : {X : Type 0} (o : Option (Bor X)) → is_some (option_copied o) ≡ is_some o
+copied None = refl
+copied (Some r) = refl
+
+-- a row is there where an entry is
+pub row_there : (o : Option Entry) → is_some (option_map row_for o) ≡ is_some o
+row_there None = refl
+row_there (Some e) = refl
 
 -- nobody is enlisted
 pub found_nothing : IsFound [] []

@@ -1,5 +1,5 @@
 -- Resources are found by their keys alone.
-use Rattle.std.proofs.Common.{◌≡◌, ◌≢◌, ℕ, ◌+◌, ◌<◌, ◌^◌, List, [], ◌∷◌, true, false, if◌then◌else◌, Some, None, refl, ap, sym, ◌∙◌, inl, inr, ◌⊎◌, arith}
+use Rattle.std.proofs.Common.{◌≡◌, ◌≢◌, ℕ, ◌+◌, ◌<◌, List, [], ◌∷◌, true, false, if◌then◌else◌, Some, None, refl, ap, sym, ◌∙◌, inl, inr, ◌⊎◌, arith}
 use Rattle.std.proofs.lemmas.Option.{same_Some, none-some}
 use Rattle.std.proofs.lemmas.Cmp.{ranked, tied_itself, nat_cmp_total, nat_list_cmp_total}
 use Rattle.std.proofs.lemmas.Slice.Eq.{bytes_eq-Decides}
@@ -15,7 +15,7 @@ use Rattle.hm_model.specs.declared.lock.Resource.TheVariants as resource_is
 use Rattle.hm_model.proofs.KeyTests.{key_cmp-is, key_cmp-refl}
 use Rattle.hm_locks.specs.declared.key.Key.{Key}
 use Rattle.hm_locks.specs.declared.key.Key.TheVariants as lock_is
-use Rattle.hm_locks.specs.Kept.{key_of, lock_cmp, desk_of, AreDesks}
+use Rattle.hm_locks.specs.Kept.{key_of, lock_cmp, AreDesks}
 
 both_equal : (o p : Ordering) → ordering_then o p ≡ Equal → (o ≡ Equal) × (p ≡ Equal)
 both_equal Less p h = cc
@@ -55,7 +55,7 @@ lock_cmp-refl : (a : Key) → lock_cmp a a ≡ Equal
 lock_cmp-refl (lock_is.Row a) = key_cmp-refl a
 lock_cmp-refl (lock_is.Server a) = server_cmp-refl a
 
-key_of-same : (a b : Resource) → key_of a ≡ key_of b → a ≡ b
+pub key_of-same : (a b : Resource) → key_of a ≡ key_of b → a ≡ b
 key_of-same (resource_is.Ns a) (resource_is.Ns b) h = let e : a ≡ b = cc in ap resource_is.Ns e
 key_of-same (resource_is.Ns a) (resource_is.Table b) h = cc
 key_of-same (resource_is.Ns a) (resource_is.Region b) h = cc
@@ -73,16 +73,16 @@ key_of-same (resource_is.Server a) (resource_is.Table b) h = cc
 key_of-same (resource_is.Server a) (resource_is.Region b) h = cc
 key_of-same (resource_is.Server a) (resource_is.Server b) h = let e : a ≡ b = cc in ap resource_is.Server e
 
--- the test of a key: it is that of the resource, or it isn't
-ties : (key : Key) (a : Resource) → ((is_eq (lock_cmp key (key_of a)) ≡ true) × (key ≡ key_of a)) ⊎ ((is_eq (lock_cmp key (key_of a)) ≡ false) × (key ≢ key_of a))
-ties key a = by (lock_cmp key (key_of a)) refl
+-- the test of a key: it is the other, or it isn't
+ties : (key other : Key) → ((is_eq (lock_cmp key other) ≡ true) × (key ≡ other)) ⊎ ((is_eq (lock_cmp key other) ≡ false) × (key ≢ other))
+ties key other = by (lock_cmp key other) refl
   where
-    apart : (o : Ordering) → lock_cmp key (key_of a) ≡ o → o ≢ Equal → key ≢ key_of a
-    apart o e differs same = differs (sym e ∙ ap (λ k. lock_cmp k (key_of a)) same ∙ lock_cmp-refl (key_of a))
+    apart : (o : Ordering) → lock_cmp key other ≡ o → o ≢ Equal → key ≢ other
+    apart o e differs same = differs (sym e ∙ ap (λ k. lock_cmp k other) same ∙ lock_cmp-refl other)
 
-    by : (o : Ordering) → lock_cmp key (key_of a) ≡ o → ((is_eq o ≡ true) × (key ≡ key_of a)) ⊎ ((is_eq o ≡ false) × (key ≢ key_of a))
+    by : (o : Ordering) → lock_cmp key other ≡ o → ((is_eq o ≡ true) × (key ≡ other)) ⊎ ((is_eq o ≡ false) × (key ≢ other))
     by Less e = inr (refl, apart Less e (λ f. cc))
-    by Equal e = inl (refl, lock_cmp-is key (key_of a) e)
+    by Equal e = inl (refl, lock_cmp-is key other e)
     by Greater e = inr (refl, apart Greater e (λ f. cc))
 
 -- two orders that compare alike find the same
@@ -93,45 +93,46 @@ find_alike one other alike (pair ∷ pairs) key =
     ∙ ap (λ f. if is_eq (other pair.0 key) then Some pair.1 else f) (find_alike one other alike pairs key)
 
 module _ (cmp : Key → Key → Ordering) (alike : (a b : Key) → cmp a b ≡ lock_cmp a b) where
-  pub found : (pairs : List (Key × ℕ)) (key : Key) (a : Resource) → key ≡ key_of a → find cmp pairs key ≡ desk_of pairs a
-  found pairs key a e = find_alike cmp lock_cmp alike pairs key ∙ ap (find lock_cmp pairs) e
+  pub found : (pairs : List (Key × ℕ)) (key : Key) → find cmp pairs key ≡ find lock_cmp pairs key
+  found pairs key = find_alike cmp lock_cmp alike pairs key
 
-  -- the numbers with one for a resource that had none
-  module _ (old new : List (Key × ℕ)) (key : Key) (resource : Resource) (count : ℕ)
-      (is : key ≡ key_of resource) (none : find cmp old key ≡ None) (desks : AreDesks old count)
+  -- the numbers with one for a key that had none
+  module _ (old new : List (Key × ℕ)) (key : Key) (count limit : ℕ)
+      (none : find cmp old key ≡ None) (desks : AreDesks old count limit)
       (each : (other : Key) → find cmp new other ≡ (if is_eq (cmp key other) then Some count else find cmp old other)) where
-    after : (a : Resource) → desk_of new a ≡ (if is_eq (lock_cmp key (key_of a)) then Some count else desk_of old a)
-    after a =
-        sym (found new (key_of a) a refl) ∙ each (key_of a)
-        ∙ ap (λ o. if is_eq o then Some count else find cmp old (key_of a)) (alike key (key_of a))
-        ∙ ap (λ f. if is_eq (lock_cmp key (key_of a)) then Some count else f) (found old (key_of a) a refl)
+    after : (other : Key) → find lock_cmp new other ≡ (if is_eq (lock_cmp key other) then Some count else find lock_cmp old other)
+    after other =
+        sym (found new other) ∙ each other
+        ∙ ap (λ o. if is_eq o then Some count else find cmp old other) (alike key other)
+        ∙ ap (λ f. if is_eq (lock_cmp key other) then Some count else f) (found old other)
 
     -- it is the new one with its number, or one that had a number
-    which : (a : Resource) → ((a ≡ resource) × (desk_of new a ≡ Some count)) ⊎ ((a ≢ resource) × (desk_of new a ≡ desk_of old a))
-    which a = elim (ties key a) [
-      | inl same ↦ inl (key_of-same a resource (sym same.1 ∙ is), after a ∙ ap (λ b. if b then Some count else desk_of old a) same.0)
-      | inr differs ↦ inr ((λ e. differs.1 (is ∙ ap key_of (sym e))), after a ∙ ap (λ b. if b then Some count else desk_of old a) differs.0)
+    which : (other : Key) → ((key ≡ other) × (find lock_cmp new other ≡ Some count)) ⊎ ((key ≢ other) × (find lock_cmp new other ≡ find lock_cmp old other))
+    which other = elim (ties key other) [
+      | inl same ↦ inl (same.1, after other ∙ ap (λ b. if b then Some count else find lock_cmp old other) same.0)
+      | inr differs ↦ inr (differs.1, after other ∙ ap (λ b. if b then Some count else find lock_cmp old other) differs.0)
     ]
 
-    pub numbered : desk_of new resource ≡ Some count
-    numbered = elim (which resource) [ inl here ↦ here.1 | inr there ↦ absurd (there.0 refl) ]
+    pub numbered : find lock_cmp new key ≡ Some count
+    numbered = elim (which key) [ inl here ↦ here.1 | inr there ↦ absurd (there.0 refl) ]
 
-    pub kept : (a : Resource) (d : ℕ) → desk_of old a ≡ Some d → desk_of new a ≡ Some d
-    kept a d e = elim (which a) [
-      | inl here ↦ absurd (none-some d (sym none ∙ found old key resource is ∙ ap (desk_of old) (sym here.0) ∙ e))
+    pub kept : (other : Key) (d : ℕ) → find lock_cmp old other ≡ Some d → find lock_cmp new other ≡ Some d
+    kept other d e = elim (which other) [
+      | inl here ↦ absurd (none-some d (sym none ∙ found old key ∙ ap (find lock_cmp old) here.0 ∙ e))
       | inr there ↦ there.1 ∙ e
     ]
 
-    pub desks_after : count + count + 2 < 2 ^ 32 → AreDesks new (count + 1)
-    desks_after few = record {
-      few = omega (arith, few);
+    pub desks_after : count < limit → AreDesks new (count + 1) limit
+    desks_after below = record {
+      most = omega (arith, below);
+      few = desks.few;
       within = λ a d e. elim (which a) [
         | inl here ↦ (let same = same_Some count d (sym here.1 ∙ e) in omega (arith, same))
         | inr there ↦ (let lt = desks.within a d (sym there.1 ∙ e) in omega (arith, lt))
       ];
       apart = λ a b d e f. elim (which a) [
         | inl one ↦ elim (which b) [
-          | inl other ↦ one.0 ∙ sym other.0
+          | inl other ↦ sym one.0 ∙ other.0
           | inr other ↦ absurd (let same = same_Some count d (sym one.1 ∙ e) in let lt = desks.within b d (sym other.1 ∙ f) in omega (arith, same, lt))
         ]
         | inr one ↦ elim (which b) [

@@ -1,3 +1,4 @@
+pub mod Adding
 pub mod Blocking
 pub mod Clashes
 pub mod Found

@@ -11,10 +11,18 @@ pub record Row : Type 0 where
   pub asks : List Ask
   pub holds : Bool
 
--- the rows, one for each procedure that is enlisted, and how much memory there is
+-- the rows, one for each procedure that is enlisted; for how many rows more there is room, and for how many asks more of
+-- all of them; and how much memory there is
 pub record Book : Type 0 where
   pub rows : List Row
+  pub spare : ℕ
+  pub spare_asks : ℕ
   pub room : ℕ
+
+-- what will be enlisted of a procedure: its ancestors from its parent up, and what it asks for
+pub record DraftView : Type 0 where
+  pub above : List ℕ
+  pub asks : List Ask
 
 -- the row of a procedure
 abbrev pub row_of : List Row → ℕ → Option Row
@@ -43,6 +51,10 @@ above_child rows (Some parent) = parent.0 ∷ above_in (row_of rows parent.0)
 -- a row as it is new: it holds nothing
 abbrev pub new_row : List Row → ℕ → Option Pid → List Ask → Row
 new_row rows pid parent asks = record { pid = pid; above = above_child rows parent; asks = asks; holds = false }
+
+-- the row of a draft: it holds nothing
+abbrev pub drafted : ℕ → DraftView → Row
+drafted pid draft = record { pid = pid; above = draft.above; asks = draft.asks; holds = false }
 
 -- a row that holds, or doesn't
 abbrev pub holding : Bool → Row → Row

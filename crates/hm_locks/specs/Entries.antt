@@ -1,10 +1,9 @@
 -- The pages of a lock book, and what changes there.
-use Rattle.std.specs.Prelude.{◌≡◌, ℕ, ◌+◌, ◌≤◌, ◌<◌, ◌^◌, List, length, Some, Bool, vec_len, vec_capacity}
-use Rattle.hm_model.specs.declared.lock.Resource.{Resource}
+use Rattle.std.specs.Prelude.{◌≡◌, ℕ, ◌+◌, ◌-◌, ◌≤◌, ◌^◌, List, length, min, Bool, vec_len, vec_capacity}
 use Rattle.hm_locks.specs.declared.entry.Entry.{Entry}
 use Rattle.hm_locks.specs.declared.pages.Pages.{Pages}
 use Rattle.hm_locks.specs.Book.{Row}
-use Rattle.hm_locks.specs.Kept.{IsKept, desk_of, rows_in}
+use Rattle.hm_locks.specs.Kept.{IsKept, rows_in}
 
 -- an entry that holds, or doesn't
 abbrev pub with_holds : Bool → Entry → Entry
@@ -28,11 +27,15 @@ pub record IsSameBook (old new : Pages) : Type 0 where
   pub entries : new.entries.items ≡ old.entries.items
   pub wants : new.wants.items ≡ old.wants.items
 
--- there is room for one entry more with so many wants
-pub record IsRoomFor (pages : Pages) (count : ℕ) : Type 0 where
-  pub place : 1 ≤ pages.places.spare
-  pub entry : vec_len pages.entries < vec_capacity pages.entries
-  pub wants : vec_len pages.wants + count ≤ vec_capacity pages.wants
-  pub nodes : length pages.wants.items + count ≤ pages.lists.spare
-  pub small : length pages.wants.items + count < 2 ^ 32
-  pub lanes : (a : Resource) (d : ℕ) → desk_of pages.desks.numbers a ≡ Some d → (d + d + 1 < length pages.lists.lists) × (d + d + 1 < 2 ^ 32)
+-- for how many entries more there is room
+abbrev pub spare_of : Pages → ℕ
+spare_of pages = min pages.places.spare (vec_capacity pages.entries - vec_len pages.entries)
+
+-- for how many wants more there is room: for themselves, their nodes and the numbers of their resources
+abbrev pub wants_spare : Pages → ℕ
+wants_spare pages =
+    min (vec_capacity pages.wants - vec_len pages.wants) (min (min pages.lists.spare (2 ^ 32 - 1) - vec_len pages.wants) pages.desks.spare)
+
+-- each resource that has a number, or may have one, has its lists
+abbrev pub HaveLists : Pages → Type 0
+HaveLists pages = pages.desks.limit + pages.desks.limit ≤ length pages.lists.lists

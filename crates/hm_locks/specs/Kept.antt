@@ -1,6 +1,6 @@
 -- How a lock book is kept: a place for each procedure that was enlisted, a node for each of its asks, and for each
 -- resource a list of the nodes that hold it shared and one of those that hold it exclusively.
-use Rattle.std.specs.Prelude.{◌≡◌, ℕ, ◌+◌, ◌<◌, ◌≤◌, ◌^◌, List, [], ◌∷◌, length, Option, Some, None, Bool, true, false, slice_get}
+use Rattle.std.specs.Prelude.{◌≡◌, ℕ, ◌+◌, ◌<◌, ◌≤◌, ◌^◌, List, [], ◌∷◌, ◌++◌, length, Option, Some, None, Bool, true, false, slice_get}
 use Rattle.std.specs.Option.{option_map, option_and_then, option_flatten}
 use Rattle.std.specs.Ordering.{nat_cmp}
 use Rattle.std.specs.declared.cmp.Ordering.{Ordering}
@@ -13,6 +13,7 @@ use Rattle.hm_lists.specs.Chains.{IsIn, list_at}
 use Rattle.hm_model.specs.declared.lock.Ask.{Ask}
 use Rattle.hm_model.specs.declared.lock.Resource.{Resource}
 use Rattle.hm_model.specs.declared.lock.Resource.TheVariants as resource_is
+use Rattle.hm_locks.specs.declared.draft.Claim.{Claim}
 use Rattle.hm_locks.specs.declared.entry.Entry.{Entry}
 use Rattle.hm_locks.specs.declared.entry.Standing.{Standing}
 use Rattle.hm_locks.specs.declared.entry.Want.{Want}
@@ -34,20 +35,29 @@ lock_cmp (lock_is.Row a) (lock_is.Server b) = Less
 lock_cmp (lock_is.Server a) (lock_is.Row b) = Greater
 lock_cmp (lock_is.Server a) (lock_is.Server b) = server_cmp a b
 
--- the numbers of resources, and how much memory there is
+-- an ask, by the key of its resource
+abbrev pub claim_of : Ask → Claim
+claim_of ask = record { key = key_of ask.resource; exclusive = ask.exclusive }
+
+-- the numbers of resources, how many there are, below which they may be given, for how many more there is room, and how
+-- much memory there is
 pub record DesksView : Type 0 where
   pub numbers : List (Key × ℕ)
+  pub count : ℕ
+  pub limit : ℕ
+  pub spare : ℕ
   pub room : ℕ
 
 -- the number of a resource
 abbrev pub desk_of : List (Key × ℕ) → Resource → Option ℕ
 desk_of numbers resource = find lock_cmp numbers (key_of resource)
 
--- the numbers are below a count, and no two resources have one number
-pub record AreDesks (numbers : List (Key × ℕ)) (count : ℕ) : Type 0 where
-  pub few : count + count < 2 ^ 32
-  pub within : (a : Resource) (d : ℕ) → desk_of numbers a ≡ Some d → d < count
-  pub apart : (a b : Resource) (d : ℕ) → desk_of numbers a ≡ Some d → desk_of numbers b ≡ Some d → a ≡ b
+-- the numbers are below a count, that within a limit, and no two keys have one number
+pub record AreDesks (numbers : List (Key × ℕ)) (count limit : ℕ) : Type 0 where
+  pub most : count ≤ limit
+  pub few : limit + limit < 2 ^ 32
+  pub within : (key : Key) (d : ℕ) → find lock_cmp numbers key ≡ Some d → d < count
+  pub apart : (a b : Key) (d : ℕ) → find lock_cmp numbers a ≡ Some d → find lock_cmp numbers b ≡ Some d → a ≡ b
 
 -- the list of those that hold the resource of a number so
 abbrev pub lane : ℕ → Bool → ℕ
@@ -90,11 +100,22 @@ SitsBy entries l n (Some want) = (lane want.desk want.exclusive ≡ l) × HoldsN
 abbrev pub Sits : List (Option Entry) → List Want → ℕ → ℕ → Type 0
 Sits entries wants l n = SitsBy entries l n (slice_get wants n)
 
+-- the want is of an entry at a place, and of a claim
+abbrev pub IsClaimed : List (Key × ℕ) → ℕ → Claim → Option Want → Type 0
+IsClaimed numbers i claim None = ⊥
+IsClaimed numbers i claim (Some want) =
+    (want.place ≡ i) × (want.exclusive ≡ claim.exclusive) × (find lock_cmp numbers claim.key ≡ Some want.desk)
+
 -- the want is of an entry at a place, and of an ask
 abbrev pub IsWanted : List (Key × ℕ) → ℕ → Ask → Option Want → Type 0
-IsWanted numbers i ask None = ⊥
-IsWanted numbers i ask (Some want) =
-    (want.place ≡ i) × (want.exclusive ≡ ask.exclusive) × (desk_of numbers ask.resource ≡ Some want.desk)
+IsWanted numbers i ask want = IsClaimed numbers i (claim_of ask) want
+
+-- behind the wants stand those of an entry's claims
+pub record AreAdded (numbers : List (Key × ℕ)) (place : ℕ) (claims : List Claim) (old new : List Want) : Type 0 where
+  pub more : List Want
+  pub items : new ≡ old ++ more
+  pub count : length more ≡ length claims
+  pub wants : (k : ℕ) (claim : Claim) → slice_get claims k ≡ Some claim → IsClaimed numbers place claim (slice_get more k)
 
 -- both lists of what is wanted are there
 abbrev pub HasLanes : List (List ℕ) → Want → Type 0

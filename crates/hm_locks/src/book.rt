@@ -1,7 +1,8 @@
-ghost use Rattle.std.specs.Prelude.{◌≡◌, ◌+◌, ◌<◌, [], Some, None, true, false, length, IfOk, IfSome, OnOk, OnErr, MatchOption};
+ghost use Rattle.std.specs.Prelude.{◌≡◌, ◌+◌, ◌≤◌, [], Some, None, true, false, is_some, length, IfOk, IfSome, OnOk, OnErr, MatchOption};
 ghost use Rattle.std.specs.Option.{option_map};
-ghost use Rattle.hm_locks.specs.Book.{AreChanged, IsEnlisted, IsFirst, IsFree, NoneClash, asks_in, holding, is_holding, new_row, row_of};
+ghost use Rattle.hm_locks.specs.Book.{AreChanged, IsEnlisted, IsFirst, IsFree, NoneClash, above_child, asks_in, drafted, holding, is_holding, new_row, row_of};
 
+use crate::draft::Draft;
 use crate::pages::Pages;
 use hm_lists::Steps;
 use hm_model::Ask;
@@ -11,8 +12,8 @@ use std::marker::Model;
 use std::sync::ledger::Ledger;
 
 /// Who is enlisted, with what each asks for, and who holds what it asks for. Contracts see the rows, one for each
-/// procedure that is enlisted, and how much memory there is. No two of those that hold clash, unless one is an ancestor of
-/// the other.
+/// procedure that is enlisted, for how much more there is room, and how much memory there is. No two of those that hold
+/// clash, unless one is an ancestor of the other.
 #[derive(Drop)]
 pub struct LockBook {
     pages: Pages,
@@ -20,13 +21,13 @@ pub struct LockBook {
 
 impl Model for LockBook {
     ghost use Rattle.hm_locks.specs.Book.{Book, NoneClash};
-    ghost use Rattle.hm_locks.specs.Entries.{AreKept, room_of, rows_of};
+    ghost use Rattle.hm_locks.specs.Entries.{AreKept, HaveLists, room_of, rows_of, spare_of, wants_spare};
 
     ghost Value = { Book };
 
-    ghost view = { λ s. record { rows = rows_of s.pages; room = room_of s.pages } };
+    ghost view = { λ s. record { rows = rows_of s.pages; spare = spare_of s.pages; spare_asks = wants_spare s.pages; room = room_of s.pages } };
 
-    ghost invariant = { λ s. AreKept s.pages × NoneClash (rows_of s.pages) };
+    ghost invariant = { λ s. AreKept s.pages × HaveLists s.pages × NoneClash (rows_of s.pages) };
 }
 
 impl LockBook {
@@ -53,7 +54,52 @@ impl LockBook {
         ensures ok { OnOk result (AreChanged self.old.rows pid.0 (Some (new_row self.old.rows pid.0 parent asked)) self.new.rows) }
         ensures err { OnErr result (self.new.rows ≡ self.old.rows) }
     {
-        self.pages.enlist(alloc, pid.0, parent, asked)
+        let draft = self.draft(alloc, parent, asked)?;
+        self.reserve(alloc, 1, draft.asks().len() as u64)?;
+        self.enlist_draft(pid, draft);
+        Ok(())
+    }
+
+    /// Makes what will be enlisted of a procedure with this parent and these asks.
+    pub fn draft(
+        &self,
+        alloc: Global,
+        parent: Option<Pid>,
+        asked: List<Ask>,
+    ) -> Result<Draft, AllocError>
+        ensures above { IfOk result (λ draft. draft.above ≡ above_child self.now.rows parent) }
+        ensures asks { IfOk result (λ draft. draft.asks ≡ asked) }
+    {
+        self.pages.draft(alloc, parent, asked)
+    }
+
+    /// Makes room for so many procedures more, which ask for so much in all. For the limits see `enlist`.
+    pub fn reserve(&mut self, alloc: Global, rows: u64, asks: u64) -> Result<(), AllocError>
+        ensures rows { self.new.rows ≡ self.old.rows }
+        ensures room { OnOk result ((rows ≤ self.new.spare) × (asks ≤ self.new.spare_asks)) }
+        ensures kept { (self.old.spare ≤ self.new.spare) × (self.old.spare_asks ≤ self.new.spare_asks) }
+    {
+        self.pages.reserve(alloc, rows as usize, asks as usize)
+    }
+
+    /// Enlists a procedure, which holds nothing yet, in the room that was made for it. It takes no memory.
+    pub fn enlist_draft(&mut self, pid: Pid, draft: Draft)
+        requires new { row_of self.old.rows pid.0 ≡ None }
+        requires room { 1 ≤ self.old.spare }
+        requires asks { length draft.asks ≤ self.old.spare_asks }
+        ensures rows { AreChanged self.old.rows pid.0 (Some (drafted pid.0 draft)) self.new.rows }
+        ensures spare { self.old.spare ≤ self.new.spare + 1 }
+        ensures asks { self.old.spare_asks ≤ self.new.spare_asks + length draft.asks }
+        ensures room { self.new.room ≡ self.old.room }
+    {
+        self.pages.enlist(pid.0, draft);
+    }
+
+    /// Whether a procedure is enlisted.
+    pub fn lists(&self, pid: Pid) -> bool
+        ensures { result ≡ is_some (row_of self.now.rows pid.0) }
+    {
+        self.pages.lists(pid.0)
     }
 
     /// The lowest procedure, neither ancestor nor descendant, that holds a resource which this one asks for, where one of
@@ -71,6 +117,7 @@ impl LockBook {
         requires enlisted { IsEnlisted self.old.rows pid.0 }
         requires free { IsFree self.old.rows pid.0 }
         ensures rows { AreChanged self.old.rows pid.0 (option_map (holding true) (row_of self.old.rows pid.0)) self.new.rows }
+        ensures spare { (self.new.spare ≡ self.old.spare) × (self.new.spare_asks ≡ self.old.spare_asks) }
         ensures room { self.new.room ≡ self.old.room }
     {
         self.pages.take(pid.0);
@@ -80,6 +127,7 @@ impl LockBook {
     pub fn give_up(&mut self, pid: Pid)
         requires { IsEnlisted self.old.rows pid.0 }
         ensures rows { AreChanged self.old.rows pid.0 (option_map (holding false) (row_of self.old.rows pid.0)) self.new.rows }
+        ensures spare { (self.new.spare ≡ self.old.spare) × (self.new.spare_asks ≡ self.old.spare_asks) }
         ensures room { self.new.room ≡ self.old.room }
     {
         self.pages.give_up(pid.0);
@@ -89,6 +137,7 @@ impl LockBook {
     pub fn release(&mut self, pid: Pid)
         requires { IsEnlisted self.old.rows pid.0 }
         ensures rows { AreChanged self.old.rows pid.0 None self.new.rows }
+        ensures spare { (self.new.spare ≡ self.old.spare) × (self.new.spare_asks ≡ self.old.spare_asks) }
         ensures room { self.new.room ≡ self.old.room }
     {
         self.pages.give_up(pid.0);

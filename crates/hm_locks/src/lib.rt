@@ -5,6 +5,7 @@ mod asking;
 mod book;
 mod conflicts;
 mod desks;
+mod draft;
 mod entry;
 mod key;
 pub mod laws;
@@ -14,3 +15,4 @@ mod seats;
 
 pub use asking::asks;
 pub use book::LockBook;
+pub use draft::Draft;

@@ -1,15 +1,15 @@
 //! The pages of a lock book.
-ghost use Rattle.std.specs.Prelude.{◌≡◌, ◌+◌, ◌<◌, ◌≤◌, ◌^◌, ℕ, ◌++◌, ◌∷◌, [], Option, Some, None, true, false, length, slice_get, vec_len, vec_capacity, IfOk, IfSome, OnOk, OnErr, MatchOption, IsSome};
+ghost use Rattle.std.specs.Prelude.{◌≡◌, ◌+◌, ◌<◌, ◌≤◌, ℕ, ◌++◌, ◌∷◌, [], Some, None, true, false, is_some, length, vec_len, vec_capacity, IfOk, OnOk, MatchOption};
 ghost use Rattle.std.specs.Option.{option_copied, option_map};
-ghost use Rattle.hm_model.specs.declared.lock.Ask.{Ask};
-ghost use Rattle.hm_model.specs.declared.lock.Resource.{Resource};
-ghost use Rattle.hm_lists.specs.Chains.{list_at};
-ghost use Rattle.hm_locks.specs.declared.entry.Want.{Want};
-ghost use Rattle.hm_locks.specs.Book.{AreChanged, IsFirst, IsFree, above_child, asks_in, holding, is_holding, new_row, row_of};
-ghost use Rattle.hm_locks.specs.Kept.{IsWanted, desk_of, entry_of, row_for};
+ghost use Rattle.hm_locks.specs.declared.entry.Want.{Want as WantOf};
+ghost use Rattle.hm_locks.specs.declared.key.Key.{Key as KeyOf};
+ghost use Rattle.hm_index.specs.Index.{find};
+ghost use Rattle.hm_locks.specs.Book.{AreChanged, IsFirst, IsFree, above_child, asks_in, drafted, holding, is_holding, row_of};
+ghost use Rattle.hm_locks.specs.Kept.{AreAdded, IsClaimed, entry_of, lock_cmp};
 
 use crate::conflicts::Search;
 use crate::desks::Desks;
+use crate::draft::{Claim, Draft};
 use crate::entry::{Entry, Want, entry_at, set_holds, standing_of, with_front};
 use crate::seats::{seat, unseat};
 use hm_index::Index;
@@ -30,44 +30,50 @@ pub(crate) struct Pages {
     pub(crate) lists: Lists,
 }
 
-// The wants of an entry at a place.
-fn wants_at(
-    desks: &mut Desks,
-    alloc: Global,
-    place: usize,
-    asked: &[Ask],
-) -> Result<Vec<Want>, AllocError>
-    ensures desks { (a : Resource) (d : ℕ) → desk_of desks.old.numbers a ≡ Some d → desk_of desks.new.numbers a ≡ Some d }
-    ensures count { IfOk result (λ wants. length wants.items ≡ length asked.now) }
-    ensures wants { IfOk result (λ wants. (k : ℕ) (a : Ask) → slice_get asked.now k ≡ Some a → IsWanted desks.new.numbers place a (slice_get wants.items k)) }
+// Adds the want of a claim of the entry at a place, in the room that was made for it.
+fn add_want(wants: &mut Vec<Want>, desks: &mut Desks, place: usize, claim: Claim)
+    requires wants { vec_len wants.old < vec_capacity wants.old }
+    requires desks { 1 ≤ desks.old.spare }
+    ensures items { (want : WantOf) × (wants.new.items ≡ wants.old.items ++ want ∷ []) × IsClaimed desks.new.numbers place claim (Some want) }
+    ensures kept { (key : KeyOf) (d : ℕ) → find lock_cmp desks.old.numbers key ≡ Some d → find lock_cmp desks.new.numbers key ≡ Some d }
+    ensures len { vec_len wants.new ≡ vec_len wants.old + 1 }
+    ensures capacity { vec_capacity wants.new ≡ vec_capacity wants.old }
+    ensures limit { desks.new.limit ≡ desks.old.limit }
+    ensures spare { desks.old.spare ≤ desks.new.spare + 1 }
+    ensures room { desks.new.room ≡ desks.old.room }
 {
-    let mut wants = Vec::new(alloc);
-    for ask in asked {
-        let desk = desks.number_of(alloc, &ask.resource)?;
-        wants.push(Want {
-            place,
-            desk,
-            exclusive: ask.exclusive,
-        })?;
-    }
-    Ok(wants)
+    let Claim { key, exclusive } = claim;
+    let desk = desks.number_of(key);
+    wants.push_reserved(Want {
+        place,
+        desk,
+        exclusive,
+    });
 }
 
-// Adds wants, in the room that was made for them.
-fn add_wants(wants: &mut Vec<Want>, more: &[Want])
-    requires { vec_len wants.old + length more.now ≤ vec_capacity wants.old }
-    ensures items { wants.new.items ≡ wants.old.items ++ more.now }
+// Adds the wants of the claims of the entry at a place, in the room that was made for them.
+fn add_wants(wants: &mut Vec<Want>, desks: &mut Desks, place: usize, claims: Vec<Claim>)
+    requires wants { vec_len wants.old + length claims.items ≤ vec_capacity wants.old }
+    requires desks { length claims.items ≤ desks.old.spare }
+    ensures items { AreAdded desks.new.numbers place claims.items wants.old.items wants.new.items }
+    ensures kept { (key : KeyOf) (d : ℕ) → find lock_cmp desks.old.numbers key ≡ Some d → find lock_cmp desks.new.numbers key ≡ Some d }
+    ensures len { vec_len wants.new ≡ vec_len wants.old + length claims.items }
+    ensures capacity { vec_capacity wants.new ≡ vec_capacity wants.old }
+    ensures limit { desks.new.limit ≡ desks.old.limit }
+    ensures spare { desks.old.spare ≤ desks.new.spare + length claims.items }
+    ensures room { desks.new.room ≡ desks.old.room }
 {
-    for want in more {
-        wants.push_reserved(*want);
+    for claim in claims {
+        add_want(wants, desks, place, claim);
     }
 }
 
 impl Pages {
-    ghost use Rattle.hm_locks.specs.Entries.{AreKept, IsRoomFor, IsSameBook, room_of, rows_of};
+    ghost use Rattle.hm_locks.specs.Entries.{AreKept, HaveLists, IsSameBook, room_of, rows_of, spare_of, wants_spare};
 
     pub(crate) fn new(alloc: Global) -> Result<Pages, AllocError>
         ensures kept { IfOk result AreKept }
+        ensures lists { IfOk result HaveLists }
         ensures rows { IfOk result (λ pages. rows_of pages ≡ []) }
     {
         Ok(Pages {
@@ -100,81 +106,77 @@ impl Pages {
         entry_at(&self.entries, *self.places.get(&pid)?)
     }
 
-    // The wants of a procedure that is enlisted next.
-    fn wants_of(&mut self, alloc: Global, asked: &[Ask]) -> Result<Vec<Want>, AllocError>
-        requires { AreKept self.old }
-        ensures kept { AreKept self.new }
-        ensures same { IsSameBook self.old self.new }
-        ensures count { IfOk result (λ wants. length wants.items ≡ length asked.now) }
-        ensures wants { IfOk result (λ wants. (k : ℕ) (a : Ask) → slice_get asked.now k ≡ Some a → IsWanted self.new.desks.numbers (length self.new.entries.items) a (slice_get wants.items k)) }
+    // What will be enlisted of a child.
+    pub(crate) fn draft(
+        &self,
+        alloc: Global,
+        parent: Option<Pid>,
+        asked: List<Ask>,
+    ) -> Result<Draft, AllocError>
+        requires { AreKept self.now }
+        ensures above { IfOk result (λ draft. draft.above ≡ above_child (rows_of self.now) parent) }
+        ensures asks { IfOk result (λ draft. draft.asks ≡ asked) }
     {
-        let place = self.entries.len();
-        wants_at(&mut self.desks, alloc, place, asked)
+        let above = self.above_child(alloc, parent)?;
+        Draft::new(alloc, above, asked)
     }
 
-    // Makes room for one entry more with so many wants.
-    fn reserve(&mut self, alloc: Global, count: usize) -> Result<(), AllocError>
-        requires { AreKept self.old }
+    // Makes room for so many entries more, with so many wants.
+    pub(crate) fn reserve(
+        &mut self,
+        alloc: Global,
+        rows: usize,
+        count: usize,
+    ) -> Result<(), AllocError>
+        requires kept { AreKept self.old }
+        requires lists { HaveLists self.old }
         ensures kept { AreKept self.new }
+        ensures lists { HaveLists self.new }
         ensures same { IsSameBook self.old self.new }
-        ensures desks { self.new.desks.numbers ≡ self.old.desks.numbers }
-        ensures room { OnOk result (IsRoomFor self.new count) }
+        ensures room { OnOk result ((rows ≤ spare_of self.new) × (count ≤ wants_spare self.new)) }
+        ensures spare { (spare_of self.old ≤ spare_of self.new) × (wants_spare self.old ≤ wants_spare self.new) }
     {
         let nodes = self.wants.len().checked_add(count).ok_or(AllocError)?;
         if nodes > u32::MAX as usize {
             return Err(AllocError);
         }
-        self.places.reserve(alloc, 1)?;
-        self.entries.reserve(1)?;
+        let limit = self.desks.limit_for(count)?;
+        self.places.reserve(alloc, rows)?;
+        self.entries.reserve(rows)?;
         self.wants.reserve(count)?;
         self.lists.reserve_nodes(alloc, nodes as u32)?;
-        self.lists.reserve_lists(alloc, self.desks.lists())
+        self.lists.reserve_lists(alloc, limit + limit)?;
+        self.desks.reserve(alloc, limit)
     }
 
-    // Adds an entry with its wants, in the room that was made for them.
-    fn add(&mut self, entry: Entry, wants: &[Want])
+    // Enlists a procedure, which holds nothing yet, in the room that was made for it.
+    pub(crate) fn enlist(&mut self, pid: u64, draft: Draft)
         requires kept { AreKept self.old }
-        requires new { row_of (rows_of self.old) entry.pid ≡ None }
-        requires free { entry.holds ≡ false }
-        requires first { entry.first ≡ length self.old.wants.items }
-        requires count { length wants.now ≡ length entry.asked }
-        requires wants { (k : ℕ) (a : Ask) → slice_get entry.asked k ≡ Some a → IsWanted self.old.desks.numbers (length self.old.entries.items) a (slice_get wants.now k) }
-        requires room { IsRoomFor self.old (length wants.now) }
-        ensures kept { AreKept self.new }
-        ensures rows { AreChanged (rows_of self.old) entry.pid (Some (row_for entry)) (rows_of self.new) }
-    {
-        let place = self.entries.len();
-        self.places.set(entry.pid, place);
-        self.entries.push_reserved(Some(entry));
-        add_wants(&mut self.wants, wants);
-    }
-
-    // Enlists a procedure, which holds nothing yet.
-    pub(crate) fn enlist(
-        &mut self,
-        alloc: Global,
-        pid: u64,
-        parent: Option<Pid>,
-        asked: List<Ask>,
-    ) -> Result<(), AllocError>
-        requires kept { AreKept self.old }
+        requires lists { HaveLists self.old }
         requires new { row_of (rows_of self.old) pid ≡ None }
+        requires spare { 1 ≤ spare_of self.old }
+        requires wants { length draft.asks ≤ wants_spare self.old }
         ensures kept { AreKept self.new }
-        ensures ok { OnOk result (AreChanged (rows_of self.old) pid (Some (new_row (rows_of self.old) pid parent asked)) (rows_of self.new)) }
-        ensures err { OnErr result (rows_of self.new ≡ rows_of self.old) }
+        ensures lists { HaveLists self.new }
+        ensures rows { AreChanged (rows_of self.old) pid (Some (drafted pid draft)) (rows_of self.new) }
+        ensures spare { spare_of self.old ≤ spare_of self.new + 1 }
+        ensures wants { wants_spare self.old ≤ wants_spare self.new + length draft.asks }
+        ensures room { room_of self.new ≡ room_of self.old }
     {
-        let above = self.above_child(alloc, parent)?;
-        let wants = self.wants_of(alloc, asked.as_slice())?;
-        self.reserve(alloc, wants.len())?;
-        let entry = Entry {
+        self.desks.are_apart();
+        let (above, asked, claims) = draft.into_parts();
+        let first = self.wants.len();
+        let place = self.entries.len();
+        add_wants(&mut self.wants, &mut self.desks, place, claims);
+        self.desks.are_apart();
+        self.places.set(pid, place);
+        self.entries.push_reserved(Some(Entry {
             pid,
             above,
             asked,
-            first: self.wants.len(),
+            first,
             holds: false,
-        };
-        self.add(entry, &wants);
-        Ok(())
+        }));
     }
 
     // A procedure takes what it asks for.
@@ -182,7 +184,9 @@ impl Pages {
         requires kept { AreKept self.old }
         requires free { IsFree (rows_of self.old) pid }
         ensures kept { AreKept self.new }
+        ensures lists { HaveLists self.old → HaveLists self.new }
         ensures rows { AreChanged (rows_of self.old) pid (option_map (holding true) (row_of (rows_of self.old) pid)) (rows_of self.new) }
+        ensures spare { (spare_of self.new ≡ spare_of self.old) × (wants_spare self.new ≡ wants_spare self.old) }
         ensures room { room_of self.new ≡ room_of self.old }
     {
         let Some(at) = standing_of(&self.places, &self.entries, pid) else {
@@ -199,7 +203,9 @@ impl Pages {
     pub(crate) fn give_up(&mut self, pid: u64)
         requires { AreKept self.old }
         ensures kept { AreKept self.new }
+        ensures lists { HaveLists self.old → HaveLists self.new }
         ensures rows { AreChanged (rows_of self.old) pid (option_map (holding false) (row_of (rows_of self.old) pid)) (rows_of self.new) }
+        ensures spare { (spare_of self.new ≡ spare_of self.old) × (wants_spare self.new ≡ wants_spare self.old) }
         ensures room { room_of self.new ≡ room_of self.old }
     {
         let Some(at) = standing_of(&self.places, &self.entries, pid) else {
@@ -217,12 +223,22 @@ impl Pages {
         requires kept { AreKept self.old }
         requires free { is_holding (row_of (rows_of self.old) pid) ≡ false }
         ensures kept { AreKept self.new }
+        ensures lists { HaveLists self.old → HaveLists self.new }
         ensures rows { AreChanged (rows_of self.old) pid None (rows_of self.new) }
+        ensures spare { (spare_of self.new ≡ spare_of self.old) × (wants_spare self.new ≡ wants_spare self.old) }
         ensures room { room_of self.new ≡ room_of self.old }
     {
         if let Some(at) = standing_of(&self.places, &self.entries, pid) {
             self.entries[at.place] = None;
         }
+    }
+
+    // Whether a procedure is enlisted.
+    pub(crate) fn lists(&self, pid: u64) -> bool
+        requires { AreKept self.now }
+        ensures { result ≡ is_some (row_of (rows_of self.now) pid) }
+    {
+        self.entry_of(pid).is_some()
     }
 
     // Whether a procedure holds what it asks for.

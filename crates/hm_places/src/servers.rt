@@ -1,5 +1,5 @@
 //! Which servers there are.
-ghost use Rattle.std.specs.Prelude.{◌≡◌, ℕ, ◌+◌, ◌≤◌, ◌<◌, [], IfOk, IfErr, OnOk, OnErr, IfSome, Some, true, false, slice_get};
+ghost use Rattle.std.specs.Prelude.{◌≡◌, ◌≢◌, ℕ, ◌+◌, ◌≤◌, ◌<◌, [], IfOk, IfErr, OnOk, OnErr, IfSome, Some, true, false, slice_get};
 ghost use Rattle.std.specs.Option.{option_copied};
 ghost use Rattle.hm_names.specs.Order.{server_cmp};
 ghost use Rattle.hm_names.specs.Server.{Server};
@@ -86,7 +86,7 @@ impl Servers {
         ensures refused { IfErr result (CannotComeUp self.old.servers server) }
         ensures kept { OnErr result (self.new.servers ≡ self.old.servers) }
     {
-        self.judged(&server)?;
+        self.may_come_up(&server)?;
         let Ok(older) = self.make_ready(alloc, &server) else {
             return Err(UpRefused::Memory);
         };
@@ -95,10 +95,11 @@ impl Servers {
         Ok(older)
     }
 
-    // Whether a server may come up, and else why not.
-    fn judged(&self, server: &ServerName) -> Result<(), UpRefused>
+    /// Whether a server may come up, and else why not. It takes no memory.
+    pub fn may_come_up(&self, server: &ServerName) -> Result<(), UpRefused>
         ensures may { OnOk result (MayComeUp self.now.servers server.now) }
         ensures refused { IfErr result (CannotComeUp self.now.servers server.now) }
+        ensures judged { IfErr result (λ why. why ≢ UpRefused.Memory) }
     {
         if self.live(server) {
             return Err(UpRefused::Known);
@@ -125,8 +126,12 @@ impl Servers {
         self.older_of(alloc, server)
     }
 
-    // A copy of the live server at an address, if there is one.
-    fn older_of(&self, alloc: Global, server: &ServerName) -> Result<Option<ServerName>, AllocError>
+    /// A copy of the live server at the host and port of a server, if there is one.
+    pub fn older_of(
+        &self,
+        alloc: Global,
+        server: &ServerName,
+    ) -> Result<Option<ServerName>, AllocError>
         ensures older { IfOk result (λ older. older ≡ first_there (live_servers self.now.servers) server.now) }
         ensures live { IfOk result (λ older. IfSome older (λ name. is_live_in self.now.servers name ≡ true)) }
     {
@@ -160,6 +165,18 @@ impl Servers {
         );
     }
 
+    /// Whether a server may go down, and else why not.
+    pub fn may_go_down(&self, server: &ServerName) -> Result<(), DownRefused>
+        ensures may { OnOk result (is_live_in self.now.servers server.now ≡ true) }
+        ensures refused { IfErr result (CannotGoDown self.now.servers server.now) }
+    {
+        match self.rows.get(server) {
+            None => Err(DownRefused::Unknown),
+            Some(standing) if !standing.live => Err(DownRefused::AlreadyDown),
+            Some(_) => Ok(()),
+        }
+    }
+
     /// Puts a live server down.
     pub fn down(&mut self, server: &ServerName) -> Result<(), DownRefused>
         ensures down { OnOk result (WentDown self.old.servers server.now self.new.servers) }
@@ -168,11 +185,7 @@ impl Servers {
         ensures spare { self.old.spare ≤ self.new.spare }
         ensures room { self.new.room ≡ self.old.room }
     {
-        match self.rows.get(server) {
-            None => return Err(DownRefused::Unknown),
-            Some(standing) if !standing.live => return Err(DownRefused::AlreadyDown),
-            Some(_) => {}
-        }
+        self.may_go_down(server)?;
         self.put_down(Some(server));
         Ok(())
     }

@@ -2,6 +2,11 @@ mod Asked
 mod Trees
 mod UnderWay
 mod Stacks
+mod Forgotten
+mod Enlisted
+mod BookBehind
+mod BookTold
+mod Drafts
 mod Servers
 mod Edits
 mod Drawn

@@ -51,7 +51,7 @@ not_done (Some (answer_is.Fail cause)) e = refl
 not_done (Some answer_is.Undone) e = refl
 
 -- a root without a failure, or one that isn't rolled back, hasn't ended while it isn't done
-not_over : (c : Option Cause) (rolled : Bool) (told : Option Told) → (c ≡ None) ⊎ (rolled ≡ false) → told ≡ None → root_over c rolled told ≡ false
+pub not_over : (c : Option Cause) (rolled : Bool) (told : Option Told) → (c ≡ None) ⊎ (rolled ≡ false) → told ≡ None → root_over c rolled told ≡ false
 not_over None rolled told h none = ap is_some none
 not_over (Some c) true told h none = elim h [ inl e ↦ cc | inr e ↦ cc ]
 not_over (Some c) false told h none = refl
@@ -95,7 +95,7 @@ stepper_there pid pick out J legal = let may = stepper_made pid pick out J legal
 stepper_runs : (pid : Pid) (pick : Option Server) (out : StepOut) (J : Past) → IsLegal (entry_is.Step pid pick out ∷ J) → is_stopped (last_answer J pid.0) ≡ false
 stepper_runs pid pick out J legal = let step = step_of pid pick out J (trees_all J legal.0) legal in ready_stops J pid.0 step.node (last_answer J pid.0) step.ready
 
-stepper_open : (pid : Pid) (pick : Option Server) (out : StepOut) (J : Past) → IsLegal (entry_is.Step pid pick out ∷ J) → ended J pid.0 ≡ false
+pub stepper_open : (pid : Pid) (pick : Option Server) (out : StepOut) (J : Past) → IsLegal (entry_is.Step pid pick out ∷ J) → ended J pid.0 ≡ false
 stepper_open pid pick out J legal =
     let step = step_of pid pick out J (trees_all J legal.0) legal in
     let runs = stepper_runs pid pick out J legal in
@@ -123,6 +123,10 @@ module _ (pid : Pid) (row : ℕ) (out : StepOut) (J : Past) (legal : IsLegal (en
 
   undoing : (is_top root.above ≡ true) × ((is_some (cause J r) && (all_stopped J r && not (is_empty (stack J r)))) ≡ true)
   undoing = and_parts (is_top root.above) (is_some (cause J r) && (all_stopped J r && not (is_empty (stack J r)))) legal.1.1.0.1.2
+
+  -- the root of the tree of what is undone is one
+  pub undone_root : is_top root.above ≡ true
+  undone_root = undoing.0
 
   undone_open : ended J r ≡ false
   undone_open =

@@ -12,6 +12,7 @@ use Rattle.hm_model.specs.Tree.{made, pid_of}
 use Rattle.hm_index.specs.Index.{find}
 use Rattle.hm_catalog.specs.Rows.{rows_in}
 use Rattle.hm_procedures.specs.Kept.{args_made}
+use Rattle.hm_locks.specs.Book.{Row, row_of}
 use Rattle.hm_undo.specs.Stacks.{Stacks, steps_of}
 use Rattle.hm_records.specs.Records.{AreRecords, Beside, count_if}
 
@@ -41,17 +42,23 @@ made_count J (entry_is.Abort pid) = refl
 pub least_within : (k a b a' b' : ℕ) → a ≤ a' + k → b ≤ b' + k → min a b ≤ min a' b' + k
 least_within k a b a' b' le le' = omega arith
 
+-- the least of two numbers that don't fall
+pub least_more : (a b a' b' : ℕ) → a ≤ a' → b ≤ b' → min a b ≤ min a' b'
+least_more a b a' b' le le' = omega arith
+
 -- what is kept behind the start
 pub starts : (sheets : List Sheet) (beside : Beside) → beside.rows ≡ rows_in [] → beside.stacks ≡ [] → beside.places ≡ [] → beside.servers ≡ [] → beside.nonces ≡ [] → beside.drawn_ids ≡ []
-    → beside.sheets ≡ sheets → beside.running ≡ None → AreRecords (entry_is.Start sheets ∷ []) beside
-starts sheets beside rows stacks places servers nonces drawn_ids sheets_is running = record {
+    → beside.sheets ≡ sheets → beside.running ≡ None → beside.book ≡ [] → AreRecords (entry_is.Start sheets ∷ []) beside
+starts sheets beside rows stacks places servers nonces drawn_ids sheets_is running book = record {
   begun = λ e. cc;
   rows_are = rows;
   stacks_tell = λ root on. ap (λ (l : Stacks). steps_of l root) stacks;
+  stacks_forget = λ root over. ap (λ (l : Stacks). steps_of l root) stacks;
   places_are = places;
   servers_are = servers;
   nonces_are = λ nonce. ap (λ l. find nonce_cmp l nonce) nonces;
   drawn_are = λ table. ap (λ l. count_if (find table_cmp l table)) drawn_ids;
   sheets_are = sheets_is;
   running_is = λ p. (λ way. absurd (way.1 refl), λ is. absurd (none-some (pid_of p) (sym running ∙ is)));
+  book_is = λ p. ap (λ (l : List Row). row_of l p) book;
 }

@@ -1,5 +1,5 @@
 -- What is kept of an entry, and how much room it needs.
-use Rattle.std.specs.Prelude.{◌≡◌, ℕ, ◌+◌, ◌==◌, List, [], ◌∷◌, length, Option, Some, None, Bool, true, false, if◌then◌else◌}
+use Rattle.std.specs.Prelude.{◌≡◌, ℕ, ◌+◌, ◌==◌, List, [], ◌∷◌, length, max, Option, Some, None, Bool, true, false, if◌then◌else◌}
 use Rattle.std.specs.List.{list_any}
 use Rattle.hm_names.specs.Server.{Server}
 use Rattle.hm_names.specs.declared.nonce.Nonce.{Nonce}
@@ -16,6 +16,7 @@ use Rattle.hm_places.specs.Laws.{placed_now}
 use Rattle.hm_procedures.specs.Kept.{args_made}
 use Rattle.hm_undo.specs.Laws.{leaves_undo, next_step}
 use Rattle.hm_undo.specs.declared.slot.Step.{Step}
+use Rattle.hm_records.specs.Book.{asks_of, drafts_of}
 use Rattle.hm_records.specs.declared.parts.Parts.{Parts}
 
 -- the edits of an entry
@@ -89,18 +90,20 @@ children_asked (entry_is.Up server) = []
 children_asked (entry_is.Down server) = []
 children_asked (entry_is.Abort pid) = []
 
--- a child is a transit of the number 0, which no region has
-abbrev pub is_of_none : Child → Bool
-is_of_none (child_is.Transits table ids goal) = list_any (λ id. id == 0) ids
-is_of_none (child_is.One args) = false
+-- a child is a transit of the region number 0, which no region has
+abbrev pub is_zero_transit : Child → Bool
+is_zero_transit (child_is.Transits table ids goal) = list_any (λ id. id == 0) ids
+is_zero_transit (child_is.One args) = false
 
--- an entry asks for a transit of the number 0
-abbrev pub AsksForNone : Entry → Type 0
-AsksForNone entry = list_any is_of_none (children_asked entry) ≡ true
+-- an entry asks for a transit of the region number 0
+abbrev pub AsksForZero : Entry → Type 0
+AsksForZero entry = list_any is_zero_transit (children_asked entry) ≡ true
 
 -- all that is kept of an entry
 pub record AreParts (before : Past) (entry : Entry) (parts : Parts) : Type 0 where
   pub made : parts.made ≡ args_made before entry
+  pub drafts : (let drafts = parts.drafts in let list = drafts.list in list.items) ≡ drafts_of before entry
+  pub asks : (let drafts = parts.drafts in drafts.asks) ≡ asks_of entry
   pub edits : parts.edits ≡ edits_of entry
   pub step : parts.step ≡ step_left before entry
   pub nonce : parts.nonce ≡ nonce_used entry
@@ -108,6 +111,7 @@ pub record AreParts (before : Past) (entry : Entry) (parts : Parts) : Type 0 whe
   pub up : parts.up ≡ comes_up entry
   pub placed : parts.placed ≡ placed_now before entry
 
--- how much room an entry needs: one more for each edit, and for each procedure that it makes
+-- how much room an entry needs of each kind: one for itself, one for each edit and one for each procedure that it makes, or
+-- one for each ask of these procedures where those are more
 abbrev pub size_of : Entry → ℕ
-size_of entry = 1 + length (edits_of entry) + made (entry ∷ [])
+size_of entry = max (1 + length (edits_of entry) + made (entry ∷ [])) (asks_of entry)

@@ -20,8 +20,10 @@ use Rattle.hm_index.specs.Index.{find}
 use Rattle.hm_catalog.specs.Rows.{rows_in}
 use Rattle.hm_places.specs.Laws.{places_of, standings_of}
 use Rattle.hm_places.specs.declared.standing.Standing.{Standing}
+use Rattle.hm_locks.specs.Book.{Row}
 use Rattle.hm_undo.specs.Laws.{Tells}
-use Rattle.hm_undo.specs.Stacks.{Stacks}
+use Rattle.hm_undo.specs.Stacks.{Stacks, steps_of}
+use Rattle.hm_records.specs.Book.{AreRows}
 
 -- the journal, back from its newest entry, for how much more there is room, and how much memory there is
 pub record RecordsView : Type 0 where
@@ -32,6 +34,10 @@ pub record RecordsView : Type 0 where
 -- a root that hasn't ended
 abbrev pub is_open : Past → Pid → Bool
 is_open past root = not (ended past root.0)
+
+-- no step is left of who has ended
+abbrev pub AreForgotten : Past → Stacks → Type 0
+AreForgotten past stacks = (root : Pid) → ended past root.0 ≡ true → steps_of stacks root ≡ []
 
 -- the ids that were drawn for a table, by what is kept: none where nothing is
 abbrev pub count_if : Option ℕ → ℕ
@@ -55,7 +61,8 @@ abbrev pub IsRunning : Past → Option Pid → Type 0
 IsRunning past running = (p : ℕ) → IsUnderWay past p ↔ (running ≡ Some (pid_of p))
 
 -- what is kept beside the procedures: the rows of the catalog; the steps that may be undone; the places of regions; how
--- servers stand; the procedures of nonces; how many ids were drawn for each table; the sheets; and the root under way
+-- servers stand; the procedures of nonces; how many ids were drawn for each table; the sheets; the root under way; and the
+-- lock book
 pub record Beside : Type 0 where
   pub rows : Rows
   pub stacks : Stacks
@@ -65,15 +72,18 @@ pub record Beside : Type 0 where
   pub drawn_ids : List (TableName × ℕ)
   pub sheets : List Sheet
   pub running : Option Pid
+  pub book : List Row
 
 -- the journal has begun, and what is kept beside its procedures is what it says
 pub record AreRecords (past : Past) (beside : Beside) : Type 0 where
   pub begun : past ≢ []
   pub rows_are : beside.rows ≡ rows_in past
   pub stacks_tell : Tells (is_open past) past beside.stacks
+  pub stacks_forget : AreForgotten past beside.stacks
   pub places_are : beside.places ≡ places_of past
   pub servers_are : beside.servers ≡ standings_of past
   pub nonces_are : AreByNonce past beside.nonces
   pub drawn_are : AreDrawn past beside.drawn_ids
   pub sheets_are : beside.sheets ≡ sheets_of past
   pub running_is : IsRunning past beside.running
+  pub book_is : AreRows past beside.book

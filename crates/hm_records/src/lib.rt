@@ -2,6 +2,7 @@
 //! procedures of nonces, and the region ids that were drawn. Each entry is taken in at the cost of what it holds and touches.
 #![tactic(auto)]
 
+mod book;
 mod fleet;
 mod ids;
 pub mod laws;
@@ -14,6 +15,7 @@ mod rows;
 mod running;
 mod steps;
 
+pub use book::stepper_of;
 pub use ids::{new_ids, table_of_request};
 pub use parts::Parts;
 pub use records::Records;

@@ -4,7 +4,7 @@ ghost use Rattle.std.specs.List.{list_any};
 ghost use Rattle.hm_data.specs.declared.args.Args.TheVariants as args_are;
 ghost use Rattle.hm_model.specs.Tree.{args_in as procedures_in, child_args};
 ghost use Rattle.hm_procedures.specs.Kept.{args_made as made_by};
-ghost use Rattle.hm_records.specs.Parts.{AsksForNone, children_asked as asked_by, is_of_none as stands_for_none};
+ghost use Rattle.hm_records.specs.Parts.{AsksForZero, children_asked as asked_by, is_zero_transit as is_one_of_zero};
 
 use crate::ids::first_of;
 use crate::records::Records;
@@ -44,8 +44,8 @@ fn has_zero(ids: &[u64]) -> bool
 }
 
 // Whether a child is a transit of the number 0.
-fn is_of_none(child: &Child) -> bool
-    ensures { result ≡ stands_for_none child.now }
+fn is_zero_transit(child: &Child) -> bool
+    ensures { result ≡ is_one_of_zero child.now }
 {
     match child {
         Child::Transits {
@@ -58,11 +58,11 @@ fn is_of_none(child: &Child) -> bool
 }
 
 // Whether one of these children is.
-fn is_any_of_none(children: &[Child]) -> bool
-    ensures { result ≡ list_any stands_for_none children.now }
+fn is_any_zero_transit(children: &[Child]) -> bool
+    ensures { result ≡ list_any is_one_of_zero children.now }
 {
     for child in children {
-        if is_of_none(child) {
+        if is_zero_transit(child) {
             return true;
         }
     }
@@ -94,7 +94,7 @@ fn push_transits(
 
 // Adds the procedures that a child stands for.
 fn push_child(alloc: Global, child: &Child, made: &mut Vec<Args>) -> Result<(), AllocError>
-    requires { stands_for_none child.now ≡ false }
+    requires { is_one_of_zero child.now ≡ false }
     ensures { OnOk result (made.new.items ≡ made.old.items ++ child_args child.now) }
 {
     match child {
@@ -110,7 +110,7 @@ fn push_child(alloc: Global, child: &Child, made: &mut Vec<Args>) -> Result<(), 
 
 // What the procedures work on that children stand for, in order.
 fn args_in(alloc: Global, children: &[Child]) -> Result<List<Args>, AllocError>
-    requires { list_any stands_for_none children.now ≡ false }
+    requires { list_any is_one_of_zero children.now ≡ false }
     ensures { IfOk result (λ made. made ≡ procedures_in children.now) }
 {
     let mut made = Vec::new(alloc);
@@ -135,10 +135,10 @@ pub(crate) fn args_made(
     records: &Records,
     entry: &Entry,
 ) -> Result<Option<List<Args>>, AllocError>
-    ensures { IfOk result (λ made. MatchOption made (AsksForNone entry.now) (λ made. made ≡ made_by records.now.past entry.now)) }
+    ensures { IfOk result (λ made. MatchOption made (AsksForZero entry.now) (λ made. made ≡ made_by records.now.past entry.now)) }
 {
     let children = children_asked(entry);
-    if is_any_of_none(children) {
+    if is_any_zero_transit(children) {
         return Ok(None);
     }
     match entry {

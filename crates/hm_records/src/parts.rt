@@ -2,8 +2,10 @@
 ghost use Rattle.std.specs.Prelude.{◌≡◌, IfOk, MatchOption};
 ghost use Rattle.hm_data.specs.declared.entry.Entry.{Entry as EntryValue};
 ghost use Rattle.hm_model.specs.Journal.{Past};
-ghost use Rattle.hm_records.specs.Parts.{AreParts, AsksForNone, size_of};
+ghost use Rattle.hm_procedures.specs.Kept.{args_made as made_by};
+ghost use Rattle.hm_records.specs.Parts.{AreParts, AsksForZero, size_of};
 
+use crate::book::{Drafts, drafts_of};
 use crate::fleet::comes_up;
 use crate::ids::ids_drawn;
 use crate::made::args_made;
@@ -22,6 +24,7 @@ use std::alloc::{AllocError, Global};
 pub struct Parts {
     // What the procedures work on that it makes.
     pub(crate) made: List<Args>,
+    pub(crate) drafts: Drafts,
     pub(crate) edits: List<Edit>,
     // The step that it leaves to be undone.
     pub(crate) step: Option<Step>,
@@ -39,7 +42,15 @@ impl Parts {
     pub fn size(&self) -> u64
         ensures { (before : Past) (entry : EntryValue) → AreParts before entry self.now → result ≡ size_of entry }
     {
-        1 + self.edits.as_slice().len() as u64 + self.made.as_slice().len() as u64
+        let entries = 1 + self.edits.as_slice().len() as u64 + self.made.as_slice().len() as u64;
+        entries.max(self.drafts.asks)
+    }
+
+    /// What the procedures work on that the entry makes, in order.
+    pub fn made(&self) -> &[Args]
+        ensures { (before : Past) (entry : EntryValue) → AreParts before entry self.now → result.now ≡ made_by before entry }
+    {
+        self.made.as_slice()
     }
 }
 
@@ -49,14 +60,16 @@ pub(crate) fn parts_of(
     records: &Records,
     entry: &Entry,
 ) -> Result<Option<Parts>, AllocError>
-    ensures { IfOk result (λ parts. MatchOption parts (AsksForNone entry.now) (AreParts records.now.past entry.now)) }
+    ensures { IfOk result (λ parts. MatchOption parts (AsksForZero entry.now) (AreParts records.now.past entry.now)) }
 {
     let Some(made) = args_made(alloc, records, entry)? else {
         return Ok(None);
     };
     let past = records.procedures();
+    let drafts = drafts_of(alloc, records, entry, made.as_slice())?;
     Ok(Some(Parts {
         made,
+        drafts,
         edits: edits_of(alloc, entry)?,
         step: step_left(alloc, records, entry)?,
         nonce: nonce_used(entry),

@@ -8,9 +8,12 @@ ghost use Rattle.hm_model.specs.Tree.{drawn, pid_of};
 ghost use Rattle.hm_catalog.specs.Rows.{rows_in};
 ghost use Rattle.hm_places.specs.Laws.{places_of, standings_of};
 ghost use Rattle.hm_undo.specs.Laws.{Tells};
-ghost use Rattle.hm_records.specs.Parts.{AreParts, AsksForNone, size_of};
-ghost use Rattle.hm_records.specs.Records.{IsRunning, is_open};
+ghost use Rattle.hm_locks.specs.Laws.{IsBookOf};
+ghost use Rattle.hm_records.specs.Book.{AreRows, ListOpen};
+ghost use Rattle.hm_records.specs.Parts.{AreParts, AsksForZero, size_of};
+ghost use Rattle.hm_records.specs.Records.{AreForgotten, IsRunning, is_open};
 
+use crate::book::{enlist_made, release_ended};
 use crate::fleet::set_servers;
 use crate::ids::{count_ids, drawn_in};
 use crate::nonces::add_nonce;
@@ -22,6 +25,7 @@ use crate::steps::{enter_tree, tree_of};
 use hm_catalog::Catalog;
 use hm_data::Entry;
 use hm_index::Index;
+use hm_locks::LockBook;
 use hm_names::{List, Nonce, Pid, TableName};
 use hm_places::{Places, Servers};
 use hm_procedures::Procedures;
@@ -45,6 +49,7 @@ pub struct Records {
     sheets: Vec<Valid>,
     // The root that has a step and hasn't ended.
     running: Option<Pid>,
+    book: LockBook,
 }
 
 impl Model for Records {
@@ -53,9 +58,9 @@ impl Model for Records {
 
     ghost Value = { RecordsView };
 
-    ghost view = { λ s. record { past = s.procedures.past; spare = min (min s.procedures.spare s.catalog.spare) (min (min s.stack.spare s.places.spare) (min s.servers.spare (min s.nonces.spare s.drawn.spare))); room = s.procedures.room + s.catalog.room + (s.stack.room + s.places.room) + (s.servers.room + (s.nonces.room + s.drawn.room)) } };
+    ghost view = { λ s. record { past = s.procedures.past; spare = min (min s.procedures.spare s.catalog.spare) (min (min s.stack.spare s.places.spare) (min (min s.servers.spare (min s.nonces.spare s.drawn.spare)) (min s.book.spare s.book.spare_asks))); room = s.procedures.room + s.catalog.room + (s.stack.room + s.places.room) + (s.servers.room + (s.nonces.room + s.drawn.room)) + s.book.room } };
 
-    ghost invariant = { λ s. AreRecords s.procedures.past (record { rows = s.catalog.rows; stacks = s.stack.stacks; places = s.places.places; servers = s.servers.servers; nonces = s.nonces.pairs; drawn_ids = s.drawn.pairs; sheets = s.sheets.items; running = s.running }) };
+    ghost invariant = { λ s. AreRecords s.procedures.past (record { rows = s.catalog.rows; stacks = s.stack.stacks; places = s.places.places; servers = s.servers.servers; nonces = s.nonces.pairs; drawn_ids = s.drawn.pairs; sheets = s.sheets.items; running = s.running; book = s.book.rows }) };
 }
 
 impl Records {
@@ -77,6 +82,7 @@ impl Records {
             drawn: Index::new(alloc)?,
             sheets,
             running: None,
+            book: LockBook::new(alloc)?,
         })
     }
 
@@ -97,9 +103,10 @@ impl Records {
         &self.catalog
     }
 
-    /// The steps that may be undone, of each root that hasn't ended.
+    /// The steps that may be undone, of each root that hasn't ended. Of one that has, none is left.
     pub fn stack(&self) -> &Stack
-        ensures { Tells (is_open self.now.past) self.now.past result.now.stacks }
+        ensures forgotten { AreForgotten self.now.past result.now.stacks }
+        ensures tells { Tells (is_open self.now.past) self.now.past result.now.stacks }
     {
         &self.stack
     }
@@ -146,6 +153,15 @@ impl Records {
         self.running
     }
 
+    /// The lock book: each procedure that hasn't ended is enlisted, and holds from its first step on.
+    pub fn book(&self) -> &LockBook
+        ensures rows { AreRows self.now.past result.now.rows }
+        ensures book { IsBookOf self.now.past [] result.now.rows }
+        ensures open { ListOpen self.now.past result.now.rows }
+    {
+        &self.book
+    }
+
     // Makes room for so many more of each.
     fn reserve(&mut self, alloc: Global, count: u64) -> Result<(), AllocError>
         ensures past { self.new.past ≡ self.old.past }
@@ -158,14 +174,15 @@ impl Records {
         self.places.reserve(alloc, count)?;
         self.servers.reserve(alloc, count)?;
         self.nonces.reserve(alloc, count as usize)?;
-        self.drawn.reserve(alloc, count as usize)
+        self.drawn.reserve(alloc, count as usize)?;
+        self.book.reserve(alloc, count, count)
     }
 
     /// Makes what is kept of an entry, and room for it. There is none where the entry asks for a transit of the number 0, which
     /// no region has.
     pub fn prepare(&mut self, alloc: Global, entry: &Entry) -> Result<Option<Parts>, AllocError>
         ensures past { self.new.past ≡ self.old.past }
-        ensures parts { IfOk result (λ parts. MatchOption parts (AsksForNone entry.now) (AreParts self.old.past entry.now)) }
+        ensures parts { IfOk result (λ parts. MatchOption parts (AsksForZero entry.now) (AreParts self.old.past entry.now)) }
         ensures room { IfOk result (λ parts. IfSome parts (λ parts. size_of entry.now ≤ self.new.spare)) }
         ensures kept { self.old.spare ≤ self.new.spare }
     {
@@ -187,6 +204,7 @@ impl Records {
     {
         let Parts {
             made,
+            drafts,
             edits,
             step,
             nonce,
@@ -196,6 +214,7 @@ impl Records {
         } = parts;
         let past = &self.procedures;
         let tree = tree_of(past, entry);
+        enlist_made(&mut self.book, past, entry, drafts.list);
         set_rows(&mut self.catalog, past, entry, edits);
         set_place(&mut self.places, past, entry, placed);
         set_servers(&mut self.servers, past, entry, up);
@@ -209,6 +228,7 @@ impl Records {
             made,
             step,
         );
+        release_ended(&mut self.book, &self.procedures, entry, tree);
         self.running = running_behind(&self.procedures, tree, self.running);
     }
 }

@@ -8,7 +8,7 @@ ghost use Rattle.hm_model.specs.Tree.{pid_of, root_of as root_in};
 ghost use Rattle.hm_procedures.specs.Kept.{args_made};
 ghost use Rattle.hm_undo.specs.Laws.{Tells, has_undo as undoes};
 ghost use Rattle.hm_records.specs.Parts.{step_left as left_by};
-ghost use Rattle.hm_records.specs.Records.{is_open};
+ghost use Rattle.hm_records.specs.Records.{AreForgotten, is_open};
 
 use crate::records::Records;
 use hm_data::{Answer, Args, Back, Entry};
@@ -117,10 +117,12 @@ pub(crate) fn step_left(
 fn change_stack(stack: &mut Stack, past: &Procedures, entry: &Entry, tree: Pid, step: Option<Step>)
     requires legal { IsLegal (entry.now ∷ past.now.past) }
     requires tells { Tells (is_open past.now.past) past.now.past stack.old.stacks }
+    requires forgotten { AreForgotten past.now.past stack.old.stacks }
     requires tree { tree ≡ pid_of (tree_in past.now.past entry.now) }
     requires step { step ≡ left_by past.now.past entry.now }
     requires room { 1 ≤ stack.old.spare }
     ensures tells { Tells (is_open past.now.past) (entry.now ∷ past.now.past) stack.new.stacks }
+    ensures forgotten { AreForgotten past.now.past stack.new.stacks }
     ensures spare { stack.old.spare ≤ stack.new.spare + 1 }
     ensures room { stack.new.room ≡ stack.old.room }
 {
@@ -151,6 +153,7 @@ pub(crate) fn enter_tree(
 )
     requires legal { IsLegal (entry.now ∷ procedures.old.past) }
     requires tells { Tells (is_open procedures.old.past) procedures.old.past stack.old.stacks }
+    requires forgotten { AreForgotten procedures.old.past stack.old.stacks }
     requires tree { tree ≡ pid_of (tree_in procedures.old.past entry.now) }
     requires made { made ≡ args_made procedures.old.past entry.now }
     requires step { step ≡ left_by procedures.old.past entry.now }
@@ -158,6 +161,7 @@ pub(crate) fn enter_tree(
     requires step_room { 1 ≤ stack.old.spare }
     ensures past { procedures.new.past ≡ entry.now ∷ procedures.old.past }
     ensures tells { Tells (is_open procedures.new.past) procedures.new.past stack.new.stacks }
+    ensures forgotten { AreForgotten procedures.new.past stack.new.stacks }
     ensures procedure_spare { procedures.old.spare ≤ procedures.new.spare + length made }
     ensures step_spare { stack.old.spare ≤ stack.new.spare + 1 }
     ensures procedure_memory { procedures.new.room ≡ procedures.old.room }

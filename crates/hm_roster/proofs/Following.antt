@@ -1,16 +1,14 @@
 -- Behind an entry.
-use Rattle.std.proofs.Common.{◌≡◌, ◌≢◌, ◌⊎◌, ℕ, ◌+◌, ◌<◌, ◌≤◌, List, ◌∷◌, Option, Some, None, Bool, true, false, not, ◌==◌, ◌&&◌, ◌||◌, is_none, nat_lt, nat_le, refl, inl, inr, ap, sym, ◌∙◌, subst, arith}
-use Rattle.std.proofs.lemmas.Bool.{and_parts, cases_Bool, cases_lt, false≢true, leb-true, ltb-true, or_cases, true≢false}
-use Rattle.std.proofs.lemmas.Option.{none-some}
+use Rattle.std.proofs.Common.{◌≡◌, ◌≢◌, ◌⊎◌, ℕ, ◌+◌, ◌<◌, ◌≤◌, List, ◌∷◌, Option, Some, None, Bool, true, false, ◌||◌, is_none, nat_lt, nat_le, refl, inl, inr, ap, sym, ◌∙◌, subst, arith}
+use Rattle.std.proofs.lemmas.Bool.{and_parts, cases_Bool, cases_lt, false≢true, leb-true, ltb-true, or_cases}
+use Rattle.std.proofs.lemmas.Option.{none-some, same_Some}
 use Rattle.hm_names.specs.Server.{Server}
-use Rattle.hm_names.specs.declared.nonce.Nonce.{Nonce}
 use Rattle.hm_names.specs.declared.pid.Pid.{Pid}
+use Rattle.hm_data.specs.declared.args.Args.{Args}
 use Rattle.hm_data.specs.declared.args.Args.TheVariants as args_are
 use Rattle.hm_data.specs.declared.call.Told.{Told}
 use Rattle.hm_data.specs.declared.entry.Entry.{Entry}
 use Rattle.hm_data.specs.declared.entry.Entry.TheVariants as entry_is
-use Rattle.hm_data.specs.declared.request.Request.{Request}
-use Rattle.hm_locks.specs.Book.{Row}
 use Rattle.hm_model.specs.Journal.{Past}
 use Rattle.hm_model.specs.Rules.{IsLegal}
 use Rattle.hm_model.specs.Tree.{Node, made, node_of}
@@ -19,22 +17,19 @@ use Rattle.hm_model.proofs.Calls.{calls_own}
 use Rattle.hm_model.proofs.Grown.{grown_all, made_up_to}
 use Rattle.hm_model.proofs.Trees.{some_of}
 use Rattle.hm_sched.specs.Effects.{Wakes, WakesOne}
-use Rattle.hm_sched.specs.Queues.{Stands}
-use Rattle.hm_sched.specs.declared.queue.Queue.TheVariants.{Held, Suspended}
+use Rattle.hm_sched.specs.declared.queue.Queue.TheVariants.{Suspended}
 use Rattle.hm_tied.specs.Calls.{without}
-use Rattle.hm_tied.specs.Entries.{Enlists, is_fenced_by, is_new, report_debts, root_debts}
-use Rattle.hm_tied.specs.Tied.{Debts, IsTied, IsTiedBut, Roster, called_in, no_debts}
-use Rattle.hm_tied.proofs.Calls.{wake_all_owes, wake_held_owes, wake_owes}
+use Rattle.hm_tied.specs.Entries.{is_fenced_by, is_new, report_debts}
+use Rattle.hm_tied.specs.Tied.{Debts, IsTied, IsTiedBut, Roster}
+use Rattle.hm_tied.proofs.Calls.{wake_all_owes, wake_owes}
 use Rattle.hm_tied.proofs.Going.{busy_open}
-use Rattle.hm_tied.proofs.Others.{abort_owes, down_owes, report_owes, submit_owes, up_owes}
+use Rattle.hm_tied.proofs.Others.{report_owes}
 use Rattle.hm_tied.proofs.Settled.{fence_settles, owed_told, report_settles}
-use Rattle.hm_tied.proofs.Uses.{debts_rise, fences_one}
-use Rattle.hm_roster.specs.Roster.{outside, settled_from}
-
--- those that were set aside are ready
-pub held_ready : (J : Past) (n : Option Server → ℕ) (roster : Roster) (debts : Debts) (lists : List (List ℕ)) → IsTiedBut J n roster debts → Wakes roster.lists lists Held
-    → IsTiedBut J n (record roster { lists = lists }) (record debts { late = false })
-held_ready = wake_held_owes
+use Rattle.hm_tied.proofs.Uses.{fences_one}
+use Rattle.hm_roster.specs.Behind.{IsHeard, fenced_in, number_of_some, server_to_fence}
+use Rattle.hm_roster.specs.Roster.{Follows, IsSameBut, claims_on, lists_on, number_on, outside, pids_on, roster_of, rows_on, settled_from}
+use Rattle.hm_roster.specs.declared.desk.Desk.{Desk}
+use Rattle.hm_roster.proofs.Desks.{below_still}
 
 -- what an entry made was looked at
 module _ (J : Past) (entry : Entry) (legal : IsLegal (entry ∷ J)) where
@@ -60,15 +55,6 @@ module _ (J : Past) (entry : Entry) (legal : IsLegal (entry ∷ J)) where
             | inl below ↦ (let l = ltb-true q low below in omega (arith, l, at, from))
             | inr over ↦ (let h = leb-true high q over in omega (arith, h, at, to))
           ]
-
--- behind a submission and a server that went down
-pub submitted : (nonce : Nonce) (request : Request) (J : Past) → IsLegal (entry_is.Submit nonce request ∷ J) → (n : Option Server → ℕ) (roster : Roster) (rows : List Row) → IsTied J n (record roster { rows = rows }) → Enlists J (entry_is.Submit nonce request ∷ J) rows roster.rows
-    → IsTiedBut (entry_is.Submit nonce request ∷ J) n roster (root_debts J false)
-submitted nonce request J legal n roster rows tied enlists = submit_owes nonce request J n (record roster { rows = rows }) roster.rows legal tied enlists
-
-pub went_down : (server : Server) (J : Past) → IsLegal (entry_is.Down server ∷ J) → (n : Option Server → ℕ) (roster : Roster) (rows : List Row) → IsTied J n (record roster { rows = rows }) → Enlists J (entry_is.Down server ∷ J) rows roster.rows
-    → IsTiedBut (entry_is.Down server ∷ J) n roster (root_debts J true)
-went_down server J legal n roster rows tied enlists = down_owes server J n (record roster { rows = rows }) roster.rows legal tied enlists
 
 -- who called was made
 pub reported_known : (call : Pid) (told : Told) (J : Past) → IsLegal (entry_is.Report call told ∷ J) → call.0 ≤ made J
@@ -99,3 +85,62 @@ heard_all call told J legal n roster between lists number tied one all fences =
     (wake_all_owes (entry_is.Report call told ∷ J) n (record roster { lists = between }) (let debts = report_debts J (entry_is.Report call told ∷ J) call.0 in record debts { slack = without debts.slack call.0 }) lists (n (Some fences.1))
     (wake_owes (entry_is.Report call told ∷ J) n roster (report_debts J (entry_is.Report call told ∷ J) call.0) between call.0 (report_owes call told J n roster legal tied) one)
     (subst (λ s. Wakes between lists (Suspended s)) fences.4 all))
+
+-- who is to be fenced is named
+named : (args : Args) (server : Server) → server_to_fence args ≡ Some server → args ≡ args_are.FenceCall server
+named (args_are.Root request first) server e = absurd (none-some server e)
+named (args_are.Transit region goal to) server e = absurd (none-some server e)
+named (args_are.Crash other) server e = absurd (none-some server e)
+named (args_are.AddRegions table first bounds) server e = absurd (none-some server e)
+named (args_are.DropRegions table ids) server e = absurd (none-some server e)
+named (args_are.AssignCall region other) server e = absurd (none-some server e)
+named (args_are.CloseCall region other) server e = absurd (none-some server e)
+named (args_are.FenceCall other) server e = ap (λ s. args_are.FenceCall s) (same_Some other server e)
+named (args_are.LayoutCall root) server e = absurd (none-some server e)
+named (args_are.SweepLayout root) server e = absurd (none-some server e)
+
+-- where a number is told there is a fence
+fences : (o : Option Node) (desk : Desk) (number : ℕ) → Some number ≡ number_of_some desk (fenced_in o)
+    → (node : Node) × (server : Server) × (o ≡ Some node) × (node.args ≡ args_are.FenceCall server) × (number ≡ number_on desk (Some server))
+fences None desk number e = absurd (none-some number (sym e))
+fences (Some node) desk number e = by (server_to_fence node.args) refl e
+  where
+    by : (f : Option Server) → server_to_fence node.args ≡ f → Some number ≡ number_of_some desk f
+        → (x : Node) × (server : Server) × (Some node ≡ Some x) × (x.args ≡ args_are.FenceCall server) × (number ≡ number_on desk (Some server))
+    by None is e = absurd (none-some number (sym e))
+    by (Some server) is e = (node, server, refl, named node.args server is, same_Some number (number_on desk (Some server)) e)
+
+-- where none is told there is none
+fences_none : (o : Option Node) (desk : Desk) → None ≡ number_of_some desk (fenced_in o) → (node : Node) (server : Server) → o ≡ Some node → node.args ≡ args_are.FenceCall server → ⊥
+fences_none o desk none node server is args = none-some (number_on desk (Some server)) (none ∙ ap (λ x. number_of_some desk (fenced_in x)) is ∙ ap (λ a. number_of_some desk (server_to_fence a)) args)
+
+module _ (J : Past) (legal : IsLegal J) (call : Pid) (desk : Desk) (heard : IsHeard J call desk) where
+  -- who called has room
+  pub called_known : call.0 < pids_on desk
+  called_known =
+      let le = reported_known call heard.0 heard.1.0 (subst IsLegal heard.1.1 legal) in
+      let room = heard.1.2.room in
+      omega (arith, le, room)
+
+  -- once it was woken nothing is left to do, where it fences nobody
+  pub tied_one : (lists : List (List ℕ)) → WakesOne (lists_on desk) lists call.0 → None ≡ number_of_some desk (fenced_in (node_of J call.0)) → IsTied J (number_on desk) (record { claimed = claims_on desk; lists = lists; rows = rows_on desk })
+  tied_one lists one none =
+      let none_is = subst (λ K. None ≡ number_of_some desk (fenced_in (node_of K call.0))) heard.1.1 none in
+      subst (λ K. IsTied K (number_on desk) (record { claimed = claims_on desk; lists = lists; rows = rows_on desk })) (sym heard.1.1)
+      (heard_one call heard.0 heard.1.0 (subst IsLegal heard.1.1 legal) (number_on desk) (roster_of desk) lists heard.1.2.tied one (fences_none (node_of heard.1.0 call.0) desk none_is))
+
+  -- and where it fences a server, once those were woken too whose calls went there
+  pub tied_all : (between lists : List (List ℕ)) (number : ℕ) → WakesOne (lists_on desk) between call.0 → Wakes between lists (Suspended number) → Some number ≡ number_of_some desk (fenced_in (node_of J call.0))
+      → IsTied J (number_on desk) (record { claimed = claims_on desk; lists = lists; rows = rows_on desk })
+  tied_all between lists number one all some =
+      let some_is = subst (λ K. Some number ≡ number_of_some desk (fenced_in (node_of K call.0))) heard.1.1 some in
+      subst (λ K. IsTied K (number_on desk) (record { claimed = claims_on desk; lists = lists; rows = rows_on desk })) (sym heard.1.1)
+      (heard_all call heard.0 heard.1.0 (subst IsLegal heard.1.1 legal) (number_on desk) (roster_of desk) between lists number heard.1.2.tied one all (fences (node_of heard.1.0 call.0) desk number some_is))
+
+  -- so it follows
+  pub heard_follows : (new : Desk) → IsSameBut desk new → IsTied J (number_on new) (roster_of new) → Follows J new
+  heard_follows new same tied = record {
+    tied = tied;
+    room = subst (λ (k : ℕ). made J < k) (sym same.pids) (subst (λ K. made K < pids_on desk) (sym heard.1.1) heard.1.2.room);
+    below = below_still desk new same heard.1.2.below;
+  }

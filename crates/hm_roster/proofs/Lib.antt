@@ -7,3 +7,16 @@ mod Unclaimed
 mod Ranging
 mod Desks
 mod Lacking
+mod Entered
+mod Entries
+mod Claimed
+mod Changed
+mod Alike
+pub mod Firsts
+mod Parents
+pub mod Listing
+mod Tried
+mod Numbered
+mod Opened
+mod Ordered
+mod Readied

@@ -1,6 +1,6 @@
 -- A procedure that is looked at, and one that has ended.
-use Rattle.std.proofs.Common.{◌≡◌, ◌≢◌, ℕ, List, Option, Some, None, Bool, true, false, not, ◌==◌, ◌&&◌, refl, inl, inr, ap, sym, ◌∙◌}
-use Rattle.std.proofs.lemmas.Bool.{and_parts, false≢true, true≢false}
+use Rattle.std.proofs.Common.{◌≡◌, ◌≢◌, ℕ, List, Option, Bool, true, false, not, ◌&&◌, refl, inl, inr, ap, sym, ◌∙◌}
+use Rattle.std.proofs.lemmas.Bool.{cases_eq, eq-eqb, ne_eqb, true≢false}
 use Rattle.hm_names.specs.Server.{Server}
 use Rattle.hm_model.specs.Journal.{Past}
 use Rattle.hm_model.specs.Locks.{IsIn}
@@ -11,10 +11,26 @@ use Rattle.hm_sched.specs.Effects.{Joins, WakesOne}
 use Rattle.hm_sched.specs.Queues.{Stands, ready_list}
 use Rattle.hm_sched.specs.declared.queue.Queue.TheVariants.{Servers, Suspended, Tables}
 use Rattle.hm_tied.specs.Calls.{without}
-use Rattle.hm_tied.specs.Tied.{Awaits, CanGo, Debts, IsBusy, IsOpen, IsTiedBut, Roster, called_in}
+use Rattle.hm_tied.specs.Tied.{Awaits, CanGo, Debts, IsOpen, IsTiedBut, Roster, called_in}
 use Rattle.hm_tied.proofs.Calls.{join_owes, over_less, owed_less, wake_owes}
 use Rattle.hm_tied.proofs.Going.{busy_open}
 use Rattle.hm_tied.proofs.Uses.{debts_rise}
+
+-- one isn't among those without it
+pub out_of : (test : ℕ → Bool) (p : ℕ) → without test p p ≡ false
+out_of test p = ap (λ b. test p && not b) (eq-eqb p p refl) ∙ neither (test p)
+  where
+    neither : (b : Bool) → (b && false) ≡ false
+    neither true = refl
+    neither false = refl
+
+-- others are among those without it as before
+still_in : (test : ℕ → Bool) (p q : ℕ) → q ≢ p → without test p q ≡ test q
+still_in test p q differs = ap (λ b. test q && not b) (ne_eqb q p differs) ∙ both (test q)
+  where
+    both : (b : Bool) → (b && true) ≡ b
+    both true = refl
+    both false = refl
 
 module _ (J : Past) (n : Option Server → ℕ) (roster : Roster) (debts : Debts) (p : ℕ) (tied : IsTiedBut J n roster debts) where
   -- who becomes ready
@@ -49,3 +65,13 @@ module _ (J : Past) (n : Option Server → ℕ) (roster : Roster) (debts : Debts
   -- who hasn't ended
   pub goes_on : IsOpen J p → IsTiedBut J n roster (record debts { over = without debts.over p })
   goes_on opens = over_less J n roster debts p tied opens
+
+  -- who isn't said to have ended
+  pub not_over : debts.over p ≡ false → IsTiedBut J n roster (record debts { over = without debts.over p })
+  not_over none = debts_rise J n roster debts (record debts { over = without debts.over p }) tied (record { owed = λ q e. e; slack = λ q e. e; over = over_still; late = λ e. e })
+    where
+      over_still : (q : ℕ) → debts.over q ≡ without debts.over p q
+      over_still q = elim (cases_eq q p) [
+        | inl same ↦ ap debts.over same ∙ none ∙ sym (ap (without debts.over p) same ∙ out_of debts.over p)
+        | inr differs ↦ sym (still_in debts.over p q differs)
+      ]

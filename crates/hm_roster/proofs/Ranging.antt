@@ -1,6 +1,6 @@
 -- Procedures that are looked at one after another.
-use Rattle.std.proofs.Common.{◌≡◌, ◌≢◌, ◌⊎◌, ℕ, ◌+◌, ◌<◌, ◌≤◌, Option, Bool, true, false, not, ◌==◌, ◌&&◌, ◌||◌, nat_lt, nat_le, refl, inl, inr, ap, sym, ◌∙◌, arith}
-use Rattle.std.proofs.lemmas.Bool.{and_from, and_parts, cases_lt, eq-eqb, false≢true, le-leb, leb-true, lt-ltb, not-true, or_cases, true≢false}
+use Rattle.std.proofs.Common.{◌≡◌, ◌≢◌, ℕ, ◌+◌, Option, Bool, true, not, ◌==◌, ◌||◌, nat_lt, nat_le, refl, inl, inr, sym, ◌∙◌, arith}
+use Rattle.std.proofs.lemmas.Bool.{and_from, and_parts, cases_lt, eq-eqb, le-leb, leb-true, lt-ltb, not-true, or_cases, or_left, or_right, true≢false}
 use Rattle.hm_names.specs.Server.{Server}
 use Rattle.hm_model.specs.Journal.{Past}
 use Rattle.hm_tied.specs.Calls.{without}
@@ -8,14 +8,6 @@ use Rattle.hm_tied.specs.Tied.{Debts, IsTiedBut, Roster}
 use Rattle.hm_tied.proofs.Uses.{debts_rise}
 use Rattle.hm_roster.specs.Roster.{IsSameBut, outside, settled, settled_from}
 use Rattle.hm_roster.specs.declared.desk.Desk.{Desk}
-
-or_left : (a b : Bool) → a ≡ true → (a || b) ≡ true
-or_left true b e = refl
-or_left false b e = absurd (false≢true e)
-
-or_right : (a b : Bool) → b ≡ true → (a || b) ≡ true
-or_right true b e = refl
-or_right false b e = e
 
 -- nobody is from one number on to below itself
 outside_all : (test : ℕ → Bool) (low q : ℕ) → test q ≡ true → outside test low low q ≡ true

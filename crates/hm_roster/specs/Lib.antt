@@ -1,1 +1,4 @@
 pub mod Roster
+pub mod Behind
+pub mod Desk
+pub mod Opening

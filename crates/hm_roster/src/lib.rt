@@ -5,9 +5,15 @@
 mod abilities;
 mod backing;
 mod behind;
+mod claiming;
 mod claims;
 mod desk;
+mod enlisting;
 mod next;
+mod opening;
 mod places;
+mod room;
+mod servers;
+mod stepping;
 
 pub use desk::Desk;

@@ -17,7 +17,7 @@ use std::sync::ledger::Ledger;
 
 impl Desk {
     // A procedure that was given and isn't claimed holds again what it held before: nothing where it has no step.
-    fn give_back(&mut self, records: &Records, pid: Pid)
+    pub(crate) fn give_back(&mut self, records: &Records, pid: Pid)
         requires { IsGiven records.now.past self.old pid.0 }
         ensures owes { Owes records.now.past self.new (owing pid.0) }
         ensures same { IsSameBut self.old self.new }

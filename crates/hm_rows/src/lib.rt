@@ -17,6 +17,4 @@ mod logs;
 #[cfg(test)]
 mod play;
 #[cfg(test)]
-mod state;
-#[cfg(test)]
 mod statuses;

@@ -1,5 +1,5 @@
 -- What the trees of disablings, splits and merges move: regions that they close, by Unassigns, and those that they make.
-use Rattle.std.proofs.Common.{◌≡◌, ◌≢◌, ℕ, zero, suc, ◌+◌, ◌-◌, ◌<◌, ◌≤◌, List, [], ◌∷◌, map, cond, ◌&&◌, Bool, true, false, Option, Some, None, refl, ap, sym, ◌∙◌, subst, inl, inr, ◌⊎◌, slice_get, arith}
+use Rattle.std.proofs.Common.{◌≡◌, ℕ, zero, suc, ◌+◌, ◌-◌, ◌<◌, ◌≤◌, List, [], ◌∷◌, map, cond, ◌&&◌, Bool, true, false, Option, Some, None, refl, ap, sym, ◌∙◌, subst, inl, inr, ◌⊎◌, slice_get, arith}
 use Rattle.std.proofs.lemmas.Bool.{and_parts, false≢true}
 use Rattle.std.proofs.lemmas.Option.{none-some, same_Some}
 use Rattle.hm_names.specs.Region.{Region}
@@ -27,7 +27,7 @@ use Rattle.hm_model.specs.Acts.{act_answer}
 use Rattle.hm_model.specs.Answers.{last_answer, row_of}
 use Rattle.hm_model.specs.Inputs.{step_input}
 use Rattle.hm_model.specs.Journal.{Past}
-use Rattle.hm_model.specs.Keys.{same_region, same_table}
+use Rattle.hm_model.specs.Keys.{same_table}
 use Rattle.hm_model.specs.Kinds.{kind_of, request_kind, table_of_first}
 use Rattle.hm_model.specs.Lists.{exact_rows}
 use Rattle.hm_model.specs.Locks.{IsIn, in_name_order}
@@ -38,26 +38,27 @@ use Rattle.hm_model.specs.RegionActs.{close_regions}
 use Rattle.hm_model.specs.RowsSaid.{Rows, keep_region, live_among, regions_among}
 use Rattle.hm_model.specs.Rules.{IsLegal}
 use Rattle.hm_model.specs.Tree.{Node, args_in, made, node_of}
-use Rattle.hm_model.specs.Undoing.{closed_by}
+use Rattle.hm_model.specs.Undoing.{closed_by, closed_by_request}
 use Rattle.hm_model.specs.Views.{first_id_of, regions_in, table_of}
 use Rattle.hm_model.specs.Whereabouts.{moved_by}
 use Rattle.hm_model.proofs.ExactRows.{is_listed, led_row}
 use Rattle.hm_model.proofs.Highs.{own_all}
-use Rattle.hm_model.proofs.KeyTests.{same_region-refl, same_table-is, same_table-refl}
+use Rattle.hm_model.proofs.KeyTests.{same_table-is, same_table-refl}
 use Rattle.hm_model.proofs.Kin.{makes_one}
 use Rattle.hm_model.proofs.LegalSteps.{StepFacts, ready_stops}
 use Rattle.hm_model.proofs.PlainActs.{is_plain}
 use Rattle.hm_model.proofs.StepDoes.{row_by}
 use Rattle.hm_model.proofs.Tops.{TopIs}
 use Rattle.hm_model.proofs.Trees.{Grown, IsRooted, down_rooted, grown_all, is_there, le_or_lt, new_child, node_same, old_or_new, step_of, submit_rooted, undo_rooted}
-use Rattle.hm_kinds.proofs.Covering.{covers_from, merge_own, order_has}
+use Rattle.hm_kinds.proofs.Covering.{covers_from, order_has}
 use Rattle.hm_kinds.proofs.Kids.{made_at}
 use Rattle.hm_serial.proofs.Apart.{step_top}
 use Rattle.hm_serial.proofs.Fallen.{root_of_node}
 use Rattle.hm_serial.proofs.FallAll.{none_at}
-use Rattle.hm_single.specs.Calls.{IsNewOf, MovesIn, closes_first}
+use Rattle.hm_single.specs.Calls.{MovesIn, closes_first}
 use Rattle.hm_single.specs.Theorem.{ClosedAreUnplaced}
-use Rattle.hm_single.proofs.Makes.{GoalIs, kids_goal, makes}
+use Rattle.hm_single.proofs.Makes.{GoalIs, kids_goal}
+use Rattle.hm_single.proofs.New.{IsNewOf, closed_covered, closes_old, closing_lined, is_closing}
 use Rattle.hm_single.proofs.Tidy.{moved_goal}
 use Rattle.hm_single.proofs.Vacated.{unassigned}
 
@@ -120,60 +121,59 @@ in_numbers table r first (suc count) h = elim h [
   | inr later ↦ (let on = in_numbers table r (first + 1) count later in let a = on.0 in let b = on.1 in (omega (arith, a), omega (arith, b)))
 ]
 
--- the root closes the region by an Unassign, or the region is new
+-- the root closes the region by an Unassign, and the region isn't new; or it has a new one assigned
 abbrev Says : Request → ℕ → Region → Args → Type 0
 Says request first region it =
-    ((to : Option Server) × (it ≡ args_are.Transit region goal_is.Unassign to) × (covers (args_are.Root request first) (key_is.Region region) ≡ true)) ⊎ IsNewOf request first region
+    ((to : Option Server) × (it ≡ args_are.Transit region goal_is.Unassign to) × (covers (args_are.Root request first) (key_is.Region region) ≡ true) × (IsNewOf request first region → ⊥))
+    ⊎ (IsNewOf request first region × (to : Option Server) × (it ≡ args_are.Transit region goal_is.Assign to))
 
-act_says : (request : Request) (first : ℕ) (act : Act) → closes_first request ≡ true → is_listed (request_kind request) act ≡ true → is_plain act ≡ true → (next : ℕ) (at : StepIn) → at.args ≡ args_are.Root request first
+-- where the act closes the regions that the request names, none of them is new
+abbrev ClosesOld : Request → ℕ → Act → Type 0
+ClosesOld request first act = is_closing act ≡ true → (region : Region) → IsIn region (closed_by_request request) → IsNewOf request first region → ⊥
+
+act_says : (request : Request) (first : ℕ) (act : Act) → closes_first request ≡ true → is_listed (request_kind request) act ≡ true → is_plain act ≡ true → ClosesOld request first act → (next : ℕ) (at : StepIn) → at.args ≡ args_are.Root request first
     → (i : ℕ) (it : Args) → slice_get (args_in (act_answer act next at).children) i ≡ Some it → (region : Region) → moved_by it ≡ Some region → Says request first region it
-act_says (request_is.DisableTable t) first act_is.CloseRegions h l p next at e i it is region m =
+act_says (request_is.DisableTable t) first act_is.CloseRegions h l p old next at e i it is region m =
     let s = sent_for goal_is.Unassign next (live_among t at.rows) i it (ap (λ a. slice_get (args_in (close_regions next a at.rows).children) i) (sym e) ∙ is) region m in
-    inl (None, s.0, covers_from (args_are.Root (request_is.DisableTable t) first) (resource_is.Table t) (key_is.Region region) (inr (inl refl)) (ap (same_table t) (among_table t _ at.rows region s.1) ∙ same_table-refl t))
-act_says (request_is.DisableTable t) first act_is.OpenRegions h l p next at e i it is region m = absurd (false≢true l)
-act_says (request_is.DisableTable t) first act_is.CloseParent h l p next at e i it is region m = absurd (false≢true l)
-act_says (request_is.DisableTable t) first act_is.CloseParents h l p next at e i it is region m = absurd (false≢true l)
-act_says (request_is.DisableTable t) first act_is.OpenDaughters h l p next at e i it is region m = absurd (false≢true l)
-act_says (request_is.DisableTable t) first act_is.OpenMerged h l p next at e i it is region m = absurd (false≢true l)
-act_says (request_is.DisableTable t) first act_is.Reassign h l p next at e i it is region m = absurd (false≢true l)
-act_says (request_is.DisableTable t) first act h l p next at e i it is region m = (let g = moved_goal act it region (made_at (GoalIs act) (act_answer act next at).children (kids_goal act p next at) i it is) m in absurd (none-some g.0 g.3))
-act_says (request_is.SplitRegion own key) first act_is.CloseParent h l p next at e i it is region m =
+    inl (None, s.0, covers_from (args_are.Root (request_is.DisableTable t) first) (resource_is.Table t) (key_is.Region region) (inr (inl refl)) (ap (same_table t) (among_table t _ at.rows region s.1) ∙ same_table-refl t), λ new. let low = new.0 in let high : region.id < first + 0 = new.1 in omega (arith, low, high))
+act_says (request_is.DisableTable t) first act_is.OpenRegions h l p old next at e i it is region m = absurd (false≢true l)
+act_says (request_is.DisableTable t) first act_is.CloseParent h l p old next at e i it is region m = absurd (false≢true l)
+act_says (request_is.DisableTable t) first act_is.CloseParents h l p old next at e i it is region m = absurd (false≢true l)
+act_says (request_is.DisableTable t) first act_is.OpenDaughters h l p old next at e i it is region m = absurd (false≢true l)
+act_says (request_is.DisableTable t) first act_is.OpenMerged h l p old next at e i it is region m = absurd (false≢true l)
+act_says (request_is.DisableTable t) first act_is.Reassign h l p old next at e i it is region m = absurd (false≢true l)
+act_says (request_is.DisableTable t) first act h l p old next at e i it is region m = (let g = moved_goal act it region (made_at (GoalIs act) (act_answer act next at).children (kids_goal act p next at) i it is) m in absurd (none-some g.0 g.3))
+act_says (request_is.SplitRegion own key) first act_is.CloseParent h l p old next at e i it is region m =
     let s = sent_for goal_is.Unassign next (closed_by at.args) i it is region m in
-    let same : region ≡ own = elim (subst (λ a. IsIn region (closed_by a)) e s.1) [ inl one ↦ one | inr none ↦ elim none [ ] ] in
-    inl (None, s.0, covers_from (args_are.Root (request_is.SplitRegion own key) first) (resource_is.Region own) (key_is.Region region) (inr (inr (inl refl))) (ap (same_region own) same ∙ same_region-refl own))
-act_says (request_is.SplitRegion own key) first act_is.OpenDaughters h l p next at e i it is region m =
+    let among = subst (λ a. IsIn region (closed_by a)) e s.1 in
+    inl (None, s.0, closed_covered (request_is.SplitRegion own key) first refl region among, old refl region among)
+act_says (request_is.SplitRegion own key) first act_is.OpenDaughters h l p old next at e i it is region m =
     let s = sent_for goal_is.Assign next (regions_in own.table (numbers_from first 2)) i it
     (ap (λ a. slice_get (args_in (given (table_of a) next (λ table. spawns next (transits goal_is.Assign (regions_in table (numbers_from (first_id_of a) 2))))).children) i) (sym e) ∙ is) region m in
-    inr (in_numbers own.table region first 2 s.1)
-act_says (request_is.SplitRegion own key) first act_is.OpenRegions h l p next at e i it is region m = absurd (false≢true l)
-act_says (request_is.SplitRegion own key) first act_is.CloseRegions h l p next at e i it is region m = absurd (false≢true l)
-act_says (request_is.SplitRegion own key) first act_is.CloseParents h l p next at e i it is region m = absurd (false≢true l)
-act_says (request_is.SplitRegion own key) first act_is.OpenMerged h l p next at e i it is region m = absurd (false≢true l)
-act_says (request_is.SplitRegion own key) first act_is.Reassign h l p next at e i it is region m = absurd (false≢true l)
-act_says (request_is.SplitRegion own key) first act h l p next at e i it is region m = (let g = moved_goal act it region (made_at (GoalIs act) (act_answer act next at).children (kids_goal act p next at) i it is) m in absurd (none-some g.0 g.3))
-act_says (request_is.MergeRegions regions) first act_is.CloseParents h l p next at e i it is region m =
+    inr (in_numbers own.table region first 2 s.1, None, s.0)
+act_says (request_is.SplitRegion own key) first act_is.OpenRegions h l p old next at e i it is region m = absurd (false≢true l)
+act_says (request_is.SplitRegion own key) first act_is.CloseRegions h l p old next at e i it is region m = absurd (false≢true l)
+act_says (request_is.SplitRegion own key) first act_is.CloseParents h l p old next at e i it is region m = absurd (false≢true l)
+act_says (request_is.SplitRegion own key) first act_is.OpenMerged h l p old next at e i it is region m = absurd (false≢true l)
+act_says (request_is.SplitRegion own key) first act_is.Reassign h l p old next at e i it is region m = absurd (false≢true l)
+act_says (request_is.SplitRegion own key) first act h l p old next at e i it is region m = (let g = moved_goal act it region (made_at (GoalIs act) (act_answer act next at).children (kids_goal act p next at) i it is) m in absurd (none-some g.0 g.3))
+act_says (request_is.MergeRegions regions) first act_is.CloseParents h l p old next at e i it is region m =
     let s = sent_for goal_is.Unassign next (closed_by at.args) i it is region m in
-    inl (None, s.0, covers_from (args_are.Root (request_is.MergeRegions regions) first) (resource_is.Region region) (key_is.Region region) (merge_own regions first region (subst (λ a. IsIn region (closed_by a)) e s.1)) (same_region-refl region))
-act_says (request_is.MergeRegions regions) first act_is.OpenMerged h l p next at e i it is region m =
+    let among = subst (λ a. IsIn region (closed_by a)) e s.1 in
+    inl (None, s.0, closed_covered (request_is.MergeRegions regions) first refl region among, old refl region among)
+act_says (request_is.MergeRegions regions) first act_is.OpenMerged h l p old next at e i it is region m =
     by (table_of_first regions) (ap (λ a. slice_get (args_in (given (table_of a) next (λ table. spawns next (transits goal_is.Assign (regions_in table (numbers_from (first_id_of a) 1))))).children) i) (sym e) ∙ is)
   where
     by : (o : Option TableName) → slice_get (args_in (given o next (λ table. spawns next (transits goal_is.Assign (regions_in table (numbers_from first 1))))).children) i ≡ Some it → Says (request_is.MergeRegions regions) first region it
     by None k = absurd (none-some it k)
-    by (Some table) k = inr (in_numbers table region first 1 (sent_for goal_is.Assign next (regions_in table (numbers_from first 1)) i it k region m).1)
-act_says (request_is.MergeRegions regions) first act_is.OpenRegions h l p next at e i it is region m = absurd (false≢true l)
-act_says (request_is.MergeRegions regions) first act_is.CloseRegions h l p next at e i it is region m = absurd (false≢true l)
-act_says (request_is.MergeRegions regions) first act_is.CloseParent h l p next at e i it is region m = absurd (false≢true l)
-act_says (request_is.MergeRegions regions) first act_is.OpenDaughters h l p next at e i it is region m = absurd (false≢true l)
-act_says (request_is.MergeRegions regions) first act_is.Reassign h l p next at e i it is region m = absurd (false≢true l)
-act_says (request_is.MergeRegions regions) first act h l p next at e i it is region m = (let g = moved_goal act it region (made_at (GoalIs act) (act_answer act next at).children (kids_goal act p next at) i it is) m in absurd (none-some g.0 g.3))
-act_says request first act h l p next at e i it is region m = absurd (false≢true h)
-
--- such roots list their rows, and move no region themselves
-closing_lined : (request : Request) (first : ℕ) → closes_first request ≡ true → (exact_rows (kind_of (args_are.Root request first)) ≡ []) × (moved_by (args_are.Root request first) ≡ None)
-closing_lined (request_is.DisableTable t) first h = (refl, refl)
-closing_lined (request_is.SplitRegion own key) first h = (refl, refl)
-closing_lined (request_is.MergeRegions regions) first h = (refl, refl)
-closing_lined request first h = absurd (false≢true h)
+    by (Some table) k = (let s = sent_for goal_is.Assign next (regions_in table (numbers_from first 1)) i it k region m in inr (in_numbers table region first 1 s.1, None, s.0))
+act_says (request_is.MergeRegions regions) first act_is.OpenRegions h l p old next at e i it is region m = absurd (false≢true l)
+act_says (request_is.MergeRegions regions) first act_is.CloseRegions h l p old next at e i it is region m = absurd (false≢true l)
+act_says (request_is.MergeRegions regions) first act_is.CloseParent h l p old next at e i it is region m = absurd (false≢true l)
+act_says (request_is.MergeRegions regions) first act_is.OpenDaughters h l p old next at e i it is region m = absurd (false≢true l)
+act_says (request_is.MergeRegions regions) first act_is.Reassign h l p old next at e i it is region m = absurd (false≢true l)
+act_says (request_is.MergeRegions regions) first act h l p old next at e i it is region m = (let g = moved_goal act it region (made_at (GoalIs act) (act_answer act next at).children (kids_goal act p next at) i it is) m in absurd (none-some g.0 g.3))
+act_says request first act h l p old next at e i it is region m = absurd (false≢true h)
 
 abbrev AllSaid : Past → Type 0
 AllSaid J =
@@ -206,12 +206,12 @@ module _ (pid : Pid) (pick : Option Server) (out : StepOut) (J : Past) (legal : 
   step = step_of pid pick out J (grown_all J legal.0) legal
 
   -- what a root makes that closes regions
-  made_says : (request : Request) (first : ℕ) → step.node.args ≡ args_are.Root request first → closes_first request ≡ true → (i : ℕ) (it : Args) → slice_get (args_in out.children) i ≡ Some it → (region : Region) → moved_by it ≡ Some region → Says request first region it
-  made_says request first own h i it is region m =
+  made_says : step.node.above ≡ [] → (request : Request) (first : ℕ) → step.node.args ≡ args_are.Root request first → closes_first request ≡ true → (i : ℕ) (it : Args) → slice_get (args_in out.children) i ≡ Some it → (region : Region) → moved_by it ≡ Some region → Says request first region it
+  made_says nil request first own h i it is region m =
       let exact : exact_rows (kind_of step.node.args) ≡ [] = ap (λ a. exact_rows (kind_of a)) own ∙ (closing_lined request first h).0 in
       let row = led_row (kind_of step.node.args) step.sheet step.valid (row_of J pid.0 step.node) (grown.led pid.0 step.node step.node_is exact step.sheet step.sheet_is (ready_stops J pid.0 step.node (last_answer J pid.0) step.ready)) step.row step.row_is in
       row_by (λ o. slice_get (args_in o.children) i ≡ Some it → Says request first region it) step.row (step_input J pid.0 step.node pick) (λ c k. absurd (none-some it k))
-      (λ k. act_says request first step.row.act h (ap (λ a. is_listed (kind_of a) step.row.act) (sym own) ∙ row.listed) row.plain step.row.next (step_input J pid.0 step.node pick) own i it k region m)
+      (λ k. act_says request first step.row.act h (ap (λ a. is_listed (kind_of a) step.row.act) (sym own) ∙ row.listed) row.plain (λ closing. closes_old pid pick out J legal nil request first own h closing) step.row.next (step_input J pid.0 step.node pick) own i it k region m)
       (ap (λ (o : StepOut). slice_get (args_in o.children) i) (sym step.out_is) ∙ is)
 
   step_said : AllSaid (entry_is.Step pid pick out ∷ J)
@@ -223,7 +223,7 @@ module _ (pid : Pid) (pick : Option Server) (out : StepOut) (J : Past) (legal : 
         let nil = (own_all J legal.0 pid.0 step.node step.node_is).high ((makes_one pid pick out J legal).1 (q - made J - 1) new.0 region new.1 moved) in
         let mine : pid.0 ≡ root = sym (grown.tops pid.0 step.node step.node_is nil) ∙ ap (λ (n : Node). n.root) (sym new.2) ∙ m.1 in
         let one : step.node ≡ top = same_Some step.node top (sym step.node_is ∙ ap (node_of J) mine ∙ (step_top pid pick out J step root top at).0) in
-        subst (λ (n : Node). Says request first region n.args) (sym new.2) (made_says request first (ap (λ (n : Node). n.args) one ∙ own) h (q - made J - 1) new.0 new.1 region moved)
+        subst (λ (n : Node). Says request first region n.args) (sym new.2) (made_says nil request first (ap (λ (n : Node). n.args) one ∙ own) h (q - made J - 1) new.0 new.1 region moved)
   ]
 
 said_all : (J : Past) → IsLegal J → AllSaid J
@@ -237,12 +237,16 @@ said_all (entry_is.Up server ∷ J) legal = said_all J legal.0
 said_all (entry_is.Down server ∷ J) legal = let g = grown_all J legal.0 in calm_said J (entry_is.Down server ∷ J) (down_rooted server J g) g (grown_all (entry_is.Down server ∷ J) legal) (said_all J legal.0)
 said_all (entry_is.Abort pid ∷ J) legal = said_all J legal.0
 
+-- a transit unassigns or assigns
+goals_differ : (region : Region) (to other : Option Server) → args_are.Transit region goal_is.Unassign to ≡ args_are.Transit region goal_is.Assign other → ⊥
+goals_differ region to other e = cc
+
 pub closed_unplaced : ClosedAreUnplaced
-closed_unplaced J legal root top request first is nil own h running p node region to moves unassign stopped old =
-    unassigned J legal root top is nil running region (ap (λ a. covers a (key_is.Region region)) own ∙ covered) (
-      (p, node, moves, stopped),
-      λ q x m. elim (said_all J legal root top request first (is, nil) own h q x region m) [ inl says ↦ (says.0, says.1) | inr new ↦ absurd (old new) ],
-    )
-  where
-    covered : covers (args_are.Root request first) (key_is.Region region) ≡ true
-    covered = elim (said_all J legal root top request first (is, nil) own h p node region moves) [ inl says ↦ says.2 | inr new ↦ absurd (old new) ]
+closed_unplaced J legal root top request first is nil own h running p node region to moves unassign stopped =
+    elim (said_all J legal root top request first (is, nil) own h p node region moves) [
+      | inr new ↦ absurd (goals_differ region to new.1 (sym unassign ∙ new.2))
+      | inl closed ↦ unassigned J legal root top is nil running region (ap (λ a. covers a (key_is.Region region)) own ∙ closed.2) (
+        (p, node, moves, stopped),
+        λ q x m. elim (said_all J legal root top request first (is, nil) own h q x region m) [ inl says ↦ (says.0, says.1) | inr new ↦ absurd (closed.3 new.0) ],
+      )
+    ]

@@ -160,7 +160,7 @@ module _ (J : Past) (grown : Grown J) where
     going_some None h e = h
     going_some (Some a) h e = none-some a (sym e)
 
-    going_runs : (o : Option Answer) → IsGoing o → is_stopped o ≡ false
+    pub going_runs : (o : Option Answer) → IsGoing o → is_stopped o ≡ false
     going_runs (Some (answer_is.More n)) h = refl
     going_runs (Some (answer_is.Wait n)) h = refl
     going_runs (Some (answer_is.Await n)) h = refl

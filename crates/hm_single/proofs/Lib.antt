@@ -19,3 +19,11 @@ pub mod Closed
 pub mod Tidies
 pub mod Calm
 pub mod Live
+pub mod New
+pub mod Aimless
+pub mod InWay
+pub mod Steady
+pub mod Gives
+pub mod Trying
+pub mod Tried
+pub mod Picks

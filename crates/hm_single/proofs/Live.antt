@@ -115,7 +115,7 @@ alone_over : (t : TableName) (ask : Ask) → exclusive (resource_is.Table t) ≡
 alone_over t ask same = ap (λ (a : Ask). a.exclusive && is_over a.resource (key_is.Table t)) (sym same) ∙ same_table-refl t
 
 -- who has regions added or dropped asks for their table alone
-top_asks : (args : Args) (t : TableName) → IsIn (exclusive (resource_is.Table t)) (asks args) → (request : Request) × (first : ℕ) × (args ≡ args_are.Root request first) × (exact_rows (request_kind request) ≡ [])
+pub top_asks : (args : Args) (t : TableName) → IsIn (exclusive (resource_is.Table t)) (asks args) → (request : Request) × (first : ℕ) × (args ≡ args_are.Root request first) × (exact_rows (request_kind request) ≡ [])
 top_asks (args_are.Root (request_is.CreateNamespace ns) first) t among = (_, _, refl, refl)
 top_asks (args_are.Root (request_is.DropNamespace ns) first) t among = (_, _, refl, refl)
 top_asks (args_are.Root (request_is.CreateTable table keys) first) t among = (_, _, refl, refl)
@@ -143,7 +143,7 @@ top_asks (args_are.FenceCall server) t among = absurd among
 top_asks (args_are.LayoutCall root) t among = absurd among
 top_asks (args_are.SweepLayout root) t among = absurd among
 
-creating_fills : (request : Request) (first : ℕ) → is_creating (args_are.Root request first) ≡ true → fills request ≡ true
+pub creating_fills : (request : Request) (first : ℕ) → is_creating (args_are.Root request first) ≡ true → fills request ≡ true
 creating_fills (request_is.CreateTable table keys) first h = refl
 creating_fills (request_is.CreateNamespace ns) first h = absurd (false≢true h)
 creating_fills (request_is.DropNamespace ns) first h = absurd (false≢true h)
@@ -155,7 +155,7 @@ creating_fills (request_is.SplitRegion region key) first h = absurd (false≢tru
 creating_fills (request_is.MergeRegions regions) first h = absurd (false≢true h)
 creating_fills (request_is.Move region to) first h = absurd (false≢true h)
 
-deleting_rests : (request : Request) (first : ℕ) → is_deleting (args_are.Root request first) ≡ true → (fills request ≡ true) × (rests request ≡ true)
+pub deleting_rests : (request : Request) (first : ℕ) → is_deleting (args_are.Root request first) ≡ true → (fills request ≡ true) × (rests request ≡ true)
 deleting_rests (request_is.DeleteTable table) first h = (refl, refl)
 deleting_rests (request_is.CreateNamespace ns) first h = absurd (false≢true h)
 deleting_rests (request_is.DropNamespace ns) first h = absurd (false≢true h)

@@ -31,7 +31,7 @@ use Rattle.hm_model.specs.Sheets.{next_row, row_in, sheet_for, sheets_of}
 use Rattle.hm_model.specs.Tree.{Node, args_in, is_top}
 use Rattle.hm_model.proofs.ExactRows.{IsLedRow, led_row}
 use Rattle.hm_model.proofs.LegalSteps.{StepFacts, ready_stops}
-use Rattle.hm_model.proofs.PlainActs.{GoesTo, plain_act}
+use Rattle.hm_model.proofs.PlainActs.{GoesTo, is_plain, plain_act}
 use Rattle.hm_model.proofs.StepDoes.{Does}
 use Rattle.hm_model.proofs.Trees.{answer_now, does_of, grown_all, step_of}
 use Rattle.hm_model.proofs.ValidSheets.{Leads, valid_end}
@@ -73,11 +73,14 @@ module _ (pid : Pid) (pick : Option Server) (out : StepOut) (J : Past) (legal : 
       by false is = inr is
 
   -- whom it makes
-  pub goals : exact_rows (kind_of step.node.args) ≡ [] → (i : ℕ) (made : Args) → slice_get (args_in out.children) i ≡ Some made → GoalIs step.row.act made
-  goals exact i made is = elim cut_or [
+  pub goals_plain : is_plain step.row.act ≡ true → (i : ℕ) (made : Args) → slice_get (args_in out.children) i ≡ Some made → GoalIs step.row.act made
+  goals_plain plain i made is = elim cut_or [
     | inl cut ↦ absurd (none-some made (ap (λ (o : StepOut). slice_get (args_in o.children) i) (sym cut) ∙ is))
-    | inr acts ↦ made_at (GoalIs step.row.act) (act_answer step.row.act step.row.next (step_input J pid.0 step.node pick)).children (kids_goal step.row.act (led_now exact).plain step.row.next (step_input J pid.0 step.node pick)) i made (ap (λ (o : StepOut). slice_get (args_in o.children) i) (sym acts) ∙ is)
+    | inr acts ↦ made_at (GoalIs step.row.act) (act_answer step.row.act step.row.next (step_input J pid.0 step.node pick)).children (kids_goal step.row.act plain step.row.next (step_input J pid.0 step.node pick)) i made (ap (λ (o : StepOut). slice_get (args_in o.children) i) (sym acts) ∙ is)
   ]
+
+  pub goals : exact_rows (kind_of step.node.args) ≡ [] → (i : ℕ) (made : Args) → slice_get (args_in out.children) i ≡ Some made → GoalIs step.row.act made
+  goals exact i made is = goals_plain (led_now exact).plain i made is
 
   -- a root's own step
   module _ (top : step.node.above ≡ []) (exact : exact_rows (kind_of step.node.args) ≡ []) where

@@ -145,11 +145,12 @@ reads_own (args_are.Root (request_is.SplitRegion own key) f) region m = absurd (
 reads_own (args_are.Root (request_is.MergeRegions regions) f) region m = absurd (none-some region m)
 reads_own args region m = absurd (none-some region m)
 
-may_read : (J : Past) (args : Args) (region : Region) → moved_by args ≡ Some region → may_open_in (rows_read J args) region ≡ true → may_open (cat J (key_is.Table region.table)) (cat J (key_is.Region region)) ≡ true
-may_read J args region m may =
+-- what it sees of them is what is there
+pub may_read : (J : Past) (args : Args) (region : Region) → moved_by args ≡ Some region → may_open_in (rows_read J args) region ≡ may_open (cat J (key_is.Table region.table)) (cat J (key_is.Region region))
+may_read J args region m =
     let on = reads_own args region m in
-    ap (λ o. may_open o (cat J (key_is.Region region))) (sym (row_read J args (key_is.Table region.table) on.0))
-    ∙ ap (may_open (row_at (rows_read J args) (key_is.Table region.table))) (sym (row_read J args (key_is.Region region) on.1)) ∙ may
+    ap (λ o. may_open o (row_at (rows_read J args) (key_is.Region region))) (row_read J args (key_is.Table region.table) on.0)
+    ∙ ap (may_open (cat J (key_is.Table region.table))) (row_read J args (key_is.Region region) on.1)
 
 -- a region without a place is at a row that looks at it
 module _ (J : Past) (region : Region) (kept : Lasting J) (unplaced : is_placed (place_of J region) ≡ false) where
@@ -226,7 +227,7 @@ module _ (pid : Pid) (pick : Option Server) (out : StepOut) (J : Past) (grown : 
       let free = free_at J region kept was pid.0 step.node step.node_is m runs_now in
       let act = free_act (row_of J pid.0 step.node) step.row free (own_row region m) in
       let unplaced : is_placed (told_place (step_input J pid.0 step.node pick).place) ≡ false = ap (λ o. is_placed (told_place (Rattle.hm_model.specs.Inputs.place_if J o))) m ∙ was in
-      may_read J step.node.args region m (by (is_cut_off step.row (step_input J pid.0 step.node pick)) act unplaced g.0 (sym (ap (λ (o : StepOut). o.place) step.out_is) ∙ g.1) g.2 g.3)
+      sym (may_read J step.node.args region m) ∙ (by (is_cut_off step.row (step_input J pid.0 step.node pick)) act unplaced g.0 (sym (ap (λ (o : StepOut). o.place) step.out_is) ∙ g.1) g.2 g.3)
     where
       by : (b : Bool) → IsFreeAct step.row.act → is_placed (told_place (step_input J pid.0 step.node pick).place) ≡ false → (here : Place) → (cond b (fails cause_is.Aborted) (act_answer step.row.act step.row.next (step_input J pid.0 step.node pick))).place ≡ Some here → is_placed here ≡ true → region_of step.node.args ≡ Some region → may_open_in (rows_read J step.node.args) region ≡ true
       by true act unplaced here h placed own = absurd (none-some here h)

@@ -53,7 +53,7 @@ caller_quiet args h = absurd (false≢true h)
 
 -- who changes rows of regions makes nobody
 rows_quiet : (kind : ℕ) → ((act : Act) → is_listed kind act ≡ true → makes act ≡ None) → is_listed kind act_is.AddRegions ≡ false → is_listed kind act_is.DropRegions ≡ false → (act : Act) (args : Args) → is_listed kind act ≡ true → GoalIs act args → is_quiet args ≡ true
-rows_quiet kind none adds drops act (args_are.Transit region goal to) h g = absurd (none-some goal (sym (none act h) ∙ g))
+rows_quiet kind none adds drops act (args_are.Transit region goal to) h g = absurd (none-some goal (sym (none act h) ∙ g.0))
 rows_quiet kind none adds drops act (args_are.AddRegions table first bounds) h g = absurd (true≢false (sym h ∙ ap (is_listed kind) g ∙ adds))
 rows_quiet kind none adds drops act (args_are.DropRegions table ids) h g = absurd (true≢false (sym h ∙ ap (is_listed kind) g ∙ drops))
 rows_quiet kind none adds drops act (args_are.Root request first) h g = absurd g

@@ -107,7 +107,7 @@ quiet_unmoved (args_are.SweepLayout root) region h m = none-some region m
 quiet_unmoved args region h m = false≢true h
 
 pub moved_goal : (act : Act) (args : Args) (region : Region) → GoalIs act args → moved_by args ≡ Some region → (goal : Goal) × (to : Option Server) × (args ≡ args_are.Transit region goal to) × (makes act ≡ Some goal)
-moved_goal act (args_are.Transit moved goal to) region g m = (goal, to, ap (λ r. args_are.Transit r goal to) (same_Some moved region m), g)
+moved_goal act (args_are.Transit moved goal to) region g m = (goal, to, ap (λ r. args_are.Transit r goal to) (same_Some moved region m), g.0)
 moved_goal act (args_are.Root request first) region g m = absurd g
 moved_goal act (args_are.Crash server) region g m = absurd g
 moved_goal act args region g m = absurd (none-some region m)

@@ -161,10 +161,10 @@ module _ (pid : Pid) (pick : Option Server) (out : StepOut) (J : Past) (legal : 
   runs_now : is_stopped (last_answer J pid.0) ≡ false
   runs_now = ready_stops J pid.0 step.node (last_answer J pid.0) step.ready
 
-  work_now : (region : Region) → moved_by step.node.args ≡ Some region → work_of J' region ≡ Some pid.0
+  pub work_now : (region : Region) → moved_by step.node.args ≡ Some region → work_of J' region ≡ Some pid.0
   work_now region m = ap (λ n. worked region (moved_if n) pid.0 (work_of J region)) step.node_is ∙ cond-true (is_the_region region (moved_by step.node.args)) (Some pid.0) (work_of J region) (ap (is_the_region region) m ∙ same_region-refl region)
 
-  work_same : (region : Region) → is_the_region region (moved_by step.node.args) ≡ false → work_of J' region ≡ work_of J region
+  pub work_same : (region : Region) → is_the_region region (moved_by step.node.args) ≡ false → work_of J' region ≡ work_of J region
   work_same region off = ap (λ n. worked region (moved_if n) pid.0 (work_of J region)) step.node_is ∙ cond-false (is_the_region region (moved_by step.node.args)) (Some pid.0) (work_of J region) off
 
   -- the step of an Unassign

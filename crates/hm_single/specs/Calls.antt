@@ -1,5 +1,5 @@
 -- What the calls about a region find, and who moves it.
-use Rattle.std.specs.Prelude.{◌+◌, ◌≤◌, Bool, false, ◌≡◌, ℕ, ◌<◌, [], Option, Some, None, true, ◌⊎◌}
+use Rattle.std.specs.Prelude.{Bool, false, ◌≡◌, ℕ, ◌<◌, [], Option, Some, None, true, ◌⊎◌}
 use Rattle.hm_names.specs.Region.{Region}
 use Rattle.hm_names.specs.Server.{Server}
 use Rattle.hm_names.specs.declared.range.KeyRange.{KeyRange}
@@ -20,7 +20,7 @@ use Rattle.hm_model.specs.Ranges.{IsLiveWith}
 use Rattle.hm_model.specs.Reports.{verb_of, peer_of, last_call}
 use Rattle.hm_model.specs.Single.{IsOver, IsGone}
 use Rattle.hm_model.specs.TransitActs.{is_placed}
-use Rattle.hm_model.specs.Tree.{Node, new_ids, node_of}
+use Rattle.hm_model.specs.Tree.{Node, node_of}
 use Rattle.hm_model.specs.Whereabouts.{moved_by}
 
 -- a procedure is a transit of the region
@@ -64,10 +64,6 @@ closes_first (request_is.DisableTable table) = true
 closes_first (request_is.SplitRegion region key) = true
 closes_first (request_is.MergeRegions regions) = true
 closes_first request = false
-
--- a region has an id that a request drew
-abbrev pub IsNewOf : Request → ℕ → Region → Type 0
-IsNewOf request first region = (first ≤ region.id) × (region.id < first + new_ids request)
 
 -- the last call of a region opened it at the server
 abbrev pub IsOpenedBy : Past → Option ℕ → Server → Type 0

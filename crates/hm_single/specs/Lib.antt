@@ -1,2 +1,3 @@
 pub mod Calls
+pub mod Picking
 pub mod Theorem

@@ -25,7 +25,7 @@ use Rattle.hm_model.specs.Reads.{covers}
 use Rattle.hm_model.specs.Reports.{verb_of, last_call, is_about}
 use Rattle.hm_model.specs.Tree.{Node, node_of, root_of}
 use Rattle.hm_model.specs.TransitActs.{is_placed, is_state, may_open}
-use Rattle.hm_single.specs.Calls.{Moves, MovesIn, NextIs, OneUnassigned, IsNewOf, closes_first, CallsAbout, IsOpenedBy, IsVoid, Finds, MayOpen, PlacedAreLive}
+use Rattle.hm_single.specs.Calls.{Moves, MovesIn, NextIs, OneUnassigned, closes_first, CallsAbout, IsOpenedBy, IsVoid, Finds, MayOpen, PlacedAreLive}
 
 -- the last call of a region is recorded, and is about it
 abbrev pub LastIsRecorded : Type 0
@@ -97,14 +97,13 @@ UnassignedAreUnplaced =
     (J : Past) → IsLegal J → (root : ℕ) (top : Node) → node_of J root ≡ Some top → top.above ≡ [] → root_ended J root ≡ false
     → (region : Region) → covers top.args (key_is.Region region) ≡ true → OneUnassigned J root region → is_placed (place_of J region) ≡ false
 
--- a region has no place once its Unassign under an unfinished disabling of its table, split or merge has ended, unless it is
--- one that the split or the merge makes
+-- a region has no place once its Unassign under an unfinished disabling of its table, split or merge has ended
 abbrev pub ClosedAreUnplaced : Type 0
 ClosedAreUnplaced =
     (J : Past) → IsLegal J → (root : ℕ) (top : Node) (request : Request) (first : ℕ) → node_of J root ≡ Some top → top.above ≡ []
     → top.args ≡ args_are.Root request first → closes_first request ≡ true → root_ended J root ≡ false
     → (p : ℕ) (node : Node) (region : Region) (to : Option Server) → MovesIn J root region p node
-    → node.args ≡ args_are.Transit region goal_is.Unassign to → is_stopped (last_answer J p) ≡ true → (IsNewOf request first region → ⊥)
+    → node.args ≡ args_are.Transit region goal_is.Unassign to → is_stopped (last_answer J p) ≡ true
     → is_placed (place_of J region) ≡ false
 
 -- each region that is open, or being opened or closed, is live

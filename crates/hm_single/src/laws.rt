@@ -1,4 +1,5 @@
 //! The laws.
+ghost use Rattle.hm_single.specs.Picking.{PicksAreRight, PicksAreThere};
 ghost use Rattle.hm_single.specs.Theorem.{LastIsRecorded, OneTransit, PlaceByRow, CallsFind, OpeningsAreSingle, OpenedAreTold, UnplacedAreFree, PlacedWhereLive, HeldPlacesStay, UnassignedAreUnplaced, ClosedAreUnplaced, PlacedLive, PlacedWhereOn, SingleOverRanges};
 
 /// The last call about a region is recorded.
@@ -32,8 +33,7 @@ pub fn live_regions_are_placed()
 
 /// While a root that hasn't ended asks for a region alone, as a split, a merge and a table's disabling do, only its tree
 /// changes the region's place; and the region is neither open nor being opened or closed once an Unassign of it under the root
-/// has ended, where the tree moves it by Unassigns alone. So it is under a disabling, a split and a merge, of each region but
-/// those that a split or a merge makes.
+/// has ended, where the tree moves it by Unassigns alone. So it is under a disabling, a split and a merge.
 pub fn unassigned_are_unplaced()
     ensures held { HeldPlacesStay }
     ensures unplaced { UnassignedAreUnplaced }
@@ -50,4 +50,11 @@ pub fn placed_are_live()
 /// table whose last range overlaps its own, live or not.
 pub fn openings_over_ranges_are_single()
     ensures { SingleOverRanges }
+{}
+
+/// Where a step needs a server to be picked and any is live, one fits: a transit that wants a live server never finds that
+/// its region failed to open there before it tried. So each procedure that may make a step has a pick that is right for it.
+pub fn picks_are_there()
+    ensures there { PicksAreThere }
+    ensures right { PicksAreRight }
 {}

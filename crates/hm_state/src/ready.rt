@@ -1,8 +1,9 @@
 //! An entry for which there is room.
 ghost use Rattle.std.specs.Prelude.{◌≡◌, drop};
+ghost use Rattle.hm_procedures.specs.Kept.{args_made};
 ghost use Rattle.hm_records.specs.Parts.{AreParts};
 
-use hm_data::Entry;
+use hm_data::{Args, Entry};
 use hm_procedures::Journal;
 use hm_records::Parts;
 use std::marker::Model;
@@ -29,6 +30,20 @@ impl Model for Ready {
 }
 
 impl Ready {
+    /// The entry.
+    pub fn entry(&self) -> &Entry
+        ensures { result.now ≡ self.now.entry }
+    {
+        &self.entry
+    }
+
+    /// What the procedures that it makes work on, in order.
+    pub fn made(&self) -> &[Args]
+        ensures { result.now ≡ args_made self.now.past self.now.entry }
+    {
+        self.parts.made()
+    }
+
     // An entry with what is kept of it behind the journal, which has it.
     pub(crate) fn with(journal: Journal, entry: Entry, parts: Parts) -> Ready
         requires { AreParts (drop 1 journal.entries) entry parts }

@@ -9,3 +9,4 @@ pub mod Stepping
 pub mod Undoing
 pub mod Uses
 pub mod Settled
+pub mod Ables

@@ -1,5 +1,5 @@
 -- What submissions, servers that come and go, reports and aborts leave to do.
-use Rattle.std.proofs.Common.{Bool, List, Option, Some, ap, arith, false, inl, inr, is_none, not, refl, sym, true, ℕ, ◌+◌, ◌==◌, ◌||◌, ◌∙◌, ◌∷◌, ◌≡◌, ◌≢◌, ◌⊎◌}
+use Rattle.std.proofs.Common.{Bool, List, Option, Some, ap, false, inl, inr, is_none, not, refl, sym, true, ℕ, ◌+◌, ◌==◌, ◌||◌, ◌∙◌, ◌∷◌, ◌≡◌, ◌≢◌, ◌⊎◌}
 use Rattle.std.proofs.lemmas.Bool.{and_from, cases_Bool, cases_eq, cond-false, eq-eqb, false≢true, ne_eqb, or_left, or_right}
 use Rattle.std.proofs.lemmas.Option.{none-some}
 use Rattle.hm_names.specs.declared.pid.Pid.{Pid}
@@ -17,24 +17,20 @@ use Rattle.hm_model.specs.Rules.{IsLegal}
 use Rattle.hm_model.specs.Tree.{Node, made, node_of}
 use Rattle.hm_model.specs.Phase.{ended, phase}
 use Rattle.hm_model.specs.Whereabouts.{called_by, moved_by}
-use Rattle.hm_model.proofs.Forest.{rooted_all}
 use Rattle.hm_model.proofs.Grown.{nodes_stay}
-use Rattle.hm_model.proofs.Trees.{grown_all, is_there, some_of}
+use Rattle.hm_model.proofs.Trees.{grown_all, some_of}
 use Rattle.hm_tied.specs.Tied.{CanGo, IsBusy, IsCalm, IsTied, IsTiedBut, LacksPick, Roster}
 use Rattle.hm_tied.specs.Entries.{AbortOwes, DownOwes, ReportOwes, SubmitOwes, UpOwes, is_fenced_by, late_debts, report_debts, root_debts}
 use Rattle.hm_tied.proofs.Entering.{Changes, changed, same_enlists}
 use Rattle.hm_tied.proofs.Going.{awaits_call, run_open, unstepped_open}
 use Rattle.hm_tied.proofs.Picking.{SeesSame, place_same}
-use Rattle.hm_tied.proofs.Staying.{SameCalls, going_same, lacks_after, same_calm, same_go, same_tree, same_undoes}
+use Rattle.hm_tied.proofs.Staying.{SameCalls, going_same, lacks_after, old_tree, same_calm, same_go, same_tree, same_undoes}
 
 -- an entry that makes a root and does nothing else
 module _ (entry : Entry) (J : Past) (legal : IsLegal (entry ∷ J)) (tree : tree_of J entry ≡ made J + 1) (last : (q : ℕ) → last_answer (entry ∷ J) q ≡ last_answer J q) (calls : SameCalls J (entry ∷ J)) (late : Bool) (claimed : List ℕ) where
   -- all that were there are of other trees
   apart : (q : ℕ) (x : Node) → node_of J q ≡ Some x → x.root ≢ tree_of J entry
-  apart q x is same =
-      let root = rooted_all J legal.0 q x is in
-      let le = is_there J (grown_all J legal.0) x.root root.root root.there in
-      omega (arith, le, same, tree)
+  apart q x is same = old_tree J legal.0 q x is (same ∙ tree)
 
   pub rooted : ((q : ℕ) → LacksPick J q → LacksPick (entry ∷ J) q ⊎ (late ≡ true)) → Changes J (entry ∷ J) claimed claimed (root_debts J late)
   rooted lacks = record {

@@ -1,5 +1,5 @@
 -- What an entry leaves alone of a tree that it doesn't belong to.
-use Rattle.std.proofs.Common.{Some, ap, false, inl, inr, is_some, not, refl, subst, sym, true, ℕ, ◌&&◌, ◌∙◌, ◌∷◌, ◌≡◌, ◌≢◌}
+use Rattle.std.proofs.Common.{Some, ap, arith, false, inl, inr, is_some, not, refl, subst, sym, true, ℕ, ◌&&◌, ◌+◌, ◌∙◌, ◌∷◌, ◌≡◌, ◌≢◌}
 use Rattle.std.proofs.lemmas.Option.{same_Some}
 use Rattle.hm_names.specs.Server.{Server}
 use Rattle.hm_data.specs.declared.entry.Entry.{Entry}
@@ -11,15 +11,23 @@ use Rattle.hm_model.specs.Journal.{Past}
 use Rattle.hm_model.specs.Phase.{all_stopped, cause, phase}
 use Rattle.hm_model.specs.Rest.{IsAnswered, IsReady}
 use Rattle.hm_model.specs.Rules.{IsLegal}
-use Rattle.hm_model.specs.Tree.{Node, is_root_in, is_top, node_of}
+use Rattle.hm_model.specs.Tree.{Node, is_root_in, is_top, made, node_of}
 use Rattle.hm_model.specs.Undo.{is_empty, stack}
 use Rattle.hm_model.specs.Whereabouts.{called_by}
 use Rattle.hm_model.proofs.Apart.{others_stay}
 use Rattle.hm_model.proofs.Forest.{forest_all, rooted_all, top_is, top_is_own}
 use Rattle.hm_model.proofs.Grown.{nodes_stay}
+use Rattle.hm_model.proofs.Trees.{grown_all, is_there}
 use Rattle.hm_tied.specs.Tied.{CanGo, IsCalm, LacksPick}
 use Rattle.hm_tied.proofs.Going.{top_or_below}
 use Rattle.hm_tied.proofs.Picking.{SeesSame, fenced_still, lacks_on}
+
+-- a root that is made next is of another tree than all that were there
+pub old_tree : (J : Past) → IsLegal J → (q : ℕ) (x : Node) → node_of J q ≡ Some x → x.root ≢ made J + 1
+old_tree J legal q x is same =
+    let root = rooted_all J legal q x is in
+    let le = is_there J (grown_all J legal) x.root root.root root.there in
+    omega (arith, le, same)
 
 -- one below a root has nothing undone
 pub below_none : (J : Past) (q : ℕ) (x : Node) → is_top x.above ≡ false → undoes J q x ≡ false

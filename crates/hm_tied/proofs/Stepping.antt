@@ -93,7 +93,7 @@ module _ (pid : Pid) (pick : Option Server) (out : StepOut) (J : Past) (legal : 
       true≢false (sym (calm_stopped J legal.0 q pid.0 me is_me (sym same) (λ own. differs (sym own)) (calm (ap (is_root J) same ∙ root_top))) ∙ ran)
 
   -- so a calm root is of another tree
-  other_tree : (q : ℕ) (x : Node) → node_of J q ≡ Some x → q ≢ pid.0 → IsCalm J q → is_top x.above ≡ true → x.root ≢ tree_of J (entry_is.Step pid pick out)
+  pub other_tree : (q : ℕ) (x : Node) → node_of J q ≡ Some x → q ≢ pid.0 → IsCalm J q → is_top x.above ≡ true → x.root ≢ tree_of J (entry_is.Step pid pick out)
   other_tree q x is differs calm top same =
       not_calm q differs (sym (top_is_own J (forest_all J legal.0) q x is (top_is x.above top)) ∙ same ∙ own_tree) calm
 

@@ -61,7 +61,7 @@ module _ (pid : Pid) (row : ℕ) (out : StepOut) (J : Past) (legal : IsLegal (en
   other_root q x is differs top same = differs (sym (top_is_own J (forest_all J legal.0) q x is (top_is x.above top)) ∙ same)
 
   -- whoever is below the root has stopped
-  below_is : (q : ℕ) (x : Node) → node_of J q ≡ Some x → x.root ≡ root → q ≢ root → (is_top x.above ≡ false) × (is_stopped (last_answer J q) ≡ true)
+  pub below_is : (q : ℕ) (x : Node) → node_of J q ≡ Some x → x.root ≡ root → q ≢ root → (is_top x.above ≡ false) × (is_stopped (last_answer J q) ≡ true)
   below_is q x is of differs = (
     elim (top_or_below x.above) [ inl top ↦ absurd (other_root q x is differs top of) | inr below ↦ below.0 ],
     calm_stopped J legal.0 root q x is of differs facts.2,

@@ -3,3 +3,4 @@ pub mod Calls
 pub mod Entries
 pub mod Uses
 pub mod Settled
+pub mod Ables

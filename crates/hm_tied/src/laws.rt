@@ -1,4 +1,5 @@
 //! The laws.
+ghost use Rattle.hm_tied.specs.Ables.{AblesStay, ClaimedStayAble};
 ghost use Rattle.hm_tied.specs.Calls.{ClaimTies, EndOwes, GiveBackTies, GiveUpOwes, JoinOwes, KeepOnOwes, NextOwes, OverIsLess, OwedIsLess, ReadyAreAvailable, SlackIsLess, WakeAllOwes, WakeHeldOwes, WakeOwes};
 ghost use Rattle.hm_tied.specs.Entries.{AbortOwes, DownOwes, ReportOwes, StepOwes, SubmitOwes, UndoOwes, UpOwes};
 ghost use Rattle.hm_tied.specs.Settled.{FenceSettles, OneSettles, OwedIsTold, ReportSettles};
@@ -131,4 +132,11 @@ pub fn debts_settle()
     ensures one { OneSettles }
     ensures report { ReportSettles }
     ensures fence { FenceSettles }
+{}
+
+/// By no entry but its own step, or what undoes a step of its tree where it is the root, does who can go on cease to. So where
+/// all that are claimed can go on, all but the one that an entry is by can behind it.
+pub fn ables_stay()
+    ensures all { AblesStay }
+    ensures claimed { ClaimedStayAble }
 {}

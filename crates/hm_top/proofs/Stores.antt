@@ -16,7 +16,7 @@ use Rattle.hm_hall.specs.Recording.{CanBeRecorded, Recording, Records, next_of, 
 use Rattle.hm_hall.specs.declared.fault.Halt.{Halt}
 use Rattle.hm_hall.specs.declared.fault.Halt.TheVariants as halt_is
 use Rattle.hm_hall.specs.declared.fault.RecordFault.{RecordFault}
-use Rattle.hm_journal.proofs.Recorded.{submit_recorded}
+use Rattle.hm_frames.proofs.Recorded.{submit_recorded}
 use Rattle.hm_journal.specs.Since.{with_tail}
 use Rattle.hm_journal.specs.Stored.{IsJournal, opened}
 use Rattle.hm_journal.specs.declared.limits.Limits.{Limits}

@@ -1,5 +1,6 @@
-use Rattle.std.proofs.Common.{◌∙◌, ◌⊎◌, List, length, ap, sym, subst}
-use Rattle.std.proofs.lemmas.Result.{IfErr-weaker}
+use Rattle.std.proofs.Common.{◌∙◌, ◌⊎◌, List, inl, length, ap, sym, subst}
+use Rattle.std.proofs.lemmas.Result.{IfErr-weaker, IfOk-weaker}
+use Rattle.hm_ports.specs.Faults.{Rose}
 use Rattle.hm_disk.proofs.Moments.{weaker}
 use Rattle.hm_disk.specs.Called.{IsCalled}
 use Rattle.hm_disk.specs.Disk.{LeavesOnly}
@@ -10,6 +11,42 @@ use Rattle.hm_journal.specs.Stored.{IsJournal, GetsFirst, HoldsJournal, frames_o
 use Rattle.hm_journal.proofs.Images.{began_keeps, err_both, gets_first, image_now, keeps_none, ok_both}
 use Rattle.hm_journal.proofs.Moving.{uncalled}
 use Rattle.hm_journal.proofs.opening.of_frames.Goals as goal
+
+pub journal_of-requires-clause-durable : goal.journal_of-requires-clause-durable
+journal_of-requires-clause-durable g c tells bytes is = subst (Reads bytes) (sym c.in-Ok.ensures.found.spelled) (c.requires.durable tells bytes is)
+
+pub returns-in-Ok-clause-state : goal.returns-in-Ok-clause-state
+returns-in-Ok-clause-state g c =
+    ok_both c.begin.result _ _ _ (λ r kept state. state ∙ sym (ap (λ (k : Recording). k.entries) kept)) c.begin.ensures.kept c.begin.ensures.state
+
+pub returns-in-Ok-clause-fresh : goal.returns-in-Ok-clause-fresh
+returns-in-Ok-clause-fresh g c =
+    let of = c.journal_of.ensures.kept in
+    IfOk-weaker c.begin.result _ _
+    (λ r kept. (
+      ap (λ (k : Recording). k.next) kept ∙ ap (λ (k : Recording). k.next) of,
+      ap (λ (k : Recording). k.tail) kept ∙ ap (λ (k : Recording). k.tail) of,
+      ap (λ (k : Recording). k.halted) kept ∙ ap (λ (k : Recording). k.halted) of,
+    ))
+    c.begin.ensures.kept
+
+pub returns-in-Ok-clause-limits : goal.returns-in-Ok-clause-limits
+returns-in-Ok-clause-limits g c =
+    let of = c.journal_of.ensures.kept in
+    IfOk-weaker c.begin.result _ _
+    (λ r kept. (
+      ap (λ (k : Recording). k.soft) kept ∙ ap (λ (k : Recording). k.soft) of,
+      ap (λ (k : Recording). k.hard) kept ∙ ap (λ (k : Recording). k.hard) of,
+    ))
+    c.begin.ensures.kept
+
+pub returns-in-Ok-clause-why : goal.returns-in-Ok-clause-why
+returns-in-Ok-clause-why g c = IfErr-weaker c.begin.result _ _ (λ e is. inl is) c.begin.ensures.why
+
+pub returns-in-Ok-clause-fault : goal.returns-in-Ok-clause-fault
+returns-in-Ok-clause-fault g c =
+    IfErr-weaker c.begin.result _ _
+    (λ e rose is. subst (λ disk. Rose (g.D.Disk.faults disk) (g.D.Disk.faults e.0)) c.journal_of.ensures.disk (rose is)) c.begin.ensures.fault
 
 pub returns-in-Ok-clause-journal : goal.returns-in-Ok-clause-journal
 returns-in-Ok-clause-journal g c =

@@ -1,6 +1,6 @@
 use Rattle.std.proofs.Common.{sym, subst}
 use Rattle.hm_hall.specs.Recording.{CanBeRecorded}
-use Rattle.hm_journal.proofs.Recorded.{start_recorded}
+use Rattle.hm_frames.proofs.Recorded.{start_recorded}
 use Rattle.hm_journal.proofs.opening.ready_start.Goals as goal
 
 pub ready-ready-requires : goal.ready-ready-requires

@@ -3,7 +3,7 @@ use Rattle.hm_data.specs.declared.entry.Entry.TheVariants.{Start}
 use Rattle.hm_hall.specs.Recording.{next_of}
 use Rattle.hm_ports.specs.Faults.{Rose}
 use Rattle.hm_journal.proofs.Beginning.{first_failed, first_recorded, only_fault}
-use Rattle.hm_journal.proofs.Recorded.{start_recorded}
+use Rattle.hm_frames.proofs.Recorded.{start_recorded}
 use Rattle.hm_journal.proofs.opening.record_start.Goals as goal
 
 pub returns-in-Ok-clause-kept : goal.returns-in-Ok-clause-kept

@@ -11,6 +11,7 @@ use Rattle.hm_undo.specs.Laws.{Tells}
 use Rattle.hm_undo.specs.Stacks.{AreWith, Stacks, steps_of}
 use Rattle.hm_undo.specs.declared.slot.Step.{Step}
 use Rattle.hm_records.specs.Records.{is_open}
+use Rattle.hm_records.proofs.Forgotten.{still_forgotten}
 use Rattle.hm_records.proofs.Stacks.{pushed, some_to_pop, unpushed}
 use Rattle.hm_records.proofs.steps.change_stack.Goals as goal
 
@@ -34,6 +35,19 @@ returns-in-Some-clause-tells c =
     let step : Step = c.in-Some.step in
     let with_it : AreWith stacks (pid_of (tree_of J entry)) (step ∷ steps_of stacks (pid_of (tree_of J entry))) new = subst (λ (q : Pid). AreWith stacks q (step ∷ steps_of stacks q) new) c.requires.tree c.push.ensures.steps in
     pushed (is_open J) J stacks c.requires.tells c.stacks_tell.ensures.steps entry step (sym c.requires.step ∙ c.in-Some.is) new with_it
+
+pub returns-in-Some-clause-forgotten : goal.returns-in-Some-clause-forgotten
+returns-in-Some-clause-forgotten c =
+    let stacks : Stacks = c.args.stack.now.stacks in
+    let step : Step = c.in-Some.step in
+    still_forgotten c.args.entry.now c.args.past.now.past c.requires.legal stacks c.requires.forgotten _ c.push.new.self.stacks
+    (subst (λ (q : Pid). AreWith stacks q (step ∷ steps_of stacks q) c.push.new.self.stacks) c.requires.tree c.push.ensures.steps)
+
+pub returns-in-Undo-clause-forgotten : goal.returns-in-Undo-clause-forgotten
+returns-in-Undo-clause-forgotten c =
+    let stacks : Stacks = c.args.stack.now.stacks in
+    still_forgotten c.args.entry.now c.args.past.now.past c.requires.legal stacks c.requires.forgotten _ c.pop.new.self.stacks
+    (subst (λ (q : Pid). AreWith stacks q (drop 1 (steps_of stacks q)) c.pop.new.self.stacks) c.requires.tree c.pop.ensures.steps)
 
 pub returns-in-Undo-clause-tells : goal.returns-in-Undo-clause-tells
 returns-in-Undo-clause-tells c =

@@ -8,7 +8,8 @@ use Rattle.hm_model.specs.Tree.{pid_of}
 use Rattle.hm_model.specs.Undo.{stack}
 use Rattle.hm_undo.specs.Laws.{Tells}
 use Rattle.hm_undo.specs.Stacks.{AreWith, Stacks, steps_of, told}
-use Rattle.hm_records.specs.Records.{is_open}
+use Rattle.hm_records.specs.Records.{AreForgotten, is_open}
+use Rattle.hm_records.proofs.Forgotten.{forgotten_on, forgotten_over}
 use Rattle.hm_records.proofs.Stacks.{left_told, none_left, tells_others, tells_still}
 use Rattle.hm_records.proofs.steps.enter_tree.Goals as goal
 
@@ -37,3 +38,20 @@ returns-else-has_ended-clause-tells c =
     let entry : Entry = c.args.entry.now in
     let stacks : Stacks = c.change_stack.new.stack.stacks in
     subst (λ (l : Past). Tells (is_open l) l stacks) (sym c.enter.ensures.past) (tells_still entry J c.requires.legal stacks c.change_stack.ensures.tells)
+
+pub returns-then-has_ended-clause-forgotten : goal.returns-then-has_ended-clause-forgotten
+returns-then-has_ended-clause-forgotten c =
+    let J : Past = c.args.procedures.now.past in
+    let entry : Entry = c.args.entry.now in
+    let stacks : Stacks = c.change_stack.new.stack.stacks in
+    let new : Stacks = c.forget.new.self.stacks in
+    let with_it : AreWith stacks (pid_of (tree_of J entry)) _ new = subst (λ (q : Pid). AreWith stacks q _ new) c.requires.tree c.forget.ensures.steps in
+    subst (λ (l : Past). AreForgotten l new) (sym c.enter.ensures.past) (forgotten_over entry J c.requires.legal stacks c.change_stack.ensures.tells c.change_stack.ensures.forgotten new with_it)
+
+pub returns-else-has_ended-clause-forgotten : goal.returns-else-has_ended-clause-forgotten
+returns-else-has_ended-clause-forgotten c =
+    let J : Past = c.args.procedures.now.past in
+    let entry : Entry = c.args.entry.now in
+    let stacks : Stacks = c.change_stack.new.stack.stacks in
+    let goes : ended (entry ∷ J) (tree_of J entry) ≡ _ = ap (λ (l : Past). ended l (tree_of J entry)) (sym c.enter.ensures.past) ∙ ap (λ (q : Pid). ended c.enter.new.self.past q.0) (sym c.requires.tree) ∙ sym c.has_ended.ensures ∙ c.if-has_ended.false in
+    subst (λ (l : Past). AreForgotten l stacks) (sym c.enter.ensures.past) (forgotten_on entry J c.requires.legal stacks c.change_stack.ensures.tells c.change_stack.ensures.forgotten goes)

@@ -1,4 +1,4 @@
-use Rattle.std.proofs.Common.{Some, ap, sym, subst, slice_get, ◌≡◌, ◌↔◌}
+use Rattle.std.proofs.Common.{Some, sym, subst, slice_get, ◌≡◌}
 use Rattle.hm_model.specs.Locks.{IsIn}
 use Rattle.hm_roster.proofs.Unclaimed.{others_stay, unclaimed}
 use Rattle.hm_roster.proofs.claims.unclaim.Goals as goal

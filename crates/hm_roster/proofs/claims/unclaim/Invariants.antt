@@ -1,4 +1,4 @@
-use Rattle.std.proofs.Common.{◌≡◌, ◌≢◌, ◌↔◌, ℕ, vec_len}
+use Rattle.std.proofs.Common.{◌≢◌, ◌↔◌, ℕ, vec_len}
 use Rattle.hm_model.specs.Locks.{IsIn}
 use Rattle.hm_roster.proofs.claims.unclaim.Given as goal
 

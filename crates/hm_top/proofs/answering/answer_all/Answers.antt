@@ -1,11 +1,13 @@
-use Rattle.std.proofs.Common.{◌≡◌, ◌∷◌, ◌++◌, [], List, length, refl, sym, ap, subst, ◌∙◌, append_assoc, arith}
+use Rattle.std.proofs.Common.{◌≡◌, ◌∷◌, ◌++◌, [], All, List, length, refl, sym, ap, subst, ◌∙◌, append_assoc, arith}
 use Rattle.hm_script.specs.declared.command.Command.{Command}
 use Rattle.std.specs.Vec.Iter.{into_iter_items}
 use Rattle.std.proofs.lemmas.Grind.{common_steps}
 use Rattle.hm_journal.specs.Opened.{Opened as OpenedAt}
 use Rattle.hm_top.specs.declared.status.EarlyEnd.TheVariants.{Memory, WriteFault}
 use Rattle.hm_top.specs.Answer.{Answers}
+use Rattle.hm_top.specs.Script.{IsOffered}
 use Rattle.hm_top.specs.View.{IsLeftBy, standing_of}
+use Rattle.hm_top.proofs.Offered.{offered_in}
 use Rattle.hm_top.proofs.Ran.{run_none, ran_idle, ran_on}
 use Rattle.hm_top.proofs.Sessions.{begun_said, not_begun, said_less, said_more, stopped_within}
 use Rattle.hm_top.proofs.answering.answer_all.Goals as goal
@@ -32,6 +34,12 @@ loop-command-init g c =
       ran = ran_idle _ was.kept.entries was.kept.entries refl (run_none _ _);
       sink_later = c.say.ensures.cause.later;
     }
+
+pub answer-requires-clause-offered : goal.answer-requires-clause-offered
+answer-requires-clause-offered g c =
+    let so_far = c.loop-command in
+    offered_in so_far.yielded c.in-Some.command (into_iter_items c.next.new.self)
+    (subst (All IsOffered) (so_far.invariant.parts ∙ ap (λ (l : List Command). so_far.yielded ++ l) c.in-Some.ensures.steps.0) c.requires.offered)
 
 pub returns-in-Err-answer-clause-early : goal.returns-in-Err-answer-clause-early
 returns-in-Err-answer-clause-early g c =

@@ -23,7 +23,7 @@ pub returns-clause-first : goal.returns-clause-first
 returns-clause-first g c =
     let p = c.args.self.now in
     let at = placed p.places.pairs p.entries.items c.requires.index c.args.pid c.in_ok-own.own.now (sym c.entry_of.ensures ∙ ap option_copied c.in_ok-own.was) in
-    first_is p.places.pairs p.entries.items p.wants.items p.desks.numbers p.lists.lists p.lists.spare c.requires c.are_apart.ensures c.args.pid at.0 c.in_ok-own.own.now at.1 at.2
+    first_is p.places.pairs p.entries.items p.wants.items p.desks.numbers p.lists.lists p.lists.spare c.requires c.are_apart.ensures.apart c.args.pid at.0 c.in_ok-own.own.now at.1 at.2
     c.lowest.result (rw (← c.deref.ensures.value, ← c.deref-2.ensures.value, ← c.as_slice.ensures) c.lowest.ensures.lowest)
 
 pub returns-clause-steps : goal.returns-clause-steps

@@ -1,10 +1,13 @@
-use Rattle.std.proofs.Common.{◌≡◌, ℕ, ◌+◌, ◌≤◌, ◌∷◌, length, ap, sym, subst, ◌∙◌, arith}
+use Rattle.std.proofs.Common.{◌≡◌, ℕ, ◌+◌, ◌≤◌, [], ◌∷◌, length, ap, sym, subst, ◌∙◌, arith}
 use Rattle.hm_data.specs.declared.entry.Entry.{Entry}
 use Rattle.hm_model.specs.Journal.{Past}
 use Rattle.hm_model.specs.Rules.{IsLegal}
 use Rattle.hm_undo.specs.Laws.{Tells}
+use Rattle.hm_model.specs.Tree.{made}
+use Rattle.hm_records.specs.Book.{AreRows, asks_in, asks_of}
 use Rattle.hm_records.specs.Parts.{size_of}
-use Rattle.hm_records.specs.Records.{AreRecords, Beside, IsRunning, RecordsView, is_open}
+use Rattle.hm_records.specs.Records.{AreForgotten, AreRecords, Beside, IsRunning, RecordsView, is_open}
+use Rattle.hm_records.proofs.Drafts.{asks_same, drafts_count}
 use Rattle.hm_records.proofs.Whole.{least_within, made_count, sheets_stay}
 use Rattle.hm_records.proofs.records.Records.enter.Goals as goal
 
@@ -24,17 +27,20 @@ invariant_of-self c =
       drawn_ids = c.count_ids.new.drawn.pairs;
       sheets = c.self.inside.sheets.items;
       running = c.running_behind-self-inside.result;
+      book = c.release_ended.new.book.rows;
     } in
     subst (λ (l : Past). AreRecords l beside) (sym after) (record {
       begun = λ e. cc;
       rows_are = c.set_rows.ensures.rows;
       stacks_tell = subst (λ (l : Past). Tells (is_open l) l c.enter_tree.new.stack.stacks) after c.enter_tree.ensures.tells;
+      stacks_forget = subst (λ (l : Past). AreForgotten l c.enter_tree.new.stack.stacks) after c.enter_tree.ensures.forgotten;
       places_are = c.set_place.ensures.places;
       servers_are = c.set_servers.ensures.servers;
       nonces_are = c.add_nonce.ensures.nonces;
       drawn_are = c.count_ids.ensures.drawn;
       sheets_are = c.self.invariant.sheets_are ∙ sym (sheets_stay entry J legal c.self.invariant.begun);
       running_is = subst (λ (l : Past). IsRunning l c.running_behind-self-inside.result) after (c.running_behind-self-inside.ensures J entry after c.tree_of-tree.ensures c.self.invariant.running_is);
+      book_is = subst (λ (l : Past). AreRows l c.release_ended.new.book.rows) after (c.release_ended.ensures.rows J after c.tree_of-tree.ensures c.enlist_made.ensures.rows);
     })
 
 pub returns-clause-spare : goal.returns-clause-spare
@@ -52,6 +58,28 @@ returns-clause-spare c =
     let servers : f.servers.spare ≤ c.set_servers.new.servers.spare + size = omega (arith, c.set_servers.ensures.spare) in
     let nonces : f.nonces.spare ≤ c.add_nonce.new.nonces.spare + size = omega (arith, c.add_nonce.ensures.spare) in
     let drawn : f.drawn.spare ≤ c.count_ids.new.drawn.spare + size = omega (arith, c.count_ids.ensures.spare) in
+    let drafts : length (let parts = c.args.parts in let drafts = parts.drafts in let list = drafts.list in list.items) ≡ made (entry ∷ []) = ap length c.requires.parts.drafts ∙ drafts_count J entry in
+    let asks : asks_in (let parts = c.args.parts in let drafts = parts.drafts in let list = drafts.list in list.items) ≡ asks_of entry = ap asks_in c.requires.parts.drafts ∙ asks_same entry J c.requires.legal.0 in
+    let book : f.book.spare ≤ c.release_ended.new.book.spare + size = omega (arith, c.enlist_made.ensures.spare, c.release_ended.ensures.spare.0, drafts) in
+    let more : f.book.spare_asks ≤ c.release_ended.new.book.spare_asks + size = omega (arith, c.enlist_made.ensures.asks, c.release_ended.ensures.spare.1, asks) in
     let least = least_within size in
-    let all = least _ _ _ _ (least _ _ _ _ procedures catalog) (least _ _ _ _ (least _ _ _ _ stack places) (least _ _ _ _ servers (least _ _ _ _ nonces drawn))) in
+    let all = least _ _ _ _ (least _ _ _ _ procedures catalog) (least _ _ _ _ (least _ _ _ _ stack places) (least _ _ _ _ (least _ _ _ _ servers (least _ _ _ _ nonces drawn)) (least _ _ _ _ book more))) in
     rw (sym (ap (λ (v : RecordsView). v.spare) c.self.view_is)) all
+
+pub enlist_made-requires-clause-spare : goal.enlist_made-requires-clause-spare
+enlist_made-requires-clause-spare c =
+    let J : Past = c.args.self.now.past in
+    let entry : Entry = c.args.entry.now in
+    let count = ap length c.requires.parts.drafts ∙ drafts_count J entry in
+    let spare = ap (λ (v : RecordsView). v.spare) c.self.view_is in
+    let room = c.requires.room in
+    omega (arith, count, spare, room)
+
+pub enlist_made-requires-clause-asks : goal.enlist_made-requires-clause-asks
+enlist_made-requires-clause-asks c =
+    let J : Past = c.args.self.now.past in
+    let entry : Entry = c.args.entry.now in
+    let count = ap asks_in c.requires.parts.drafts ∙ asks_same entry J c.requires.legal.0 in
+    let spare = ap (λ (v : RecordsView). v.spare) c.self.view_is in
+    let room = c.requires.room in
+    omega (arith, count, spare, room)

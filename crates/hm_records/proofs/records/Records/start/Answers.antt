@@ -21,6 +21,7 @@ invariant_of-result c =
       drawn_ids = c.in_ok-new-5.field-0.pairs;
       sheets = sheets;
       running = None;
+      book = c.in_ok-new-6.field-0.rows;
     } in
     subst (λ (l : Past). AreRecords l beside) (sym past_is)
-    (starts sheets beside c.in_ok-start.ensures c.in_ok-new.ensures c.in_ok-new-2.ensures c.in_ok-new-3.ensures c.in_ok-new-4.ensures c.in_ok-new-5.ensures refl refl)
+    (starts sheets beside c.in_ok-start.ensures c.in_ok-new.ensures c.in_ok-new-2.ensures c.in_ok-new-3.ensures c.in_ok-new-4.ensures c.in_ok-new-5.ensures refl refl c.in_ok-new-6.ensures)

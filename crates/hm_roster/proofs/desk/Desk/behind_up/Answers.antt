@@ -10,13 +10,13 @@ use Rattle.hm_roster.proofs.desk.Desk.behind_up.Goals as goal
 
 pub returns-clause-follows : goal.returns-clause-follows
 returns-clause-follows c =
-    let followed = c.requires in
+    let followed = c.requires.1 in
     let same = c.wake_held_uncounted.ensures.same in
     record {
       tied =
           c.wake_held_uncounted.ensures.owes c.args.records.now.past late_debts
           (subst (λ J. IsTiedBut J (number_on c.args.self.now) (roster_of c.args.self.now) late_debts) (sym followed.1)
-          (up_owes c.args.server.now followed.0 (number_on c.args.self.now) (roster_of c.args.self.now) (subst IsLegal followed.1 c.procedures-legal.ensures.legal) followed.2.tied));
+          (up_owes c.requires.0 followed.0 (number_on c.args.self.now) (roster_of c.args.self.now) (subst IsLegal followed.1 c.procedures-legal.ensures.legal) followed.2.tied));
       room = subst (λ J. made J < pids_on c.wake_held_uncounted.new.self) (sym followed.1) (subst (λ (k : ℕ). made followed.0 < k) (sym same.pids) followed.2.room);
       below = below_still c.args.self.now c.wake_held_uncounted.new.self same followed.2.below;
     }

@@ -1,4 +1,4 @@
-use Rattle.std.proofs.Common.{◌≡◌, ◌≢◌, ◌↔◌, ℕ, IsTrue, None, inl, inr, refl, subst, sym, ◌∙◌}
+use Rattle.std.proofs.Common.{◌≢◌, ◌↔◌, IsTrue, None, inl, inr, subst, ◌∙◌}
 use Rattle.hm_model.specs.Answers.{last_answer}
 use Rattle.hm_sched.specs.declared.queue.Queue.TheVariants.{Waits}
 use Rattle.hm_roster.specs.Roster.{number_on, roster_of}

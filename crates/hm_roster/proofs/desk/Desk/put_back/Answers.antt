@@ -1,8 +1,8 @@
-use Rattle.std.proofs.Common.{◌≡◌, ◌<◌, ℕ, List, refl, ap, subst, sym, ◌∙◌}
+use Rattle.std.proofs.Common.{◌<◌, ℕ, List, refl, ap, subst, sym, ◌∙◌}
 use Rattle.hm_model.specs.Tree.{made}
 use Rattle.hm_tied.specs.Calls.{Unclaims, owing}
 use Rattle.hm_tied.proofs.Settled.{one_settles}
-use Rattle.hm_roster.specs.Roster.{number_on, roster_of, servers_on}
+use Rattle.hm_roster.specs.Roster.{number_on, roster_of}
 use Rattle.hm_roster.proofs.Desks.{below_still, enlisted_known}
 use Rattle.hm_roster.proofs.Giving.{claimed_enlisted}
 use Rattle.hm_roster.proofs.Placing.{readied}

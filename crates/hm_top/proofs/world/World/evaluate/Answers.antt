@@ -8,7 +8,7 @@ use Rattle.hm_judge.specs.Inputs.{CanEvaluate, IsInput}
 use Rattle.hm_top.specs.View.{WorldView}
 use Rattle.std.proofs.lemmas.List.Sorted.{All-permutation, IsPermutation-reverse}
 use Rattle.hm_entry.specs.Fits.{EntryFits}
-use Rattle.hm_journal.proofs.Recorded.{step_recorded}
+use Rattle.hm_frames.proofs.Recorded.{step_recorded}
 use Rattle.hm_top.proofs.Ran.{run_none}
 use Rattle.hm_top.proofs.Steps.{next_step, runs_there}
 use Rattle.hm_top.proofs.world.World.evaluate.Goals as goal

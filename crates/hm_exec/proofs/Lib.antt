@@ -1,0 +1,5 @@
+mod Recording
+mod Going
+mod Handing
+mod Claimed
+mod Rooted

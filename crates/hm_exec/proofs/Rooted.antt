@@ -1,0 +1,57 @@
+-- A submission that is recorded, or isn't.
+use Rattle.std.proofs.Common.{◌≡◌, ◌+◌, ℕ, List, Err, Ok, false, inl, refl, ap, sym, subst, ◌∙◌}
+use Rattle.hm_names.specs.declared.nonce.Nonce.{Nonce}
+use Rattle.hm_data.specs.declared.entry.Entry.{Entry}
+use Rattle.hm_data.specs.declared.entry.Entry.TheVariants as entry_is
+use Rattle.hm_data.specs.declared.request.Request.{Request}
+use Rattle.hm_hall.specs.Recording.{Recording, Records, entries_of}
+use Rattle.hm_hall.specs.declared.fault.HallFault.{HallFault}
+use Rattle.hm_hall.specs.declared.fault.HallFault.TheVariants as fault_is
+use Rattle.hm_model.specs.Journal.{back}
+use Rattle.hm_model.specs.Locks.{IsIn}
+use Rattle.hm_model.specs.Rules.{Allowed, IsLegal}
+use Rattle.hm_model.specs.Tree.{made}
+use Rattle.hm_roster.specs.Roster.{Follows, claims_on}
+use Rattle.hm_roster.specs.declared.desk.Desk.{Desk}
+use Rattle.hm_tied.specs.Tied.{CanGo}
+use Rattle.hm_exec.specs.Adding.{Adds}
+use Rattle.hm_exec.specs.Submitting.{IsWelcome, Submits}
+use Rattle.hm_exec.specs.View.{AreAble, IsExec}
+use Rattle.hm_exec.proofs.Going.{able_behind, past_more}
+
+-- where nothing is recorded the entries are the same
+unrecorded : (old new : Recording) (entry : Entry) (fault : HallFault) → Adds old entry (Err fault) new → entries_of new ≡ entries_of old
+unrecorded old new entry fault_is.LogFault adds = ap entries_of adds.2
+unrecorded old new entry (fault_is.JournalFull bytes) adds = ap entries_of adds.3
+unrecorded old new entry (fault_is.Halted why) adds = ap entries_of adds.1
+unrecorded old new entry fault_is.Memory adds = ap entries_of adds.1
+
+module _ (old new : Recording) (entries more : List Entry) (desk after : Desk) (was : IsExec old entries desk) (same : entries_of new ≡ more) (follows : Follows (back more) after) (claims : claims_on after ≡ claims_on desk) where
+  -- where nothing is recorded all is as it was
+  pub stays : (entry : Entry) (fault : HallFault) → Adds old entry (Err fault) new → IsExec new more after
+  stays entry fault adds =
+      let is : entries ≡ more = sym was.same ∙ sym (unrecorded old new entry fault adds) ∙ same in
+      record { same = same; follows = follows; able = λ q mine. subst (λ (l : List Entry). CanGo (back l) q) is (was.able q (subst (IsIn q) claims mine)) }
+
+  -- behind a submission whoever is claimed can go on
+  pub goes_on : (nonce : Nonce) (request : Request) (number : ℕ) → IsLegal (back entries) → Allowed (back entries) (entry_is.Submit nonce request) → Records old (entry_is.Submit nonce request) (Ok number) new → IsExec new more after
+  goes_on nonce request number legal allowed records =
+      let entry = entry_is.Submit nonce request in
+      record {
+        same = same;
+        follows = follows;
+        able =
+            subst (λ J. AreAble J after) (sym (past_more entries more old new entry number was.same same records))
+            (able_behind entry (back entries) desk after (legal, allowed) was.follows was.able claims (λ q mine. tt));
+      }
+
+-- what a submission that is recorded answers
+pub rooted : (old new : Recording) (entries more : List Entry) (claims after : List ℕ) (nonce : Nonce) (request : Request) (last number : ℕ) → entries_of old ≡ entries → entries_of new ≡ more
+    → IsWelcome (record { kept = old; claimed = claims }) nonce request → Allowed (back (entries_of old)) (entry_is.Submit nonce request) → Records old (entry_is.Submit nonce request) (Ok number) new
+    → last ≡ made (back more) → after ≡ claims
+    → Submits (record { kept = old; claimed = claims }) nonce request (record { pid = record { 0 = last }; repeated = false }) (record { kept = new; claimed = after })
+rooted old new entries more claims after nonce request last number was same welcome allowed records count mine =
+    let entry = entry_is.Submit nonce request in
+    let next : last ≡ made (back (entries_of old)) + 1 =
+    count ∙ ap made (past_more entries more old new entry number was same records) ∙ ap (λ (l : List Entry). made (back l) + 1) (sym was) in
+    inl (refl, welcome, next, (welcome.0, allowed, (number, records), mine))

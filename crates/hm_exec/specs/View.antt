@@ -1,0 +1,29 @@
+-- An executor as callers see it, and what is kept.
+use Rattle.std.specs.Prelude.{◌≡◌, ℕ, List}
+use Rattle.hm_data.specs.declared.entry.Entry.{Entry}
+use Rattle.hm_hall.specs.Recording.{Recording, entries_of}
+use Rattle.hm_model.specs.Journal.{Past, back}
+use Rattle.hm_model.specs.Locks.{IsIn}
+use Rattle.hm_roster.specs.Roster.{Follows, claims_on}
+use Rattle.hm_roster.specs.declared.desk.Desk.{Desk}
+use Rattle.hm_tied.specs.Tied.{CanGo}
+use Rattle.hm_exec.specs.Moment.{Moment}
+
+-- an executor: its recorder, and who is claimed
+pub record ExecView (R : Type 0) : Type 0 where
+  pub recorder : R
+  pub claimed : List ℕ
+
+-- what its recorder keeps, and who is claimed
+abbrev pub moment_of : {R : Type 0} → (R → Recording) → ExecView R → Moment
+moment_of kept exec = record { kept = kept exec.recorder; claimed = exec.claimed }
+
+-- whoever is claimed can go on
+abbrev pub AreAble : Past → Desk → Type 0
+AreAble J desk = (q : ℕ) → IsIn q (claims_on desk) → CanGo J q
+
+-- the state is that of what is recorded, the desk follows it, and whoever is claimed can go on
+pub record IsExec (kept : Recording) (entries : List Entry) (desk : Desk) : Type 0 where
+  pub same : entries_of kept ≡ entries
+  pub follows : Follows (back entries) desk
+  pub able : AreAble (back entries) desk

@@ -1,0 +1,73 @@
+//! Claims.
+ghost use Rattle.std.specs.Prelude.{◌≡◌, ◌⊎◌, IfOk};
+ghost use Rattle.hm_exec.specs.Claiming.{AnswersClaim, IsHandedOut, PutsBack};
+ghost use Rattle.hm_exec.specs.View.{moment_of};
+ghost use Rattle.hm_model.specs.Journal.{back};
+ghost use Rattle.hm_model.specs.Locks.{IsIn};
+ghost use Rattle.hm_model.specs.Rest.{MayStepPicked, MayUndo};
+
+use crate::exec::Exec;
+use hm_hall::{HallFault, Recorder, Taken};
+use hm_judge::candidate;
+use hm_judge::laws::candidates_fit;
+use hm_lists::Steps;
+use hm_names::Pid;
+use hm_single::picks_are_there;
+use hm_state::State;
+use std::alloc::{AllocError, Global};
+use std::sync::ledger::Ledger;
+
+// What is handed out for a procedure that can go on.
+fn hand_out(state: &State, alloc: Global, pid: Pid) -> Result<Taken, AllocError>
+    requires { MayStepPicked (back state.now.entries) pid.0 ⊎ MayUndo (back state.now.entries) pid.0 }
+    ensures pid { IfOk result (λ taken. taken.pid ≡ pid) }
+    ensures handed { IfOk result (IsHandedOut (back state.now.entries)) }
+{
+    picks_are_there();
+    candidates_fit();
+    let _legal = state.entries();
+    let was = state.step_in(alloc, pid, candidate(state.records(), pid))?;
+    Ok(Taken { pid, was })
+}
+
+impl<R: Recorder> Exec<R> {
+    /// Claims the first procedure that is available, servers' before others, and hands out what the next call of its handler
+    /// sees. None exactly where none is.
+    pub fn claim<L: Ledger>(
+        &mut self,
+        alloc: Global,
+        steps: &mut Steps<L>,
+    ) -> Result<Option<Taken>, HallFault>
+        ensures answers { AnswersClaim (moment_of R.kept self.old) result (moment_of R.kept self.new) }
+        ensures recorder { self.new.recorder ≡ self.old.recorder }
+    {
+        if let Some(why) = self.recorder.halted() {
+            return Err(HallFault::Halted(why));
+        }
+        self.desk.reserve_claim(alloc)?;
+        let Some(pid) = self.desk.next(self.state.records(), steps) else {
+            return Ok(None);
+        };
+        match hand_out(&self.state, alloc, pid) {
+            Ok(taken) => {
+                self.desk.claim(self.state.records(), pid);
+                Ok(Some(taken))
+            }
+            Err(_) => {
+                self.desk.let_be(self.state.records(), pid);
+                Err(HallFault::Memory)
+            }
+        }
+    }
+
+    /// A claim is given up. Nothing is recorded.
+    pub fn put_back(&mut self, taken: Taken)
+        requires { IsIn taken.pid.0 self.old.claimed }
+        ensures back { PutsBack (moment_of R.kept self.old) taken (moment_of R.kept self.new) }
+        ensures recorder { self.new.recorder ≡ self.old.recorder }
+    {
+        let Taken { pid, was } = taken;
+        drop(was);
+        self.desk.put_back(self.state.records(), pid);
+    }
+}

@@ -1,0 +1,79 @@
+//! The executor.
+ghost use Rattle.std.specs.Prelude.{◌≡◌, [], IfErr, IfOk, None};
+ghost use Rattle.hm_hall.specs.Recording.{entries_of, halt_of};
+
+use hm_hall::Recorder;
+use hm_roster::Desk;
+use hm_state::State;
+use std::alloc::{AllocError, Global};
+use std::marker::Model;
+
+/// A journal with its recorder, the state that it is in, and who is claimed. Contracts see the recorder, and who is claimed.
+pub struct Exec<R: Recorder> {
+    pub(crate) state: State,
+    pub(crate) recorder: R,
+    pub(crate) desk: Desk,
+}
+
+impl<R: Recorder> Model for Exec<R> {
+    ghost use Rattle.hm_exec.specs.View.{ExecView, IsExec};
+    ghost use Rattle.hm_roster.specs.Roster.{claims_on};
+
+    ghost Value = { ExecView R };
+
+    ghost view = { λ e. record { recorder = e.recorder; claimed = claims_on e.desk } };
+
+    ghost invariant = { λ e. IsExec (R.kept e.recorder) e.state.entries e.desk };
+}
+
+impl<R: Recorder> Exec<R> {
+    /// The executor of a journal of which nothing is under way: all that haven't ended are ready, in the order of their numbers.
+    /// An error gives the recorder back.
+    pub fn new(alloc: Global, state: State, recorder: R) -> Result<Exec<R>, (R, AllocError)>
+        requires same { entries_of (R.kept recorder) ≡ state.entries }
+        requires going { halt_of (R.kept recorder) ≡ None }
+        ensures recorder { IfOk result (λ exec. exec.recorder ≡ recorder) }
+        ensures claimed { IfOk result (λ exec. exec.claimed ≡ []) }
+        ensures back { IfErr result (λ e. e.0 ≡ recorder) }
+    {
+        match Desk::open(alloc, state.records()) {
+            Ok(desk) => Ok(Exec {
+                state,
+                recorder,
+                desk,
+            }),
+            Err(fault) => {
+                drop(state);
+                Err((recorder, fault))
+            }
+        }
+    }
+
+    /// The state of the journal.
+    pub fn state(&self) -> &State
+        ensures { entries_of (R.kept self.now.recorder) ≡ result.now.entries }
+    {
+        &self.state
+    }
+
+    /// What records the entries.
+    pub fn recorder(&self) -> &R
+        ensures { result.now ≡ self.now.recorder }
+    {
+        &self.recorder
+    }
+
+    /// Gives the recorder back.
+    pub fn into_recorder(self) -> R
+        ensures { result ≡ self.recorder }
+    {
+        let Exec {
+            state,
+            recorder,
+            desk,
+        } = self;
+        drop(state);
+        drop(desk);
+        recorder
+    }
+}

@@ -1,0 +1,13 @@
+pub mod NameSizes
+pub mod Sizes
+pub mod ShortForms
+pub mod ShortEdits
+pub mod ShortChildren
+pub mod ShortParts
+pub mod ShortActs
+pub mod DrawnActs
+pub mod DrawnIds
+pub mod ShortSteps
+pub mod FewRegions
+pub mod ShortPasts
+pub mod Recorded

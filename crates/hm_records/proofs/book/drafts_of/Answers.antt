@@ -1,0 +1,15 @@
+use Rattle.std.proofs.Common.{map, ap, ◌∙◌}
+use Rattle.hm_records.specs.Book.{above_made, asks_in, draft_of, stepper_of}
+use Rattle.hm_records.proofs.BookTold.{above_told}
+use Rattle.hm_records.proofs.Drafts.{asks_same}
+use Rattle.hm_records.proofs.book.drafts_of.Goals as goal
+
+pub returns-clause-asks : goal.returns-clause-asks
+returns-clause-asks c =
+    let J = c.args.records.now.past in
+    let entry = c.args.entry.now in
+    c.in_ok-asks.ensures
+    ∙ ap asks_in (c.deref.ensures.value ∙ c.in_ok-list.ensures
+    ∙ ap (λ l. map (draft_of l) c.args.made.now) (above_told J c.book.result.now.rows c.book.ensures.rows c.stepper_of.result ∙ ap (above_made J) c.stepper_of.ensures)
+    ∙ ap (map (draft_of (above_made J (stepper_of entry)))) c.requires)
+    ∙ asks_same entry J c.procedures-legal.ensures.legal

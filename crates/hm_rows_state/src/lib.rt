@@ -1,0 +1,5 @@
+//! A state's own calls, in tables: what may be added, and what is seen then. This library is empty but for its tests.
+#![tactic(auto)]
+
+#[cfg(test)]
+mod state;
