@@ -109,5 +109,6 @@ handed fit there J legal pid pick was may chosen sees runs =
     record {
       sees = (x.0, x.1, subst (λ o. was ≡ input J pid.0 x.0 o) (sym same) seen);
       picks = subst (PicksRight J pid.0) (sym same) right;
+      chosen = λ node is. same ∙ chosen node is;
       runs = runs (can_be_called J pid.0 pick right may);
     }

@@ -20,6 +20,7 @@ use Rattle.hm_model.specs.Picks.{PicksRight}
 use Rattle.hm_model.specs.Rules.{Allowed}
 use Rattle.hm_model.specs.Sheets.{sheets_of}
 use Rattle.hm_model.specs.Tree.{Node, node_of}
+use Rattle.hm_judge.specs.Choice.{candidate}
 use Rattle.hm_roster.specs.Desk.{IsClaimedToo}
 use Rattle.hm_tied.specs.Calls.{Unclaims}
 use Rattle.hm_tied.specs.Tied.{IsAvailableFree}
@@ -29,10 +30,15 @@ use Rattle.hm_exec.specs.Moment.{FaultsAt, IsGoing, IsHalted, Moment, past_of}
 abbrev pub SeesNow : Past → ℕ → Option Server → StepIn → Type 0
 SeesNow J p pick at = (node : Node) × (node_of J p ≡ Some node) × (at ≡ input J p node pick)
 
+-- the pick is the server that is chosen for a procedure's next step, where that needs one
+abbrev pub IsChosen : Past → ℕ → Option Server → Type 0
+IsChosen J p pick = (node : Node) → node_of J p ≡ Some node → pick ≡ candidate J p node
+
 -- what is handed out: the input that fits the procedure now, with a pick that fits, on which its sheet can be asked
 pub record IsHandedOut (J : Past) (taken : Taken) : Type 0 where
   pub sees : (let pid = taken.pid in (let was = taken.was in SeesNow J pid.0 was.pick was))
   pub picks : (let pid = taken.pid in (let was = taken.was in PicksRight J pid.0 was.pick))
+  pub chosen : (let pid = taken.pid in (let was = taken.was in IsChosen J pid.0 was.pick))
   pub runs : CanRun (sheets_of J) taken.was
 
 -- a procedure that is claimed is available, and is claimed from now on

@@ -1,4 +1,4 @@
-//! The executor, as far as it goes: a submission is one entry that may follow, recorded, or a refusal that changes nothing; a claim is
+//! The executor, as far as it goes: a submission is one entry that may follow, recorded, or a refusal, which records nothing; a claim is
 //! exact. What its other events answer and leave is defined.
 #![tactic(auto)]
 
