@@ -236,14 +236,14 @@ told_goes call told J me is verb v fits args e h = tt
 reports_priced : (call : Pid) (told : Told) (J : Past) → IsLegal (entry_is.Report call told ∷ J) → (r : ℕ) (top : Node) → Going J r top → IsQuiet (entry_is.Report call told ∷ J) r → (me : Node) → node_of J call.0 ≡ Some me → me.root ≡ r → (budget : ℕ) → At J call.0 me budget → (rest : ℕ) × (1 + rest ≤ budget) × At (entry_is.Report call told ∷ J) call.0 me rest
 reports_priced call told J legal r top going quiet me is_me of budget at =
     let g = grown_all J legal.0 in
-    let verb = some_of (verb_of J call.0) legal.1.1.0.1.0 in
+    let verb = some_of (verb_of J call.0) legal.1.1.0.0 in
     let v = g.verbs call.0 verb.0 verb.1 in
     let own : verb_in me.args ≡ Some verb.0 = ap (λ (n : Node). verb_in n.args) (same_Some me v.0 (sym is_me ∙ v.1)) ∙ v.2 in
     let c = at.calls verb.0 own in
-    let waits = awaits J r top going call.0 me is_me of verb.0 verb.1 legal.1.1.0.1.2 in
+    let waits = awaits J r top going call.0 me is_me of verb.0 verb.1 legal.1.1.0.2 in
     let due = c.due in
     let now = ap (λ o. call_due o (report_of J call.0)) waits.1 in
-    let none = ap (λ o. call_due (Some (answer_is.Await waits.0)) o) legal.1.1.0.1.1 in
+    let none = ap (λ o. call_due (Some (answer_is.Await waits.0)) o) legal.1.1.0.1 in
     let report : report_of (entry_is.Report call told ∷ J) call.0 ≡ Some told = cond-true (call.0 == call.0) (Some told) (report_of J call.0) (eq-eqb call.0 call.0 refl) in
     let later = ap (λ o. call_due o (report_of (entry_is.Report call told ∷ J) call.0)) waits.1 in
     let one = ap (λ o. call_due (Some (answer_is.Await waits.0)) o) report in (

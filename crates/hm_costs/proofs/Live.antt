@@ -82,7 +82,7 @@ dead_stays (entry_is.Up other) J legal server dead = (
   elim (cases_Bool (same_server server other)) [
     | inl same ↦
         let new = newer_of server (servers_of J) dead.0 in
-        let rule : has_newer J other ≡ false = legal.1.1.0.1 in
+        let rule : has_newer J other ≡ false = legal.1.1.0 in
         absurd (true≢false (sym (subst (λ s. has_newer J s ≡ true) (same_server-is server other same) new) ∙ rule))
     | inr differs ↦ or_from (same_server server other) (is_live J server) differs dead.1
   ],
@@ -91,7 +91,7 @@ dead_stays (entry_is.Down other) J legal server dead = (dead.0, and_right (not (
 dead_stays (entry_is.Abort pid) J legal server dead = dead
 
 pub down_dead : (server : Server) (J : Past) → IsLegal (entry_is.Down server ∷ J) → IsDead (entry_is.Down server ∷ J) server
-down_dead server J legal = (live_came J server legal.1.1.0.1, and_left (not (same_server server server)) (is_live J server) (ap not (same_server-refl server)))
+down_dead server J legal = (live_came J server legal.1.1.0, and_left (not (same_server server server)) (is_live J server) (ap not (same_server-refl server)))
 
 -- the server that a procedure is to fence, or has fenced
 abbrev pub fence_in : Args → Option Server

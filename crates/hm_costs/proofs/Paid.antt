@@ -475,7 +475,7 @@ module _ (At : Past → ℕ → Node → ℕ → Type 0) (Fresh : Past → ℕ �
   over_reports call told J legal r top is at_top over_is mine =
       let me = call_root call told J legal in
       let root : me.0.root ≡ r = sym (ap root_in me.1) ∙ sym mine in
-      let not_ended : ended J call.0 ≡ false = legal.1.1.0.1.2 in
+      let not_ended : ended J call.0 ≡ false = legal.1.1.0.2 in
       elim (cases_eq call.0 r) [
         | inl here ↦ true≢false (sym (ap (λ n. ended_node J r n) is ∙ ap (λ a. cond (is_top a) (root_ended J r) (is_stopped (last_answer J r))) at_top ∙ over_is) ∙ ap (ended J) (sym here) ∙ not_ended)
         | inr differs ↦
@@ -490,7 +490,7 @@ module _ (At : Past → ℕ → Node → ℕ → Type 0) (Fresh : Past → ℕ �
   lone_reports : (call : Pid) (told : Told) (J : Past) (legal : IsLegal (entry_is.Report call told ∷ J)) (r : ℕ) (top : Node) → Lone J r top → r ≡ root_of J call.0 → ⊥
   lone_reports call told J legal r top l mine =
       let g = grown_all J legal.0 in
-      let verb = some_of _ legal.1.1.0.1.0 in
+      let verb = some_of _ legal.1.1.0.0 in
       let v = g.verbs call.0 verb.0 verb.1 in
       let here : call.0 ≡ r = l.only call.0 v.0 v.1 (sym (ap root_in v.1) ∙ sym mine) in
       let none = subst (CallerAt verb.0 (verb_of J call.0)) (ap (last_answer J) here ∙ l.unstepped) (g.calls call.0 v.0 v.1 verb.0 v.2) in
@@ -505,7 +505,7 @@ module _ (At : Past → ℕ → Node → ℕ → Type 0) (Fresh : Past → ℕ �
 
   undo_caused : (pid : Pid) (row : ℕ) (out : StepOut) (J : Past) (legal : IsLegal (entry_is.Undo pid row out ∷ J)) → cause J (root_of J pid.0) ≡ None → ⊥
   undo_caused pid row out J legal none =
-      let latest = legal.1.1.0.1 in
+      let latest = legal.1.1.0 in
       let parts = and_parts (is_top latest.0.above) (is_some (cause J (root_of J pid.0)) && (all_stopped J (root_of J pid.0) && not (is_empty (stack J (root_of J pid.0))))) latest.2 in
       let more = and_parts (is_some (cause J (root_of J pid.0))) (all_stopped J (root_of J pid.0) && not (is_empty (stack J (root_of J pid.0)))) parts.1 in
       true≢false (sym more.0 ∙ ap is_some none)
@@ -513,13 +513,13 @@ module _ (At : Past → ℕ → Node → ℕ → Type 0) (Fresh : Past → ℕ �
   -- what nothing disturbs isn't undone
   own_undo : (pid : Pid) (row : ℕ) (out : StepOut) (J : Past) (legal : IsLegal (entry_is.Undo pid row out ∷ J)) (r : ℕ) (top : Node) → r ≡ root_of J pid.0 → Paid J r top → ⊥
   own_undo pid row out J legal r top mine (over ended stepped within) =
-      let found = legal.1.1.0.1 in
+      let found = legal.1.1.0 in
       none-some found.3 (ap (λ b. latest (cond b [] (stack J (root_of J pid.0)))) (sym (ap (root_ended J) (sym mine) ∙ ended)) ∙ found.4)
   own_undo pid row out J legal r top mine (lone l) = undo_caused pid row out J legal (ap (cause J) (sym mine) ∙ l.going.clean)
   own_undo pid row out J legal r top mine (spends s) = undo_caused pid row out J legal (ap (cause J) (sym mine) ∙ s.going.clean)
 
   own_abort : (pid : Pid) (J : Past) (legal : IsLegal (entry_is.Abort pid ∷ J)) (r : ℕ) → r ≡ root_of J pid.0 → pid.0 ≢ r → ⊥
-  own_abort pid J legal r mine other = by (node_of J pid.0) refl legal.1.1.0.1.0
+  own_abort pid J legal r mine other = by (node_of J pid.0) refl legal.1.1.0.0
     where
       by : (o : Option Node) → node_of J pid.0 ≡ o → is_root_in (node_of J pid.0) ≡ true → ⊥
       by None e h = false≢true (sym (ap is_root_in e) ∙ h)

@@ -245,7 +245,7 @@ module _ (pid : Pid) (pick : Option Server) (out : StepOut) (J : Past) (legal : 
 pub tabled_all : (J : Past) → IsLegal J → Tabled J
 tabled_all [] legal = record { own = λ q x is. absurd (none-some x is); tables = λ q x top is. absurd (none-some x is); undone = λ r top is. tt }
 tabled_all (entry_is.Start sheets ∷ J) legal = tabled_same (entry_is.Start sheets) J legal (tabled_all J legal.0) (λ q. refl) (λ r. refl)
-tabled_all (entry_is.Submit nonce request ∷ J) legal = tabled_rooted (entry_is.Submit nonce request) J legal (tabled_all J legal.0) (λ r top is all. all) (λ r none. (absent_all J legal.0 r none).stacked) (λ q x is. one_root J (grown_all J legal.0) (args_are.Root request (first_of J (table_of_request request))) (first_of J (table_of_request request)) (asked_closes request (first_of J (table_of_request request)) legal.1.1.0.0) tt q x is)
+tabled_all (entry_is.Submit nonce request ∷ J) legal = tabled_rooted (entry_is.Submit nonce request) J legal (tabled_all J legal.0) (λ r top is all. all) (λ r none. (absent_all J legal.0 r none).stacked) (λ q x is. one_root J (grown_all J legal.0) (args_are.Root request (first_of J (table_of_request request))) (first_of J (table_of_request request)) (asked_closes request (first_of J (table_of_request request)) legal.1.1.0) tt q x is)
 tabled_all (entry_is.Step pid pick out ∷ J) legal = tabled_step pid pick out J legal (tabled_all J legal.0)
 tabled_all (entry_is.Undo pid row out ∷ J) legal =
     tabled_rooted (entry_is.Undo pid row out) J legal (tabled_all J legal.0) (λ r top is all. undo_same (root_of J pid.0 == r) (table_of top.args) (stack J r) all) (λ r none. undo_none (root_of J pid.0 == r) (stack J r) (absent_all J legal.0 r none).stacked)

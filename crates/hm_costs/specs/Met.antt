@@ -14,6 +14,7 @@ use Rattle.hm_model.specs.Costs.{cost}
 use Rattle.hm_model.specs.Entries.{entries_of, IsQuiet}
 use Rattle.hm_model.specs.Fleet.{has_newer, has_older_live, is_live}
 use Rattle.hm_model.specs.Inputs.{IsEvaluated, answers}
+use Rattle.hm_model.specs.Kinds.{all_kinds}
 use Rattle.hm_model.specs.Journal.{Past}
 use Rattle.hm_model.specs.Kinds.{kind_of}
 use Rattle.hm_model.specs.Phase.{all_below, ended, phase, root_ended}
@@ -47,10 +48,6 @@ abbrev pub Tells : Past → ℕ → Told → Type 0
 Tells before p told =
     (verb : Verb) × (verb_of before p ≡ Some verb) × (report_of before p ≡ None) × (ended before p ≡ false)
     × (fits_verb verb told ≡ true)
-
--- the kinds that there are, in their order
-abbrev pub all_kinds : List ℕ
-all_kinds = 1 ∷ 2 ∷ 3 ∷ 4 ∷ 5 ∷ 6 ∷ 7 ∷ 8 ∷ 9 ∷ 10 ∷ 11 ∷ 20 ∷ 21 ∷ 23 ∷ 24 ∷ 25 ∷ 26 ∷ 27 ∷ []
 
 -- valid sheets for all kinds, and nothing before them
 abbrev pub Begins : Past → List Sheet → Type 0

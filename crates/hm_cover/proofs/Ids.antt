@@ -60,7 +60,7 @@ use Rattle.hm_model.specs.Undoing.{closed_by, closed_by_request, undo_followers}
 use Rattle.hm_model.specs.Views.{asked_of, bounds_of, first_id_of, namespace_of, region_of, region_of_request, regions_in, table_of}
 use Rattle.hm_model.specs.Wanted.{goal_in, ids_of, layout_of, server_of}
 use Rattle.hm_cover.proofs.Drawn.{ArgsDrawn, bounds_fit}
-use Rattle.hm_cover.specs.RegionIds.{AreIds, NamesIds, is_of_none}
+use Rattle.hm_model.specs.RegionIds.{AreIds, NamesIds, is_zero_transit}
 
 -- regions with their ids
 abbrev pub AreRegions : List Region → Type 0
@@ -118,14 +118,14 @@ made_names (child_is.Transits table ids goal ∷ more) all i args is = made_tran
 made_names (child_is.One own ∷ more) all zero args is = subst NamesIds (same_Some own args is) all.0
 made_names (child_is.One own ∷ more) all (suc i) args is = made_names more all.1 i args is
 
--- none of the children is a transit of the number 0
+-- none of the children is a transit of the region number 0
 no_zero : (ids : List ℕ) → AreIds ids → list_any (λ id. id == 0) ids ≡ false
 no_zero [] all = refl
 no_zero (id ∷ ids) all = let one = all.0 in or_from (id == 0) (list_any (λ i. i == 0) ids) (ne_eqb id 0 (λ e. omega (arith, one, e))) (no_zero ids all.1)
 
-pub none_of_none : (children : List Child) → ChildrenNameIds children → list_any is_of_none children ≡ false
+pub none_of_none : (children : List Child) → ChildrenNameIds children → list_any is_zero_transit children ≡ false
 none_of_none [] all = refl
-none_of_none (child_is.Transits table ids goal ∷ more) all = or_from (list_any (λ id. id == 0) ids) (list_any is_of_none more) (no_zero ids all.0) (none_of_none more all.1)
+none_of_none (child_is.Transits table ids goal ∷ more) all = or_from (list_any (λ id. id == 0) ids) (list_any is_zero_transit more) (no_zero ids all.0) (none_of_none more all.1)
 none_of_none (child_is.One args ∷ more) all = none_of_none more all.1
 
 -- transits of regions

@@ -38,8 +38,8 @@ use Rattle.hm_model.specs.Whereabouts.{crashed_in}
 use Rattle.hm_cover.proofs.DrawnAll.{DrawnIn, args_more, drawn_all, from_one}
 use Rattle.hm_cover.proofs.Ids.{AreRegions, ChildrenNameIds, SeesIds, Small, all_filter, all_take, followers_name, join_one, made_names, none_of_none, opens_new, read_ids, region_named, row_names}
 use Rattle.hm_cover.proofs.UndoneArgs.{undone_of}
-use Rattle.hm_cover.specs.Ids.{IdsAreNamed, NoneAskForNone}
-use Rattle.hm_cover.specs.RegionIds.{AreNamed, NamesIds}
+use Rattle.hm_cover.specs.Ids.{IdsAreNamed, NoneAskForZero}
+use Rattle.hm_model.specs.RegionIds.{AreNamed, NamesIds}
 
 pub record IdsKept (J : Past) : Type 0 where
   pub args : (p : ℕ) (node : Node) → node_of J p ≡ Some node → NamesIds node.args
@@ -173,7 +173,7 @@ ids_kept (entry_is.Abort pid ∷ J) legal named = let k = ids_kept J legal.0 nam
 pub ids_named : IdsAreNamed
 ids_named J legal named p node is = (ids_kept J legal named).args p node is
 
-pub none_ask : NoneAskForNone
+pub none_ask : NoneAskForZero
 none_ask (entry_is.Start sheets) J legal named asks = false≢true asks
 none_ask (entry_is.Submit nonce request) J legal named asks = false≢true asks
 none_ask (entry_is.Step pid pick out) J legal named asks = false≢true (sym (none_of_none out.children (step_children pid pick out J legal (ids_kept J legal.0 named))) ∙ asks)

@@ -217,7 +217,7 @@ module _ (n : ℕ) (nonce : Nonce) (request : Request) (J : Past) (legal : IsLeg
     whole = kept.whole;
     sound = λ p x a is asked. elim (submit_or p x a is asked) [
       | inl old ↦ kept.sound p x a old asked
-      | inr new ↦ ap (λ (b : Asked). wrong_in b.request) new.1 ∙ legal.1.1.0.0
+      | inr new ↦ ap (λ (b : Asked). wrong_in b.request) new.1 ∙ legal.1.1.0
     ];
     apart = λ p q x y a b differs px qy pa qb u i one other. elim (submit_or p x a px pa) [
       | inl old ↦ elim (submit_or q y b qy qb) [

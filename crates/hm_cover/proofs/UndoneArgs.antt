@@ -39,7 +39,7 @@ by_latest J r top out (latest ∷ below) some all is =
 
 pub undone_of : (pid : Pid) (row : ℕ) (out : StepOut) (J : Past) → IsLegal (entry_is.Undo pid row out ∷ J) → IsUndoneOf J out
 undone_of pid row out J legal =
-    let latest = legal.1.1.0.1 in
+    let latest = legal.1.1.0 in
     let answer = legal.1.1.1.0 in
     let r = root_of J pid.0 in
     let same : answer.0 ≡ latest.0 = same_Some answer.0 latest.0 (sym answer.1 ∙ latest.1) in

@@ -7,7 +7,7 @@ use Rattle.hm_model.specs.Journal.{Past}
 use Rattle.hm_model.specs.Rules.{IsLegal}
 use Rattle.hm_model.specs.Tree.{Node, node_of}
 use Rattle.hm_model.specs.Views.{first_id_of}
-use Rattle.hm_cover.specs.RegionIds.{AreNamed, AsksForNone}
+use Rattle.hm_model.specs.RegionIds.{AreNamed, AsksForZero}
 
 -- where submissions name regions by ids from 1 on, so does each procedure, and the first id that it draws or adds is
 -- below 2^32
@@ -16,7 +16,7 @@ IdsAreNamed =
     (J : Past) → IsLegal J → AreNamed J → (p : ℕ) (node : Node) → node_of J p ≡ Some node
     → AllByRecursion (λ id. 1 ≤ id) (named_ids node.args) × (first_id_of node.args < 2 ^ 32)
 
--- there no entry that may follow asks for a transit of the number 0
-abbrev pub NoneAskForNone : Type 0
-NoneAskForNone =
-    (entry : Entry) (before : Past) → IsLegal (entry ∷ before) → AreNamed (entry ∷ before) → AsksForNone entry → ⊥
+-- there no entry that may follow asks for a transit of the region number 0
+abbrev pub NoneAskForZero : Type 0
+NoneAskForZero =
+    (entry : Entry) (before : Past) → IsLegal (entry ∷ before) → AreNamed (entry ∷ before) → AsksForZero entry → ⊥

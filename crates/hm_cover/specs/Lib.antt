@@ -1,4 +1,3 @@
 pub mod Theorem
 pub mod Merges
-pub mod RegionIds
 pub mod Ids

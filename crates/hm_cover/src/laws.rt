@@ -1,5 +1,5 @@
 //! The laws.
-ghost use Rattle.hm_cover.specs.Ids.{IdsAreNamed, NoneAskForNone};
+ghost use Rattle.hm_cover.specs.Ids.{IdsAreNamed, NoneAskForZero};
 ghost use Rattle.hm_cover.specs.Merges.{MergesKeepRanges};
 ghost use Rattle.hm_cover.specs.Theorem.{DeedsKeepRanges, LiveRangesHaveKeys, LiveRegionsCover, LiveRegionsNeverOverlap, MissingTablesAreBare, RegionIdsAreDrawn};
 
@@ -9,10 +9,10 @@ pub fn region_ids_are_drawn()
 {}
 
 /// Where requests name regions by ids from 1 on, all procedures do, and the first id that one draws or adds is below 2^32.
-/// There no entry asks for a transit of the id 0.
+/// There no entry asks for a transit of the region number 0.
 pub fn ids_are_named()
     ensures procedures { IdsAreNamed }
-    ensures none { NoneAskForNone }
+    ensures none { NoneAskForZero }
 {}
 
 /// In the catalog of the deeds the live regions of a table never overlap and cover every key, and a table that isn't there

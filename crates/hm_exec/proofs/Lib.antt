@@ -1,5 +1,12 @@
-mod Recording
+mod Aborted
+mod Claimed
+mod Coming
+mod Committed
+mod Entered
+mod Given
 mod Going
 mod Handing
-mod Claimed
+mod Living
+mod Looked
+mod Recording
 mod Rooted

@@ -1,4 +1,4 @@
--- A submission that is recorded, or isn't.
+-- An entry that is recorded, or isn't; and a submission.
 use Rattle.std.proofs.Common.{◌≡◌, ◌+◌, ℕ, List, Err, Ok, false, inl, refl, ap, sym, subst, ◌∙◌}
 use Rattle.hm_names.specs.declared.nonce.Nonce.{Nonce}
 use Rattle.hm_data.specs.declared.entry.Entry.{Entry}
@@ -13,6 +13,7 @@ use Rattle.hm_model.specs.Rules.{Allowed, IsLegal}
 use Rattle.hm_model.specs.Tree.{made}
 use Rattle.hm_roster.specs.Roster.{Follows, claims_on}
 use Rattle.hm_roster.specs.declared.desk.Desk.{Desk}
+use Rattle.hm_tied.specs.Ables.{IsNotBy}
 use Rattle.hm_tied.specs.Tied.{CanGo}
 use Rattle.hm_exec.specs.Adding.{Adds}
 use Rattle.hm_exec.specs.Submitting.{IsWelcome, Submits}
@@ -33,17 +34,22 @@ module _ (old new : Recording) (entries more : List Entry) (desk after : Desk) (
       let is : entries ≡ more = sym was.same ∙ sym (unrecorded old new entry fault adds) ∙ same in
       record { same = same; follows = follows; able = λ q mine. subst (λ (l : List Entry). CanGo (back l) q) is (was.able q (subst (IsIn q) claims mine)) }
 
-  -- behind a submission whoever is claimed can go on
-  pub goes_on : (nonce : Nonce) (request : Request) (number : ℕ) → IsLegal (back entries) → Allowed (back entries) (entry_is.Submit nonce request) → Records old (entry_is.Submit nonce request) (Ok number) new → IsExec new more after
-  goes_on nonce request number legal allowed records =
-      let entry = entry_is.Submit nonce request in
-      record {
-        same = same;
-        follows = follows;
-        able =
-            subst (λ J. AreAble J after) (sym (past_more entries more old new entry number was.same same records))
-            (able_behind entry (back entries) desk after (legal, allowed) was.follows was.able claims (λ q mine. tt));
-      }
+  -- behind an entry that is by nobody who is claimed, whoever is can go on
+  pub goes_on : (entry : Entry) (number : ℕ) → IsLegal (back entries) → Allowed (back entries) entry → Records old entry (Ok number) new → ((q : ℕ) → IsIn q (claims_on desk) → IsNotBy (back entries) entry q)
+      → IsExec new more after
+  goes_on entry number legal allowed records others = record {
+    same = same;
+    follows = follows;
+    able =
+        subst (λ J. AreAble J after) (sym (past_more entries more old new entry number was.same same records))
+        (able_behind entry (back entries) desk after (legal, allowed) was.follows was.able claims others);
+  }
+
+-- where nothing is recorded, and the desk is as it was
+pub stays_so : (old new : Recording) (entries more : List Entry) (desk : Desk) → IsExec old entries desk → entries_of new ≡ more → (entry : Entry) (fault : HallFault) → Adds old entry (Err fault) new → IsExec new more desk
+stays_so old new entries more desk was same entry fault adds =
+    let is : entries ≡ more = sym was.same ∙ sym (unrecorded old new entry fault adds) ∙ same in
+    subst (λ l. IsExec new l desk) is (record { same = same ∙ sym is; follows = was.follows; able = was.able })
 
 -- what a submission that is recorded answers
 pub rooted : (old new : Recording) (entries more : List Entry) (claims after : List ℕ) (nonce : Nonce) (request : Request) (last number : ℕ) → entries_of old ≡ entries → entries_of new ≡ more

@@ -13,6 +13,7 @@ use Rattle.hm_hall.specs.declared.fault.HallFault.TheVariants as fault_is
 use Rattle.hm_hall.specs.declared.taken.Given.{Given}
 use Rattle.hm_hall.specs.declared.taken.Given.TheVariants as given_is
 use Rattle.hm_hall.specs.declared.taken.Taken.{Taken}
+use Rattle.hm_model.specs.Rest.{IsAvailable}
 use Rattle.hm_model.specs.Evaluation.{CanRun}
 use Rattle.hm_model.specs.Inputs.{input}
 use Rattle.hm_model.specs.Journal.{Past}
@@ -23,7 +24,6 @@ use Rattle.hm_model.specs.Tree.{Node, node_of}
 use Rattle.hm_judge.specs.Choice.{candidate}
 use Rattle.hm_roster.specs.Desk.{IsClaimedToo}
 use Rattle.hm_tied.specs.Calls.{Unclaims}
-use Rattle.hm_tied.specs.Tied.{IsAvailableFree}
 use Rattle.hm_exec.specs.Moment.{FaultsAt, IsGoing, IsHalted, Moment, past_of}
 
 -- what the next call of a procedure's handler sees now, with this pick
@@ -45,16 +45,17 @@ pub record IsHandedOut (J : Past) (taken : Taken) : Type 0 where
 abbrev pub Claims : Moment → Taken → Moment → Type 0
 Claims old taken new =
     let pid = taken.pid in
-    IsGoing old × IsAvailableFree (past_of old) old.claimed old.claimed pid.0 × IsHandedOut (past_of old) taken
+    IsGoing old × IsAvailable (past_of old) old.claimed old.claimed pid.0 × IsHandedOut (past_of old) taken
     × (new.kept ≡ old.kept) × IsClaimedToo pid.0 old.claimed new.claimed
 
--- what `claim` answers, and what is left: None exactly where no procedure is available
+-- what `claim` answers, and what is left: None exactly where no procedure is available; memory runs out only where one is
 abbrev pub AnswersClaim : Moment → Result (Option Taken) HallFault → Moment → Type 0
 AnswersClaim old (Ok (Some taken)) new = Claims old taken new
 AnswersClaim old (Ok None) new =
-    IsGoing old × ((q : ℕ) → IsAvailableFree (past_of old) old.claimed old.claimed q → ⊥) × (new ≡ old)
+    IsGoing old × ((q : ℕ) → IsAvailable (past_of old) old.claimed old.claimed q → ⊥) × (new ≡ old)
 AnswersClaim old (Err (fault_is.Halted why)) new = IsHalted old why new
-AnswersClaim old (Err fault_is.Memory) new = IsGoing old × (new ≡ old)
+AnswersClaim old (Err fault_is.Memory) new =
+    IsGoing old × ((q : ℕ) × IsAvailable (past_of old) old.claimed old.claimed q) × (new ≡ old)
 AnswersClaim old (Err fault) new = ⊥
 
 -- the entry of an answer: a step, or what undoes one

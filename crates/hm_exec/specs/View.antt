@@ -22,6 +22,16 @@ moment_of kept exec = record { kept = kept exec.recorder; claimed = exec.claimed
 abbrev pub AreAble : Past → Desk → Type 0
 AreAble J desk = (q : ℕ) → IsIn q (claims_on desk) → CanGo J q
 
+-- an executor but for its recorder: the entries of its journal, and who is claimed
+pub record CoreView : Type 0 where
+  pub entries : List Entry
+  pub claimed : List ℕ
+
+-- the desk follows the entries, and whoever is claimed can go on
+pub record IsCore (entries : List Entry) (desk : Desk) : Type 0 where
+  pub follows : Follows (back entries) desk
+  pub able : AreAble (back entries) desk
+
 -- the state is that of what is recorded, the desk follows it, and whoever is claimed can go on
 pub record IsExec (kept : Recording) (entries : List Entry) (desk : Desk) : Type 0 where
   pub same : entries_of kept ≡ entries

@@ -1,10 +1,12 @@
 //! Claims.
-ghost use Rattle.std.specs.Prelude.{◌≡◌, ◌⊎◌, IfOk};
+ghost use Rattle.std.specs.Prelude.{◌≡◌, ◌⊎◌, IfOk, OnOk};
 ghost use Rattle.hm_exec.specs.Claiming.{AnswersClaim, IsHandedOut, PutsBack};
 ghost use Rattle.hm_exec.specs.View.{moment_of};
 ghost use Rattle.hm_model.specs.Journal.{back};
 ghost use Rattle.hm_model.specs.Locks.{IsIn};
 ghost use Rattle.hm_model.specs.Rest.{MayStepPicked, MayUndo};
+ghost use Rattle.hm_roster.specs.Desk.{HasClaimRoom};
+ghost use Rattle.hm_roster.specs.Roster.{IsGiven, claims_on};
 
 use crate::exec::Exec;
 use hm_hall::{HallFault, Recorder, Taken};
@@ -12,6 +14,7 @@ use hm_judge::candidate;
 use hm_judge::laws::candidates_fit;
 use hm_lists::Steps;
 use hm_names::Pid;
+use hm_roster::Desk;
 use hm_single::picks_are_there;
 use hm_state::State;
 use std::alloc::{AllocError, Global};
@@ -30,9 +33,23 @@ fn hand_out(state: &State, alloc: Global, pid: Pid) -> Result<Taken, AllocError>
     Ok(Taken { pid, was })
 }
 
+// Makes room for a claim of a procedure that was given and can go on, and what is handed out for it.
+fn hand_over(desk: &mut Desk, state: &State, alloc: Global, pid: Pid) -> Result<Taken, AllocError>
+    requires given { IsGiven (back state.now.entries) desk.old pid.0 }
+    requires go { MayStepPicked (back state.now.entries) pid.0 ⊎ MayUndo (back state.now.entries) pid.0 }
+    ensures given { IsGiven (back state.now.entries) desk.new pid.0 }
+    ensures claimed { claims_on desk.new ≡ claims_on desk.old }
+    ensures room { OnOk result (HasClaimRoom desk.new) }
+    ensures pid { IfOk result (λ taken. taken.pid ≡ pid) }
+    ensures handed { IfOk result (IsHandedOut (back state.now.entries)) }
+{
+    desk.reserve_claim(alloc)?;
+    hand_out(state, alloc, pid)
+}
+
 impl<R: Recorder> Exec<R> {
     /// Claims the first procedure that is available, servers' before others, and hands out what the next call of its handler
-    /// sees. None exactly where none is.
+    /// sees. None exactly where none is; memory runs out only where one is.
     pub fn claim<L: Ledger>(
         &mut self,
         alloc: Global,
@@ -44,11 +61,10 @@ impl<R: Recorder> Exec<R> {
         if let Some(why) = self.recorder.halted() {
             return Err(HallFault::Halted(why));
         }
-        self.desk.reserve_claim(alloc)?;
         let Some(pid) = self.desk.next(self.state.records(), steps) else {
             return Ok(None);
         };
-        match hand_out(&self.state, alloc, pid) {
+        match hand_over(&mut self.desk, &self.state, alloc, pid) {
             Ok(taken) => {
                 self.desk.claim(self.state.records(), pid);
                 Ok(Some(taken))

@@ -1,14 +1,19 @@
-//! The executor, as far as it goes: a submission is one entry that may follow, recorded, or a refusal, which records nothing; a claim is
-//! exact. What its other events answer and leave is defined.
+//! The executor: each event is one entry that may follow, recorded, or a refusal, which records nothing; a claim is exact.
 #![tactic(auto)]
 
+mod aborting;
 mod adding;
 mod answers;
 mod claiming;
+mod committing;
 mod exec;
+mod fleet;
+mod hearing;
 mod making;
+mod parting;
 mod submitting;
 
 pub use answers::{Accepted, DownWhy, Heard, UpWhy};
 pub use exec::Exec;
 pub use hm_refusals::{AbortRefused, IgnoredWhy, Refused};
+pub use parting::ExecCore;

@@ -5,7 +5,6 @@ ghost use Rattle.hm_data.specs.declared.entry.Entry.TheVariants as entry_is;
 ghost use Rattle.hm_exec.specs.Moment.{past_of};
 ghost use Rattle.hm_exec.specs.Submitting.{AnswersSubmit, IsWelcome, RefusesToSubmit, Submits, refused_by};
 ghost use Rattle.hm_exec.specs.View.{moment_of};
-ghost use Rattle.hm_model.specs.Kinds.{is_running_kind, request_kind};
 ghost use Rattle.hm_model.specs.Rules.{Allowed};
 
 use crate::answers::Accepted;
@@ -35,7 +34,7 @@ impl<R: Recorder> Exec<R> {
     fn judge(&self, nonce: &Nonce, request: &Request) -> Result<Option<Pid>, Refused>
         ensures repeated { IfOk result (λ pid. IfSome pid (λ pid. Submits (moment_of R.kept self.now) nonce.now request.now (record { pid = pid; repeated = true }) (moment_of R.kept self.now))) }
         ensures welcome { IfOk result (λ pid. IfNone pid (IsWelcome (moment_of R.kept self.now) nonce.now request.now)) }
-        ensures allowed { IfOk result (λ pid. IfNone pid (IsTrue (is_running_kind (request_kind request.now)) → Allowed (past_of (moment_of R.kept self.now)) (entry_is.Submit nonce.now request.now))) }
+        ensures allowed { IfOk result (λ pid. IfNone pid (Allowed (past_of (moment_of R.kept self.now)) (entry_is.Submit nonce.now request.now))) }
         ensures refused { IfErr result (λ why. RefusesToSubmit (moment_of R.kept self.now) nonce.now request.now why (moment_of R.kept self.now)) }
     {
         if let Some(why) = self.recorder.halted() {
@@ -84,7 +83,6 @@ impl<R: Recorder> Exec<R> {
         nonce: Nonce,
         request: Request,
     ) -> Result<Accepted, Refused>
-        requires so_far { IsTrue (is_running_kind (request_kind request)) }
         ensures answers { AnswersSubmit (moment_of R.kept self.old) nonce request result (moment_of R.kept self.new) }
         ensures fault { IsErrOf result Refused.LogFault → Rose (R.faults self.old.recorder) (R.faults self.new.recorder) }
         ensures later { R.faults self.old.recorder ≤ R.faults self.new.recorder }

@@ -30,19 +30,19 @@ use Rattle.std.proofs.lemmas.List.{length-map}
 use Rattle.hm_names.specs.declared.nonce.Nonce.{Nonce}
 use Rattle.hm_data.specs.declared.request.Request.{Request}
 use Rattle.hm_data.specs.declared.sheet.Sheet.{Sheet}
-use Rattle.hm_model.specs.Kinds.{running_kinds}
+use Rattle.hm_model.specs.Kinds.{all_kinds}
 use Rattle.hm_model.specs.Requests.{wrong_in}
 use Rattle.hm_frames.proofs.Sizes.{sheets_short}
 
 -- the master runs few kinds
-few_kinds : length running_kinds ≤ 64
-few_kinds = leb-true (length running_kinds) 64 refl
+few_kinds : length all_kinds ≤ 64
+few_kinds = leb-true (length all_kinds) 64 refl
 
 -- sheets, one for each kind that the master runs
 pub start_recorded : (sheets : List Sheet) → AreSheets sheets → CanBeRecorded (entry_is.Start sheets)
 unfolding spelling
 start_recorded sheets are =
-    let each : length sheets ≡ length running_kinds = sym (length-map sheets (λ s. s.kind)) ∙ ap length are.0 in
+    let each : length sheets ≡ length all_kinds = sym (length-map sheets (λ s. s.kind)) ∙ ap length are.0 in
     record { spelled = tt; short = omega (arith, each, few_kinds, sheets_short sheets are.1) }
 
 -- a request that nothing is wrong with

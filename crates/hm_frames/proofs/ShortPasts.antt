@@ -218,7 +218,7 @@ past_short (entry_is.Start sheets ∷ J) legal fit =
     let was = past_short J legal.0 (All-tail EntryFits (entry_is.Start sheets) J fit) in
     record { nodes = was.nodes; rows = was.rows; places = was.places; placed = was.placed; steps = was.steps; live = was.live }
 past_short (entry_is.Submit given asked ∷ J) legal fit =
-    submit_past J legal.0 (past_short J legal.0 (All-tail EntryFits (entry_is.Submit given asked) J fit)) given asked legal.1.1.0.0 (All-head EntryFits (entry_is.Submit given asked) J fit).1
+    submit_past J legal.0 (past_short J legal.0 (All-tail EntryFits (entry_is.Submit given asked) J fit)) given asked legal.1.1.0 (All-head EntryFits (entry_is.Submit given asked) J fit).1
 past_short (entry_is.Step pid pick out ∷ J) legal fit =
     let fit' = All-tail EntryFits (entry_is.Step pid pick out) J fit in
     let was = past_short J legal.0 fit' in

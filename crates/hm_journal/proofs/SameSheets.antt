@@ -3,7 +3,7 @@ use Rattle.std.proofs.Common.{◌≡◌, ℕ, ◌+◌, ◌<◌, ◌≤◌, ◌&&
 use Rattle.std.proofs.lemmas.Bool.{and_parts, eq-eqb, leb-true, ltb-true, ne_eqb}
 use Rattle.std.proofs.lemmas.Option.{same_Some}
 use Rattle.hm_data.specs.declared.sheet.Sheet.{Sheet}
-use Rattle.hm_model.specs.Kinds.{running_kinds}
+use Rattle.hm_model.specs.Kinds.{all_kinds}
 use Rattle.hm_model.specs.Rules.{AreSheets}
 use Rattle.hm_model.specs.Sheets.{sheet_for}
 use Rattle.hm_journal.specs.Stored.{SameSheets}
@@ -25,8 +25,8 @@ rising (kind ∷ kinds) low are =
     let second = and_parts (nat_lt kind 256) (are_rising (kind + 1) kinds) first.1 in
     (leb-true low kind first.0, ltb-true kind 256 second.0, rising kinds (kind + 1) second.1)
 
-running_rise : AreRising 0 running_kinds
-running_rise = rising running_kinds 0 refl
+all_rise : AreRising 0 all_kinds
+all_rise = rising all_kinds 0 refl
 
 -- the first sheet, where it has the kind
 first_kind : (sheet : Sheet) (sheets : List Sheet) (kind : ℕ) → sheet.kind ≡ kind → sheet_for (sheet ∷ sheets) kind ≡ Some sheet
@@ -55,4 +55,4 @@ same_from (kind ∷ kinds) low (x ∷ xs) (y ∷ ys) rise are are' same =
 
 -- sheets that a journal may begin with are equal where they are the same by kind
 pub same_sheets : (sheets own : List Sheet) → AreSheets sheets → AreSheets own → SameSheets sheets own → sheets ≡ own
-same_sheets sheets own are are' same = same_from running_kinds 0 sheets own running_rise are.0 are'.0 (λ kind low small. same kind small)
+same_sheets sheets own are are' same = same_from all_kinds 0 sheets own all_rise are.0 are'.0 (λ kind low small. same kind small)

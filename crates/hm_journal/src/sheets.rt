@@ -8,10 +8,10 @@ ghost use Rattle.hm_journal.specs.Verdict.{IsLowestDifference};
 
 use hm_data::Sheet;
 use hm_names::{Copied, List, Same};
-use hm_sheet::{check_sheet, running_kinds};
+use hm_sheet::{all_kinds, check_sheet};
 use std::alloc::{AllocError, Global};
 
-// Whether there is one for each kind that the master runs, in the order of the kinds.
+// Whether there is one for each of these kinds, in their order.
 fn have_kinds(sheets: &[Sheet], kinds: &[u8]) -> bool
     ensures { IsTrue result ↔ (map (λ sheet. sheet.kind) sheets.now ≡ kinds.now) }
 {
@@ -50,7 +50,7 @@ fn are_valid(sheets: &[Sheet]) -> bool
 pub(crate) fn are_sheets(sheets: &[Sheet]) -> bool
     ensures { IsTrue result ↔ AreSheets sheets.now }
 {
-    have_kinds(sheets, running_kinds()) && are_valid(sheets)
+    have_kinds(sheets, all_kinds()) && are_valid(sheets)
 }
 
 // The first sheet of a kind.

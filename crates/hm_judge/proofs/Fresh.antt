@@ -98,7 +98,7 @@ fresh_steps J pid node was out legal is can right sees turn clear said =
 
 -- so may what undoes one
 pub fresh_undos : FreshUndosFollow
-fresh_undos J pid node was edits out legal is can right sees turn comes said =
+fresh_undos J pid node was edits out legal is can right sees turn said =
     let undo : is_step_turn (input J pid.0 node was.pick) ≡ false = sym (ap is_step_turn sees) ∙ ap is_step turn in
     let on = may_undo J legal pid.0 node is was.pick can undo in
     let step = (last J legal pid.0 node is on).step in
@@ -108,4 +108,4 @@ fresh_undos J pid node was edits out legal is can right sees turn comes said =
     let picks : was.pick ≡ None = unpicked J legal pid.0 node is on was.pick right in
     let evaluated : answers J (root_of J was.pid.0) node None ≡ Some out = ap (λ r. answers J r node None) root ∙ ap (answers J pid.0 node) (sym picks) ∙ ap (answer_of (sheets_of J)) (sym sees) ∙ said in
     let newest = is_latest J legal pid.0 node is on was.pid.0 was.row number (ap (λ (at : StepIn). at.row) seen) root in
-    ((begun J pid.0 node is, ((comes, newest), ((node, ap (node_of J) root ∙ is, evaluated), tt))), root)
+    ((begun J pid.0 node is, (newest, ((node, ap (node_of J) root ∙ is, evaluated), tt))), root)

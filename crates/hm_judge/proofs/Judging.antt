@@ -40,7 +40,7 @@ can_step J pid pick out holds = inl (holds.1.0 (λ e. omega (arith, e)), holds.1
 
 -- so can the root of what is undone
 pub can_undo : (J : Past) (pid : Pid) (row : ℕ) (out : StepOut) → HoldsBut J (entry_is.Undo pid row out) → CanEvaluate J (root_of J pid.0) None
-can_undo J pid row out holds = let latest = (holds.1.0 (λ e. omega (arith, e))).1 in inr (latest.0, latest.1, latest.2)
+can_undo J pid row out holds = let latest = holds.1.0 (λ e. omega (arith, e)) in inr (latest.0, latest.1, latest.2)
 
 -- it may follow where its evaluation is the same
 pub allowed_by : {E X : Type 0} (J : Past) (entry : Entry) (It : Type 0) (same : Result Bool E) (r : Result X NotAllowed) → (It → Allowed J entry) → IfOk same (λ b. IsTrue b ↔ It)

@@ -1,10 +1,9 @@
 -- Which rule an entry breaks, and what its rules say where all hold.
-use Rattle.std.proofs.Common.{◌≡◌, ℕ, Bool, false, IsTrue, Result, Ok, Err, IfErr, List, [], ◌∷◌, ◌⊎◌, inl, inr, sym, subst}
+use Rattle.std.proofs.Common.{◌≡◌, ℕ, Bool, false, Result, Ok, Err, IfErr, List, [], ◌∷◌, ◌⊎◌, inl, inr, sym, subst}
 use Rattle.std.proofs.lemmas.Bool.{cases_eq}
 use Rattle.hm_data.specs.declared.entry.Entry.{Entry}
 use Rattle.hm_data.specs.declared.entry.Entry.TheVariants as entry_is
 use Rattle.hm_model.specs.Journal.{Past}
-use Rattle.hm_model.specs.Requests.{MayCome}
 use Rattle.hm_model.specs.Rules.{Breaks, FirstFails, rules}
 use Rattle.hm_judge.specs.Judge.{AllHoldBut, HoldsBut, IsEvaluation, IsUnrefused}
 
@@ -36,9 +35,3 @@ pub broken_by : (J : Past) (entry : Entry) (number : ℕ) (holds : Bool) {X : Ty
     → IfErr r (λ k. (k ≡ number) × (holds ≡ false)) → IfErr r (Breaks J entry)
 broken_by J entry number holds (Ok x) breaks said = tt
 broken_by J entry number holds (Err k) breaks said = breaks k said.0 said.1
-
--- the same of the lowest rule of an entry's own
-pub own_broken : (J : Past) (entry : Entry) (number : ℕ) (holds : Bool) {X : Type 0} (r : Result X ℕ) → ((k : ℕ) → k ≡ number → (MayCome entry → IsTrue holds → ⊥) → Breaks J entry k)
-    → IfErr r (λ k. (k ≡ number) × (MayCome entry → IsTrue holds → ⊥)) → IfErr r (Breaks J entry)
-own_broken J entry number holds (Ok x) breaks said = tt
-own_broken J entry number holds (Err k) breaks said = breaks k said.0 said.1

@@ -7,11 +7,10 @@ use Rattle.hm_data.specs.declared.step.StepIn.{StepIn}
 use Rattle.hm_data.specs.declared.step.StepOut.{StepOut}
 use Rattle.hm_data.specs.declared.step.Turn.TheVariants as turn_is
 use Rattle.hm_model.specs.Evaluation.{answer_of}
-use Rattle.hm_model.specs.Holding.{IsClear}
+use Rattle.hm_model.specs.Holding.{IsFree}
 use Rattle.hm_model.specs.Inputs.{input}
 use Rattle.hm_model.specs.Journal.{Past}
 use Rattle.hm_model.specs.Picks.{PicksRight}
-use Rattle.hm_model.specs.Requests.{MayCome}
 use Rattle.hm_model.specs.Rest.{MayStep, MayUndo}
 use Rattle.hm_model.specs.Rules.{Allowed, IsLegal}
 use Rattle.hm_model.specs.Sheets.{sheets_of}
@@ -23,7 +22,7 @@ abbrev pub FreshStepsFollow : Type 0
 FreshStepsFollow =
     (J : Past) (pid : Pid) (node : Node) (was : StepIn) (out : StepOut) → IsLegal J → node_of J pid.0 ≡ Some node
     → (MayStep J pid.0 ⊎ MayUndo J pid.0) → PicksRight J pid.0 was.pick → was ≡ input J pid.0 node was.pick
-    → was.turn ≡ turn_is.Step → IsClear J [] pid.0 → answer_of (sheets_of J) was ≡ Some out
+    → was.turn ≡ turn_is.Step → IsFree J [] pid.0 → answer_of (sheets_of J) was ≡ Some out
     → Allowed J (entry_is.Step pid was.pick out)
 
 -- so may what undoes a step
@@ -31,6 +30,6 @@ abbrev pub FreshUndosFollow : Type 0
 FreshUndosFollow =
     (J : Past) (pid : Pid) (node : Node) (was : StepIn) (edits : List Edit) (out : StepOut) → IsLegal J
     → node_of J pid.0 ≡ Some node → (MayStep J pid.0 ⊎ MayUndo J pid.0) → PicksRight J pid.0 was.pick
-    → was ≡ input J pid.0 node was.pick → was.turn ≡ turn_is.Undo edits → MayCome (entry_is.Undo was.pid was.row out)
+    → was ≡ input J pid.0 node was.pick → was.turn ≡ turn_is.Undo edits
     → answer_of (sheets_of J) was ≡ Some out
     → Allowed J (entry_is.Undo was.pid was.row out) × (root_of J was.pid.0 ≡ pid.0)

@@ -174,6 +174,7 @@ pub fn step_in(
     let Some(found) = find(records, pid) else {
         unreachable!()
     };
+    records.procedures_name_regions();
     let at = seen_by(alloc, records, pid, found, pick)?;
     if !records.procedures().undoes(pid) {
         return Ok(at);

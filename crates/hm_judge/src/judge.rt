@@ -1,16 +1,14 @@
 //! The rules, by number.
 ghost use Rattle.std.specs.Prelude.{◌≡◌, OnOk, IfErr, IsTrue, false};
-ghost use Rattle.hm_model.specs.Requests.{MayCome};
 ghost use Rattle.hm_model.specs.Rules.{Allowed, Breaks};
 ghost use Rattle.hm_judge.specs.Judge.{HoldsBut, IsUnrefused, IsWhy};
 
 use crate::aborts::{can_abort, is_before_point};
-use crate::capabilities::may_come;
 use crate::evaluation::evaluated;
 use crate::picks::picks_right;
 use crate::reports::{fits_call, is_outstanding};
 use crate::servers::{has_newer, has_older_live, is_live};
-use crate::steps::{is_clear, may_step};
+use crate::steps::{is_free, may_step};
 use crate::submissions::{is_fresh, may_submit, stays_within};
 use crate::undos::is_latest;
 use crate::why::NotAllowed;
@@ -24,14 +22,6 @@ fn rule(number: u8, holds: bool) -> Result<(), u8>
     ensures broken { IfErr result (λ broken. (broken ≡ number) × (holds ≡ false)) }
 {
     if holds { Ok(()) } else { Err(number) }
-}
-
-// Refuses by the number of the lowest rule of an entry's own, unless the entry may come so far and the rule holds.
-fn own_rule(number: u8, entry: &Entry, holds: bool) -> Result<(), u8>
-    ensures ok { OnOk result (MayCome entry.now × IsTrue holds) }
-    ensures broken { IfErr result (λ broken. (broken ≡ number) × (MayCome entry.now → IsTrue holds → ⊥)) }
-{
-    rule(number, may_come(entry) && holds)
 }
 
 // Judges an entry by all its rules but its evaluation, from the lowest on.
@@ -49,21 +39,21 @@ pub(crate) fn judged(records: &Records, entry: &Entry) -> Result<(), u8>
         }
         Entry::Step { pid, pick, out: _ } => {
             rule(5, may_step(records, *pid))?;
-            rule(6, is_clear(records, *pid))?;
+            rule(6, is_free(records, *pid))?;
             rule(7, picks_right(records, *pid, pick))
         }
-        Entry::Undo { pid, row, out: _ } => own_rule(9, entry, is_latest(records, *pid, *row)),
+        Entry::Undo { pid, row, out: _ } => rule(9, is_latest(records, *pid, *row)),
         Entry::Report { call, told } => {
-            own_rule(11, entry, is_outstanding(records, *call))?;
+            rule(11, is_outstanding(records, *call))?;
             rule(12, fits_call(records, *call, *told))
         }
         Entry::Up { server } => {
-            own_rule(13, entry, !has_newer(records, server))?;
+            rule(13, !has_newer(records, server))?;
             rule(14, !has_older_live(records, server))
         }
-        Entry::Down { server } => own_rule(15, entry, is_live(records, server)),
+        Entry::Down { server } => rule(15, is_live(records, server)),
         Entry::Abort { pid } => {
-            own_rule(16, entry, can_abort(records, *pid))?;
+            rule(16, can_abort(records, *pid))?;
             rule(17, is_before_point(records, *pid))
         }
     }

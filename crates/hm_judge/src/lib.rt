@@ -3,7 +3,6 @@
 #![tactic(auto)]
 
 mod aborts;
-mod capabilities;
 mod choice;
 mod copies;
 mod evaluation;

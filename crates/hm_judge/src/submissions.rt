@@ -7,18 +7,16 @@ ghost use Rattle.hm_model.specs.Tree.{drawn as ids_so_far};
 use hm_catalog::wrong_in;
 use hm_data::Request;
 use hm_names::{Nonce, TableName};
-use hm_procedures::kind_asked;
 use hm_records::{Records, new_ids, table_of_request};
-use hm_sheet::is_running_kind;
 
 // The greatest number of region ids that may be drawn for a table.
 const MOST_IDS: u64 = 4096;
 
-/// Whether nothing is wrong with a request by itself, and the master runs its kind.
+/// Whether nothing is wrong with a request by itself.
 pub(crate) fn may_submit(request: &Request) -> bool
     ensures { IsTrue result ↔ MaySubmit request.now }
 {
-    wrong_in(request).is_none() && is_running_kind(kind_asked(request))
+    wrong_in(request).is_none()
 }
 
 /// Whether the nonce is none, or nothing was submitted under it.

@@ -213,7 +213,7 @@ named_came (entry_is.Step pid pick out ∷ J) legal = named_step J legal.0 (name
 named_came (entry_is.Undo pid row out ∷ J) legal = named_undo J legal.0 (named_came J legal.0) pid row out legal
 named_came (entry_is.Report call told ∷ J) legal = let was = named_came J legal.0 in record { args = was.args; places = was.places }
 named_came (entry_is.Up other ∷ J) legal = named_up J legal.0 (named_came J legal.0) other
-named_came (entry_is.Down other ∷ J) legal = named_down J legal.0 (named_came J legal.0) other legal.1.1.0.1
+named_came (entry_is.Down other ∷ J) legal = named_down J legal.0 (named_came J legal.0) other legal.1.1.0
 named_came (entry_is.Abort pid ∷ J) legal = let was = named_came J legal.0 in record { args = was.args; places = was.places }
 
 -- who is fenced came up

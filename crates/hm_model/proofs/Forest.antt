@@ -50,7 +50,7 @@ aborted_roots (entry_is.Report call told ∷ before) legal p on = root_stays (en
 aborted_roots (entry_is.Up server ∷ before) legal p on = root_stays (entry_is.Up server) before legal p (aborted_roots before legal.0 p on)
 aborted_roots (entry_is.Down server ∷ before) legal p on = root_stays (entry_is.Down server) before legal p (aborted_roots before legal.0 p on)
 aborted_roots (entry_is.Abort pid ∷ before) legal p on = elim (cases_eq p pid.0) [
-  | inl same ↦ ap (is_root before) same ∙ legal.1.1.0.1.0
+  | inl same ↦ ap (is_root before) same ∙ legal.1.1.0.0
   | inr differs ↦ aborted_roots before legal.0 p (sym (cond-false (p == pid.0) true (is_aborted before p) (ne_eqb p pid.0 differs)) ∙ on)
 ]
 

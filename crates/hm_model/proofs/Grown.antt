@@ -15,7 +15,7 @@ use Rattle.hm_names.specs.declared.pid.Pid.{Pid}
 use Rattle.hm_model.specs.Answers.{is_aborted, last_answer, report_of}
 use Rattle.hm_model.specs.Journal.{Past}
 use Rattle.hm_model.specs.Keys.{same_table}
-use Rattle.hm_model.specs.Kinds.{is_running_kind, request_kind, table_of_request}
+use Rattle.hm_model.specs.Kinds.{table_of_request}
 use Rattle.hm_model.proofs.KeyTests.{same_table-is}
 use Rattle.hm_names.specs.declared.table.TableName.{TableName}
 use Rattle.hm_model.specs.Laws.{IsGrown, IsUnder, StartIsOldest}
@@ -24,7 +24,6 @@ use Rattle.hm_model.specs.Places.{has_failed, one_more, tries_of}
 use Rattle.hm_model.specs.Reports.{verb_of}
 use Rattle.hm_model.specs.Rules.{Allowed, AreSheets, IsLegal}
 use Rattle.hm_model.specs.Sheets.{sheets_of}
-use Rattle.hm_model.specs.Stages.{IsSimple}
 use Rattle.hm_model.specs.Tree.{Node, args_in, child_of, children_of, drawn, ids_for, is_root, is_root_in, made, new_ids, node_of, root_node, submitted}
 use Rattle.hm_data.specs.declared.entry.Entry.TheVariants as entry_is
 use Rattle.hm_data.specs.declared.request.Request.TheVariants as request_is
@@ -205,10 +204,10 @@ grown_all (entry_is.Start sheets ∷ before) legal = same_grown before (entry_is
 grown_all (entry_is.Submit nonce request ∷ before) legal = grown_submit nonce request before (grown_all before legal.0)
 grown_all (entry_is.Step pid pick out ∷ before) legal = let may = legal.1.1.0 in grown_step pid pick out before may.0 may.1 (grown_all before legal.0)
 grown_all (entry_is.Undo pid row out ∷ before) legal = grown_undo pid row out before (grown_all before legal.0)
-grown_all (entry_is.Report call told ∷ before) legal = grown_report call told before legal.1.1.0.1.0 (grown_all before legal.0)
+grown_all (entry_is.Report call told ∷ before) legal = grown_report call told before legal.1.1.0.0 (grown_all before legal.0)
 grown_all (entry_is.Up server ∷ before) legal = same_grown before (entry_is.Up server ∷ before) refl (λ p. refl) (record { unmade = λ p h e. e; uncalled = λ p h e. e; unreported = λ p h e. e; unaborted = λ p h e. e }) (grown_all before legal.0)
 grown_all (entry_is.Down server ∷ before) legal = grown_down server before (grown_all before legal.0)
-grown_all (entry_is.Abort pid ∷ before) legal = grown_abort pid before legal.1.1.0.1.0 (grown_all before legal.0)
+grown_all (entry_is.Abort pid ∷ before) legal = grown_abort pid before legal.1.1.0.0 (grown_all before legal.0)
 
 -- what was made stays as it is
 pub nodes_stay : (entry : Entry) (before : Past) → IsLegal (entry ∷ before) → (q : ℕ) (x : Node) → node_of before q ≡ Some x → node_of (entry ∷ before) q ≡ Some x
@@ -220,52 +219,6 @@ nodes_stay (entry_is.Report call told) before legal q x is = is
 nodes_stay (entry_is.Up server) before legal q x is = is
 nodes_stay (entry_is.Down server) before legal q x is = let few = (made_up_to before (grown_all before legal.0) q x is).1 in down_old server before q (λ e. omega (arith, e, few)) ∙ is
 nodes_stay (entry_is.Abort pid) before legal q x is = is
-
--- the kind of a request that may be submitted is that of a namespace
-pub runs_one : (request : Request) → IsTrue (is_running_kind (request_kind request)) → (ns : List ℕ) × (request ≡ request_is.CreateNamespace ns)
-runs_one (request_is.CreateNamespace ns) runs = (ns, refl)
-runs_one (request_is.DropNamespace ns) runs = absurd (false≢true runs)
-runs_one (request_is.CreateTable table keys) runs = absurd (false≢true runs)
-runs_one (request_is.DeleteTable table) runs = absurd (false≢true runs)
-runs_one (request_is.EnableTable table) runs = absurd (false≢true runs)
-runs_one (request_is.DisableTable table) runs = absurd (false≢true runs)
-runs_one (request_is.ModifyTable table version) runs = absurd (false≢true runs)
-runs_one (request_is.SplitRegion region key) runs = absurd (false≢true runs)
-runs_one (request_is.MergeRegions regions) runs = absurd (false≢true runs)
-runs_one (request_is.Move region to) runs = absurd (false≢true runs)
-
-pub submits_one : (before : Past) (nonce : Nonce) (request : Request) → Allowed before (entry_is.Submit nonce request) → (ns : List ℕ) × (request ≡ request_is.CreateNamespace ns)
-submits_one before nonce request allowed = runs_one request allowed.1.0.1
-
-pub simple_nothing : IsSimple []
-simple_nothing = record { creates = λ p node is. absurd (none-some node is); unreported = λ p. refl; unaborted = λ p. refl; untried = λ p. refl; made_bound = omega arith }
-
-pub simple_start : (sheets : List Sheet) (before : Past) → IsSimple before → IsSimple (entry_is.Start sheets ∷ before)
-simple_start sheets before simple = record { creates = simple.creates; unreported = simple.unreported; unaborted = simple.unaborted; untried = simple.untried; made_bound = omega (arith, simple.made_bound) }
-
-pub simple_submit : (nonce : Nonce) (request : Request) (before : Past) → Allowed before (entry_is.Submit nonce request) → IsSimple before → IsSimple (entry_is.Submit nonce request ∷ before)
-simple_submit nonce request before allowed simple =
-    let one = submits_one before nonce request allowed in
-    record {
-      creates = λ p node is. elim (cases_eq p (made before + 1)) [
-        | inl new ↦ (one.0, sym (same_Some (submitted before request p) node (sym (submit_new nonce request before p new) ∙ is)) ∙ ap (λ r. submitted before r p) one.1)
-        | inr old ↦ simple.creates p node (sym (submit_old nonce request before p old) ∙ is)
-      ];
-      unreported = simple.unreported;
-      unaborted = simple.unaborted;
-      untried = simple.untried;
-      made_bound = omega (arith, simple.made_bound);
-    }
-
--- a step that makes no procedures
-pub simple_step : (pid : Pid) (pick : Option Server) (out : StepOut) (before : Past) → out.children ≡ [] → out.place ≡ None → IsGrown before → IsSimple before → IsSimple (entry_is.Step pid pick out ∷ before)
-simple_step pid pick out before childless unplaced grown simple = record {
-  creates = λ p node is. simple.creates p node (sym (step_node pid pick out before childless grown p) ∙ is);
-  unreported = simple.unreported;
-  unaborted = simple.unaborted;
-  untried = λ p. cond-false ((p == pid.0) && has_failed out.place) (one_more (tries_of before p)) (tries_of before p) (and_right (p == pid.0) (has_failed out.place) (ap has_failed unplaced)) ∙ simple.untried p;
-  made_bound = let e = step_made pid pick out before childless in omega (arith, e, simple.made_bound);
-}
 
 -- the start comes first, and only there
 pub start_oldest : (J : Past) → IsLegal J → J ≢ [] → StartIsOldest J
@@ -293,7 +246,7 @@ start_oldest (entry_is.Abort pid ∷ before) legal some =
     let old = start_oldest before legal.0 legal.1.0 in
     (entry_is.Abort pid ∷ old.0, ap (λ b. entry_is.Abort pid ∷ b) old.1, old.2)
 
--- the sheets of a journal are those of the kinds that the master runs
+-- the sheets of a journal are those of all kinds
 pub sheets_are : (J : Past) → IsLegal J → J ≢ [] → AreSheets (sheets_of J)
 sheets_are [] legal some = absurd (some refl)
 sheets_are (entry_is.Start sheets ∷ before) legal some = legal.1.0.1

@@ -50,7 +50,7 @@ follower_low pid row out J legal q x lt is = by (slice_get (args_in out.follower
 pub own_all : (J : Past) → IsLegal J → (q : ℕ) (x : Node) → node_of J q ≡ Some x → IsOwn x
 own_all [] legal q x is = absurd (none-some x is)
 own_all (entry_is.Start sheets ∷ J) legal q x is = own_all J legal.0 q x is
-own_all (entry_is.Submit nonce request ∷ J) legal q x is = elim (one_root J (args_are.Root request (first_of J (table_of_request request))) (first_of J (table_of_request request)) (asked_distinct request (first_of J (table_of_request request)) legal.1.1.0.0) q x is) [
+own_all (entry_is.Submit nonce request ∷ J) legal q x is = elim (one_root J (args_are.Root request (first_of J (table_of_request request))) (first_of J (table_of_request request)) (asked_distinct request (first_of J (table_of_request request)) legal.1.1.0) q x is) [
   | inl was ↦ own_all J legal.0 q x was
   | inr own ↦ own
 ]

@@ -79,7 +79,7 @@ ready_awaits J p node (Some (answer_is.Fail cause)) b is answered = cc
 ready_awaits J p node (Some answer_is.Undone) b is answered = cc
 
 can_ready : (J : Past) (p : ℕ) (node : Node) → IsReady J p node → ReadyBy J p node (last_answer J p) × (is_top node.above ≡ true → cause J node.root ≡ None)
-can_ready J p node can = elim can.1 [
+can_ready J p node can = elim can [
   | inl runs ↦
       let o = own_goes (cause J node.root) (rolled_back J node.root) (is_top node.above) (own_phase (last_answer J p) (children_ended J p)) phase_is.Runnable runs_goes runs in
       (ready_runs J p node (last_answer J p) (children_ended J p) refl o.0, o.1)

@@ -1,4 +1,3 @@
-pub mod Worked
 pub mod KeyTests
 pub mod Prefixes
 pub mod Rows
@@ -11,9 +10,8 @@ pub mod Waiting
 pub mod Touched
 pub mod Calls
 pub mod ValidSheets
-pub mod Stages
 pub mod Ranges
-pub mod Holders
+pub mod Nonces
 pub mod Counting
 pub mod ByHand
 pub mod PlainActs
@@ -39,3 +37,4 @@ pub mod Distinct
 pub mod Highs
 pub mod Kin
 pub mod Free
+pub mod Running

@@ -8,29 +8,20 @@ use Rattle.hm_data.specs.declared.place.Goal.{Goal}
 use Rattle.hm_data.specs.declared.request.Request.{Request}
 use Rattle.hm_data.specs.declared.sheet.Row.{Row}
 use Rattle.hm_data.specs.declared.sheet.Sheet.{Sheet}
-use Rattle.hm_data.specs.declared.step.StepIn.{StepIn}
 use Rattle.hm_data.specs.declared.step.StepOut.{StepOut}
 use Rattle.hm_names.specs.Server.{Server}
 use Rattle.hm_names.specs.declared.pid.Pid.{Pid}
-use Rattle.hm_model.proofs.Grown.{not_stepped, sheets_are, stepped}
-use Rattle.hm_model.proofs.Stages.{flat_all, simple_all, staged_all}
+use Rattle.hm_model.proofs.Grown.{not_stepped, stepped}
 use Rattle.hm_model.proofs.Forms.{row_formed}
 use Rattle.hm_model.proofs.Trees.{grown_all as trees_all, step_of}
-use Rattle.hm_model.proofs.ValidSheets.{leads_to_add, row_there as there_at, sheet_there, valid_row}
-use Rattle.hm_model.specs.Answers.{is_stopped, last_answer, row_after, row_of}
+use Rattle.hm_model.proofs.ValidSheets.{row_there as there_at, valid_row}
+use Rattle.hm_model.specs.Answers.{last_answer, row_after, row_of}
 use Rattle.hm_model.specs.Inputs.{step_input}
 use Rattle.hm_model.specs.Journal.{Past}
 use Rattle.hm_model.specs.Validity.{IsValid}
 use Rattle.hm_model.specs.Kinds.{first_row_of, goal_row, request_row}
-use Rattle.hm_model.specs.Phase.{cause}
 use Rattle.hm_model.specs.Rules.{IsLegal}
-use Rattle.hm_model.specs.Sheets.{row_in, sheets_of}
-use Rattle.hm_model.specs.StageLaws.{IsPlaced}
-use Rattle.hm_model.specs.Stages.{LeadsToAdd, Stage, create_row, creating}
-use Rattle.hm_model.specs.StageSteps.{creating_input}
-use Rattle.hm_model.specs.Evaluation.{CanStep, is_cut_off, is_picking, is_step, picks_at, wants_server}
 use Rattle.hm_model.specs.Tree.{Node, node_of}
-use Rattle.hm_model.specs.Views.{region_of}
 use Rattle.hm_data.specs.declared.answer.Answer.TheVariants as answer_is
 use Rattle.hm_data.specs.declared.entry.Entry.TheVariants as entry_is
 use Rattle.hm_data.specs.declared.args.Args.TheVariants as args_are
@@ -118,47 +109,3 @@ row_fits J legal p node = by (last_answer J p) refl
     by : (last : Option Answer) → last_answer J p ≡ last → row_after (first_row_of node.args) last < 256
     by None e = let low = first_row_low node.args in omega (arith, low)
     by (Some answer) e = subst (λ n. n < 256) (sym (row_behind (first_row_of node.args) answer)) (answers_low J legal p answer e)
-
-begun : (J : Past) (p : ℕ) (node : Node) → node_of J p ≡ Some node → J ≢ []
-begun J p node is e = none-some node (sym (ap (λ b. node_of b p) e) ∙ is)
-
--- the row of an unfinished procedure is there
-row_there : (sheets : List Sheet) (last : Option Answer) → LeadsToAdd sheets → Stage sheets last → is_stopped last ≡ false → (row : Row) × (create_row sheets (row_after 0 last) ≡ Some row) × (is_picking row.act ≡ false)
-row_there sheets None leads stage runs = (leads.0, leads.1, ap is_picking leads.2.act)
-row_there sheets (Some (answer_is.More next)) leads stage runs = (stage.0, stage.1, ap is_picking stage.2.act)
-row_there sheets (Some (answer_is.Wait next)) leads stage runs = absurd stage
-row_there sheets (Some (answer_is.Await next)) leads stage runs = absurd stage
-row_there sheets (Some (answer_is.Done told)) leads stage runs = absurd (true≢false runs)
-row_there sheets (Some (answer_is.Fail cause)) leads stage runs = absurd (true≢false runs)
-row_there sheets (Some answer_is.Undone) leads stage runs = absurd stage
-
--- an act that places no region needs no pick
-unpicking : (row : Row) (at : StepIn) → is_picking row.act ≡ false → picks_at (Some row) at ≡ false
-unpicking row at none = ap (λ b. b && (is_step at.turn && (not (is_cut_off row at) && wants_server (region_of at.args) at))) none
-
-placed_creating : (J : Past) → IsLegal J → J ≢ [] → (p : ℕ) (ns : List ℕ) → is_stopped (last_answer J p) ≡ false → IsPlaced J p (creating p ns)
-placed_creating J legal some p ns runs =
-    let are = sheets_are J legal some in
-    let there = sheet_there (sheets_of J) are in
-    let row = row_there (sheets_of J) (last_answer J p) (leads_to_add (sheets_of J) are) ((staged_all J legal).staged p) runs in
-    let row_is : slice_get there.0.rows (row_of J p (creating p ns)) ≡ Some row.0 = ap (λ s. row_in s (row_of J p (creating p ns))) (sym there.1) ∙ row.1 in
-    let within : row_of J p (creating p ns) < length there.0.rows = slice_get_within there.0.rows (row_of J p (creating p ns)) row.0 row_is in
-    record {
-      sheet = there.0;
-      sheet_is = there.1;
-      row = row.0;
-      row_is = row.1;
-      within = within;
-      can = λ pick. subst (CanStep there.0) (sym ((flat_all J legal).sees p ns pick)) (record {
-        kind = there.3;
-        row = within;
-        ids = (omega arith, tt);
-        first = omega arith;
-        pick = λ picked. absurd (false≢true (sym (ap (λ o. picks_at o (creating_input J p ns pick)) row_is ∙ unpicking row.0 (creating_input J p ns pick) row.2) ∙ picked));
-      });
-    }
-
-pub placed : (J : Past) → IsLegal J → (p : ℕ) (node : Node) → node_of J p ≡ Some node → is_stopped (last_answer J p) ≡ false → IsPlaced J p node
-placed J legal p node is runs =
-    let c = (simple_all J legal).creates p node is in
-    subst (IsPlaced J p) (sym c.1) (placed_creating J legal (begun J p node is) p c.0 runs)

@@ -40,11 +40,11 @@ step_root pid pick out J legal = let may = legal.1.1.0 in (may.0, may.1)
 
 -- an undo is of a root that is there
 pub undo_root : (pid : Pid) (row : ℕ) (out : StepOut) (J : Past) (legal : IsLegal (entry_is.Undo pid row out ∷ J)) → (top : Node) × (node_of J (root_of J pid.0) ≡ Some top)
-undo_root pid row out J legal = let latest = legal.1.1.0.1 in (latest.0, latest.1)
+undo_root pid row out J legal = let latest = legal.1.1.0 in (latest.0, latest.1)
 
 pub call_root : (call : Pid) (told : Told) (J : Past) (legal : IsLegal (entry_is.Report call told ∷ J)) → (me : Node) × (node_of J call.0 ≡ Some me)
 call_root call told J legal =
-    let verb = some_of _ legal.1.1.0.1.0 in
+    let verb = some_of _ legal.1.1.0.0 in
     let v = (grown_all J legal.0).verbs call.0 verb.0 verb.1 in
     (v.0, v.1)
 

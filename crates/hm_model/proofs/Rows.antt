@@ -144,60 +144,12 @@ row_at-rows asked there (first ∷ keys) key on has = elim (cases_key key first)
 pub row_read : (J : Past) (args : Args) (key : CatKey) → reads args key ≡ true → row_at (rows_read J args) key ≡ cat J key
 row_read J args key on = row_at-rows (reads args) (cat J) (keys_of J) key on (has_key J key)
 
--- no row is read where none is asked for
-none_read : (asked : CatKey → Bool) (there : Catalog) (keys : List CatKey) (key : CatKey) → ((q : CatKey) → asked q ≡ true → q ≡ key) → (there key ≡ None) ⊎ (IsIn key keys → ⊥) → rows_at asked there keys ≡ []
-none_read asked there [] key only none = refl
-none_read asked there (first ∷ keys) key only none =
-    by (asked first) refl (there first) refl
-    ∙ none_read asked there keys key only (elim none [ inl e ↦ inl e | inr out ↦ inr (λ h. out (inr h)) ])
-  where
-    by : (b : Bool) → asked first ≡ b → (o : Option CatRow) → there first ≡ o → keep b first o (rows_at asked there keys) ≡ rows_at asked there keys
-    by false e o e' = refl
-    by true e None e' = refl
-    by true e (Some row) e' = elim none [
-      | inl nothing ↦ absurd (none-some row (sym nothing ∙ ap there (sym (only first e)) ∙ e'))
-      | inr out ↦ absurd (out (inl (sym (only first e))))
-    ]
-
 behind_out : (key : CatKey) (keys : List CatKey) → AllBehind key keys → IsIn key keys → ⊥
 behind_out key [] behind h = elim h [ ]
 behind_out key (first ∷ more) behind h = elim h [
   | inl here ↦ let tied : key_cmp key first ≡ Equal = key_cmp-same key first here in cc (tied, behind.0)
   | inr later ↦ behind_out key more behind.1 later
 ]
-
--- one row is read where one key is asked for that has a row
-one_read : (asked : CatKey → Bool) (there : Catalog) (keys : List CatKey) (key : CatKey) (row : CatRow) → ((q : CatKey) → asked q ≡ true → q ≡ key) → asked key ≡ true → there key ≡ Some row → AreInOrder keys → IsIn key keys → rows_at asked there keys ≡ (key, row) ∷ []
-one_read asked there [] key row only on some order h = elim h [ ]
-one_read asked there (first ∷ keys) key row only on some order h = elim (cases_key key first) [
-  | inl same ↦
-      ap (λ k. keep (asked k) k (there k) (rows_at asked there keys)) (sym same.1)
-      ∙ ap (λ b. keep b key (there key) (rows_at asked there keys)) on
-      ∙ ap (λ o. keep true key o (rows_at asked there keys)) some
-      ∙ ap (λ l. (key, row) ∷ l) (none_read asked there keys key only (inr (λ later. behind_out key keys (subst (λ k. AllBehind k keys) (sym same.1) order.0) later)))
-  | inr differs ↦
-      let off : asked first ≡ false = false_from_ne_true (asked first) (λ e. differs.1 (sym (only first e))) in
-      ap (λ b. keep b first (there first) (rows_at asked there keys)) off
-      ∙ one_read asked there keys key row only on some order.1 (elim h [ inl e ↦ absurd (differs.1 e) | inr later ↦ later ])
-]
-
-is_ns-is : (ns : List ℕ) (key : CatKey) → is_ns ns key ≡ true → key ≡ key_is.Ns ns
-is_ns-is ns (key_is.Ns other) h = ap key_is.Ns (sym (bytes_eq-is ns other h))
-is_ns-is ns (key_is.Table table) h = absurd (false≢true h)
-is_ns-is ns (key_is.Region region) h = absurd (false≢true h)
-
--- a request for a namespace reads its row
-pub reads_ns : (ns : List ℕ) (first : ℕ) → reads (args_are.Root (request_is.CreateNamespace ns) first) (key_is.Ns ns) ≡ true
-reads_ns ns first = bytes_eq-refl ns
-
-pub read_none : (J : Past) (ns : List ℕ) (first : ℕ) → cat J (key_is.Ns ns) ≡ None → rows_read J (args_are.Root (request_is.CreateNamespace ns) first) ≡ []
-read_none J ns first none = none_read (is_ns ns) (cat J) (keys_of J) (key_is.Ns ns) (is_ns-is ns) (inl none)
-
-pub read_one : (J : Past) (ns : List ℕ) (first : ℕ) (row : CatRow) → cat J (key_is.Ns ns) ≡ Some row → rows_read J (args_are.Root (request_is.CreateNamespace ns) first) ≡ (key_is.Ns ns, row) ∷ []
-read_one J ns first row some = one_read (is_ns ns) (cat J) (keys_of J) (key_is.Ns ns) row (is_ns-is ns) (bytes_eq-refl ns) some (keys_in_order J) (has_key J (key_is.Ns ns) (λ e. none-some row (sym e ∙ some)))
-
-pub row_of_ns : (J : Past) (ns : List ℕ) (first : ℕ) → row_at (rows_read J (args_are.Root (request_is.CreateNamespace ns) first)) (key_is.Ns ns) ≡ cat J (key_is.Ns ns)
-row_of_ns J ns first = row_read J (args_are.Root (request_is.CreateNamespace ns) first) (key_is.Ns ns) (reads_ns ns first)
 
 -- each of the keys is left
 abbrev AllLeft : (CatKey → Type 0) → List CatKey → Type 0

@@ -73,7 +73,7 @@ undo_open pid row out J legal = by (root_ended J (root_of J pid.0)) refl
     by : (b : Bool) → root_ended J (root_of J pid.0) ≡ b → b ≡ false
     by false e = refl
     by true e =
-        let l = legal.1.1.0.1 in
+        let l = legal.1.1.0 in
         let none : left_to_undo J (root_of J pid.0) ≡ [] = ap (λ b. cond b [] (stack J (root_of J pid.0))) e in
         absurd (none-some l.3 (ap latest (sym none) ∙ l.4))
 
@@ -165,7 +165,7 @@ caused_begun (entry_is.Abort pid ∷ J) legal r c is = caused_begun J legal.0 r 
 -- a tree in which a step is undone is that of a root, and has failed
 pub undo_facts : (pid : Pid) (row : ℕ) (out : StepOut) (J : Past) → IsLegal (entry_is.Undo pid row out ∷ J) → (top : Node) × TopIs J (root_of J pid.0) top × (c : Cause) × (cause J (root_of J pid.0) ≡ Some c)
 undo_facts pid row out J legal =
-    let l = legal.1.1.0.1 in
+    let l = legal.1.1.0 in
     let parts = and_parts (is_top l.0.above) (is_some (cause J (root_of J pid.0)) && (all_stopped J (root_of J pid.0) && not (is_empty (stack J (root_of J pid.0))))) l.2 in
     let c = by (cause J (root_of J pid.0)) (and_parts (is_some (cause J (root_of J pid.0))) (all_stopped J (root_of J pid.0) && not (is_empty (stack J (root_of J pid.0)))) parts.1).0 in
     (l.0, (l.1, no_above l.0.above parts.0), c.0, c.1)

@@ -14,7 +14,6 @@ use Rattle.hm_model.specs.Apart.{IsSameTree}
 use Rattle.hm_model.specs.Counts.{one_if}
 use Rattle.hm_model.specs.Inputs.{undoes}
 use Rattle.hm_model.specs.Journal.{Past}
-use Rattle.hm_model.specs.Kinds.{is_running_kind, kind_of}
 use Rattle.hm_model.specs.Phase.{all_stopped, cause, children_ended, ended, ended_node, in_tree, is_parent, own_phase, phase, phase_table, rolled_back, root_ended, stopped_in}
 use Rattle.hm_model.specs.Rest.{IsAnswered, MayStep, MayUndo}
 use Rattle.hm_model.specs.Rules.{IsLegal}
@@ -121,13 +120,10 @@ module _ (pid : Pid) (pick : Option Server) (out : StepOut) (before : Past) (leg
         let same : may.0 ≡ x = same_Some may.0 x (sym may.1 ∙ there_after) in (
           x,
           there,
-          (
-            ap (λ (n : Node). is_running_kind (kind_of n.args)) (sym same) ∙ may.2.0,
-            elim may.2.1 [
-              | inl runs ↦ inl (ran_before phase_is.Runnable (inl refl) (ap (phase after q) (sym same) ∙ runs))
-              | inr waits ↦ inr (ran_before phase_is.Awaiting (inr refl) (ap (phase after q) (sym same) ∙ waits.0), subst (IsAnswered before q) same waits.1)
-            ],
-          ),
+          elim may.2 [
+            | inl runs ↦ inl (ran_before phase_is.Runnable (inl refl) (ap (phase after q) (sym same) ∙ runs))
+            | inr waits ↦ inr (ran_before phase_is.Awaiting (inr refl) (ap (phase after q) (sym same) ∙ waits.0), subst (IsAnswered before q) same waits.1)
+          ],
         )
 
     undone_before : MayUndo after q → MayUndo before q

@@ -521,7 +521,7 @@ grown_all (entry_is.Undo pid row out ∷ J) legal =
     grown_rooted J (entry_is.Undo pid row out ∷ J) (undo_rooted pid row out J grown) grown (all_valid J legal.0)
 grown_all (entry_is.Report call told ∷ J) legal =
     let grown = grown_all J legal.0 in
-    let verb = some_of (verb_of J call.0) legal.1.1.0.1.0 in
+    let verb = some_of (verb_of J call.0) legal.1.1.0.0 in
     record {
       numbered = grown.numbered;
       unmade = grown.unmade;

@@ -13,9 +13,13 @@ use Rattle.hm_model.specs.Answers.{no_row}
 use Rattle.hm_model.specs.Lists.{Line, exact_rows, lines_of, plain}
 use Rattle.hm_model.specs.Rules.{AreSheets}
 use Rattle.hm_model.specs.Sheets.{row_in, sheet_for}
-use Rattle.hm_model.specs.Stages.{LeadsToAdd}
 use Rattle.hm_model.specs.Validity.{AllValid, IsValid, astray, first_broken, fits, is_not, misfit, misfit_in, row_rules, rules_of_row, same_flag}
 use Rattle.hm_data.specs.declared.act.Act.TheVariants as act_is
+use Rattle.hm_data.specs.declared.args.Args.{Args}
+use Rattle.hm_data.specs.declared.args.Args.TheVariants as args_are
+use Rattle.hm_data.specs.declared.request.Request.{Request}
+use Rattle.hm_data.specs.declared.request.Request.TheVariants as request_is
+use Rattle.hm_model.specs.Kinds.{all_kinds, kind_of, request_kind}
 use Rattle.hm_data.specs.declared.act.Back.TheVariants as back_is
 
 first_holds : (n : ℕ) (b : Bool) (more : List (ℕ × Bool)) → first_broken ((n, b) ∷ more) ≡ None → (b ≡ true) × (first_broken more ≡ None)
@@ -170,32 +174,31 @@ sheet_found (sheet ∷ sheets) kind valid among = elim (cases_Bool (sheet.kind =
       (later.0, cond-false (sheet.kind == kind) (Some sheet) (sheet_for sheets kind) off ∙ later.1, later.2, later.3)
 ]
 
--- the sheet for namespaces, by its kind
-pub sheet_there : (sheets : List Sheet) → AreSheets sheets → (sheet : Sheet) × (sheet_for sheets 1 ≡ Some sheet) × IsValid sheet × (sheet.kind ≡ 1)
-sheet_there sheets are = sheet_found sheets 1 are.1 (ap (list_any (λ k. k == 1)) are.0)
+-- each procedure is of one of the kinds
+request_among : (request : Request) → list_any (λ k. k == request_kind request) all_kinds ≡ true
+request_among (request_is.CreateNamespace ns) = refl
+request_among (request_is.DropNamespace ns) = refl
+request_among (request_is.CreateTable table keys) = refl
+request_among (request_is.DeleteTable table) = refl
+request_among (request_is.EnableTable table) = refl
+request_among (request_is.DisableTable table) = refl
+request_among (request_is.ModifyTable table version) = refl
+request_among (request_is.SplitRegion region key) = refl
+request_among (request_is.MergeRegions regions) = refl
+request_among (request_is.Move region to) = refl
 
-no_undo : (undo : Back) → (undo ≡ back_is.Nothing) ⊎ (undo ≡ back_is.Nothing) → undo ≡ back_is.Nothing
-no_undo undo none = elim none [ inl e ↦ e | inr e ↦ e ]
+kind_among : (args : Args) → list_any (λ k. k == kind_of args) all_kinds ≡ true
+kind_among (args_are.Root request first) = request_among request
+kind_among (args_are.Transit region goal to) = refl
+kind_among (args_are.Crash server) = refl
+kind_among (args_are.AddRegions table first bounds) = refl
+kind_among (args_are.DropRegions table ids) = refl
+kind_among (args_are.AssignCall region server) = refl
+kind_among (args_are.CloseCall region server) = refl
+kind_among (args_are.FenceCall server) = refl
+kind_among (args_are.LayoutCall root) = refl
+kind_among (args_are.SweepLayout root) = refl
 
--- it checks, and then adds
-pub leads_to_add : (sheets : List Sheet) → AreSheets sheets → LeadsToAdd sheets
-leads_to_add sheets are =
-    let there = sheet_there sheets are in
-    let check = valid_leads there.0 (plain act_is.CheckNamespaceFree) (plain act_is.AddNamespace ∷ []) there.2 (ap exact_rows there.3) (ap lines_of there.3) in
-    let add = check.4 in
-    let place = (valid_row there.0 there.2 check.0.next add.0 add.1).1 in (
-      check.0,
-      ap (λ o. row_in o 0) there.1 ∙ check.1,
-      record {
-        act = check.2.0;
-        before_point = check.2.1;
-        undo = no_undo check.0.undo check.2.2;
-        goes_on = λ e. true≢false (sym (eq-eqb check.0.next no_row e) ∙ check.3);
-      },
-      (
-        add.0,
-        ap (λ o. row_in o check.0.next) there.1 ∙ add.1,
-        record { act = add.2.0; before_point = add.2.1; undo = no_undo add.0.undo add.2.2; ends = add.4 },
-        place,
-      ),
-    )
+-- each procedure has its sheet
+pub sheet_there : (sheets : List Sheet) → AreSheets sheets → (args : Args) → (sheet : Sheet) × (sheet_for sheets (kind_of args) ≡ Some sheet) × IsValid sheet × (sheet.kind ≡ kind_of args)
+sheet_there sheets are args = sheet_found sheets (kind_of args) are.1 (ap (list_any (λ k. k == kind_of args)) are.0 ∙ kind_among args)

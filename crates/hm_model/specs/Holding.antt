@@ -1,10 +1,10 @@
 -- What procedures hold, those that were taken too, and who stands in whose way.
-use Rattle.std.specs.Prelude.{◌≡◌, ◌≢◌, ℕ, List, None, true, false, ◌⊎◌}
+use Rattle.std.specs.Prelude.{◌≡◌, ◌≢◌, ℕ, List, None, false, ◌⊎◌}
 use Rattle.hm_model.specs.Answers.{last_answer}
 use Rattle.hm_model.specs.Journal.{Past}
 use Rattle.hm_model.specs.Locks.{IsIn, Conflict}
 use Rattle.hm_model.specs.Phase.{ended}
-use Rattle.hm_model.specs.Tree.{node_of, is_root}
+use Rattle.hm_model.specs.Tree.{node_of}
 
 -- it hasn't ended, and has a step or is among those that were taken: it holds what it asks for
 abbrev pub HoldsWith : Past → List ℕ → ℕ → Type 0
@@ -23,14 +23,3 @@ IsFree before taken p = (q : ℕ) → HoldsWith before taken q → InConflict be
 abbrev pub NoneClash : Past → List ℕ → Type 0
 NoneClash before taken =
     (p q : ℕ) → HoldsWith before taken p → HoldsWith before taken q → InConflict before p q → ⊥
-
--- a root makes its first step only where every other root that has a step has ended
-abbrev pub MayBegin : Past → ℕ → Type 0
-MayBegin before p =
-    is_root before p ≡ true → last_answer before p ≡ None
-    → (q : ℕ) → q ≢ p → is_root before q ≡ true → last_answer before q ≢ None → ended before q ≡ true
-
--- nobody stands in the way of a step: one root at a time has a step and hasn't ended. Where locks are taken it is
--- `IsFree before taken p`.
-abbrev pub IsClear : Past → List ℕ → ℕ → Type 0
-IsClear before taken p = MayBegin before p

@@ -1,6 +1,5 @@
 -- The kinds of procedures.
-use Rattle.std.specs.Prelude.{ℕ, Bool, ◌==◌, List, [], ◌∷◌, Option, Some, None}
-use Rattle.std.specs.List.{list_any}
+use Rattle.std.specs.Prelude.{ℕ, List, [], ◌∷◌, Option, Some, None}
 use Rattle.hm_names.specs.Region.{Region}
 use Rattle.hm_names.specs.declared.table.TableName.{TableName}
 use Rattle.hm_data.specs.declared.args.Args.{Args}
@@ -36,13 +35,9 @@ kind_of (args_are.FenceCall server) = 25
 kind_of (args_are.LayoutCall root) = 26
 kind_of (args_are.SweepLayout root) = 27
 
--- the kinds that the master runs so far, in their order
-abbrev pub running_kinds : List ℕ
-running_kinds = 1 ∷ []
-
--- the master runs the kind so far
-abbrev pub is_running_kind : ℕ → Bool
-is_running_kind kind = list_any (λ k. k == kind) running_kinds
+-- the kinds of procedures, in their order
+abbrev pub all_kinds : List ℕ
+all_kinds = 1 ∷ 2 ∷ 3 ∷ 4 ∷ 5 ∷ 6 ∷ 7 ∷ 8 ∷ 9 ∷ 10 ∷ 11 ∷ 20 ∷ 21 ∷ 23 ∷ 24 ∷ 25 ∷ 26 ∷ 27 ∷ []
 
 -- the table of the first of some regions
 abbrev pub table_of_first : List Region → Option TableName

@@ -15,7 +15,6 @@ use Rattle.hm_names.specs.declared.table.TableName.{TableName}
 use Rattle.hm_model.specs.Answers.{is_aborted, last_answer, report_of}
 use Rattle.hm_model.specs.Journal.{Past, back}
 use Rattle.hm_model.specs.Keys.{same_key, same_region, same_table}
-use Rattle.hm_model.specs.Locks.{NoneConflict}
 use Rattle.hm_model.specs.Nonces.{NoncesActOnce, by_nonce, is_same}
 use Rattle.hm_model.specs.Phase.{ended}
 use Rattle.hm_model.specs.Records.{unfinished}
@@ -113,10 +112,6 @@ abbrev pub NoncesFind : Type 0
 NoncesFind =
     (J : Past) → IsLegal J → (nonce : Nonce) (p : ℕ) → by_nonce J nonce ≡ Some p
     → IsUnder J nonce p × (1 ≤ p) × (p ≤ made J)
-
--- no two procedures that hold what they ask for conflict, in any legal journal
-abbrev pub NoneEverConflict : Type 0
-NoneEverConflict = (J : Past) → IsLegal J → NoneConflict J
 
 -- no nonce is used twice in a legal journal
 abbrev pub NoncesActOnceInAll : Type 0

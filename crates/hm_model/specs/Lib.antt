@@ -41,6 +41,7 @@ pub mod Whereabouts
 pub mod Procedures
 pub mod Evaluation
 pub mod Picks
+pub mod RegionIds
 pub mod Requests
 pub mod Holding
 pub mod Deeds
@@ -48,9 +49,6 @@ pub mod Costs
 pub mod Entries
 pub mod Ranges
 pub mod Single
-pub mod Stages
-pub mod StageSteps
-pub mod StageLaws
 pub mod Forms
 pub mod Forest
 pub mod Apart

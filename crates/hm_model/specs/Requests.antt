@@ -1,17 +1,15 @@
 -- Which requests may be submitted.
-use Rattle.std.specs.Prelude.{◌≡◌, ℕ, ◌+◌, ◌≤◌, List, [], ◌∷◌, length, Option, Some, None, Bool, true, false, not, ◌==◌, ◌&&◌, ◌||◌, nat_lt, if◌then◌else◌, codes, IsTrue}
+use Rattle.std.specs.Prelude.{◌≡◌, ℕ, ◌+◌, ◌≤◌, List, [], ◌∷◌, length, Option, Some, None, Bool, true, false, not, ◌==◌, ◌&&◌, ◌||◌, nat_lt, if◌then◌else◌, codes}
 use Rattle.std.specs.Ordering.{is_lt}
 use Rattle.std.specs.Str.{bytes_eq}
 use Rattle.hm_names.specs.Order.{bytes_cmp}
 use Rattle.hm_names.specs.Region.{Region}
 use Rattle.hm_names.specs.declared.table.TableName.{TableName}
-use Rattle.hm_data.specs.declared.entry.Entry.{Entry}
-use Rattle.hm_data.specs.declared.entry.Entry.TheVariants as entry_is
 use Rattle.hm_data.specs.declared.request.Request.{Request}
 use Rattle.hm_data.specs.declared.request.Request.TheVariants as request_is
 use Rattle.hm_model.specs.Journal.{Past}
 use Rattle.hm_model.specs.Keys.{same_table}
-use Rattle.hm_model.specs.Kinds.{is_running_kind, request_kind, table_of_request}
+use Rattle.hm_model.specs.Kinds.{table_of_request}
 use Rattle.hm_model.specs.Tree.{drawn, new_ids}
 
 -- each key is greater than the one before, from a key on
@@ -48,26 +46,11 @@ wrong_in (request_is.SplitRegion region key) = if length key == 0 then Some 5 el
 wrong_in (request_is.MergeRegions regions) = if is_pair regions then None else Some 4
 wrong_in (request_is.Move region to) = None
 
--- a request that can be submitted: nothing is wrong with it, and the master runs its kind
+-- a request that can be submitted: nothing is wrong with it
 abbrev pub MaySubmit : Request → Type 0
-MaySubmit request = (wrong_in request ≡ None) × IsTrue (is_running_kind (request_kind request))
+MaySubmit request = wrong_in request ≡ None
 
 -- the region ids drawn for a table stay within 4096
 abbrev pub StaysWithin : Past → Request → Type 0
 StaysWithin before request =
     (table : TableName) → table_of_request request ≡ Some table → drawn before table + new_ids request ≤ 4096
-
--- the entries that may come so far; others break the lowest rule of their own
-abbrev pub may_come : Entry → Bool
-may_come (entry_is.Start sheets) = true
-may_come (entry_is.Submit nonce request) = true
-may_come (entry_is.Step pid pick out) = true
-may_come (entry_is.Undo pid row out) = false
-may_come (entry_is.Report call told) = false
-may_come (entry_is.Up server) = false
-may_come (entry_is.Down server) = false
-may_come (entry_is.Abort pid) = false
-
--- an entry may come
-abbrev pub MayCome : Entry → Type 0
-MayCome entry = IsTrue (may_come entry)

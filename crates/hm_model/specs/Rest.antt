@@ -1,11 +1,10 @@
 -- Which procedures may go on, and when none can.
-use Rattle.std.specs.Prelude.{◌≡◌, ◌≢◌, ℕ, List, [], Some, None, true, ◌⊎◌, IsTrue}
+use Rattle.std.specs.Prelude.{◌≡◌, ◌≢◌, ℕ, List, [], Some, None, true, ◌⊎◌}
 use Rattle.hm_data.specs.declared.record.Phase.TheVariants as phase_is
 use Rattle.hm_model.specs.Answers.{report_of}
-use Rattle.hm_model.specs.Holding.{IsClear}
+use Rattle.hm_model.specs.Holding.{IsFree}
 use Rattle.hm_model.specs.Inputs.{fenced_if, undoes}
 use Rattle.hm_model.specs.Journal.{Past}
-use Rattle.hm_model.specs.Kinds.{kind_of, is_running_kind}
 use Rattle.hm_model.specs.Locks.{IsIn}
 use Rattle.hm_model.specs.Phase.{phase}
 use Rattle.hm_model.specs.Picks.{has_pick}
@@ -16,12 +15,10 @@ use Rattle.hm_model.specs.Whereabouts.{called_by}
 abbrev pub IsAnswered : Past → ℕ → Node → Type 0
 IsAnswered before p node = (report_of before p ≢ None) ⊎ (fenced_if before (called_by node.args) ≡ true)
 
--- a step may be made of a procedure: it is of a kind that the master runs, and runnable or answered. A failed root is
--- neither.
+-- a step may be made of a procedure: it is runnable or answered. A failed root is neither.
 abbrev pub IsReady : Past → ℕ → Node → Type 0
 IsReady before p node =
-    IsTrue (is_running_kind (kind_of node.args))
-    × ((phase before p node ≡ phase_is.Runnable) ⊎ ((phase before p node ≡ phase_is.Awaiting) × IsAnswered before p node))
+    (phase before p node ≡ phase_is.Runnable) ⊎ ((phase before p node ≡ phase_is.Awaiting) × IsAnswered before p node)
 
 -- a procedure may make a step
 abbrev pub MayStep : Past → ℕ → Type 0
@@ -39,7 +36,7 @@ MayUndo before p = (node : Node) × (node_of before p ≡ Some node) × (undoes 
 -- a procedure may go on, where some are taken and some are claimed
 abbrev pub IsAvailable : Past → List ℕ → List ℕ → ℕ → Type 0
 IsAvailable before taken claimed p =
-    (IsIn p claimed → ⊥) × IsClear before taken p × (MayStepPicked before p ⊎ MayUndo before p)
+    (IsIn p claimed → ⊥) × IsFree before taken p × (MayStepPicked before p ⊎ MayUndo before p)
 
 -- no procedure may go on, where none is claimed
 abbrev pub IsAtRest : Past → Type 0

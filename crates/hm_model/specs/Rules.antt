@@ -9,25 +9,25 @@ use Rattle.hm_data.specs.declared.sheet.Row.{Row}
 use Rattle.hm_data.specs.declared.sheet.Sheet.{Sheet}
 use Rattle.hm_model.specs.Answers.{report_of, is_aborted}
 use Rattle.hm_model.specs.Fleet.{is_live, has_newer, has_older_live}
-use Rattle.hm_model.specs.Holding.{IsClear}
+use Rattle.hm_model.specs.Holding.{IsFree}
 use Rattle.hm_model.specs.Inputs.{IsEvaluated, undoes}
 use Rattle.hm_model.specs.Journal.{Past}
-use Rattle.hm_model.specs.Kinds.{running_kinds}
+use Rattle.hm_model.specs.Kinds.{all_kinds}
 use Rattle.hm_model.specs.Nonces.{by_nonce}
 use Rattle.hm_model.specs.Phase.{cause, ended}
 use Rattle.hm_model.specs.Picks.{PicksRight}
 use Rattle.hm_model.specs.Procedures.{latest, left_to_undo}
 use Rattle.hm_model.specs.Reports.{verb_of, fits_verb}
-use Rattle.hm_model.specs.Requests.{MaySubmit, StaysWithin, MayCome}
+use Rattle.hm_model.specs.Requests.{MaySubmit, StaysWithin}
 use Rattle.hm_model.specs.Rest.{MayStep}
 use Rattle.hm_model.specs.Sheets.{next_row}
 use Rattle.hm_model.specs.Tree.{Node, node_of, root_of, is_root}
 use Rattle.hm_model.specs.Undo.{Undoable}
 use Rattle.hm_model.specs.Validity.{AllValid}
 
--- valid sheets, one for each kind that the master runs, in the order of the kinds
+-- valid sheets, one for each kind, in the order of the kinds
 abbrev pub AreSheets : List Sheet → Type 0
-AreSheets sheets = (map (λ sheet. sheet.kind) sheets ≡ running_kinds) × AllValid sheets
+AreSheets sheets = (map (λ sheet. sheet.kind) sheets ≡ all_kinds) × AllValid sheets
 
 -- the nonce is none, or nothing was submitted under it
 abbrev pub IsFresh : Past → Nonce → Type 0
@@ -57,7 +57,7 @@ abbrev pub IsBeforePoint : Past → ℕ → Type 0
 IsBeforePoint before p =
     (node : Node) × (node_of before p ≡ Some node) × (row : Row) × (next_row before p node ≡ Some row) × (row.after ≡ false)
 
--- the rules for an entry behind others, by number. What may not come yet breaks the lowest rule of its own.
+-- the rules for an entry behind others, by number
 abbrev pub rules : Past → Entry → List (ℕ × Type 0)
 rules before (entry_is.Start sheets) =
     (1, (before ≡ []) × AreSheets sheets)
@@ -71,32 +71,32 @@ rules before (entry_is.Submit nonce request) =
 rules before (entry_is.Step pid pick out) =
     (1, before ≢ [])
     ∷ (5, MayStep before pid.0)
-    ∷ (6, IsClear before [] pid.0)
+    ∷ (6, IsFree before [] pid.0)
     ∷ (7, PicksRight before pid.0 pick)
     ∷ (8, IsEvaluated before pid.0 pick out)
     ∷ []
 rules before (entry_is.Undo pid row out) =
     (1, before ≢ [])
-    ∷ (9, MayCome (entry_is.Undo pid row out) × IsLatest before pid.0 row)
+    ∷ (9, IsLatest before pid.0 row)
     ∷ (10, IsEvaluated before (root_of before pid.0) None out)
     ∷ []
 rules before (entry_is.Report call told) =
     (1, before ≢ [])
-    ∷ (11, MayCome (entry_is.Report call told) × IsOutstanding before call.0)
+    ∷ (11, IsOutstanding before call.0)
     ∷ (12, FitsCall before call.0 told)
     ∷ []
 rules before (entry_is.Up server) =
     (1, before ≢ [])
-    ∷ (13, MayCome (entry_is.Up server) × (has_newer before server ≡ false))
+    ∷ (13, has_newer before server ≡ false)
     ∷ (14, has_older_live before server ≡ false)
     ∷ []
 rules before (entry_is.Down server) =
     (1, before ≢ [])
-    ∷ (15, MayCome (entry_is.Down server) × (is_live before server ≡ true))
+    ∷ (15, is_live before server ≡ true)
     ∷ []
 rules before (entry_is.Abort pid) =
     (1, before ≢ [])
-    ∷ (16, MayCome (entry_is.Abort pid) × CanAbort before pid.0)
+    ∷ (16, CanAbort before pid.0)
     ∷ (17, IsBeforePoint before pid.0)
     ∷ []
 

@@ -1,5 +1,5 @@
 //! What every legal journal keeps: laws, as functions that do nothing.
-ghost use Rattle.hm_model.specs.Laws.{TablesDecided, RegionsDecided, KeysDecided, KeysTied, OlderIsLegal, FrontIsLegal, BackIsCut, PushIsNewest, AllGrown, SteppersAreMade, AllBegin, NoncesFind, IdsStayWithin, NoneEverConflict, NoncesActOnceInAll, UnfinishedTells};
+ghost use Rattle.hm_model.specs.Laws.{TablesDecided, RegionsDecided, KeysDecided, KeysTied, OlderIsLegal, FrontIsLegal, BackIsCut, PushIsNewest, AllGrown, SteppersAreMade, AllBegin, NoncesFind, IdsStayWithin, NoncesActOnceInAll, UnfinishedTells};
 ghost use Rattle.hm_model.specs.Apart.{OthersStay};
 ghost use Rattle.hm_model.specs.Calls.{CallsAreOwn, CallsStay, ReportsFit};
 ghost use Rattle.hm_model.specs.Forest.{AllForest, AllRooted, NodesStay, RootsWait};
@@ -7,7 +7,6 @@ ghost use Rattle.hm_model.specs.Forms.{StepsAreFormed, UndosAreFormed};
 ghost use Rattle.hm_model.specs.RowLaws.{KeysAreListed, RowsAreRead, RowsFit, RowsReadAlike};
 ghost use Rattle.hm_model.specs.Touched.{StepsEnd, StepsLetGo};
 ghost use Rattle.hm_model.specs.Waiting.{OpenChildrenTell, OpenChildrenChange, OpenUnderTell, OpenUnderChange};
-ghost use Rattle.hm_model.specs.StageLaws.{AllSimple, AllStaged, AllFlat, AllSteps, NamespaceIsRead, AllPlaced, AllOneHolds, StepsWhileRunning, BeginsAlone, UnfinishedCounts, UnfinishedGoesOn, RestIsDone};
 
 /// The tests of tables, regions and keys tell what is equal, and so does the order of keys.
 pub fn keys_are_decided()
@@ -83,38 +82,10 @@ pub fn rows_are_read()
     ensures read { RowsAreRead }
     ensures alike { RowsReadAlike }
     ensures bytes { RowsFit }
-    ensures namespace { NamespaceIsRead }
-{}
-
-/// While the master runs only requests for namespaces: each procedure is one, checks at its first step and adds at its
-/// second, has no children and nothing to undo; the row of an unfinished one stands in its sheet.
-pub fn namespaces_are_made()
-    ensures simple { AllSimple }
-    ensures staged { AllStaged }
-    ensures flat { AllFlat }
-    ensures steps { AllSteps }
-    ensures placed { AllPlaced }
 {}
 
 /// No nonce acts twice, and none is unfinished exactly where each root has ended.
 pub fn roots_are_told()
     ensures nonces { NoncesActOnceInAll }
     ensures tells { UnfinishedTells }
-{}
-
-/// While the master runs only requests for namespaces: one procedure at a time has a step and hasn't ended, so that no
-/// two that hold what they ask for conflict.
-pub fn one_namespace_at_a_time()
-    ensures holds { AllOneHolds }
-    ensures conflicts { NoneEverConflict }
-    ensures steps { StepsWhileRunning }
-    ensures begins { BeginsAlone }
-{}
-
-/// While the master runs only requests for namespaces: what changes how many roots are unfinished, and that none are
-/// where nothing can go on.
-pub fn namespaces_go_on()
-    ensures counts { UnfinishedCounts }
-    ensures on { UnfinishedGoesOn }
-    ensures rest { RestIsDone }
 {}

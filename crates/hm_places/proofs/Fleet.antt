@@ -247,7 +247,7 @@ entries_stand (entry_is.Step pid pick out) J legal = refl
 entries_stand (entry_is.Undo pid row out) J legal = refl
 entries_stand (entry_is.Report call told) J legal = reported J call.0 told (shown_fenced (node_of J call.0) told) refl
 entries_stand (entry_is.Up server) J legal =
-    let none : came_up J server ≡ false = newer_not_came J server legal.1.1.0.1 in
+    let none : came_up J server ≡ false = newer_not_came J server legal.1.1.0 in
     placed_by server_cmp servers_total server_cmp-is with_server joins (standing_of J) (standing_of (entry_is.Up server ∷ J)) server fresh (servers_of J)
     (up_set J server (not_came (came_up J server) (is_fenced J server) (fenced_came J legal.0 server) none)) (servers_rise J)
 entries_stand (entry_is.Down server) J legal =

@@ -87,7 +87,7 @@ blank_on (entry_is.Undo pid row out) J legal p none was = record { last = was.la
 blank_on (entry_is.Report call told) J legal p none was = record {
   last = was.last;
   verb = was.verb;
-  report = cond-false (p == call.0) (Some told) (report_of J p) (ne_eqb p call.0 (λ e. legal.1.1.0.1.0 (ap (verb_of J) (sym e) ∙ was.verb))) ∙ was.report;
+  report = cond-false (p == call.0) (Some told) (report_of J p) (ne_eqb p call.0 (λ e. legal.1.1.0.0 (ap (verb_of J) (sym e) ∙ was.verb))) ∙ was.report;
   aborted = was.aborted;
   tries = was.tries;
   before = was.before;
@@ -102,7 +102,7 @@ blank_on (entry_is.Abort pid) J legal p none was = record {
   last = was.last;
   verb = was.verb;
   report = was.report;
-  aborted = cond-false (p == pid.0) true (is_aborted J p) (ne_eqb p pid.0 (λ e. false≢true (sym (ap is_root_in (ap (node_of J) (sym e) ∙ none)) ∙ legal.1.1.0.1.0))) ∙ was.aborted;
+  aborted = cond-false (p == pid.0) true (is_aborted J p) (ne_eqb p pid.0 (λ e. false≢true (sym (ap is_root_in (ap (node_of J) (sym e) ∙ none)) ∙ legal.1.1.0.0))) ∙ was.aborted;
   tries = was.tries;
   before = was.before;
   count = was.count;

@@ -147,13 +147,13 @@ module _ (pid : Pid) (row : ℕ) (out : StepOut) (J : Past) (legal : IsLegal (en
     where
       by : (o : Option Node) → node_of J pid.0 ≡ o → (me : Node) × (node_of J pid.0 ≡ Some me)
       by (Some me) e = (me, e)
-      by None e = absurd (none-some legal.1.1.0.1.0 (sym (ap (node_of J) (ap root_in e) ∙ (grown_all J legal.0).none) ∙ legal.1.1.0.1.1))
+      by None e = absurd (none-some legal.1.1.0.0 (sym (ap (node_of J) (ap root_in e) ∙ (grown_all J legal.0).none) ∙ legal.1.1.0.1))
 
   -- its root has failed, its descendants have ended, and something is left to undo
   pub fallen : (is_some (cause J r) ≡ true) × (all_stopped J r ≡ true) × (is_empty (stack J r) ≡ false)
   fallen =
-      let root = legal.1.1.0.1.0 in
-      let parts = and_parts (is_top root.above) (is_some (cause J r) && (all_stopped J r && not (is_empty (stack J r)))) legal.1.1.0.1.2 in
+      let root = legal.1.1.0.0 in
+      let parts = and_parts (is_top root.above) (is_some (cause J r) && (all_stopped J r && not (is_empty (stack J r)))) legal.1.1.0.2 in
       let more = and_parts (is_some (cause J r)) (all_stopped J r && not (is_empty (stack J r))) parts.1 in
       let last = and_parts (all_stopped J r) (not (is_empty (stack J r))) more.1 in
       (more.0, last.0, not-true (is_empty (stack J r)) last.1)

@@ -103,10 +103,10 @@ module _ (J : Past) (kept : List Tracked) (roots : List Pid) (left : ℕ) (was :
 
 -- a call that is reported is that of a procedure, and so is who is aborted
 pub report_there : (call : Pid) (told : Told) (J : Past) → IsLegal (entry_is.Report call told ∷ J) → (x : Node) × (node_of J call.0 ≡ Some x)
-report_there call told J legal = let verb = some_of (verb_of J call.0) legal.1.1.0.1.0 in let own = (trees_all J legal.0).verbs call.0 verb.0 verb.1 in (own.0, own.1)
+report_there call told J legal = let verb = some_of (verb_of J call.0) legal.1.1.0.0 in let own = (trees_all J legal.0).verbs call.0 verb.0 verb.1 in (own.0, own.1)
 
 pub abort_there : (pid : Pid) (J : Past) → IsLegal (entry_is.Abort pid ∷ J) → (x : Node) × (node_of J pid.0 ≡ Some x)
-abort_there pid J legal = by (node_of J pid.0) refl legal.1.1.0.1.0
+abort_there pid J legal = by (node_of J pid.0) refl legal.1.1.0.0
   where
     by : (o : Option Node) → node_of J pid.0 ≡ o → is_root_in o ≡ true → (x : Node) × (node_of J pid.0 ≡ Some x)
     by None e h = absurd (false≢true h)

@@ -1,15 +1,17 @@
 -- The lock book behind an entry.
 use Rattle.std.proofs.Common.{◌≡◌, ◌≢◌, ℕ, zero, suc, ◌+◌, ◌-◌, ◌<◌, ◌≤◌, ◌&&◌, [], ◌∷◌, List, map, Bool, true, false, if◌then◌else◌, nat_lt, Option, Some, None, is_some, slice_get, refl, ap, sym, ◌∙◌, inl, inr, subst, arith}
 use Rattle.std.specs.Option.{option_map}
-use Rattle.std.proofs.lemmas.Bool.{cases_Bool, cases_eq, cases_lt, cond-false, cond-true, false≢true, le-ltb, lt-ltb, true≢false}
+use Rattle.std.proofs.lemmas.Bool.{cases_Bool, cases_eq, cases_lt, cond-false, cond-true, le-ltb, lt-ltb, true≢false}
 use Rattle.std.proofs.lemmas.Bool.Decides.{nat_tests}
 use Rattle.std.proofs.lemmas.Option.{none-some, same_Some}
+use Rattle.hm_names.specs.Server.{Server}
 use Rattle.hm_names.specs.declared.pid.Pid.{Pid}
 use Rattle.hm_names.specs.declared.table.TableName.{TableName}
 use Rattle.hm_data.specs.declared.args.Args.{Args}
 use Rattle.hm_data.specs.declared.args.Args.TheVariants as args_are
 use Rattle.hm_data.specs.declared.entry.Entry.{Entry}
 use Rattle.hm_data.specs.declared.entry.Entry.TheVariants as entry_is
+use Rattle.hm_data.specs.declared.step.StepOut.{StepOut}
 use Rattle.hm_locks.specs.Book.{Row, above_in, drafted, row_of}
 use Rattle.hm_model.specs.declared.lock.Ask.{Ask}
 use Rattle.hm_model.specs.Answers.{last_answer}
@@ -19,9 +21,12 @@ use Rattle.hm_model.specs.Kinds.{table_of_request}
 use Rattle.hm_model.specs.Locks.{asks}
 use Rattle.hm_model.specs.Phase.{ended}
 use Rattle.hm_model.specs.Rules.{IsLegal}
-use Rattle.hm_model.specs.Tree.{Node, args_in, children_of, first_of, made, node_of, pid_of, root_node}
+use Rattle.hm_model.specs.Tree.{Node, args_in, child_of, children_of, first_of, made, node_of, pid_of, root_node}
 use Rattle.hm_model.proofs.Grown.{down_new, down_old, grown_all, ids_within, step_new, submit_new, submit_old, undo_new}
-use Rattle.hm_model.proofs.Stages.{step_plain}
+use Rattle.hm_model.proofs.Highs.{own_all}
+use Rattle.hm_model.proofs.PlainActs.{is_high, quiet_low}
+use Rattle.hm_model.proofs.Trees.{grown_all as trees_all, node_new, step_of}
+use Rattle.hm_model.proofs.UndoMakes.{undo_quiet}
 use Rattle.hm_procedures.specs.Kept.{args_made}
 use Rattle.hm_records.specs.Book.{AreRows, AreRowsWith, draft_of, drafts_of, has_first, or_drafted, or_taken, row_at, row_in, stepper_of, unless_ended}
 use Rattle.hm_records.proofs.Enlisted.{ends_by, row_still, row_was_over, unstepped_open}
@@ -41,19 +46,40 @@ pub first_fits : (J : Past) → IsLegal J → (o : Option TableName) → (nat_lt
 first_fits J legal None = refl
 first_fits J legal (Some table) = let few = ids_within J legal table in grind (arith, nat_tests, few)
 
+-- who is no root has nothing to draw
+low_fits : (args : Args) → is_high args ≡ false → has_first args ≡ true
+low_fits (args_are.Root request first) low = absurd (true≢false low)
+low_fits args low = refl
+
+-- who has ancestors has some
+cons_nil : (u : ℕ) (above : List ℕ) → u ∷ above ≡ [] → ⊥
+cons_nil u above e = cc
+
+-- a child isn't a root
+child_low : (pid : Pid) (pick : Option Server) (out : StepOut) (J : Past) → IsLegal (entry_is.Step pid pick out ∷ J) → (i : ℕ) (args : Args) → slice_get (args_in out.children) i ≡ Some args → is_high args ≡ false
+child_low pid pick out J legal i args is =
+    let step = step_of pid pick out J (trees_all J legal.0) legal in
+    let at : made J + 1 + i - made J - 1 ≡ i = omega arith in
+    let there : node_of (entry_is.Step pid pick out ∷ J) (made J + 1 + i) ≡ Some (child_of pid.0 step.node args) =
+    node_new pid pick out J step.node step.node_is (made J + 1 + i) (omega arith) ∙ ap (λ k. option_map (child_of pid.0 step.node) (slice_get (args_in out.children) k)) at ∙ ap (option_map (child_of pid.0 step.node)) is in
+    elim (cases_Bool (is_high args)) [
+      | inr off ↦ off
+      | inl on ↦ absurd (cons_nil pid.0 step.node.above ((own_all (entry_is.Step pid pick out ∷ J) legal (made J + 1 + i) (child_of pid.0 step.node args) there).high on))
+    ]
+
 -- so can those of all that an entry makes
-made_first : (entry : Entry) (J : Past) → IsLegal (entry ∷ J) → (k : ℕ) (args : Args) → slice_get (args_made J entry) k ≡ Some args → has_first args ≡ true
-made_first (entry_is.Start sheets) J legal k args is = absurd (none-some args is)
-made_first (entry_is.Submit nonce request) J legal zero args is = ap has_first (sym (same_Some (args_are.Root request (first_of J (table_of_request request))) args is)) ∙ first_fits J legal.0 (table_of_request request)
-made_first (entry_is.Submit nonce request) J legal (suc k) args is = absurd (none-some args is)
-made_first (entry_is.Step pid pick out) J legal k args is =
-    absurd (none-some args (sym (ap (λ l. slice_get (args_in l) k) (step_plain pid pick out J legal).0) ∙ is))
-made_first (entry_is.Undo pid row out) J legal k args is = absurd (false≢true legal.1.1.0.0)
-made_first (entry_is.Report call told) J legal k args is = absurd (none-some args is)
-made_first (entry_is.Up server) J legal k args is = absurd (none-some args is)
-made_first (entry_is.Down server) J legal zero args is = ap has_first (sym (same_Some (args_are.Crash server) args is))
-made_first (entry_is.Down server) J legal (suc k) args is = absurd (none-some args is)
-made_first (entry_is.Abort pid) J legal k args is = absurd (none-some args is)
+pub made_fits : (entry : Entry) (J : Past) → IsLegal (entry ∷ J) → (k : ℕ) (args : Args) → slice_get (args_made J entry) k ≡ Some args → has_first args ≡ true
+made_fits (entry_is.Start sheets) J legal k args is = absurd (none-some args is)
+made_fits (entry_is.Submit nonce request) J legal zero args is = ap has_first (sym (same_Some (args_are.Root request (first_of J (table_of_request request))) args is)) ∙ first_fits J legal.0 (table_of_request request)
+made_fits (entry_is.Submit nonce request) J legal (suc k) args is = absurd (none-some args is)
+made_fits (entry_is.Step pid pick out) J legal k args is =
+    low_fits args (child_low pid pick out J legal k args is)
+made_fits (entry_is.Undo pid row out) J legal k args is = low_fits args (quiet_low out.followers (undo_quiet pid row out J legal) k args is)
+made_fits (entry_is.Report call told) J legal k args is = absurd (none-some args is)
+made_fits (entry_is.Up server) J legal k args is = absurd (none-some args is)
+made_fits (entry_is.Down server) J legal zero args is = ap has_first (sym (same_Some (args_are.Crash server) args is))
+made_fits (entry_is.Down server) J legal (suc k) args is = absurd (none-some args is)
+made_fits (entry_is.Abort pid) J legal k args is = absurd (none-some args is)
 
 -- a node that is new has the row of its draft
 drafts_row : (p : ℕ) (above : List ℕ) (args : Args) (root first : ℕ) → has_first args ≡ true
@@ -103,10 +129,10 @@ fresh_row (entry_is.Step pid pick out) J legal p behind =
     let me = stepper_there pid pick out J legal in
     let entry = entry_is.Step pid pick out in
     ap (row_in false false p) (step_new pid pick out J p behind ∙ ap (λ up. children_of pid.0 up (slice_get (args_in out.children) (p - made J - 1))) me.1)
-    ∙ many_rows p (pid.0 ∷ me.0.above) me.0.root me.0.first (args_in out.children) (p - made J - 1) (made_first entry J legal (p - made J - 1))
+    ∙ many_rows p (pid.0 ∷ me.0.above) me.0.root me.0.first (args_in out.children) (p - made J - 1) (made_fits entry J legal (p - made J - 1))
     ∙ sym (ap (λ (l : List ℕ). option_map (drafted p) (slice_get (map (draft_of (pid.0 ∷ l)) (args_in out.children)) (p - made J - 1))) (above_is J pid.0 me.0 me.1 (stepper_open pid pick out J legal)))
 fresh_row (entry_is.Undo pid row out) J legal p behind =
-    ap (row_in false false p) (undo_new pid row out J p behind) ∙ many_rows p [] p 1 (args_in out.followers) (p - made J - 1) (made_first (entry_is.Undo pid row out) J legal (p - made J - 1))
+    ap (row_in false false p) (undo_new pid row out J p behind) ∙ many_rows p [] p 1 (args_in out.followers) (p - made J - 1) (made_fits (entry_is.Undo pid row out) J legal (p - made J - 1))
 fresh_row (entry_is.Report call told) J legal p behind = ap (row_in false false p) ((grown_all J legal.0).numbered p behind)
 fresh_row (entry_is.Up server) J legal p behind = ap (row_in false false p) ((grown_all J legal.0).numbered p behind)
 fresh_row (entry_is.Down server) J legal p behind =

@@ -60,7 +60,7 @@ none_below (entry_is.Step pid pick out ∷ J) legal p rootless =
     stack_stays (entry_is.Step pid pick out) J p (λ same. true≢false (sym (root_is (entry_is.Step pid pick out) J legal pid.0 me.0 me.1) ∙ sym (ap (is_root (entry_is.Step pid pick out ∷ J)) same) ∙ rootless))
     ∙ none_below J legal.0 p (was_no_root (entry_is.Step pid pick out) J legal p rootless)
 none_below (entry_is.Undo pid row out ∷ J) legal p rootless =
-    let root = legal.1.1.0.1 in
+    let root = legal.1.1.0 in
     let undone = entry_is.Undo pid row out in
     let top : is_root (undone ∷ J) (root_of J pid.0) ≡ true = root_stays undone J legal (root_of J pid.0) root.0 root.1 ∙ ap is_root_in root.1 ∙ undone_root pid row out J legal in
     stack_stays undone J p (λ same. true≢false (sym top ∙ sym (ap (is_root (undone ∷ J)) same) ∙ rootless))

@@ -1,6 +1,4 @@
-mod Asked
 mod Trees
-mod UnderWay
 mod Stacks
 mod Forgotten
 mod Enlisted
@@ -11,3 +9,4 @@ mod Servers
 mod Edits
 mod Drawn
 mod Whole
+pub mod Firsts

@@ -119,10 +119,10 @@ module _ (pid : Pid) (row : ℕ) (out : StepOut) (J : Past) (legal : IsLegal (en
   r = root_of J pid.0
 
   abbrev root : Node
-  root = legal.1.1.0.1.0
+  root = legal.1.1.0.0
 
   undoing : (is_top root.above ≡ true) × ((is_some (cause J r) && (all_stopped J r && not (is_empty (stack J r)))) ≡ true)
-  undoing = and_parts (is_top root.above) (is_some (cause J r) && (all_stopped J r && not (is_empty (stack J r)))) legal.1.1.0.1.2
+  undoing = and_parts (is_top root.above) (is_some (cause J r) && (all_stopped J r && not (is_empty (stack J r)))) legal.1.1.0.2
 
   -- the root of the tree of what is undone is one
   pub undone_root : is_top root.above ≡ true
@@ -130,7 +130,7 @@ module _ (pid : Pid) (row : ℕ) (out : StepOut) (J : Past) (legal : IsLegal (en
 
   undone_open : ended J r ≡ false
   undone_open =
-      ap (ended_node J r) legal.1.1.0.1.1
+      ap (ended_node J r) legal.1.1.0.1
       ∙ ap (λ b. if b then root_ended J r else is_stopped (last_answer J r)) undoing.0
       ∙ undoing_open (cause J r) (all_stopped J r) (is_empty (stack J r)) (done_with (last_answer J r)) undoing.1
 
@@ -143,7 +143,7 @@ module _ (pid : Pid) (row : ℕ) (out : StepOut) (J : Past) (legal : IsLegal (en
 -- a call that is reported is that of a procedure
 caller_there : (call : Pid) (told : Told) (J : Past) → IsLegal (entry_is.Report call told ∷ J) → (x : Node) × (node_of J call.0 ≡ Some x)
 caller_there call told J legal =
-    let verb = some_of (verb_of J call.0) legal.1.1.0.1.0 in
+    let verb = some_of (verb_of J call.0) legal.1.1.0.0 in
     let own = (trees_all J legal.0).verbs call.0 verb.0 verb.1 in (own.0, own.1)
 
 -- a root is there
@@ -163,12 +163,12 @@ tree_open (entry_is.Step pid pick out) J legal =
 tree_open (entry_is.Undo pid row out) J legal = undone_open pid row out J legal
 tree_open (entry_is.Report call told) J legal =
     let x = caller_there call told J legal in
-    ap (ended J) (ap root_in x.1) ∙ root_open J legal.0 call.0 x.0 x.1 legal.1.1.0.1.2
+    ap (ended J) (ap root_in x.1) ∙ root_open J legal.0 call.0 x.0 x.1 legal.1.1.0.2
 tree_open (entry_is.Up server) J legal = none_open J 0 (grown_all J legal.0).none
 tree_open (entry_is.Down server) J legal = none_open J (made J + 1) ((grown_all J legal.0).numbered (made J + 1) (omega arith))
 tree_open (entry_is.Abort pid) J legal =
-    let x = root_is_there J pid.0 legal.1.1.0.1.0 in
-    ap (ended J) (ap root_in x.1) ∙ root_open J legal.0 pid.0 x.0 x.1 legal.1.1.0.1.1
+    let x = root_is_there J pid.0 legal.1.1.0.0 in
+    ap (ended J) (ap root_in x.1) ∙ root_open J legal.0 pid.0 x.0 x.1 legal.1.1.0.1
 
 -- the root of the tree that an entry belongs to is one, if it was there
 pub tree_root : (entry : Entry) (J : Past) → IsLegal (entry ∷ J) → (top : Node) → node_of J (tree_of J entry) ≡ Some top → top.above ≡ []

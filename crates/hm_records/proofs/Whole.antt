@@ -1,14 +1,14 @@
 -- All that is kept, behind an entry.
-use Rattle.std.proofs.Common.{◌≡◌, ◌≢◌, ℕ, ◌+◌, ◌≤◌, List, [], ◌∷◌, length, min, None, refl, ap, sym, ◌∙◌, arith}
-use Rattle.std.proofs.lemmas.Option.{none-some}
+use Rattle.std.proofs.Common.{◌≡◌, ◌≢◌, ℕ, ◌+◌, ◌≤◌, List, [], ◌∷◌, length, min, refl, ap, arith}
 use Rattle.hm_names.specs.Order.{nonce_cmp, table_cmp}
 use Rattle.hm_data.specs.declared.sheet.Sheet.{Sheet}
 use Rattle.hm_data.specs.declared.entry.Entry.{Entry}
 use Rattle.hm_data.specs.declared.entry.Entry.TheVariants as entry_is
 use Rattle.hm_model.specs.Journal.{Past}
+use Rattle.hm_model.specs.RegionIds.{AreNamed}
 use Rattle.hm_model.specs.Rules.{IsLegal}
 use Rattle.hm_model.specs.Sheets.{sheets_of}
-use Rattle.hm_model.specs.Tree.{made, pid_of}
+use Rattle.hm_model.specs.Tree.{made}
 use Rattle.hm_index.specs.Index.{find}
 use Rattle.hm_catalog.specs.Rows.{rows_in}
 use Rattle.hm_procedures.specs.Kept.{args_made}
@@ -26,6 +26,17 @@ sheets_stay (entry_is.Report call told) J legal begun = refl
 sheets_stay (entry_is.Up server) J legal begun = refl
 sheets_stay (entry_is.Down server) J legal begun = refl
 sheets_stay (entry_is.Abort pid) J legal begun = refl
+
+-- an entry more names regions by their ids, where it alone does
+pub named_more : (entry : Entry) (J : Past) → AreNamed (entry ∷ []) → AreNamed J → AreNamed (entry ∷ J)
+named_more (entry_is.Start sheets) J one named = named
+named_more (entry_is.Submit nonce request) J one named = (one.0, named)
+named_more (entry_is.Step pid pick out) J one named = named
+named_more (entry_is.Undo pid row out) J one named = named
+named_more (entry_is.Report call told) J one named = named
+named_more (entry_is.Up server) J one named = named
+named_more (entry_is.Down server) J one named = named
+named_more (entry_is.Abort pid) J one named = named
 
 -- how many procedures an entry makes
 pub made_count : (J : Past) (entry : Entry) → length (args_made J entry) ≡ made (entry ∷ [])
@@ -48,9 +59,10 @@ least_more a b a' b' le le' = omega arith
 
 -- what is kept behind the start
 pub starts : (sheets : List Sheet) (beside : Beside) → beside.rows ≡ rows_in [] → beside.stacks ≡ [] → beside.places ≡ [] → beside.servers ≡ [] → beside.nonces ≡ [] → beside.drawn_ids ≡ []
-    → beside.sheets ≡ sheets → beside.running ≡ None → beside.book ≡ [] → AreRecords (entry_is.Start sheets ∷ []) beside
-starts sheets beside rows stacks places servers nonces drawn_ids sheets_is running book = record {
+    → beside.sheets ≡ sheets → beside.book ≡ [] → AreRecords (entry_is.Start sheets ∷ []) beside
+starts sheets beside rows stacks places servers nonces drawn_ids sheets_is book = record {
   begun = λ e. cc;
+  named = tt;
   rows_are = rows;
   stacks_tell = λ root on. ap (λ (l : Stacks). steps_of l root) stacks;
   stacks_forget = λ root over. ap (λ (l : Stacks). steps_of l root) stacks;
@@ -59,6 +71,5 @@ starts sheets beside rows stacks places servers nonces drawn_ids sheets_is runni
   nonces_are = λ nonce. ap (λ l. find nonce_cmp l nonce) nonces;
   drawn_are = λ table. ap (λ l. count_if (find table_cmp l table)) drawn_ids;
   sheets_are = sheets_is;
-  running_is = λ p. (λ way. absurd (way.1 refl), λ is. absurd (none-some (pid_of p) (sym running ∙ is)));
   book_is = λ p. ap (λ (l : List Row). row_of l p) book;
 }

@@ -1,11 +1,8 @@
 -- What is kept of an entry, and how much room it needs.
-use Rattle.std.specs.Prelude.{◌≡◌, ℕ, ◌+◌, ◌==◌, List, [], ◌∷◌, length, max, Option, Some, None, Bool, true, false, if◌then◌else◌}
-use Rattle.std.specs.List.{list_any}
+use Rattle.std.specs.Prelude.{◌≡◌, ℕ, ◌+◌, ◌==◌, List, [], ◌∷◌, length, max, Option, Some, None, if◌then◌else◌}
 use Rattle.hm_names.specs.Server.{Server}
 use Rattle.hm_names.specs.declared.nonce.Nonce.{Nonce}
 use Rattle.hm_names.specs.declared.table.TableName.{TableName}
-use Rattle.hm_data.specs.declared.args.Child.{Child}
-use Rattle.hm_data.specs.declared.args.Child.TheVariants as child_is
 use Rattle.hm_data.specs.declared.catalog.Edit.{Edit}
 use Rattle.hm_data.specs.declared.entry.Entry.{Entry}
 use Rattle.hm_data.specs.declared.entry.Entry.TheVariants as entry_is
@@ -78,26 +75,6 @@ comes_up (entry_is.Report call told) = None
 comes_up (entry_is.Up server) = Some server
 comes_up (entry_is.Down server) = None
 comes_up (entry_is.Abort pid) = None
-
--- the children that an entry asks for
-abbrev pub children_asked : Entry → List Child
-children_asked (entry_is.Start sheets) = []
-children_asked (entry_is.Submit nonce request) = []
-children_asked (entry_is.Step pid pick out) = out.children
-children_asked (entry_is.Undo pid row out) = out.followers
-children_asked (entry_is.Report call told) = []
-children_asked (entry_is.Up server) = []
-children_asked (entry_is.Down server) = []
-children_asked (entry_is.Abort pid) = []
-
--- a child is a transit of the region number 0, which no region has
-abbrev pub is_zero_transit : Child → Bool
-is_zero_transit (child_is.Transits table ids goal) = list_any (λ id. id == 0) ids
-is_zero_transit (child_is.One args) = false
-
--- an entry asks for a transit of the region number 0
-abbrev pub AsksForZero : Entry → Type 0
-AsksForZero entry = list_any is_zero_transit (children_asked entry) ≡ true
 
 -- all that is kept of an entry
 pub record AreParts (before : Past) (entry : Entry) (parts : Parts) : Type 0 where

@@ -1,5 +1,5 @@
 -- The records of a journal as callers see them, and what is kept.
-use Rattle.std.specs.Prelude.{◌≡◌, ◌≢◌, ◌↔◌, ℕ, List, [], Option, Some, None, Bool, true, false, not}
+use Rattle.std.specs.Prelude.{◌≡◌, ◌≢◌, ℕ, List, [], Option, Some, None, Bool, true, not}
 use Rattle.std.specs.Option.{option_map}
 use Rattle.hm_names.specs.Order.{nonce_cmp, table_cmp}
 use Rattle.hm_names.specs.Region.{Region}
@@ -9,13 +9,13 @@ use Rattle.hm_names.specs.declared.pid.Pid.{Pid}
 use Rattle.hm_names.specs.declared.table.TableName.{TableName}
 use Rattle.hm_data.specs.declared.place.Place.{Place}
 use Rattle.hm_data.specs.declared.sheet.Sheet.{Sheet}
-use Rattle.hm_model.specs.Answers.{last_answer}
 use Rattle.hm_model.specs.Journal.{Past}
 use Rattle.hm_model.specs.Nonces.{by_nonce}
 use Rattle.hm_model.specs.Phase.{ended}
+use Rattle.hm_model.specs.RegionIds.{AreNamed}
 use Rattle.hm_model.specs.RowsSaid.{Rows}
 use Rattle.hm_model.specs.Sheets.{sheets_of}
-use Rattle.hm_model.specs.Tree.{drawn, is_root, pid_of}
+use Rattle.hm_model.specs.Tree.{drawn, pid_of}
 use Rattle.hm_index.specs.Index.{find}
 use Rattle.hm_catalog.specs.Rows.{rows_in}
 use Rattle.hm_places.specs.Laws.{places_of, standings_of}
@@ -52,17 +52,8 @@ AreByNonce past nonces = (nonce : Nonce) → find nonce_cmp nonces nonce ≡ opt
 abbrev pub AreDrawn : Past → List (TableName × ℕ) → Type 0
 AreDrawn past drawn_ids = (table : TableName) → count_if (find table_cmp drawn_ids table) ≡ drawn past table
 
--- a root has a step and hasn't ended
-abbrev pub IsUnderWay : Past → ℕ → Type 0
-IsUnderWay past p = (is_root past p ≡ true) × (last_answer past p ≢ None) × (ended past p ≡ false)
-
--- the root that is under way is this one, or none is
-abbrev pub IsRunning : Past → Option Pid → Type 0
-IsRunning past running = (p : ℕ) → IsUnderWay past p ↔ (running ≡ Some (pid_of p))
-
 -- what is kept beside the procedures: the rows of the catalog; the steps that may be undone; the places of regions; how
--- servers stand; the procedures of nonces; how many ids were drawn for each table; the sheets; the root under way; and the
--- lock book
+-- servers stand; the procedures of nonces; how many ids were drawn for each table; the sheets; and the lock book
 pub record Beside : Type 0 where
   pub rows : Rows
   pub stacks : Stacks
@@ -71,12 +62,12 @@ pub record Beside : Type 0 where
   pub nonces : List (Nonce × Pid)
   pub drawn_ids : List (TableName × ℕ)
   pub sheets : List Sheet
-  pub running : Option Pid
   pub book : List Row
 
--- the journal has begun, and what is kept beside its procedures is what it says
+-- the journal has begun, its submissions name regions by their ids, and what is kept beside its procedures is what it says
 pub record AreRecords (past : Past) (beside : Beside) : Type 0 where
   pub begun : past ≢ []
+  pub named : AreNamed past
   pub rows_are : beside.rows ≡ rows_in past
   pub stacks_tell : Tells (is_open past) past beside.stacks
   pub stacks_forget : AreForgotten past beside.stacks
@@ -85,5 +76,4 @@ pub record AreRecords (past : Past) (beside : Beside) : Type 0 where
   pub nonces_are : AreByNonce past beside.nonces
   pub drawn_are : AreDrawn past beside.drawn_ids
   pub sheets_are : beside.sheets ≡ sheets_of past
-  pub running_is : IsRunning past beside.running
   pub book_is : AreRows past beside.book

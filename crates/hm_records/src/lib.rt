@@ -7,12 +7,12 @@ mod fleet;
 mod ids;
 pub mod laws;
 mod made;
+mod named;
 mod nonces;
 mod parts;
 mod records;
 mod regions;
 mod rows;
-mod running;
 mod steps;
 
 pub use book::stepper_of;

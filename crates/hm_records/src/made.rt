@@ -4,7 +4,7 @@ ghost use Rattle.std.specs.List.{list_any};
 ghost use Rattle.hm_data.specs.declared.args.Args.TheVariants as args_are;
 ghost use Rattle.hm_model.specs.Tree.{args_in as procedures_in, child_args};
 ghost use Rattle.hm_procedures.specs.Kept.{args_made as made_by};
-ghost use Rattle.hm_records.specs.Parts.{AsksForZero, children_asked as asked_by, is_zero_transit as is_one_of_zero};
+ghost use Rattle.hm_model.specs.RegionIds.{AsksForZero, children_asked as asked_by, is_zero_transit as is_one_of_zero};
 
 use crate::ids::first_of;
 use crate::records::Records;

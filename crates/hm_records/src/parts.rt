@@ -3,7 +3,8 @@ ghost use Rattle.std.specs.Prelude.{◌≡◌, IfOk, MatchOption};
 ghost use Rattle.hm_data.specs.declared.entry.Entry.{Entry as EntryValue};
 ghost use Rattle.hm_model.specs.Journal.{Past};
 ghost use Rattle.hm_procedures.specs.Kept.{args_made as made_by};
-ghost use Rattle.hm_records.specs.Parts.{AreParts, AsksForZero, size_of};
+ghost use Rattle.hm_model.specs.RegionIds.{AsksForZero};
+ghost use Rattle.hm_records.specs.Parts.{AreParts, size_of};
 
 use crate::book::{Drafts, drafts_of};
 use crate::fleet::comes_up;

@@ -1,28 +1,30 @@
 //! The records of a journal.
-ghost use Rattle.std.specs.Prelude.{◌≡◌, ◌≢◌, ◌+◌, ◌≤◌, [], ◌∷◌, IfOk, IfSome, MatchOption, OnOk};
+ghost use Rattle.std.specs.Prelude.{◌≡◌, ◌≢◌, ◌+◌, ◌≤◌, [], ◌∷◌, ℕ, IfOk, IfSome, MatchOption, OnOk, Some};
 ghost use Rattle.std.specs.Option.{option_map};
 ghost use Rattle.hm_model.specs.Nonces.{by_nonce};
+ghost use Rattle.hm_model.specs.RegionIds.{AsksForZero, NamesIds};
 ghost use Rattle.hm_model.specs.Rules.{AreSheets, IsLegal};
 ghost use Rattle.hm_model.specs.Sheets.{sheets_of};
-ghost use Rattle.hm_model.specs.Tree.{drawn, pid_of};
+ghost use Rattle.hm_model.specs.Tree.{Node, drawn, node_of, pid_of};
 ghost use Rattle.hm_catalog.specs.Rows.{rows_in};
 ghost use Rattle.hm_places.specs.Laws.{places_of, standings_of};
 ghost use Rattle.hm_undo.specs.Laws.{Tells};
 ghost use Rattle.hm_locks.specs.Laws.{IsBookOf};
 ghost use Rattle.hm_records.specs.Book.{AreRows, ListOpen};
-ghost use Rattle.hm_records.specs.Parts.{AreParts, AsksForZero, size_of};
-ghost use Rattle.hm_records.specs.Records.{AreForgotten, IsRunning, is_open};
+ghost use Rattle.hm_records.specs.Parts.{AreParts, size_of};
+ghost use Rattle.hm_records.specs.Records.{AreForgotten, is_open};
 
 use crate::book::{enlist_made, release_ended};
 use crate::fleet::set_servers;
 use crate::ids::{count_ids, drawn_in};
+use crate::named::entry_names;
 use crate::nonces::add_nonce;
 use crate::parts::{Parts, parts_of};
 use crate::regions::set_place;
 use crate::rows::set_rows;
-use crate::running::running_behind;
 use crate::steps::{enter_tree, tree_of};
 use hm_catalog::Catalog;
+use hm_cover::ids_are_named;
 use hm_data::Entry;
 use hm_index::Index;
 use hm_locks::LockBook;
@@ -47,8 +49,6 @@ pub struct Records {
     // How many region ids were drawn for a table.
     drawn: Index<TableName, u64>,
     sheets: Vec<Valid>,
-    // The root that has a step and hasn't ended.
-    running: Option<Pid>,
     book: LockBook,
 }
 
@@ -60,7 +60,7 @@ impl Model for Records {
 
     ghost view = { λ s. record { past = s.procedures.past; spare = min (min s.procedures.spare s.catalog.spare) (min (min s.stack.spare s.places.spare) (min (min s.servers.spare (min s.nonces.spare s.drawn.spare)) (min s.book.spare s.book.spare_asks))); room = s.procedures.room + s.catalog.room + (s.stack.room + s.places.room) + (s.servers.room + (s.nonces.room + s.drawn.room)) + s.book.room } };
 
-    ghost invariant = { λ s. AreRecords s.procedures.past (record { rows = s.catalog.rows; stacks = s.stack.stacks; places = s.places.places; servers = s.servers.servers; nonces = s.nonces.pairs; drawn_ids = s.drawn.pairs; sheets = s.sheets.items; running = s.running; book = s.book.rows }) };
+    ghost invariant = { λ s. AreRecords s.procedures.past (record { rows = s.catalog.rows; stacks = s.stack.stacks; places = s.places.places; servers = s.servers.servers; nonces = s.nonces.pairs; drawn_ids = s.drawn.pairs; sheets = s.sheets.items; book = s.book.rows }) };
 }
 
 impl Records {
@@ -81,7 +81,6 @@ impl Records {
             nonces: Index::new(alloc)?,
             drawn: Index::new(alloc)?,
             sheets,
-            running: None,
             book: LockBook::new(alloc)?,
         })
     }
@@ -94,6 +93,24 @@ impl Records {
     {
         let _last = self.procedures.last_pid();
         &self.procedures
+    }
+
+    /// Each procedure names regions by ids from 1 on, and the first id that it draws or adds is below 2^32: a law that does
+    /// nothing.
+    pub fn procedures_name_regions(&self)
+        ensures { (p : ℕ) (node : Node) → node_of self.now.past p ≡ Some node → NamesIds node.args }
+    {
+        let _legal = self.procedures.last_pid();
+        ids_are_named();
+    }
+
+    /// An entry that may follow asks for no transit of the region number 0, so that it can be prepared: a law that does nothing.
+    pub fn asks_for_regions(&self, entry: &Entry)
+        ensures { IsLegal (entry.now ∷ self.now.past) → AsksForZero entry.now → ⊥ }
+    {
+        let _procedures = &self.procedures;
+        entry_names(entry);
+        ids_are_named();
     }
 
     /// The rows of the catalog.
@@ -144,13 +161,6 @@ impl Records {
         ensures { result ≡ drawn self.now.past table.now }
     {
         drawn_in(&self.drawn, table)
-    }
-
-    /// The root that has a step and hasn't ended.
-    pub fn running(&self) -> Option<Pid>
-        ensures { IsRunning self.now.past result }
-    {
-        self.running
     }
 
     /// The lock book: each procedure that hasn't ended is enlisted, and holds from its first step on.
@@ -212,6 +222,7 @@ impl Records {
             up,
             placed,
         } = parts;
+        entry_names(entry);
         let past = &self.procedures;
         let tree = tree_of(past, entry);
         enlist_made(&mut self.book, past, entry, drafts.list);
@@ -229,6 +240,5 @@ impl Records {
             step,
         );
         release_ended(&mut self.book, &self.procedures, entry, tree);
-        self.running = running_behind(&self.procedures, tree, self.running);
     }
 }

@@ -1,7 +1,6 @@
 //! Aborts.
 ghost use Rattle.std.specs.Prelude.{◌≡◌, IfErr, IfOk, false};
 ghost use Rattle.hm_data.specs.declared.entry.Entry.TheVariants as entry_is;
-ghost use Rattle.hm_model.specs.Requests.{MayCome};
 ghost use Rattle.hm_model.specs.Rules.{Allowed};
 ghost use Rattle.hm_refusals.specs.Aborts.{IsAborted, IsAgainst, is_finished};
 
@@ -47,7 +46,7 @@ fn has_finished(phase: Phase) -> bool
 pub fn judge_abort(records: &Records, pid: Pid) -> Result<bool, AbortRefused>
     ensures refused { IfErr result (IsAgainst records.now.past pid.0) }
     ensures may { IfOk result (IsAborted records.now.past pid.0) }
-    ensures allowed { IfOk result (λ before. before ≡ false → MayCome (entry_is.Abort pid) → Allowed records.now.past (entry_is.Abort pid)) }
+    ensures allowed { IfOk result (λ before. before ≡ false → Allowed records.now.past (entry_is.Abort pid)) }
 {
     let Some(found) = records.procedures().find(pid) else {
         return Err(AbortRefused::Unknown);

@@ -2,7 +2,6 @@
 ghost use Rattle.std.specs.Prelude.{◌≡◌, ◌≢◌, ◌↔◌, IfErr, IsTrue, None, OnOk, Some};
 ghost use Rattle.hm_data.specs.declared.entry.Entry.TheVariants as entry_is;
 ghost use Rattle.hm_model.specs.Reports.{is_settled, peer_in, peer_of, verb_of};
-ghost use Rattle.hm_model.specs.Requests.{MayCome};
 ghost use Rattle.hm_model.specs.Rules.{Allowed};
 ghost use Rattle.hm_refusals.specs.Reports.{IsHeard, IsIgnored};
 
@@ -65,7 +64,7 @@ fn has_settled(records: &Records, call: Pid) -> bool
 pub fn judge_report(records: &Records, message: &ReportMsg) -> Result<(), IgnoredWhy>
     ensures ignored { IfErr result (IsIgnored records.now.past message.now) }
     ensures heard { OnOk result (IsHeard records.now.past message.now) }
-    ensures allowed { OnOk result (MayCome (entry_is.Report message.now.call message.now.told) → Allowed records.now.past (entry_is.Report message.now.call message.now.told)) }
+    ensures allowed { OnOk result (Allowed records.now.past (entry_is.Report message.now.call message.now.told)) }
 {
     if !records.procedures().has_called(message.call) {
         return Err(IgnoredWhy::Unknown);

@@ -1,7 +1,6 @@
 //! Submissions.
 ghost use Rattle.std.specs.Prelude.{◌≡◌, ◌≤◌, ◌↔◌, ℕ, IfErr, IfOk, IfNone, IfSome, IsTrue, MatchOption, None, OnOk, Some};
 ghost use Rattle.hm_data.specs.declared.entry.Entry.TheVariants as entry_is;
-ghost use Rattle.hm_model.specs.Kinds.{is_running_kind, request_kind};
 ghost use Rattle.hm_model.specs.Requests.{StaysWithin, wrong_in as wrong};
 ghost use Rattle.hm_model.specs.Rules.{Allowed};
 ghost use Rattle.hm_model.specs.Tree.{drawn as ids_drawn};
@@ -103,7 +102,7 @@ pub fn judge_submission(
     ensures refused { IfErr result (IsAgainst records.now.past nonce.now request.now) }
     ensures repeated { IfOk result (λ pid. IfSome pid (λ pid. IsRepeated records.now.past nonce.now request.now pid.0)) }
     ensures new { IfOk result (λ pid. IfNone pid (IsNew records.now.past nonce.now request.now)) }
-    ensures allowed { IfOk result (λ pid. IfNone pid (IsTrue (is_running_kind (request_kind request.now)) → Allowed records.now.past (entry_is.Submit nonce.now request.now))) }
+    ensures allowed { IfOk result (λ pid. IfNone pid (Allowed records.now.past (entry_is.Submit nonce.now request.now))) }
 {
     let _begun = records.procedures();
     check_request(request)?;

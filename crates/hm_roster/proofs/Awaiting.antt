@@ -24,7 +24,7 @@ use Rattle.hm_judge.proofs.Found.{gone_of, there_of}
 use Rattle.hm_model.proofs.Grown.{grown_all}
 use Rattle.hm_roster.specs.Roster.{is_crash_if, is_of_crash}
 use Rattle.hm_tied.specs.Tied.{Awaits, CanGo}
-use Rattle.hm_tied.proofs.Going.{awaits_call, calm_stopped, run_open, top_or_below}
+use Rattle.hm_model.proofs.Running.{awaits_call, calm_stopped, run_open, top_or_below}
 
 not_both : (last : Option Answer) (n : ℕ) → last ≡ Some (answer_is.Await n) → IsWait last → ⊥
 not_both last n awaits waits = by (sym awaits ∙ waits.1)

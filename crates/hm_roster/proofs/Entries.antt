@@ -20,7 +20,7 @@ use Rattle.hm_tied.specs.Calls.{Unclaims}
 use Rattle.hm_tied.specs.Entries.{Enlists, alters, is_new, root_debts, touched, undo_debts}
 use Rattle.hm_tied.specs.Tied.{IsTied, IsTiedBut}
 use Rattle.hm_tied.specs.Uses.{AreAmong}
-use Rattle.hm_tied.proofs.Going.{undo_facts}
+use Rattle.hm_model.proofs.Running.{undo_facts}
 use Rattle.hm_tied.proofs.Others.{down_owes, submit_owes}
 use Rattle.hm_tied.proofs.Stepping.{step_owes}
 use Rattle.hm_tied.proofs.Undoing.{undo_owes}
@@ -77,7 +77,7 @@ undo_enters J legal root low late desk claimed undo fewer =
     let top = root_of before pid.0 in
     let entry = entry_is.Undo pid undo.row undo.out in
     let now : IsLegal (entry ∷ before) = subst IsLegal behind.is legal in
-    let latest : IsLatest before pid.0 undo.row = now.1.1.0.1 in
+    let latest : IsLatest before pid.0 undo.row = now.1.1.0 in
     let enlists = subst (λ K. Enlists before K behind.rows (rows_on desk)) behind.is behind.enlists in
     let mine = subst (λ p. IsIn p (claims_on desk)) undo.roots undo.mine in
     let less = subst (λ p. Unclaims p (claims_on desk) claimed) undo.roots fewer in

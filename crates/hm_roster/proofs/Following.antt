@@ -59,7 +59,7 @@ module _ (J : Past) (entry : Entry) (legal : IsLegal (entry ∷ J)) where
 -- who called was made
 pub reported_known : (call : Pid) (told : Told) (J : Past) → IsLegal (entry_is.Report call told ∷ J) → call.0 ≤ made J
 reported_known call told J legal =
-    let verb = some_of (verb_of J call.0) legal.1.1.0.1.0 in
+    let verb = some_of (verb_of J call.0) legal.1.1.0.0 in
     let own = calls_own J legal.0 call.0 verb.0 verb.1 in
     (made_up_to J (grown_all J legal.0) call.0 own.0 own.1).1
 

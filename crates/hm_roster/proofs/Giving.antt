@@ -10,7 +10,7 @@ use Rattle.hm_model.specs.Answers.{last_answer}
 use Rattle.hm_model.specs.Journal.{Past}
 use Rattle.hm_model.specs.Locks.{IsIn}
 use Rattle.hm_model.specs.Picks.{has_pick}
-use Rattle.hm_model.specs.Rest.{MayStep, MayStepPicked, MayUndo}
+use Rattle.hm_model.specs.Rest.{IsAvailable, MayStep, MayStepPicked, MayUndo}
 use Rattle.hm_model.specs.Rules.{IsLegal}
 use Rattle.hm_model.specs.Tree.{Node, made, node_of}
 use Rattle.hm_sched.specs.Effects.{Joins, Passes, Wakes}
@@ -18,7 +18,7 @@ use Rattle.hm_sched.specs.Queues.{IsReady, IsWith, StandsNowhere, is_ready, is_s
 use Rattle.hm_sched.specs.declared.queue.Queue.{Queue}
 use Rattle.hm_sched.specs.declared.queue.Queue.TheVariants.{Held, Servers, Suspended, Tables, Waits}
 use Rattle.hm_tied.specs.Calls.{Unclaims, owing, without}
-use Rattle.hm_tied.specs.Tied.{CanGo, Debts, IsAvailableFree, IsOpen, IsTied, IsTiedBut, Roster, no_debts}
+use Rattle.hm_tied.specs.Tied.{CanGo, Debts, IsOpen, IsTied, IsTiedBut, Roster, no_debts}
 use Rattle.hm_tied.proofs.Calls.{exact, give_back_ties, give_up_owes, join_owes, keep_on_owes, next_owes}
 use Rattle.hm_tied.proofs.Going.{go_open}
 use Rattle.hm_tied.proofs.Settled.{one_settles}
@@ -82,7 +82,7 @@ module _ (J : Past) (legal : IsLegal J) (n : Option Server → ℕ) (roster : Ro
   given_free = was_listed.1
 
   -- where it can go on with a pick it is available
-  pub given_available : CanGo J p → ((node : Node) → node_of J p ≡ Some node → has_pick J p node ≡ true) → IsAvailableFree J roster.claimed roster.claimed p
+  pub given_available : CanGo J p → ((node : Node) → node_of J p ≡ Some node → has_pick J p node ≡ true) → IsAvailable J roster.claimed roster.claimed p
   given_available go picks = (
     given_free,
     (free_ties J n roster p tied given_open).0 (passes.some p refl).1,
@@ -94,7 +94,7 @@ module _ (J : Past) (legal : IsLegal J) (n : Option Server → ℕ) (roster : Ro
 
 -- nobody was given: nobody is available
 pub none_given : (J : Past) (n : Option Server → ℕ) (roster : Roster) (lists : List (List ℕ)) → IsTied J n roster → Passes roster.rows roster.lists lists None
-    → IsTied J n (record roster { lists = lists }) × ((q : ℕ) → IsAvailableFree J roster.claimed roster.claimed q → ⊥)
+    → IsTied J n (record roster { lists = lists }) × ((q : ℕ) → IsAvailable J roster.claimed roster.claimed q → ⊥)
 none_given J n roster lists tied passes =
     let now : IsTied J n (record roster { lists = lists }) = next_owes J n roster lists None tied passes in
     (now, λ q free. passes.none refl q (exact J n (record roster { lists = lists }) now q free))

@@ -12,7 +12,6 @@ mod Entries
 mod Claimed
 mod Changed
 mod Alike
-pub mod Firsts
 mod Parents
 pub mod Listing
 mod Tried

@@ -26,7 +26,7 @@ use Rattle.hm_serial.proofs.Taken.{legal_apart}
 use Rattle.hm_tied.specs.Tied.{IsOpen}
 use Rattle.hm_roster.specs.Opening.{IsBookBelow}
 use Rattle.hm_roster.proofs.Changed.{changed_here, changed_there, holding_row, row_some, some_row}
-use Rattle.hm_roster.proofs.Firsts.{node_first}
+use Rattle.hm_records.proofs.Firsts.{node_first}
 use Rattle.hm_roster.proofs.Parents.{parent_open}
 
 -- the row of a procedure is its own

@@ -1,5 +1,6 @@
 //! A procedure that was given is claimed, or let be.
 ghost use Rattle.std.specs.Prelude.{◌≡◌, ◌++◌, ◌∷◌, []};
+ghost use Rattle.hm_locks.specs.Book.{NoneClash, is_holding, row_of};
 ghost use Rattle.hm_roster.specs.Desk.{HasClaimRoom, IsClaimedToo};
 ghost use Rattle.hm_roster.specs.Roster.{Follows, IsGiven, IsSameBut, is_of_crash as of_crash};
 ghost use Rattle.hm_sched.specs.Queues.{IsWith, members, ready_list};
@@ -11,6 +12,14 @@ use hm_names::Pid;
 use hm_records::Records;
 
 impl Desk {
+    /// Whether a procedure holds what it asks for. No two that hold clash.
+    pub fn holds(&self, pid: Pid) -> bool
+        ensures holds { result ≡ is_holding (row_of self.now.book.rows pid.0) }
+        ensures none_clash { NoneClash self.now.book.rows }
+    {
+        self.book.holds(pid)
+    }
+
     /// A procedure that was given and can go on is claimed, in the room that was made for it. It keeps what it took.
     pub fn claim(&mut self, records: &Records, pid: Pid)
         requires given { IsGiven records.now.past self.old pid.0 }

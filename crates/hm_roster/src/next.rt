@@ -1,11 +1,12 @@
 //! Who comes next.
 ghost use Rattle.std.specs.Prelude.{◌≡◌, ℕ, IfNone, IfSome, Some, false};
+ghost use Rattle.hm_model.specs.Rest.{IsAvailable};
 ghost use Rattle.hm_model.specs.Picks.{has_pick as picks};
 ghost use Rattle.hm_model.specs.Tree.{Node, node_of};
 ghost use Rattle.hm_roster.specs.Roster.{Follows, IsGiven, IsSameBut, Owes};
 ghost use Rattle.hm_sched.specs.Queues.{ready_count};
 ghost use Rattle.hm_tied.specs.Calls.{owing};
-ghost use Rattle.hm_tied.specs.Tied.{CanGo, IsAvailableFree};
+ghost use Rattle.hm_tied.specs.Tied.{CanGo};
 
 use crate::abilities::{awaits, can_go};
 use crate::desk::Desk;
@@ -50,9 +51,9 @@ impl Desk {
     pub fn next<L: Ledger>(&mut self, records: &Records, steps: &mut Steps<L>) -> Option<Pid>
         requires { Follows records.now.past self.old }
         ensures given { IfSome result (λ p. IsGiven records.now.past self.new p.0) }
-        ensures available { IfSome result (λ p. IsAvailableFree records.now.past self.old.claimed.items self.old.claimed.items p.0) }
+        ensures available { IfSome result (λ p. IsAvailable records.now.past self.old.claimed.items self.old.claimed.items p.0) }
         ensures follows { IfNone result (Follows records.now.past self.new) }
-        ensures none { IfNone result ((q : ℕ) → IsAvailableFree records.now.past self.old.claimed.items self.old.claimed.items q → ⊥) }
+        ensures none { IfNone result ((q : ℕ) → IsAvailable records.now.past self.old.claimed.items self.old.claimed.items q → ⊥) }
         ensures same { IsSameBut self.old self.new }
     {
         let _legal = records.procedures();

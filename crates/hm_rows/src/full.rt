@@ -12,21 +12,21 @@ use std::test::Fail;
 fn run_takes_no_submission_at_the_soft_mark(rt: HostRuntime) -> Result<(), Fail> {
     // Its size is at the mark. A nonce that was used is answered as ever, and what was begun goes on.
     let limits = Limits {
-        soft: 58,
+        soft: 325,
         hard: 67_108_864,
     };
     let script =
         b"namespace 1:2 toys\nnamespace 1:1 shop\nnamespace 1:1 toys\nsettle\nnamespace 1:2 toys\nprocs\n";
     let played = play_within(rt.alloc(), limits, script, SHOP)?;
     let text =
-        "opened at 2\nrefused JournalFull 58\npid 1 repeated\nrefused NonceClash 1\nsettled at 4\nrefused JournalFull 118\nprocs at 4: 1\n1 CreateNamespace shop SUCCESS\n";
+        "opened at 2\nrefused JournalFull 325\npid 1 repeated\nrefused NonceClash 1\nsettled at 4\nrefused JournalFull 385\nprocs at 4: 1\n1 CreateNamespace shop SUCCESS\n";
     let log = ends_so(&rt, &played, RunStatus::Done, text, script)?;
-    assert_eq!(rt; log.len(), 118);
+    assert_eq!(rt; log.len(), 385);
 
     // A byte below the mark is room.
     let script = b"namespace 1:1 shop\nnamespace 1:2 toys\n";
     let played = play_within(rt.alloc(), limits, script, b"")?;
-    let text = "opened at 1\npid 1\nrefused JournalFull 58\n";
+    let text = "opened at 1\npid 1\nrefused JournalFull 325\n";
     ends_so(&rt, &played, RunStatus::Done, text, script)?;
     Ok(())
 }

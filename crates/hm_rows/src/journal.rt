@@ -30,11 +30,11 @@ pub fn sheets_of_tables(alloc: Global) -> Result<List<Sheet>, AllocError>
     let Ok(registry) = Registry::new(alloc, Vec::from_array(alloc, handlers)?) else {
         return Err(AllocError);
     };
-    registry.running_sheets().copy(alloc)
+    registry.sheets().copy(alloc)
 }
 
-// Compares what checking this log answers, which leaves the disk's bytes.
-fn judges(
+/// Compares what checking this log answers, which leaves the disk's bytes.
+pub fn judges(
     rt: &(impl Abort + AllocGlobal),
     log: &[u8],
     answer: Result<u64, JournalWhy>,

@@ -17,4 +17,6 @@ mod logs;
 #[cfg(test)]
 mod play;
 #[cfg(test)]
+mod rules;
+#[cfg(test)]
 mod statuses;

@@ -7,14 +7,16 @@ use std::process::Abort;
 use std::test::Fail;
 
 /// The journal of an empty script.
-pub const NEW: &[u8] = b"HMASTERJ\x01+\x0e\0\0\0\0\x01\0\x01\x02\0\x01\x01\0\0\x02\xff\0\0-";
+pub const NEW: &[u8] =
+    b"HMASTERJ\x01+\x19\x01\0\0\0\x12\0\x01\x02\0\x01\x01\0\0\x02\xff\0\0\x02\x02\0\x03\x01\0\0\x04\xff\0\0\x03\x07\0\x05\x01\0\0\x06\x02\0\x01\x07\x03\0\x02\x08\x04\0\0\t\x05\0\x01\n\x06\x01\0\x0b\xff\x01\0\x04\x03\0\x0c\x01\0\0\r\x02\x01\0\x0e\xff\x01\0\x05\x04\0\x0c\x01\0\0\t\x02\0\x01\n\x03\x01\0\x0b\xff\x01\0\x06\x04\0\x0f\x01\0\0\x10\x02\0\x01\x11\x03\x01\0\x12\xff\x01\0\x07\x02\0\x0c\x01\0\0\x13\xff\0\0\x08\x06\0\x14\x01\0\0\x15\x02\0\x03\x07\x03\0\x02\x16\x04\0\x01\x17\x05\x01\0\x18\xff\x01\0\t\x06\0\x19\x01\0\0\x1a\x02\0\x03\x07\x03\0\x02\x1b\x04\0\x01\x1c\x05\x01\0\x18\xff\x01\0\n\x06\0\x1f\x01\x01\0 \x02\x01\0!\0\x01\0\"\x04\x01\0#\0\x01\0$\x03\0\0\x0b\x02\0%\x01\x01\0&\x01\x01\0\x14\x01\0\x1d\xff\0\x01\x15\x01\0\x1e\xff\x01\0\x17\x02\0'\x01\x01\0)\xff\x01\0\x18\x02\0(\x01\x01\0)\xff\x01\0\x19\x02\0*\x01\x01\0)\xff\x01\0\x1a\x02\0+\x01\0\0,\xff\0\0\x1b\x02\0-\x01\x01\0)\xff\x01\0-";
 
 /// The journal of `namespace 1:1 shop`.
 pub const SHOP: &[u8] =
-    b"HMASTERJ\x01+\x0e\0\0\0\0\x01\0\x01\x02\0\x01\x01\0\0\x02\xff\0\0+\x18\0\0\0\x01\x01\0\0\0\0\0\0\0\x01\0\0\0\0\0\0\0\x01\x04\0shop-";
+    b"HMASTERJ\x01+\x19\x01\0\0\0\x12\0\x01\x02\0\x01\x01\0\0\x02\xff\0\0\x02\x02\0\x03\x01\0\0\x04\xff\0\0\x03\x07\0\x05\x01\0\0\x06\x02\0\x01\x07\x03\0\x02\x08\x04\0\0\t\x05\0\x01\n\x06\x01\0\x0b\xff\x01\0\x04\x03\0\x0c\x01\0\0\r\x02\x01\0\x0e\xff\x01\0\x05\x04\0\x0c\x01\0\0\t\x02\0\x01\n\x03\x01\0\x0b\xff\x01\0\x06\x04\0\x0f\x01\0\0\x10\x02\0\x01\x11\x03\x01\0\x12\xff\x01\0\x07\x02\0\x0c\x01\0\0\x13\xff\0\0\x08\x06\0\x14\x01\0\0\x15\x02\0\x03\x07\x03\0\x02\x16\x04\0\x01\x17\x05\x01\0\x18\xff\x01\0\t\x06\0\x19\x01\0\0\x1a\x02\0\x03\x07\x03\0\x02\x1b\x04\0\x01\x1c\x05\x01\0\x18\xff\x01\0\n\x06\0\x1f\x01\x01\0 \x02\x01\0!\0\x01\0\"\x04\x01\0#\0\x01\0$\x03\0\0\x0b\x02\0%\x01\x01\0&\x01\x01\0\x14\x01\0\x1d\xff\0\x01\x15\x01\0\x1e\xff\x01\0\x17\x02\0'\x01\x01\0)\xff\x01\0\x18\x02\0(\x01\x01\0)\xff\x01\0\x19\x02\0*\x01\x01\0)\xff\x01\0\x1a\x02\0+\x01\0\0,\xff\0\0\x1b\x02\0-\x01\x01\0)\xff\x01\0+\x18\0\0\0\x01\x01\0\0\0\0\0\0\0\x01\0\0\0\0\0\0\0\x01\x04\0shop-";
 
 /// The entries of a settled journal of `namespace 1:1 shop`: its start, the submission, and two steps.
-pub const START: &[u8] = b"\0\x01\0\x01\x02\0\x01\x01\0\0\x02\xff\0\0";
+pub const START: &[u8] =
+    b"\0\x12\0\x01\x02\0\x01\x01\0\0\x02\xff\0\0\x02\x02\0\x03\x01\0\0\x04\xff\0\0\x03\x07\0\x05\x01\0\0\x06\x02\0\x01\x07\x03\0\x02\x08\x04\0\0\t\x05\0\x01\n\x06\x01\0\x0b\xff\x01\0\x04\x03\0\x0c\x01\0\0\r\x02\x01\0\x0e\xff\x01\0\x05\x04\0\x0c\x01\0\0\t\x02\0\x01\n\x03\x01\0\x0b\xff\x01\0\x06\x04\0\x0f\x01\0\0\x10\x02\0\x01\x11\x03\x01\0\x12\xff\x01\0\x07\x02\0\x0c\x01\0\0\x13\xff\0\0\x08\x06\0\x14\x01\0\0\x15\x02\0\x03\x07\x03\0\x02\x16\x04\0\x01\x17\x05\x01\0\x18\xff\x01\0\t\x06\0\x19\x01\0\0\x1a\x02\0\x03\x07\x03\0\x02\x1b\x04\0\x01\x1c\x05\x01\0\x18\xff\x01\0\n\x06\0\x1f\x01\x01\0 \x02\x01\0!\0\x01\0\"\x04\x01\0#\0\x01\0$\x03\0\0\x0b\x02\0%\x01\x01\0&\x01\x01\0\x14\x01\0\x1d\xff\0\x01\x15\x01\0\x1e\xff\x01\0\x17\x02\0'\x01\x01\0)\xff\x01\0\x18\x02\0(\x01\x01\0)\xff\x01\0\x19\x02\0*\x01\x01\0)\xff\x01\0\x1a\x02\0+\x01\0\0,\xff\0\0\x1b\x02\0-\x01\x01\0)\xff\x01\0";
 
 pub const SUBMIT: &[u8] = b"\x01\x01\0\0\0\0\0\0\0\x01\0\0\0\0\0\0\0\x01\x04\0shop";
 
@@ -144,11 +146,14 @@ fn run_refuses_what_is_no_log(rt: HostRuntime) -> Result<(), Fail> {
 #[test]
 fn run_refuses_what_is_no_journal(rt: HostRuntime) -> Result<(), Fail> {
     let toys = b"\x01\x01\0\0\0\0\0\0\0\x01\0\0\0\0\0\0\0\x01\x04\0toys".as_slice();
-    let another_kind = b"\x01\x01\0\0\0\0\0\0\0\x01\0\0\0\0\0\0\0\x02\x04\0shop".as_slice();
+    let drops_default = b"\x01\x01\0\0\0\0\0\0\0\x01\0\0\0\0\0\0\0\x02\x07\0default".as_slice();
     let too_long = b"\x01\x01\0\0\0\0\0\0\0\x01\0\0\0\0\0\0\0\x01\x04\0shops".as_slice();
     let no_name = b"\x01\x01\0\0\0\0\0\0\0\x01\0\0\0\0\0\0\0\x01\x04\0sh-p".as_slice();
     let done_at_once = b"\x02\x01\0\0\0\0\0\0\0\0\x03\0\0\0\0\0\0\0\0\0".as_slice();
-    let checks_twice = b"\0\x01\0\x01\x03\0\x01\x02\0\0\x01\x02\0\0\x02\xff\0\0".as_slice();
+    let mut checks_twice = b"\0\x12\0\x01\x03\0\x01\x02\0\0\x01\x02\0\0\x02\xff\0\0".to_vec(
+        rt.alloc(),
+    )?;
+    checks_twice.extend_from_slice(&START[14..])?;
     let cases = [
         // A frame spells no entry. Each is read before the first entry is judged.
         ([START, b"\xff"].as_slice(), "BadEntry 1 0"),
@@ -158,12 +163,12 @@ fn run_refuses_what_is_no_journal(rt: HostRuntime) -> Result<(), Fail> {
         (&[START, no_name], "BadEntry 1 18"),
         (&[&START[..13]], "BadEntry 0 13"),
         (&[b"\0\0\0", b"\xff"], "BadEntry 1 0"),
-        // The first entry starts a journal, with a sheet of each kind that the master runs, and no other entry does.
+        // The first entry starts a journal, with a sheet of each kind, and no other entry does.
         (&[b"\0\0\0", SUBMIT], "Illegal 0 1"),
         (&[SUBMIT, START], "Illegal 0 1"),
         (&[START, SUBMIT, START], "Illegal 2 1"),
-        // A kind that the master doesn't run, and a nonce that stands twice, for the same name or for another.
-        (&[START, another_kind], "Illegal 1 2"),
+        // A request that is wrong by itself, and a nonce that stands twice, for the same name or for another.
+        (&[START, drops_default], "Illegal 1 2"),
         (&[START, SUBMIT, SUBMIT], "Illegal 2 3"),
         (&[START, SUBMIT, toys], "Illegal 2 3"),
         // A step of a procedure that isn't there, and what its sheet doesn't say.
@@ -171,7 +176,7 @@ fn run_refuses_what_is_no_journal(rt: HostRuntime) -> Result<(), Fail> {
         (&[START, SUBMIT, done_at_once], "Illegal 2 8"),
         (&[START, SUBMIT, CHECKS, CHECKS], "Illegal 3 8"),
         // It began with other sheets.
-        (&[checks_twice], "SheetsDiffer 1"),
+        (&[&checks_twice], "SheetsDiffer 1"),
     ];
     for (frames, why) in cases {
         refuses(&rt, &log_of(rt.alloc(), frames)?, why)?;

@@ -2,7 +2,7 @@
 use hm_crash::CrashHands;
 use hm_data::Sheet;
 use hm_names::List;
-use hm_sheet::{Handler, Registry, RegistryFault, all_kinds, running_kinds};
+use hm_sheet::{Handler, Registry, RegistryFault, all_kinds};
 use hm_split::SplitHands;
 use hm_tables::TableHands;
 use hm_transit::TransitHands;
@@ -62,7 +62,5 @@ fn sheets_are_of_all_kinds_in_their_order(rt: HostRuntime) -> Result<(), Fail> {
     let registry = registry(rt.alloc(), "crst")?.ok().ok_or("no registry")?;
     let all = kinds_of(rt.alloc(), registry.sheets())?;
     assert_eq!(rt; all.as_slice(), all_kinds());
-    let running = kinds_of(rt.alloc(), registry.running_sheets())?;
-    assert_eq!(rt; running.as_slice(), running_kinds());
     Ok(())
 }

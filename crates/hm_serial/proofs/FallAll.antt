@@ -83,12 +83,12 @@ module _ (pid : Pid) (row : ℕ) (out : StepOut) (J : Past) (legal : IsLegal (en
   u = undo_of pid row out J legal
 
   pub top : Node
-  top = legal.1.1.0.1.0
+  top = legal.1.1.0.0
 
   pub top_is : TopIs J (root_of J pid.0) top
   unfolding top
   top_is =
-      let latest = legal.1.1.0.1 in
+      let latest = legal.1.1.0 in
       let parts = and_parts (is_top latest.0.above) (is_some (cause J R) && (all_stopped J R && not (is_empty (stack J R)))) latest.2 in
       (latest.1, top_nil latest.0.above parts.0)
     where
@@ -98,7 +98,7 @@ module _ (pid : Pid) (row : ℕ) (out : StepOut) (J : Past) (legal : IsLegal (en
 
   is_sick : is_some (cause J (root_of J pid.0)) ≡ true
   is_sick =
-      let latest = legal.1.1.0.1 in
+      let latest = legal.1.1.0 in
       let parts = and_parts (is_top latest.0.above) (is_some (cause J R) && (all_stopped J R && not (is_empty (stack J R)))) latest.2 in
       (and_parts (is_some (cause J R)) (all_stopped J R && not (is_empty (stack J R))) parts.1).0
 
@@ -252,7 +252,7 @@ undo_aside pid row out J legal a =
 
 asked_submit : (nonce : Nonce) (request : Request) (J : Past) → IsLegal (entry_is.Submit nonce request ∷ J) → Asked J → Asked (entry_is.Submit nonce request ∷ J)
 asked_submit nonce request J legal asked q x is = elim (cases_eq q (made J + 1)) [
-  | inl same ↦ subst (λ (n : Node). IsRight n.args) (same_Some (submitted J request q) x (sym (cond-true (q == made J + 1) (Some (submitted J request q)) (node_of J q) (eq-eqb q (made J + 1) same)) ∙ is)) legal.1.1.0.0
+  | inl same ↦ subst (λ (n : Node). IsRight n.args) (same_Some (submitted J request q) x (sym (cond-true (q == made J + 1) (Some (submitted J request q)) (node_of J q) (eq-eqb q (made J + 1) same)) ∙ is)) legal.1.1.0
   | inr differs ↦ asked q x (sym (cond-false (q == made J + 1) (Some (submitted J request q)) (node_of J q) (ne_eqb q (made J + 1) differs)) ∙ is)
 ]
 

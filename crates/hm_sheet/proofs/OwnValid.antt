@@ -6,7 +6,8 @@ use Rattle.std.proofs.lemmas.Option.{none-some}
 use Rattle.hm_data.specs.declared.sheet.Row.{Row}
 use Rattle.hm_model.specs.Lists.{exact_rows, lines_of}
 use Rattle.hm_model.specs.Validity.{IsFirstFault, IsValid}
-use Rattle.hm_sheet.specs.Own.{all_kinds, in_turn, is_kind, own_sheet}
+use Rattle.hm_model.specs.Kinds.{all_kinds}
+use Rattle.hm_sheet.specs.Own.{in_turn, is_kind, own_sheet}
 
 valid_1 : IsValid (own_sheet 1)
 valid_1 zero = refl

@@ -3,6 +3,7 @@ use Rattle.std.specs.Prelude.{ℕ, ◌+◌, List, [], ◌∷◌, ◌++◌, Bool}
 use Rattle.hm_data.specs.declared.sheet.Row.{Row}
 use Rattle.hm_data.specs.declared.sheet.Sheet.{Sheet}
 use Rattle.hm_model.specs.Answers.{no_row}
+use Rattle.hm_model.specs.Kinds.{all_kinds}
 use Rattle.hm_model.specs.Lists.{Line, lines_of, exact_rows}
 use Rattle.hm_model.specs.Validity.{is_among}
 
@@ -19,10 +20,6 @@ in_turn next (line ∷ following ∷ lines) = row_to line next ∷ in_turn (next
 -- the sheet of a kind: the rows that it has, or those that it lists, in their order
 abbrev pub own_sheet : ℕ → Sheet
 own_sheet kind = record { kind = kind; rows = exact_rows kind ++ in_turn 1 (lines_of kind) }
-
--- the kinds of procedures, in their order
-abbrev pub all_kinds : List ℕ
-all_kinds = 1 ∷ 2 ∷ 3 ∷ 4 ∷ 5 ∷ 6 ∷ 7 ∷ 8 ∷ 9 ∷ 10 ∷ 11 ∷ 20 ∷ 21 ∷ 23 ∷ 24 ∷ 25 ∷ 26 ∷ 27 ∷ []
 
 -- a kind of procedures
 abbrev pub is_kind : ℕ → Bool

@@ -4,7 +4,7 @@ use Rattle.std.specs.List.{flat_map}
 use Rattle.hm_data.specs.declared.sheet.Sheet.{Sheet}
 use Rattle.hm_sheet.specs.declared.handler.Handler.{Ghosts}
 use Rattle.hm_sheet.specs.declared.registry.Registry.{Registry}
-use Rattle.hm_sheet.specs.Words.{AreListed}
+use Rattle.hm_sheet.specs.Words.{AreWhole}
 
 -- how many calls of `run` it answered
 abbrev pub runs_of : {X : Type 0} {F : X → Type 0} → Registry X F → ℕ
@@ -14,18 +14,14 @@ runs_of registry = registry.runs
 abbrev pub whole_of : {X : Type 0} {F : X → Type 0} → Registry X F → List Sheet
 whole_of registry = registry.whole
 
--- the sheets of the kinds that the master runs
-abbrev pub list_of : {X : Type 0} {F : X → Type 0} → Registry X F → List Sheet
-list_of registry = registry.list
-
 module _ {X : Type 0} {F : X → Type 0} (hand : (x : X) → Ghosts (F x)) where
   -- the sheets of its handlers
   abbrev pub sheets_of : Registry X F → List Sheet
   sheets_of registry = flat_map (λ h. (hand h.vtable).sheets_are h.value) registry.handlers.items
 
-  -- it lists its sheets of the kinds that the master runs
+  -- it lists its sheets of all kinds of procedures
   abbrev pub IsRegistry : Registry X F → Type 0
-  IsRegistry registry = AreListed (sheets_of registry) (list_of registry)
+  IsRegistry registry = AreWhole (sheets_of registry) (whole_of registry)
 
   -- the sheets of each of its handlers
   abbrev pub sheets_each : Registry X F → List (List Sheet)

@@ -1,10 +1,10 @@
 -- Counts, and why sheets make no registry.
 use Rattle.std.specs.Prelude.{ℕ, zero, suc, Bool, true, false, is_some, ◌+◌, ◌-◌, ◌^◌, ◌≤◌, ◌<◌, min, List, [], ◌∷◌, Some, None, map, sum, ◌⊎◌, Any, IsTrue, IsSome, ◌≡◌, ◌==◌, if◌then◌else◌}
 use Rattle.hm_data.specs.declared.sheet.Sheet.{Sheet}
-use Rattle.hm_model.specs.Kinds.{running_kinds}
+use Rattle.hm_model.specs.Kinds.{all_kinds}
 use Rattle.hm_model.specs.Sheets.{sheet_for}
 use Rattle.hm_model.specs.Validity.{AllValid}
-use Rattle.hm_sheet.specs.Own.{all_kinds, is_kind}
+use Rattle.hm_sheet.specs.Own.{is_kind}
 use Rattle.hm_sheet.specs.declared.fault.RegistryFault.{RegistryFault}
 use Rattle.hm_sheet.specs.declared.fault.RegistryFault.TheVariants as fault_is
 
@@ -68,13 +68,9 @@ pub record AreSheetsOf (kinds : List ℕ) (all list : List Sheet) : Type 0 where
   pub found : map Some list ≡ map (λ kind. sheet_for all kind) kinds
   pub valid : (map (λ sheet. sheet.kind) list ≡ kinds) × AllValid list
 
--- the list has the sheet of each kind of procedures
+-- the list has the sheet of each kind of procedures: a journal begins with it
 abbrev pub AreWhole : List Sheet → List Sheet → Type 0
 AreWhole = AreSheetsOf all_kinds
-
--- the list has the sheet of each kind that the master runs: a journal begins with it
-abbrev pub AreListed : List Sheet → List Sheet → Type 0
-AreListed = AreSheetsOf running_kinds
 
 -- why sheets make no registry. Memory runs out last.
 abbrev pub IsNoRegistry : List Sheet → RegistryFault → Type 0

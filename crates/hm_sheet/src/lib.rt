@@ -33,7 +33,7 @@ pub use among::{answer, sheet_for};
 pub use check::check_sheet;
 pub use fault::{RegistryFault, SheetFault};
 pub use handler::Handler;
-pub use kinds::{all_kinds, is_kind, is_running_kind, running_kinds};
+pub use kinds::{all_kinds, is_kind};
 pub use own::{PlainHands, own_sheet};
 pub use plain::{needs_pick, plain_step};
 pub use registry::Registry;

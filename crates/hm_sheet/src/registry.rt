@@ -4,25 +4,24 @@ ghost use Rattle.hm_model.specs.Sheets.{sheet_for as first_of};
 ghost use Rattle.hm_model.specs.Validity.{IsValid};
 ghost use Rattle.hm_model.specs.Evaluation.{CanRun, answer_of, is_step};
 ghost use Rattle.hm_sheet.specs.Own.{is_kind as has};
-ghost use Rattle.hm_sheet.specs.Registry.{IsRegistry, calls_of, list_of, runs_of, sheets_each, sheets_of, steps_of, undos_of, whole_of};
-ghost use Rattle.hm_sheet.specs.Words.{CountRises, CountsRise, place_for, risen_if, risen_at_if, IsLowestTwice, NoneTwice, IsLowestMissing, HasAll, AreSheetsOf, AreWhole, IsNoRegistry};
+ghost use Rattle.hm_sheet.specs.Registry.{IsRegistry, calls_of, runs_of, sheets_each, sheets_of, steps_of, undos_of, whole_of};
+ghost use Rattle.hm_sheet.specs.Words.{CountRises, CountsRise, place_for, risen_if, risen_at_if, IsLowestTwice, NoneTwice, IsLowestMissing, HasAll, AreSheetsOf, IsNoRegistry};
 
 use crate::among::{count_of, place_of, sheet_for};
 use crate::fault::RegistryFault;
 use crate::handler::Handler;
-use crate::kinds::{all_kinds, is_kind, running_kinds};
+use crate::kinds::{all_kinds, is_kind};
 use crate::valid::Valid;
 use hm_data::{Sheet, StepIn, StepOut, Turn};
 use hm_names::{Copied, List};
 use std::alloc::{AllocError, Global};
 
-/// Boxed handlers that have a sheet for each kind of procedures, lists of all these sheets and of those of the kinds
-/// that the master runs so far, and how often the handlers were run.
+/// Boxed handlers that have a sheet for each kind of procedures, a list of these sheets, and how often the handlers were
+/// run.
 #[derive(Drop)]
 pub struct Registry {
     handlers: Vec<Box<dyn Handler>>,
     whole: List<Sheet>,
-    list: List<Sheet>,
     runs: u64,
 }
 
@@ -124,7 +123,7 @@ fn copies(
 
 impl Registry {
     /// The registry of these handlers. No kind may have two sheets, and each kind of procedures must have one. What
-    /// takes memory are the lists of sheets.
+    /// takes memory is the list of sheets.
     pub fn new(alloc: Global, handlers: Vec<Box<dyn Handler>>) -> Result<Registry, RegistryFault>
         ensures sheets { IfOk result (λ registry. sheets_of ⟦<dyn Handler as Handler>⟧ registry ≡ flat_map (λ h. sheets_are h) handlers.items) }
         ensures steps { IfOk result (λ registry. steps_of ⟦<dyn Handler as Handler>⟧ registry ≡ map (λ h. steps_are h) handlers.items) }
@@ -132,7 +131,6 @@ impl Registry {
         ensures runs { IfOk result (λ registry. runs_of registry ≡ 0) }
         ensures once { IfOk result (λ registry. NoneTwice (sheets_of ⟦<dyn Handler as Handler>⟧ registry)) }
         ensures lists { IfOk result (λ registry. IsRegistry ⟦<dyn Handler as Handler>⟧ registry) }
-        ensures whole { IfOk result (λ registry. AreWhole (sheets_of ⟦<dyn Handler as Handler>⟧ registry) (whole_of registry)) }
         ensures err { IfErr result (λ fault. IsNoRegistry (flat_map (λ h. sheets_are h) handlers.items) fault) }
     {
         if let Some(kind) = lowest_twice(&handlers) {
@@ -144,13 +142,9 @@ impl Registry {
         let Ok(whole) = copies(alloc, &handlers, all_kinds()) else {
             return Err(RegistryFault::Memory);
         };
-        let Ok(list) = copies(alloc, &handlers, running_kinds()) else {
-            return Err(RegistryFault::Memory);
-        };
         Ok(Registry {
             handlers,
             whole,
-            list,
             runs: 0,
         })
     }
@@ -162,7 +156,6 @@ impl Registry {
         ensures out { OnOk result (answer_of (sheets_of ⟦<dyn Handler as Handler>⟧ self.old) at.now ≡ Some out.new) }
         ensures sheets { sheets_of ⟦<dyn Handler as Handler>⟧ self.new ≡ sheets_of ⟦<dyn Handler as Handler>⟧ self.old }
         ensures whole { whole_of self.new ≡ whole_of self.old }
-        ensures list { list_of self.new ≡ list_of self.old }
         ensures runs { OnOk result (runs_of self.new ≡ min (runs_of self.old + 1) (2 ^ 64 - 1)) }
         ensures steps { OnOk result (steps_of ⟦<dyn Handler as Handler>⟧ self.new ≡ risen_at_if (is_step at.now.turn)
             (place_for at.now.kind (sheets_each ⟦<dyn Handler as Handler>⟧ self.old)) (steps_of ⟦<dyn Handler as Handler>⟧ self.old)) }
@@ -210,17 +203,10 @@ impl Registry {
         }
     }
 
-    /// The sheets of all kinds of procedures, in the order of the kinds.
+    /// The sheets of all kinds of procedures, in the order of the kinds: a journal begins with them.
     pub fn sheets(&self) -> &List<Sheet>
         ensures { result.now ≡ whole_of self.now }
     {
         &self.whole
-    }
-
-    /// The sheets of the kinds that the master runs so far, in the order of the kinds: a journal begins with them.
-    pub fn running_sheets(&self) -> &List<Sheet>
-        ensures { result.now ≡ list_of self.now }
-    {
-        &self.list
     }
 }

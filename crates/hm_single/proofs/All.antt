@@ -178,7 +178,7 @@ kept_all (entry_is.Report call told ∷ J) legal =
   where
     reports : (p : ℕ) (t : Told) → report_of J p ≡ Some t → report_of (entry_is.Report call told ∷ J) p ≡ Some t
     reports p t h = elim (cases_eq p call.0) [
-      | inl same ↦ absurd (none-some t (sym legal.1.1.0.1.1 ∙ ap (report_of J) (sym same) ∙ h))
+      | inl same ↦ absurd (none-some t (sym legal.1.1.0.1 ∙ ap (report_of J) (sym same) ∙ h))
       | inr differs ↦ cond-false (p == call.0) (Some told) (report_of J p) (ne_eqb p call.0 differs) ∙ h
     ]
 kept_all (entry_is.Up server ∷ J) legal =

@@ -116,7 +116,7 @@ free_one J place any = by (found_in (is_live J) (servers_of J) any)
 
 module _ (J : Past) (legal : IsLegal J) (p : ℕ) (node : Node) (is : node_of J p ≡ Some node) (ready : IsReady J p node) where
   running : is_running (phase J p node) ≡ true
-  running = elim ready.1 [ inl runs ↦ ap is_running runs | inr waits ↦ ap is_running waits.0 ]
+  running = elim ready [ inl runs ↦ ap is_running runs | inr waits ↦ ap is_running waits.0 ]
 
   runs_on : (is_running (own_phase (last_answer J p) (children_ended J p)) ≡ true) × (is_top node.above ≡ true → cause J node.root ≡ None)
   runs_on = table_runs (cause J node.root) (rolled_back J node.root) (is_top node.above) (own_phase (last_answer J p) (children_ended J p)) running

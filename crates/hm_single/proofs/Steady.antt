@@ -1,6 +1,6 @@
 -- The rows that a transit reads stay as they are while it goes on.
-use Rattle.std.proofs.Common.{◌≡◌, ◌≢◌, ℕ, ◌+◌, ◌==◌, not, ◌&&◌, ◌||◌, List, [], ◌∷◌, Bool, true, false, Option, Some, None, is_some, refl, ap, sym, ◌∙◌, subst, inl, inr, ◌⊎◌, arith}
-use Rattle.std.proofs.lemmas.Bool.{and_parts, cases_Bool, cases_eq, eq-eqb, false≢true, ne_eqb, true≢false}
+use Rattle.std.proofs.Common.{◌≡◌, ◌≢◌, ℕ, not, ◌&&◌, List, [], ◌∷◌, true, false, Option, Some, None, is_some, refl, ap, sym, ◌∙◌, subst, inl, inr, ◌⊎◌}
+use Rattle.std.proofs.lemmas.Bool.{and_parts, cases_Bool, cases_eq, true≢false}
 use Rattle.std.proofs.lemmas.Option.{none-some, same_Some}
 use Rattle.hm_names.specs.Region.{Region}
 use Rattle.hm_names.specs.Server.{Server}
@@ -15,23 +15,24 @@ use Rattle.hm_data.specs.declared.entry.Entry.{Entry}
 use Rattle.hm_data.specs.declared.entry.Entry.TheVariants as entry_is
 use Rattle.hm_data.specs.declared.request.Request.{Request}
 use Rattle.hm_data.specs.declared.step.StepOut.{StepOut}
-use Rattle.hm_model.specs.Answers.{is_stopped, last_answer}
+use Rattle.hm_model.specs.Answers.{last_answer}
 use Rattle.hm_model.specs.Catalog.{cat, edited}
 use Rattle.hm_model.specs.Holding.{InConflict}
 use Rattle.hm_model.specs.Journal.{Past}
 use Rattle.hm_model.specs.Kinds.{request_kind}
 use Rattle.hm_model.specs.Lists.{exact_rows}
-use Rattle.hm_model.specs.Phase.{all_stopped, cause, in_tree, stopped_in}
+use Rattle.hm_model.specs.Phase.{all_stopped, cause}
 use Rattle.hm_model.specs.Reads.{covers, reads}
 use Rattle.hm_model.specs.Rules.{IsLegal}
 use Rattle.hm_model.specs.TransitActs.{may_open}
-use Rattle.hm_model.specs.Tree.{Node, is_top, made, node_of, root_of}
+use Rattle.hm_model.specs.Tree.{Node, is_top, node_of, root_of}
 use Rattle.hm_model.specs.Undo.{Undoable, is_empty, stack}
 use Rattle.hm_model.specs.Whereabouts.{moved_by}
 use Rattle.hm_model.proofs.Free.{step_free}
 use Rattle.hm_model.proofs.LegalSteps.{StepFacts, ready_stops}
+use Rattle.hm_model.proofs.Running.{calm_stopped}
 use Rattle.hm_model.proofs.Tops.{TopHolds, TopIs}
-use Rattle.hm_model.proofs.Trees.{Grown, all_below_at, grown_all, is_there}
+use Rattle.hm_model.proofs.Trees.{Grown, grown_all}
 use Rattle.hm_kinds.proofs.Covering.{rows_table}
 use Rattle.hm_serial.proofs.Apart.{Aside}
 use Rattle.hm_serial.proofs.FallAll.{All, falls_all, step_aside, top as undone_top, u, undo_holds, undo_within}
@@ -51,17 +52,6 @@ use Rattle.hm_single.proofs.Own.{does, step}
 use Rattle.hm_single.proofs.Placing.{reads_own}
 use Rattle.hm_single.proofs.Tidies.{kid_editless, tidy_all}
 use Rattle.hm_single.proofs.Tidy.{Tidy}
-
--- where all descendants of a root have stopped, each has
-stopped_each : (J : Past) → Grown J → (r : ℕ) → all_stopped J r ≡ true → (q : ℕ) (x : Node) → node_of J q ≡ Some x → x.root ≡ r → q ≢ r → is_stopped (last_answer J q) ≡ true
-stopped_each J grown r all q x is of differs =
-    let le = is_there J grown q x is in
-    by (in_tree r (node_of J q)) (q == r) (is_stopped (last_answer J q)) (ap (in_tree r) is ∙ eq-eqb x.root r of) (ne_eqb q r differs) (all_below_at (made J + 1) (stopped_in J r) q all (omega (arith, le)))
-  where
-    by : (a b c : Bool) → a ≡ true → b ≡ false → (not a || (b || c)) ≡ true → c ≡ true
-    by true false c ea eb h = h
-    by true true c ea eb h = absurd (true≢false eb)
-    by false b c ea eb h = absurd (false≢true ea)
 
 -- a step
 module _ (pid : Pid) (pick : Option Server) (out : StepOut) (J : Past) (legal : IsLegal (entry_is.Step pid pick out ∷ J)) (q : ℕ) (region : Region) (m : Moves J q region) (going : IsGoing (last_answer J q)) where
@@ -163,7 +153,7 @@ module _ (pid : Pid) (row : ℕ) (out : StepOut) (J : Past) (legal : IsLegal (en
 
   stopped_now : all_stopped J (root_of J pid.0) ≡ true
   stopped_now =
-      let latest = legal.1.1.0.1 in
+      let latest = legal.1.1.0 in
       let one = and_parts (is_top latest.0.above) (is_some (cause J (root_of J pid.0)) && (all_stopped J (root_of J pid.0) && not (is_empty (stack J (root_of J pid.0))))) latest.2 in
       let two = and_parts (is_some (cause J (root_of J pid.0))) (all_stopped J (root_of J pid.0) && not (is_empty (stack J (root_of J pid.0)))) one.1 in
       (and_parts (all_stopped J (root_of J pid.0)) (not (is_empty (stack J (root_of J pid.0)))) two.1).0
@@ -171,7 +161,7 @@ module _ (pid : Pid) (row : ℕ) (out : StepOut) (J : Past) (legal : IsLegal (en
   -- of its own tree it goes on no more
   other_tree : root_of J pid.0 ≢ m.0.root
   other_tree mine = elim (cases_eq q (root_of J pid.0)) [
-    | inr differs ↦ true≢false (sym (stopped_each J its_grown (root_of J pid.0) stopped_now q m.0 m.1 (sym mine) differs) ∙ going_runs J (grown_all J legal.0) (kept_all J legal.0) (last_answer J q) going)
+    | inr differs ↦ true≢false (sym (calm_stopped J legal.0 (root_of J pid.0) q m.0 m.1 (sym mine) differs stopped_now) ∙ going_runs J (grown_all J legal.0) (kept_all J legal.0) (last_answer J q) going)
     | inl same ↦
         let undone = u pid row out J legal its_grown its_all.falls in
         let one : m.0 ≡ root = same_Some m.0 root (sym m.1 ∙ ap (node_of J) same ∙ (undo_holds pid row out J legal its_grown its_all.falls).0.0) in

@@ -1,3 +1,2 @@
 mod Valid
-mod Ending
-mod Going
+mod Entering

@@ -1,7 +1,6 @@
 //! The state of a journal: its entries, and what they say, to be found fast.
 #![tactic(auto)]
 
-mod ended;
 mod ready;
 mod room;
 mod sheets;

@@ -1,11 +1,10 @@
-ghost use Rattle.std.specs.Prelude.{◌≡◌, ◌≢◌, ◌+◌, ◌<◌, ◌≤◌, ◌^◌, ◌∷◌, ◌++◌, [], length, None, OnOk, IfOk, IfErr, IfSome, IfNone};
+ghost use Rattle.std.specs.Prelude.{◌≡◌, ◌≢◌, ◌+◌, ◌<◌, ◌≤◌, ◌^◌, ◌∷◌, ◌++◌, [], length, None, OnOk, IfOk, IfErr};
 ghost use Rattle.std.specs.Option.{option_copied, option_map};
 ghost use Rattle.hm_data.specs.declared.entry.Entry.{Entry};
 ghost use Rattle.hm_model.specs.Evaluation.{CanRun};
 ghost use Rattle.hm_model.specs.Journal.{back};
 ghost use Rattle.hm_model.specs.Nonces.{by_nonce};
 ghost use Rattle.hm_model.specs.Records.{record_of, unfinished};
-ghost use Rattle.hm_model.specs.Rest.{IsAtRest, IsAvailable};
 ghost use Rattle.hm_model.specs.Rules.{Allowed, AreSheets, IsLegal};
 ghost use Rattle.hm_model.specs.Sheets.{sheets_of};
 ghost use Rattle.hm_model.specs.Tree.{drawn, made, node_of, pid_of};
@@ -16,9 +15,7 @@ ghost use Rattle.hm_places.specs.Laws.{places_of, standings_of};
 ghost use Rattle.hm_records.specs.Parts.{AreParts, size_of};
 ghost use Rattle.hm_records.specs.Records.{is_open};
 ghost use Rattle.hm_undo.specs.Laws.{Tells};
-ghost use Rattle.hm_state.specs.State.{IsFirst};
 
-use crate::ended::ended_from;
 use crate::ready::Ready;
 use crate::room::{beside, put};
 use crate::sheets::valid_sheets;
@@ -28,7 +25,6 @@ use hm_judge::NotAllowed;
 use hm_names::{Copied, List, Nonce, Pid, ServerName, TableName};
 use hm_places::{Places, Servers};
 use hm_procedures::Procedures;
-use hm_records::laws::{ended_stay, entries_ask_for_regions};
 use hm_records::{Parts, Records};
 use hm_sheet::Valid;
 use hm_undo::Stack;
@@ -41,8 +37,6 @@ use std::marker::Model;
 pub struct State {
     entries: Vec<Entry>,
     records: Records,
-    // All procedures up to this number have ended, and the next hasn't.
-    ended_below: u64,
 }
 
 impl Model for State {
@@ -53,7 +47,7 @@ impl Model for State {
 
     ghost view = { λ s. record { entries = s.entries.items; spare = min (vec_capacity s.entries - vec_len s.entries) s.records.spare; room = vec_capacity s.entries + s.records.room } };
 
-    ghost invariant = { λ s. IsState s.entries.items s.records.past s.ended_below };
+    ghost invariant = { λ s. IsState s.entries.items s.records.past };
 }
 
 impl State {
@@ -67,11 +61,7 @@ impl State {
         let records = Records::start(alloc, &entry, valid)?;
         let mut entries = Vec::new(alloc);
         entries.push(entry)?;
-        Ok(State {
-            entries,
-            records,
-            ended_below: 0,
-        })
+        Ok(State { entries, records })
     }
 
     /// How many entries there are.
@@ -169,20 +159,6 @@ impl State {
         self.procedures().unfinished()
     }
 
-    /// The procedure that goes on next: the root that has a step and hasn't ended, else the lowest that hasn't ended.
-    pub fn next(&self) -> Option<Pid>
-        ensures available { IfSome result (λ pid. IsAvailable (back self.now.entries) [] [] pid.0) }
-        ensures first { IfSome result (λ pid. IsFirst (back self.now.entries) pid.0) }
-        ensures rest { IfNone result (IsAtRest (back self.now.entries)) }
-    {
-        let last = self.records.procedures().last_pid();
-        match self.records.running() {
-            Some(pid) => Some(pid),
-            None if self.ended_below < last => Some(Pid(self.ended_below + 1)),
-            None => None,
-        }
-    }
-
     /// Whether an entry may follow these.
     pub fn allowed(&self, alloc: Global, entry: &Entry) -> Result<(), NotAllowed>
         ensures ok { OnOk result (Allowed (back self.now.entries) entry.now) }
@@ -239,7 +215,7 @@ impl State {
         ensures room { OnOk result (size_of entry.now ≤ self.new.spare) }
         ensures kept { self.old.spare ≤ self.new.spare }
     {
-        entries_ask_for_regions();
+        self.records.asks_for_regions(entry);
         let Some(parts) = self.records.prepare(alloc, entry)? else {
             unreachable!()
         };
@@ -256,7 +232,6 @@ impl State {
         ensures spare { self.old.spare ≤ self.new.spare + size_of ready.entry }
         ensures room { self.new.room ≡ self.old.room }
     {
-        ended_stay();
         let Ready {
             journal: _,
             entry,
@@ -264,6 +239,5 @@ impl State {
         } = ready;
         self.records.enter(&entry, parts);
         put(&mut self.entries, entry);
-        self.ended_below = ended_from(self.records.procedures(), self.ended_below);
     }
 }

@@ -27,7 +27,7 @@ use Rattle.hm_model.proofs.Grown.{nodes_stay, not_stepped}
 use Rattle.hm_model.proofs.Waiting.{children_change, children_tell}
 use Rattle.hm_tied.specs.Ables.{AblesStay, ClaimedStayAble}
 use Rattle.hm_tied.specs.Tied.{CanGo, IsCalm}
-use Rattle.hm_tied.proofs.Going.{Runs, calm_stopped, ready_runs, run_facts, run_last, top_or_below, undo_facts}
+use Rattle.hm_model.proofs.Running.{Runs, calm_stopped, ready_runs, run_facts, run_last, top_or_below, undo_facts}
 use Rattle.hm_tied.proofs.Picking.{fenced_still}
 use Rattle.hm_tied.proofs.Staying.{below_none, old_tree, same_tree, same_undoes}
 use Rattle.hm_tied.proofs.Stepping.{other_tree}
@@ -113,7 +113,7 @@ own_same (Some answer_is.Undone) before after runs stay = refl
 go_on : (entry : Entry) (J : Past) → IsLegal (entry ∷ J) → (q : ℕ) (x : Node) → node_of J q ≡ Some x → phase (entry ∷ J) q x ≡ phase J q x → undoes (entry ∷ J) q x ≡ undoes J q x → CanGo J q → CanGo (entry ∷ J) q
 go_on entry J legal q x is phases undos (inl may) =
     let ready : IsReady J q x = subst (IsReady J q) (same_Some may.0 x (sym may.1 ∙ is)) may.2 in
-    inl (x, nodes_stay entry J legal q x is, (ready.0, elim ready.1 [ inl runs ↦ inl (phases ∙ runs) | inr waits ↦ inr (phases ∙ waits.0, answered_stays entry J q x waits.1) ]))
+    inl (x, nodes_stay entry J legal q x is, elim ready [ inl runs ↦ inl (phases ∙ runs) | inr waits ↦ inr (phases ∙ waits.0, answered_stays entry J q x waits.1) ])
 go_on entry J legal q x is phases undos (inr undo) =
     inr (x, nodes_stay entry J legal q x is, undos ∙ ap (undoes J q) (sym (same_Some undo.0 x (sym undo.1 ∙ is))) ∙ undo.2)
 

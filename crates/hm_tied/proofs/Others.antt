@@ -22,7 +22,7 @@ use Rattle.hm_model.proofs.Trees.{grown_all, some_of}
 use Rattle.hm_tied.specs.Tied.{CanGo, IsBusy, IsCalm, IsTied, IsTiedBut, LacksPick, Roster}
 use Rattle.hm_tied.specs.Entries.{AbortOwes, DownOwes, ReportOwes, SubmitOwes, UpOwes, is_fenced_by, late_debts, report_debts, root_debts}
 use Rattle.hm_tied.proofs.Entering.{Changes, changed, same_enlists}
-use Rattle.hm_tied.proofs.Going.{awaits_call, run_open, unstepped_open}
+use Rattle.hm_model.proofs.Running.{awaits_call, run_open, unstepped_open}
 use Rattle.hm_tied.proofs.Picking.{SeesSame, place_same}
 use Rattle.hm_tied.proofs.Staying.{SameCalls, going_same, lacks_after, old_tree, same_calm, same_go, same_tree, same_undoes}
 
@@ -145,13 +145,13 @@ module _ (call : Pid) (told : Told) (J : Past) (legal : IsLegal (entry_is.Report
 
   goes : (q : ℕ) → CanGo heard q → CanGo J q ⊎ (slack q ≡ true)
   goes q (inr undo) = inl (inr undo)
-  goes q (inl (x, is, (runs, inl on))) = inl (inl (x, is, (runs, inl on)))
-  goes q (inl (x, is, (runs, inr waits))) = elim (answered q x is waits.1) [ inl was ↦ inl (inl (x, is, (runs, inr (waits.0, was)))) | inr on ↦ inr on ]
+  goes q (inl (x, is, inl on)) = inl (inl (x, is, inl on))
+  goes q (inl (x, is, inr waits)) = elim (answered q x is waits.1) [ inl was ↦ inl (inl (x, is, inr (waits.0, was))) | inr on ↦ inr on ]
 
   busy : (q : ℕ) → CanGo heard q → IsBusy J q
   busy q (inr undo) = inl (inr undo)
-  busy q (inl (x, is, (runs, inl on))) = inl (inl (x, is, (runs, inl on)))
-  busy q (inl (x, is, (runs, inr waits))) = inr (((λ none. none-some x (sym none ∙ is)), run_open J legal.0 q x is (inr waits.0)), awaits_call J q x waits.0)
+  busy q (inl (x, is, inl on)) = inl (inl (x, is, inl on))
+  busy q (inl (x, is, inr waits)) = inr (((λ none. none-some x (sym none ∙ is)), run_open J legal.0 q x is (inr waits.0)), awaits_call J q x waits.0)
 
   lacks : (q : ℕ) → LacksPick J q → LacksPick heard q ⊎ (false ≡ true)
   lacks q lack = inl (lacks_after (entry_is.Report call told) J legal q lack (

@@ -19,7 +19,7 @@ use Rattle.hm_model.proofs.Forest.{forest_all, rooted_all, top_is, top_is_own}
 use Rattle.hm_model.proofs.Grown.{nodes_stay}
 use Rattle.hm_model.proofs.Trees.{grown_all, is_there}
 use Rattle.hm_tied.specs.Tied.{CanGo, IsCalm, LacksPick}
-use Rattle.hm_tied.proofs.Going.{top_or_below}
+use Rattle.hm_model.proofs.Running.{top_or_below}
 use Rattle.hm_tied.proofs.Picking.{SeesSame, fenced_still, lacks_on}
 
 -- a root that is made next is of another tree than all that were there
@@ -71,7 +71,7 @@ module _ (entry : Entry) (J : Past) (legal : IsLegal (entry ∷ J)) (q : ℕ) (x
       let ready : IsReady (entry ∷ J) q x = subst (IsReady (entry ∷ J) q) same may.2 in
       let tree = same_tree in
       let phases = tree.phases q x is refl in
-      inl (x, is, (ready.0, elim ready.1 [ inl runs ↦ inl (sym phases ∙ runs) | inr waits ↦ inr (sym phases ∙ waits.0, answered_before J (entry ∷ J) q x calls waits.1) ]))
+      inl (x, is, elim ready [ inl runs ↦ inl (sym phases ∙ runs) | inr waits ↦ inr (sym phases ∙ waits.0, answered_before J (entry ∷ J) q x calls waits.1) ])
   same_go calls (inr undo) =
       let same : undo.0 ≡ x = same_Some undo.0 x (sym undo.1 ∙ nodes_stay entry J legal q x is) in
       inr (x, is, sym same_undoes ∙ ap (undoes (entry ∷ J) q) (sym same) ∙ undo.2)
@@ -85,5 +85,5 @@ lacks_after entry J legal q lacks sees =
 -- an entry that leaves procedures and phases as they are, and calls
 pub going_same : (entry : Entry) (J : Past) → ((q : ℕ) → node_of (entry ∷ J) q ≡ node_of J q) → SameCalls J (entry ∷ J) → ((q : ℕ) (x : Node) → phase (entry ∷ J) q x ≡ phase J q x) → ((q : ℕ) (x : Node) → undoes (entry ∷ J) q x ≡ undoes J q x) → (q : ℕ) → CanGo (entry ∷ J) q → CanGo J q
 going_same entry J nodes calls phases undos q (inr undo) = inr (undo.0, sym (nodes q) ∙ undo.1, sym (undos q undo.0) ∙ undo.2)
-going_same entry J nodes calls phases undos q (inl (x, is, (runs, inl on))) = inl (x, sym (nodes q) ∙ is, (runs, inl (sym (phases q x) ∙ on)))
-going_same entry J nodes calls phases undos q (inl (x, is, (runs, inr waits))) = inl (x, sym (nodes q) ∙ is, (runs, inr (sym (phases q x) ∙ waits.0, answered_before J (entry ∷ J) q x calls waits.1)))
+going_same entry J nodes calls phases undos q (inl (x, is, inl on)) = inl (x, sym (nodes q) ∙ is, inl (sym (phases q x) ∙ on))
+going_same entry J nodes calls phases undos q (inl (x, is, inr waits)) = inl (x, sym (nodes q) ∙ is, inr (sym (phases q x) ∙ waits.0, answered_before J (entry ∷ J) q x calls waits.1))

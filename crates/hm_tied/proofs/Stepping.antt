@@ -31,7 +31,7 @@ use Rattle.hm_tied.specs.Calls.{Unclaims}
 use Rattle.hm_tied.specs.Tied.{CanGo, IsCalm, IsOpen, LacksPick}
 use Rattle.hm_tied.specs.Entries.{StepOwes, alters, has_edits, is_new, step_debts, touched}
 use Rattle.hm_tied.proofs.Entering.{Changes, changed}
-use Rattle.hm_tied.proofs.Going.{Runs, calm_stopped, ready_runs, run_last, run_open, run_root, top_or_below, unstepped_open}
+use Rattle.hm_model.proofs.Running.{Runs, calm_stopped, ready_runs, run_last, run_open, run_root, top_or_below, unstepped_open}
 use Rattle.hm_tied.proofs.Picking.{SeesSame, place_same}
 use Rattle.hm_tied.proofs.Staying.{below_none, lacks_after, same_calm, same_undoes}
 

@@ -23,7 +23,7 @@ use Rattle.hm_tied.specs.Calls.{Unclaims}
 use Rattle.hm_tied.specs.Tied.{CanGo, IsCalm, IsOpen, LacksPick}
 use Rattle.hm_tied.specs.Entries.{UndoOwes, alters, has_edits, is_new, undo_debts}
 use Rattle.hm_tied.proofs.Entering.{Changes, changed}
-use Rattle.hm_tied.proofs.Going.{calm_stopped, ready_runs, run_last, top_or_below, undo_facts, undo_open, unfailed, unstepped_open}
+use Rattle.hm_model.proofs.Running.{calm_stopped, ready_runs, run_last, top_or_below, undo_facts, undo_open, unfailed, unstepped_open}
 use Rattle.hm_tied.proofs.Picking.{SeesSame, place_same}
 use Rattle.hm_tied.proofs.Staying.{SameCalls, below_none, lacks_after, same_calm, same_go, same_tree, same_undoes}
 use Rattle.hm_tied.proofs.Stepping.{rows_same}
@@ -36,7 +36,7 @@ module _ (pid : Pid) (row : ℕ) (out : StepOut) (J : Past) (legal : IsLegal (en
   root = root_of J pid.0
 
   latest : IsLatest J pid.0 row
-  latest = legal.1.1.0.1
+  latest = legal.1.1.0
 
   facts : (is_top ((latest.0).above) ≡ true) × (is_some (cause J root) ≡ true) × (all_stopped J root ≡ true) × (is_empty (stack J root) ≡ false)
   facts = undo_facts J root latest.0 latest.2

@@ -7,20 +7,20 @@ use Rattle.hm_model.specs.Answers.{last_answer}
 use Rattle.hm_model.specs.Journal.{Past}
 use Rattle.hm_model.specs.Locks.{IsIn}
 use Rattle.hm_model.specs.Phase.{ended}
-use Rattle.hm_model.specs.Rest.{MayStep, MayStepPicked}
+use Rattle.hm_model.specs.Rest.{IsAvailable, MayStep, MayStepPicked}
 use Rattle.hm_model.specs.Rules.{IsLegal}
 use Rattle.hm_model.specs.Tree.{node_of}
 use Rattle.hm_sched.specs.Effects.{Joins, Leaves, Passes, Wakes, WakesOne}
 use Rattle.hm_sched.specs.Queues.{IsReady, Stands, StandsNowhere}
 use Rattle.hm_sched.specs.declared.queue.Queue.{Queue}
 use Rattle.hm_sched.specs.declared.queue.Queue.TheVariants.{Held, Servers, Suspended, Tables, Waits}
-use Rattle.hm_tied.specs.Tied.{CanGo, Debts, IsAvailableFree, IsBusy, IsOpen, IsTied, IsTiedBut, Roster, called_in, no_debts}
+use Rattle.hm_tied.specs.Tied.{CanGo, Debts, IsBusy, IsOpen, IsTied, IsTiedBut, Roster, called_in, no_debts}
 
 -- whoever is available is ready
 abbrev pub ReadyAreAvailable : Type 0
 ReadyAreAvailable =
     (J : Past) (number_of : Option Server → ℕ) (roster : Roster) → IsTied J number_of roster
-    → (q : ℕ) → IsAvailableFree J roster.claimed roster.claimed q → IsReady roster.lists q
+    → (q : ℕ) → IsAvailable J roster.claimed roster.claimed q → IsReady roster.lists q
 
 -- all that pass a test but one
 abbrev pub without : (ℕ → Bool) → ℕ → ℕ → Bool

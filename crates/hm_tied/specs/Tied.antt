@@ -5,13 +5,13 @@ use Rattle.hm_data.specs.declared.answer.Answer.TheVariants as answer_is
 use Rattle.hm_locks.specs.Book.{IsBlockedBy, IsEnlisted, Row, is_holding, row_of}
 use Rattle.hm_locks.specs.Laws.{IsRowOf}
 use Rattle.hm_model.specs.Answers.{last_answer}
-use Rattle.hm_model.specs.Holding.{HoldsWith, IsFree}
+use Rattle.hm_model.specs.Holding.{HoldsWith}
 use Rattle.hm_model.specs.Inputs.{undoes}
 use Rattle.hm_model.specs.Journal.{Past}
 use Rattle.hm_model.specs.Locks.{IsIn}
 use Rattle.hm_model.specs.Phase.{all_stopped, ended}
 use Rattle.hm_model.specs.Picks.{has_pick}
-use Rattle.hm_model.specs.Rest.{MayStep, MayStepPicked, MayUndo}
+use Rattle.hm_model.specs.Rest.{MayStep, MayUndo}
 use Rattle.hm_model.specs.Tree.{Node, is_root, node_of}
 use Rattle.hm_model.specs.Whereabouts.{called_by}
 use Rattle.hm_sched.specs.declared.queue.Queue.{Queue}
@@ -33,12 +33,6 @@ Awaits before p = IsOpen before p × ((next : ℕ) × (last_answer before p ≡ 
 -- it can go on, or waits for an answer that may come at any time
 abbrev pub IsBusy : Past → ℕ → Type 0
 IsBusy before p = CanGo before p ⊎ Awaits before p
-
--- it is available, where locks are taken: nobody claimed it, it conflicts with none that holds, and it may go on, with a server
--- to pick where one is needed
-abbrev pub IsAvailableFree : Past → List ℕ → List ℕ → ℕ → Type 0
-IsAvailableFree before taken claimed p =
-    (IsIn p claimed → ⊥) × IsFree before taken p × (MayStepPicked before p ⊎ MayUndo before p)
 
 -- if it is a root, its descendants have ended
 abbrev pub IsCalm : Past → ℕ → Type 0

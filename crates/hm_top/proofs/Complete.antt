@@ -35,7 +35,7 @@ pub ran_out : (run : Run) → IsIdle run behind_line Memory ⊎ Outcome (session
     → run.disk.untouched ⊎ ((commands : List Command) × IsRead run commands × RanOutOver run commands)
 ran_out run (inl idle) = inl idle.0
 ran_out run (inr (inl vain)) = inr (vain.0.2.0, vain.0.2.1, inl (λ told. (vain.2.1 told).0))
-ran_out run (inr (inr (inl full))) = inr (full.2.0, full.2.1, inr (inl (full.3.0, full.2.2, full.3.1.held)))
+ran_out run (inr (inr (inl full))) = inr (full.2.0, full.2.1, inr (inl (full.3.0, full.3.1.held)))
 ran_out run (inr (inr (inr opened))) =
     let its = opened.answering in
     inr (opened.commands, opened.given_are, inr (inr (its.answered, its.rest, its.parts, opened.new, opened.unanswered, its.remains)))

@@ -5,6 +5,9 @@ pub mod Growth
 pub mod Offered
 pub mod Steps
 pub mod Ran
+pub mod Claims
+pub mod Committed
+pub mod Worlds
 pub mod Full
 pub mod Sessions
 pub mod Registries

@@ -10,10 +10,11 @@ use Rattle.hm_journal.specs.declared.why.JournalWhy.{JournalWhy}
 use Rattle.hm_journal.specs.declared.why.JournalWhy.TheVariants as why_is
 use Rattle.hm_model.specs.Journal.{Past, back}
 use Rattle.hm_model.specs.Rules.{IsLegal}
-use Rattle.hm_model.proofs.Holders.{none_conflict, nonces_once}
+use Rattle.hm_model.proofs.Nonces.{nonces_once}
 use Rattle.hm_model.proofs.Prefixes.{legal_before, legal_cut}
 use Rattle.hm_serial.proofs.Failing.{failure_leaves_all}
 use Rattle.hm_serial.proofs.Serial.{catalog_is, deeds_apply_is}
+use Rattle.hm_serial.proofs.Taken.{legal_apart}
 use Rattle.hm_top.specs.declared.answer.Answer.{Answer}
 use Rattle.hm_top.specs.declared.answer.Answer.TheVariants.{Opened}
 use Rattle.hm_script.specs.declared.command.Command.{Command}
@@ -62,7 +63,7 @@ faith_of J legal = record {
   deeds = λ newer older pid pick out is. deeds_apply_is pid pick out older (legal_before newer (entry_is.Step pid pick out ∷ older) (subst IsLegal is legal));
   failures = λ newer older entry is. failure_leaves_all entry older (legal_before newer (entry ∷ older) (subst IsLegal is legal));
   nonces = nonces_once J legal;
-  locks = none_conflict J legal;
+  locks = legal_apart J legal;
 }
 
 -- the commands of a run, with other words for what was given and said, and another sink
@@ -109,7 +110,7 @@ module _ (session : Session) (given : List Command → Type 0) (said : RunStatus
 
   memory_map : ((answers : List Answer) → session.said Memory answers → said Memory answers) → Outcome session Memory → Outcome its Memory
   memory_map g (inl vain) = inl (silent_map session given said out Memory f g vain.0, vain.1, vain.2)
-  memory_map g (inr (inl full)) = inr (inl (full.0, g [] full.1, (full.2.0, f full.2.0 full.2.1, full.2.2), full.3))
+  memory_map g (inr (inl full)) = inr (inl (full.0, g [] full.1, (full.2.0, f full.2.0 full.2.1), full.3))
   memory_map g (inr (inr opened)) = inr (inr (opened_map session given said out Memory f g opened))
 
   pub outcome_map : (status : RunStatus) → ((answers : List Answer) → session.said status answers → said status answers) → (session.out.failed → out.failed) → Outcome session status → Outcome its status
@@ -221,6 +222,6 @@ module _ (commands : List Command) (limits : Limits) (out : SinkUse) (disk : Dis
     outcome_unopened why_is.Memory fault spares holds = inl ((none, none_said, (commands, refl)), spares, holds (λ e. absurd (cc)))
     outcome_unopened why fault spares holds = refusal why _ refl (holds (λ e. absurd (cc)))
 
-    -- the outcome where there was no room for the marks
-    pub outcome_full : commands ≢ [] → (old : List Entry) → IsLeft disk hands old (begun limits (sheets_used hands) old) → Outcome spoken Memory
-    outcome_full some old left = inr (inl (none, none_said, (commands, refl, some), (old, left)))
+    -- the outcome where there was no room for the executor or for the marks
+    pub outcome_full : (old : List Entry) → IsLeft disk hands old (begun limits (sheets_used hands) old) → Outcome spoken Memory
+    outcome_full old left = inr (inl (none, none_said, (commands, refl), (old, left)))

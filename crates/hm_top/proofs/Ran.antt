@@ -1,10 +1,10 @@
 -- What registries ran for a journal.
-use Rattle.std.proofs.Common.{◌≡◌, ◌<◌, ◌≤◌, ◌+◌, ◌-◌, ◌^◌, ◌⊎◌, ℕ, zero, suc, min, List, [], ◌∷◌, ◌++◌, length, map, sum, get_or, set, slice_index_or, Any, Option, Some, None, Result, Ok, Err, refl, sym, ap, ◌∙◌, subst, inl, inr, append-nil, append_assoc, arith}
+use Rattle.std.proofs.Common.{◌≡◌, ◌<◌, ◌≤◌, ◌+◌, ◌-◌, ◌^◌, ◌⊎◌, ℕ, zero, suc, min, List, [], ◌∷◌, ◌++◌, length, map, sum, get_or, set, slice_index_or, Any, Result, Ok, Err, refl, sym, ap, ◌∙◌, subst, inl, inr, append-nil, append_assoc, arith}
 use Rattle.std.specs.Prelude.{IfOk, OnErr}
 use Rattle.std.proofs.lemmas.List.Sums.{sum_by-cons}
 use Rattle.hm_data.specs.declared.entry.Entry.{Entry}
 use Rattle.hm_data.specs.declared.sheet.Sheet.{Sheet}
-use Rattle.hm_hall.specs.declared.fault.Halt.{Halt}
+use Rattle.hm_hall.specs.Recording.{Recording}
 use Rattle.hm_model.specs.Journal.{back}
 use Rattle.hm_names.specs.declared.nonce.Nonce.{Nonce}
 use Rattle.hm_top.specs.declared.answer.Answer.{Answer}
@@ -12,8 +12,11 @@ use Rattle.hm_script.specs.declared.command.Command.TheVariants as command_is
 use Rattle.hm_top.specs.Answer.{AnswersAt, MayAddAt}
 use Rattle.hm_top.specs.Hands.{NoneFell, Ran, RunBy, SumRisesBy, steps_in}
 use Rattle.hm_top.specs.Ports.{HandsUse}
-use Rattle.hm_top.specs.Settling.{IsNextStep}
-use Rattle.hm_top.specs.Standing.{Comes, Standing}
+use Rattle.hm_top.specs.Settling.{Goes}
+use Rattle.hm_top.specs.Standing.{Standing}
+use Rattle.hm_top.specs.View.{standing_in}
+use Rattle.hm_top.specs.declared.world.Stepped.{Stepped}
+use Rattle.hm_top.specs.declared.world.Stepped.TheVariants as stepped_is
 use Rattle.hm_top.proofs.Growth.{at_adds, entry_added, halt_leaves, steps_more}
 use Rattle.hm_top.proofs.Steps.{one_next}
 
@@ -94,14 +97,15 @@ rises_less count before now (inr full) = inr full
 pub run_less : (hands : HandsUse) (count : ℕ) → RunBy hands count → RunBy hands 0
 run_less hands count run = record { alike = run.alike; kept = run.kept; rises = rises_less count hands.runs_before hands.runs_after run.rises }
 
--- a step that was evaluated was run once, whether it was added or not
-pub ran_step : {E : Type 0} (hands : HandsUse) (old new : Standing) (entry : Entry) (r : Result (Option Halt) E) → IsNextStep (back old.journal) entry → RunBy hands 1
-    → IfOk r (λ halt. Comes old entry halt new) → OnErr r (new ≡ old) → Ran hands old.journal new.journal
-ran_step hands old new entry (Ok None) next run comes err =
-    let one : steps_in (entry ∷ []) ≡ 1 = omega (arith, one_next (back old.journal) entry next) in
-    (entry ∷ [], entry_added old new entry comes, subst (RunBy hands) (sym one) run)
-ran_step hands old new entry (Ok (Some why)) next run comes err = ran_idle hands old.journal new.journal (halt_leaves old new entry why comes) (run_less hands 1 run)
-ran_step hands old new entry (Err e) next run comes err = ran_idle hands old.journal new.journal (ap (λ (s : Standing). s.journal) err) (run_less hands 1 run)
+-- where a handler was run once, whatever came of its answer
+pub ran_step : {E : Type 0} (hands : HandsUse) (old new : Recording) (r : Result Stepped E) → RunBy hands 1
+    → IfOk r (λ stepped. Goes (standing_in old) stepped (standing_in new)) → OnErr r (new ≡ old) → Ran hands old.entries new.entries
+ran_step hands old new (Ok stepped_is.Recorded) run goes err =
+    let one : steps_in (goes.0 ∷ []) ≡ 1 = omega (arith, one_next (back old.entries) goes.0 goes.1) in
+    (goes.0 ∷ [], entry_added (standing_in old) (standing_in new) goes.0 goes.2, subst (RunBy hands) (sym one) run)
+ran_step hands old new (Ok (stepped_is.Halted why)) run goes err = ran_idle hands old.entries new.entries (halt_leaves (standing_in old) (standing_in new) goes.0 why goes.2) (run_less hands 1 run)
+ran_step hands old new (Ok stepped_is.AtRest) run goes err = ran_idle hands old.entries new.entries (ap (λ (s : Standing). s.journal) goes.1) (run_less hands 1 run)
+ran_step hands old new (Err e) run goes err = ran_idle hands old.entries new.entries (ap (λ (k : Recording). k.entries) err) (run_less hands 1 run)
 
 -- what a submission adds is no step
 no_step : (nonce : Nonce) (ns : List ℕ) (old : Standing) (added : List Entry) → MayAddAt (command_is.Namespace nonce ns) old added → steps_in added ≡ 0

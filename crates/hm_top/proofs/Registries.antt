@@ -5,9 +5,9 @@ use Rattle.std.specs.List.{flat_map, list_any}
 use Rattle.std.proofs.lemmas.Bool.Decides.{nat_tests}
 use Rattle.std.proofs.lemmas.List.{length-map}
 use Rattle.hm_data.specs.declared.sheet.Sheet.{Sheet}
-use Rattle.hm_model.specs.Kinds.{running_kinds}
+use Rattle.hm_model.specs.Kinds.{all_kinds}
 use Rattle.hm_model.specs.Sheets.{sheet_for}
-use Rattle.hm_sheet.specs.Words.{AreListed}
+use Rattle.hm_sheet.specs.Words.{AreWhole}
 use Rattle.hm_top.specs.Hands.{AgreeOn, HandsAgree, first_sheets, listed, own_sheets}
 use Rattle.hm_top.proofs.Agreeing.{first_is as begins}
 
@@ -54,16 +54,16 @@ found_same f (first ∷ kinds) (sheet ∷ sheets) found same kind runs =
     (by_test f first kind sheet (sheet_for sheets kind) (list_any (λ k. k == kind) kinds) (first == kind) refl head (found_same f kinds sheets rest more kind) runs)
 
 -- the sheets that are found under the kinds are the own sheets
-pub own_is : (first sheets : List Sheet) → map Some sheets ≡ map (λ kind. sheet_for first kind) running_kinds → own_sheets first ≡ sheets
-own_is first sheets found = listed_are (sheet_for first) running_kinds sheets found
+pub own_is : (first sheets : List Sheet) → map Some sheets ≡ map (λ kind. sheet_for first kind) all_kinds → own_sheets first ≡ sheets
+own_is first sheets found = listed_are (sheet_for first) all_kinds sheets found
 
 -- so a run uses the sheets that the first registry lists
-pub used_are : {R : Type 0} (f own : R → List Sheet) (hands : List R) → HandsAgree (map f hands) → All (λ r. AreListed (f r) (own r)) hands → (x : R) → x ≡ get_or hands 0 x → (slice : List Sheet) → slice ≡ own x
+pub used_are : {R : Type 0} (f own : R → List Sheet) (hands : List R) → HandsAgree (map f hands) → All (λ r. AreWhole (f r) (own r)) hands → (x : R) → x ≡ get_or hands 0 x → (slice : List Sheet) → slice ≡ own x
     → own_sheets (first_sheets (map f hands)) ≡ slice
 used_are f own hands agree each x is slice same =
-    let list = all_first f hands agree (λ r. AreListed (f r) (own r)) x is each in
+    let list = all_first f hands agree (λ r. AreWhole (f r) (own r)) x is each in
     ap own_sheets (first_is f hands agree x is) ∙ own_is (f x) (own x) list.found ∙ sym same
 
 -- the handlers agree with the sheets that are listed
-pub agree_own : (first sheets : List Sheet) → AreListed first sheets → AgreeOn first sheets
-agree_own first sheets list = found_same (sheet_for first) running_kinds sheets list.found list.valid.0
+pub agree_own : (first sheets : List Sheet) → AreWhole first sheets → AgreeOn first sheets
+agree_own first sheets list = found_same (sheet_for first) all_kinds sheets list.found list.valid.0

@@ -122,13 +122,13 @@ module _ {D Setting : Type 0} (d : Disk.Ghosts D Setting) (commands : List Comma
       (outcome_answered commands limits out (disk_use d disk new) hands marks opens.0 at (left_opened was at opens first_called leaves ran) ended at.halted refl fails
       (subst (λ (s : Standing). IsAnswering out.tells out.before out.after (Opened (length s.journal) ∷ []) ended commands s marks at) opens.2 answering))
 
-  -- the outcome where there was no room for the marks over a world that was opened
+  -- the outcome where there was no room for the executor of a journal that was opened, or for the marks
   pub converse_full : (was : WorldView D) → status ≡ Memory → IsOpened d sheets limits disk was → IsCalled d 1 disk was.opened.disk → IsLeftBy d was.opened (standing_of was) new → RunBy hands 0
-      → marks ≡ [] → commands ≢ [] → (out.tells → out.after ≡ out.before) → its status
-  converse_full was ends opening first_called leaves run none some quiet =
+      → marks ≡ [] → (out.tells → out.after ≡ out.before) → its status
+  converse_full was ends opening first_called leaves run none quiet =
       let opens : IsOpened d (sheets_used hands) limits disk was = subst (λ (l : List Sheet). IsOpened d l limits disk was) (sym listed) opening in
       let left = left_opened was (standing_of was) opens first_called leaves (ran_idle hands was.kept.entries was.kept.entries refl run) in
-      subst its (sym ends) (outcome_full commands limits out (disk_use d disk new) hands marks none quiet some opens.0 (subst (IsLeft (disk_use d disk new) hands opens.0) opens.2 left))
+      subst its (sym ends) (outcome_full commands limits out (disk_use d disk new) hands marks none quiet opens.0 (subst (IsLeft (disk_use d disk new) hands opens.0) opens.2 left))
 
   -- the outcome of an opening that failed
   pub converse_unopened : (why : JournalWhy) → status ≡ unopened_status why → marks ≡ [] → (d.tells → Refuses sheets (d.seen disk) why) → (why ≡ why_is.Fault → Rose (d.faults disk) (d.faults new))

@@ -1,87 +1,86 @@
 -- The steps that settling makes, and what they leave.
-use Rattle.std.proofs.Common.{◌≡◌, ◌≢◌, ℕ, List, [], ◌∷◌, ◌++◌, IsTrue, Option, Some, None, Result, Ok, Err, refl, inl, sym, ap, ◌∙◌, subst, append-nil, append_assoc}
+use Rattle.std.proofs.Common.{◌≡◌, ◌==◌, ◌||◌, ℕ, List, [], ◌∷◌, ◌++◌, map, Bool, true, false, if◌then◌else◌, IsTrue, Option, Some, None, Result, Ok, Err, refl, sym, ap, ◌∙◌, subst, append-nil, append_assoc}
 use Rattle.std.specs.Prelude.{IfOk, OnErr}
-use Rattle.hm_names.specs.Server.{Server}
-use Rattle.hm_names.specs.declared.pid.Pid.{Pid}
+use Rattle.std.proofs.lemmas.Option.{none-some}
 use Rattle.hm_data.specs.declared.entry.Entry.{Entry}
 use Rattle.hm_data.specs.declared.entry.Entry.TheVariants as entry_is
 use Rattle.hm_data.specs.declared.sheet.Sheet.{Sheet}
 use Rattle.hm_data.specs.declared.step.StepIn.{StepIn}
 use Rattle.hm_data.specs.declared.step.StepOut.{StepOut}
+use Rattle.hm_data.specs.declared.step.Turn.{Turn}
+use Rattle.hm_data.specs.declared.step.Turn.TheVariants as turn_is
+use Rattle.hm_exec.specs.Claiming.{entry_by, entry_of}
 use Rattle.hm_hall.specs.Recording.{Passes}
-use Rattle.hm_model.specs.Inputs.{IsEvaluated, input}
+use Rattle.hm_hall.specs.declared.taken.Taken.{Taken}
+use Rattle.hm_model.specs.Evaluation.{CanBeAsked, CanRun, answer_of}
 use Rattle.hm_model.specs.Journal.{Past, back}
-use Rattle.hm_model.specs.Kinds.{is_running_kind}
-use Rattle.hm_model.specs.Rest.{IsAvailable, MayStep}
 use Rattle.hm_model.specs.Rules.{Allowed, IsLegal}
 use Rattle.hm_model.specs.Sheets.{sheet_for, sheets_of}
-use Rattle.hm_model.specs.Evaluation.{CanBeAsked, CanRun, answer_of}
-use Rattle.hm_model.specs.Tree.{Node}
-use Rattle.hm_model.proofs.Counting.{available_unstopped, may_step, picks_iff}
+use Rattle.hm_model.specs.Validity.{is_among}
+use Rattle.hm_model.proofs.Grown.{sheets_are}
 use Rattle.hm_model.proofs.Prefixes.{back-push}
 use Rattle.hm_model.proofs.Sheets.{said_alike}
-use Rattle.hm_model.proofs.Stages.{flat_all, simple_all}
-use Rattle.hm_judge.specs.Inputs.{CanEvaluate, IsInput}
-use Rattle.hm_state.specs.State.{IsFirst}
+use Rattle.hm_script.specs.declared.command.Command.TheVariants as command_is
+use Rattle.hm_sheet.specs.Own.{is_kind}
 use Rattle.hm_top.specs.Answer.{AnswersAt}
 use Rattle.hm_top.specs.declared.answer.Answer.{Answer}
-use Rattle.hm_script.specs.declared.command.Command.TheVariants as command_is
 use Rattle.hm_top.specs.Hands.{AgreeOn, Serve, first_sheets, one_step}
 use Rattle.hm_top.specs.Settling.{AreSteps, IsNextStep, IsWorked}
 use Rattle.hm_top.specs.Standing.{Comes, Standing}
 use Rattle.hm_top.proofs.Growth.{at_adds, same_end, standing_added}
 
--- what may go on makes a step: nothing is undone yet
-pub may_on : (J : Past) → IsLegal J → (p : ℕ) → IsAvailable J [] [] p → MayStep J p
-may_on J legal p available =
-    let on = available_unstopped J legal p available in
-    may_step J legal p on.0 on.1 on.2
+-- a sheet that is found is of its kind
+found_among : (sheets : List Sheet) (kind : ℕ) (sheet : Sheet) → sheet_for sheets kind ≡ Some sheet → IsTrue (is_among (map (λ sheet. sheet.kind) sheets) kind)
+found_among [] kind sheet found = absurd (none-some sheet found)
+found_among (first ∷ sheets) kind sheet found = by (first.kind == kind) (found_among sheets kind sheet) found
+  where
+    by : (is : Bool) → (sheet_for sheets kind ≡ Some sheet → IsTrue (is_among (map (λ sheet. sheet.kind) sheets) kind))
+        → (if is then Some first else sheet_for sheets kind) ≡ Some sheet → IsTrue (is || is_among (map (λ sheet. sheet.kind) sheets) kind)
+    by true more found = refl
+    by false more found = more found
 
--- the kind of what a step sees is one that the master runs
-kind_runs : (J : Past) → IsLegal J → (p : ℕ) (pick : Option Server) (at : StepIn) → MayStep J p → IsInput J p pick at → IsTrue (is_running_kind at.kind)
-kind_runs J legal p pick at may is =
-    let c = (simple_all J legal).creates p may.0 may.1 in
-    let kind : at.kind ≡ 1 = ap (λ (i : StepIn). i.kind) (is may.0 may.1 ∙ ap (λ (n : Node). input J p n pick) c.1 ∙ (flat_all J legal).sees p c.0 pick) in
-    ap is_running_kind kind
+-- a journal has sheets of the kinds of procedures alone
+kind_is : (J : Past) → IsLegal J → (kind : ℕ) (sheet : Sheet) → sheet_for (sheets_of J) kind ≡ Some sheet → IsTrue (is_kind kind)
+kind_is [] legal kind sheet found = absurd (none-some sheet found)
+kind_is (entry ∷ J) legal kind sheet found =
+    subst (λ kinds. IsTrue (is_among kinds kind)) (sheets_are (entry ∷ J) legal (λ none. cc)).0 (found_among (sheets_of (entry ∷ J)) kind sheet found)
 
--- the registry's sheet for what a step sees is the journal's
-same_sheet : (J : Past) → IsLegal J → (p : ℕ) (pick : Option Server) (at : StepIn) (sheets : List Sheet) → AgreeOn sheets (sheets_of J) → MayStep J p → IsInput J p pick at
+-- a sheet of the journal is the registry's too
+pub same_sheet : (J : Past) → IsLegal J → (at : StepIn) (sheets : List Sheet) → AgreeOn sheets (sheets_of J) → CanRun (sheets_of J) at
     → sheet_for sheets at.kind ≡ sheet_for (sheets_of J) at.kind
-same_sheet J legal p pick at sheets agree may is = agree at.kind (kind_runs J legal p pick at may is)
+same_sheet J legal at sheets agree runs = by (sheet_for (sheets_of J) at.kind) refl runs
+  where
+    by : (found : Option Sheet) → sheet_for (sheets_of J) at.kind ≡ found → CanBeAsked found at → sheet_for sheets at.kind ≡ sheet_for (sheets_of J) at.kind
+    by None is runs = absurd runs
+    by (Some sheet) is runs = agree at.kind (kind_is J legal at.kind sheet is)
 
--- the registry can be run there
-pub runs_there : (J : Past) → IsLegal J → (p : ℕ) (at : StepIn) (sheets : List Sheet) → AgreeOn sheets (sheets_of J) → IsAvailable J [] [] p → IsInput J p None at
-    → (CanEvaluate J p None → CanRun (sheets_of J) at) → CanRun sheets at
-runs_there J legal p at sheets agree available is runs =
-    let may = may_on J legal p available in
-    subst (λ (o : Option Sheet). CanBeAsked o at) (sym (same_sheet J legal p None at sheets agree may is)) (runs (inl (may, (picks_iff J legal p None may).1 refl)))
+-- the registry can be run where the journal's sheets can be asked
+pub runs_there : (J : Past) → IsLegal J → (at : StepIn) (sheets : List Sheet) → AgreeOn sheets (sheets_of J) → CanRun (sheets_of J) at → CanRun sheets at
+runs_there J legal at sheets agree runs = subst (λ (o : Option Sheet). CanBeAsked o at) (sym (same_sheet J legal at sheets agree runs)) runs
 
--- what the registry answers is what the journal's sheet says
-evaluated : (J : Past) → IsLegal J → (p : ℕ) (pick : Option Server) (at : StepIn) (sheets : List Sheet) (out : StepOut) → AgreeOn sheets (sheets_of J) → MayStep J p → IsInput J p pick at
-    → answer_of sheets at ≡ Some out → IsEvaluated J p pick out
-evaluated J legal p pick at sheets out agree may is answered = (
-  may.0,
-  may.1,
-  ap (answer_of (sheets_of J)) (sym (is may.0 may.1))
-      ∙ said_alike (sheets_of J) sheets at (sym (same_sheet J legal p pick at sheets agree may is))
-      ∙ answered,
-)
+-- and what it answers is what those say
+pub answered_there : (J : Past) → IsLegal J → (at : StepIn) (sheets : List Sheet) (out : StepOut) → AgreeOn sheets (sheets_of J) → CanRun (sheets_of J) at
+    → answer_of sheets at ≡ Some out → answer_of (sheets_of J) at ≡ Some out
+answered_there J legal at sheets out agree runs answered = said_alike (sheets_of J) sheets at (sym (same_sheet J legal at sheets agree runs)) ∙ answered
 
--- what the registry answers is the next step
-pub next_step : (J : Past) → IsLegal J → J ≢ [] → (pid : Pid) (at : StepIn) (sheets : List Sheet) (out : StepOut) → AgreeOn sheets (sheets_of J) → IsAvailable J [] [] pid.0 → IsFirst J pid.0
-    → IsInput J pid.0 None at → answer_of sheets at ≡ Some out → IsNextStep J (entry_is.Step pid None out)
-next_step J legal begun pid at sheets out agree available first is answered =
-    let may = may_on J legal pid.0 available in
-    (first, (begun, (may, (available.1, ((picks_iff J legal pid.0 None may).1 refl, (evaluated J legal pid.0 None at sheets out agree may is answered, tt))))))
+next_by : (J : Past) (turn : Turn) (p : ℕ) (was : StepIn) (out : StepOut) → Allowed J (entry_by turn p was out) → IsNextStep J (entry_by turn p was out)
+next_by J turn_is.Step p was out allowed = allowed
+next_by J (turn_is.Undo edits) p was out allowed = allowed
+
+-- the entry of an answer is a next step where it may stand
+pub next_of_answer : (J : Past) (taken : Taken) (out : StepOut) → Allowed J (entry_of taken out) → IsNextStep J (entry_of taken out)
+next_of_answer J taken out allowed = next_by J taken.was.turn taken.pid.0 taken.was out allowed
 
 -- the next step is a step
 pub one_next : (J : Past) (entry : Entry) → IsNextStep J entry → one_step entry ≡ 1
 one_next J (entry_is.Step pid pick out) next = refl
+one_next J (entry_is.Undo pid row out) next = refl
 one_next J entry next = absurd next
 
 -- and it may stand there
 pub next_allowed : (J : Past) (entry : Entry) → IsNextStep J entry → Allowed J entry
-next_allowed J (entry_is.Step pid pick out) next = next.1
+next_allowed J (entry_is.Step pid pick out) next = next
+next_allowed J (entry_is.Undo pid row out) next = next
 next_allowed J entry next = absurd next
 
 -- one step more
@@ -121,6 +120,7 @@ worked_on old mid new was adds =
 -- a step leaves the sheets
 sheets_step : (J : Past) (entry : Entry) → IsNextStep J entry → sheets_of (entry ∷ J) ≡ sheets_of J
 sheets_step J (entry_is.Step pid pick out) next = refl
+sheets_step J (entry_is.Undo pid row out) next = refl
 sheets_step J entry next = absurd next
 
 sheets_more : (journal new : List Entry) (entry : Entry) → IsNextStep (back journal) entry → new ≡ journal ++ entry ∷ [] → sheets_of (back new) ≡ sheets_of (back journal)

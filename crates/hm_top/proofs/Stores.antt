@@ -1,51 +1,25 @@
 -- What a recorder keeps, as a run stands.
-use Rattle.std.proofs.Common.{◌≡◌, ◌≢◌, ℕ, ◌<◌, List, [], ◌∷◌, ◌++◌, length, Option, Some, None, Result, Ok, All, refl, arith, sym, ap, ◌∙◌, subst}
+use Rattle.std.proofs.Common.{◌≡◌, ◌≢◌, ℕ, List, [], ◌∷◌, ◌++◌, Option, Some, None, Ok, refl, sym, ap, ◌∙◌, subst}
 use Rattle.std.specs.Prelude.{IfSome}
-use Rattle.std.proofs.lemmas.List.{length-reverse, reverse-append}
-use Rattle.std.proofs.lemmas.List.Elements.{All-append, All-cons, All-nil}
-use Rattle.hm_names.specs.Names.{IsNs}
-use Rattle.hm_names.specs.declared.nonce.Nonce.{Nonce}
+use Rattle.std.proofs.lemmas.List.{reverse-append}
+use Rattle.std.proofs.lemmas.Option.{none-some}
 use Rattle.hm_data.specs.declared.entry.Entry.{Entry}
-use Rattle.hm_data.specs.declared.request.Request.TheVariants as request_is
 use Rattle.hm_data.specs.declared.sheet.Sheet.{Sheet}
-use Rattle.hm_entry.specs.Fits.{EntryFits}
 use Rattle.hm_model.specs.Journal.{back}
 use Rattle.hm_model.specs.Rules.{Allowed, IsLegal}
 use Rattle.hm_model.specs.Sheets.{sheets_of}
-use Rattle.hm_hall.specs.Recording.{CanBeRecorded, Recording, Records, next_of, with_next}
+use Rattle.hm_hall.specs.Recording.{Recording, Records}
 use Rattle.hm_hall.specs.declared.fault.Halt.{Halt}
 use Rattle.hm_hall.specs.declared.fault.Halt.TheVariants as halt_is
-use Rattle.hm_hall.specs.declared.fault.RecordFault.{RecordFault}
-use Rattle.hm_frames.proofs.Recorded.{submit_recorded}
 use Rattle.hm_journal.specs.Since.{with_tail}
 use Rattle.hm_journal.specs.Stored.{IsJournal, opened}
 use Rattle.hm_journal.specs.declared.limits.Limits.{Limits}
-use Rattle.hm_top.specs.Answer.{submission}
 use Rattle.hm_top.specs.Standing.{Comes, Standing, begun, recorded_as}
-use Rattle.hm_top.specs.View.{IsWorld, standing_in}
+use Rattle.hm_top.specs.View.{standing_in}
 
 -- a legal journal and an entry that may stand behind it
 pub legal_next : (journal : List Entry) (entry : Entry) → IsLegal (back journal) → Allowed (back journal) entry → IsLegal (back (journal ++ entry ∷ []))
 legal_next journal entry legal allowed = subst IsLegal (sym (reverse-append journal (entry ∷ []))) (legal, allowed)
-
--- a journal with an entry has begun
-some_next : (journal : List Entry) (entry : Entry) → back (journal ++ entry ∷ []) ≢ []
-some_next journal entry is = let none : entry ∷ back journal ≡ [] = sym (reverse-append journal (entry ∷ [])) ∙ is in cc
-
--- a world behind an entry that was recorded
-pub world_more : (entries now : List Entry) (was new : Recording) (entry : Entry) → IsWorld entries was → was.halted ≡ None → Allowed (back was.entries) entry → EntryFits entry
-    → Comes (standing_in was) entry None (standing_in new) → now ≡ entries ++ entry ∷ [] → IsWorld now new
-world_more entries now was new entry world going allowed fits comes now_is =
-    let grown : new.entries ≡ was.entries ++ entry ∷ [] = ap (λ (r : Recording). r.entries) comes.0.3 in
-    let tailless : new.tail ≡ None = ap (λ (r : Recording). r.tail) comes.0.3 ∙ world.tailless going in
-    record {
-      same = now_is ∙ ap (λ (es : List Entry). es ++ entry ∷ []) world.same ∙ sym grown;
-      legal = subst (λ (es : List Entry). IsLegal (back es)) (sym grown) (legal_next was.entries entry world.legal allowed);
-      begun = subst (λ (es : List Entry). back es ≢ []) (sym grown) (some_next was.entries entry);
-      fits = subst (All EntryFits) (sym grown) (All-append EntryFits was.entries (entry ∷ []) world.fits (All-cons EntryFits entry [] fits (All-nil EntryFits)));
-      tailless = λ still. tailless;
-      tail_allowed = subst (λ (t : Option Entry). IfSome t (Allowed (back new.entries))) (sym tailless) tt;
-    }
 
 -- the same with no entry ready
 abbrev unready : Recording → Recording
@@ -55,18 +29,12 @@ unready kept = record kept { next = None }
 abbrev stays : Recording → Recording → Standing
 stays was kept = record (standing_in was) { journal = kept.entries; tail = kept.tail; halted = kept.halted }
 
--- what a recorder answers that had this entry ready
-pub records_by : (was now new : Recording) (entry : Entry) (result answer : Result ℕ RecordFault) → now ≡ with_next was entry → result ≡ answer
-    → ((e : Entry) → now.next ≡ Some e → Records now e result new) → Records (with_next was entry) entry answer new
-records_by was now new entry result answer ready is records =
-    subst (λ k. Records k entry answer new) ready (subst (λ r. Records now entry r new) is (records entry (ap next_of ready)))
-
 -- how a run stands behind an entry that was recorded
-pub comes_ok : (was new : Recording) (entry : Entry) (number : ℕ) → Records (with_next was entry) entry (Ok number) new → Comes (standing_in was) entry None (standing_in new)
+pub comes_ok : (was new : Recording) (entry : Entry) (number : ℕ) → Records was entry (Ok number) new → Comes (standing_in was) entry None (standing_in new)
 comes_ok was new entry number r = let is = r.3 in ((r.0, r.1, refl, ap unready is), ap (λ (k : Recording). standing_in k) is ∙ sym (ap (λ (k : Recording). stays was k) is))
 
 -- how a run stands behind an entry that halted it
-pub comes_by : (was new : Recording) (entry : Entry) (why : Halt) → Records (with_next was entry) entry (recorded_as (standing_in was) (Some why)) new → Comes (standing_in was) entry (Some why) (standing_in new)
+pub comes_by : (was new : Recording) (entry : Entry) (why : Halt) → Records was entry (recorded_as (standing_in was) (Some why)) new → Comes (standing_in was) entry (Some why) (standing_in new)
 comes_by was new entry halt_is.LogFault r = let is = r.2 in ((r.0, r.1, ap unready is), ap (λ (k : Recording). standing_in k) is ∙ sym (ap (λ (k : Recording). stays was k) is))
 comes_by was new entry (halt_is.JournalFull bytes) r = let is = r.3 in ((r.0, r.1, r.2, ap unready is), ap (λ (k : Recording). standing_in k) is ∙ sym (ap (λ (k : Recording). stays was k) is))
 
@@ -88,21 +56,10 @@ pub legal_tail : (entries : List Entry) (tail : Option Entry) → IsLegal (back 
 legal_tail entries None legal allowed = legal
 legal_tail entries (Some entry) legal allowed = legal_next entries entry legal allowed
 
--- the entry that asks for a namespace can be recorded
-pub submission_fits : (given : Nonce) (ns : List ℕ) → IsNs ns → CanBeRecorded (submission given ns)
-submission_fits given ns named = submit_recorded given (request_is.CreateNamespace ns) refl named
-
--- a journal that was just opened, with its state
-pub opened_world : (entries : List Entry) (count : ℕ) (kept : Recording) → entries ≡ kept.entries → IsLegal (back entries) → count ≡ length entries → 0 < count → All EntryFits kept.entries
-    → kept.tail ≡ None → IsWorld entries kept
-opened_world entries count kept same legal is some fits tailless = record {
-  same = same;
-  legal = subst (λ (es : List Entry). IsLegal (back es)) same legal;
-  begun = λ none. (let size = ap length none in let turned = length-reverse kept.entries in let alike = ap length same in absurd (omega (arith, size, turned, alike, is, some)));
-  fits = fits;
-  tailless = λ going. tailless;
-  tail_allowed = subst (λ (t : Option Entry). IfSome t (Allowed (back kept.entries))) (sym tailless) tt;
-}
+-- there is no tail while nothing halts
+pub no_tail : (tail : Option Entry) (halted answer : Option Halt) → halted ≡ None → answer ≡ halted → (tail ≢ None → answer ≡ Some halt_is.LogFault) → tail ≡ None
+no_tail None halted answer going is failed = refl
+no_tail (Some entry) halted answer going is failed = absurd (none-some halt_is.LogFault (sym (is ∙ going) ∙ failed (λ none. none-some entry (sym none))))
 
 -- it begins with its sheets
 pub opened_sheets : (sheets : List Sheet) (old entries : List Entry) → IsJournal sheets old → entries ≡ opened sheets old → sheets_of (back entries) ≡ sheets

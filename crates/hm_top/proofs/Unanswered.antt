@@ -1,8 +1,8 @@
 -- A settling for which memory ran out.
-use Rattle.std.proofs.Common.{◌≡◌, ℕ, [], None, Result, Ok, Err, sym, subst}
+use Rattle.std.proofs.Common.{◌≡◌, None, Result, Ok, Err, sym, subst}
 use Rattle.std.specs.Prelude.{OnErr}
 use Rattle.hm_model.specs.Journal.{back}
-use Rattle.hm_model.specs.Rest.{IsAvailable}
+use Rattle.hm_model.specs.Rest.{IsAtRest}
 use Rattle.hm_script.specs.declared.command.Command.{Command}
 use Rattle.hm_script.specs.declared.command.Command.TheVariants as command_is
 use Rattle.hm_top.specs.declared.answer.Answer.{Answer}
@@ -11,8 +11,8 @@ use Rattle.hm_top.specs.Settling.{IsWorked}
 use Rattle.hm_top.specs.Standing.{Standing}
 
 -- while a procedure may go on it may run out for a settling
-pub may_in_step : (was new : Standing) (p : ℕ) → was.halted ≡ None → IsAvailable (back was.journal) [] [] p → new ≡ was → MayRunOut command_is.Settle new
-may_in_step was new p going available same = subst (MayRunOut command_is.Settle) (sym same) (going, λ rests. rests p available)
+pub may_in_step : (was new : Standing) → was.halted ≡ None → (IsAtRest (back was.journal) → ⊥) → new ≡ was → MayRunOut command_is.Settle new
+may_in_step was new going restless same = subst (MayRunOut command_is.Settle) (sym same) (going, restless)
 
 -- a settling is left as its steps
 pub unsettled : {E : Type 0} (command : Command) (old new : Standing) (r : Result Answer E) → command ≡ command_is.Settle → OnErr r (MayRunOut command_is.Settle new) → OnErr r (IsWorked old new) → OnErr r (IsUnanswered command old new)

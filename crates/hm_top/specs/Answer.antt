@@ -2,8 +2,6 @@
 use Rattle.std.specs.Prelude.{◌≡◌, ◌≢◌, ◌⊎◌, ℕ, ◌+◌, List, [], ◌∷◌, ◌++◌, length, codes, Option, Some, None, MatchOption}
 use Rattle.std.specs.Fmt.{decimal}
 use Rattle.hm_names.specs.declared.nonce.Nonce.{Nonce}
-use Rattle.hm_data.specs.declared.args.Args.{Args}
-use Rattle.hm_data.specs.declared.args.Args.TheVariants as args_are
 use Rattle.hm_data.specs.declared.entry.Entry.{Entry}
 use Rattle.hm_data.specs.declared.entry.Entry.TheVariants as entry_is
 use Rattle.hm_data.specs.declared.request.Request.TheVariants as request_is
@@ -11,7 +9,7 @@ use Rattle.hm_model.specs.Journal.{Past, back}
 use Rattle.hm_model.specs.Nonces.{by_nonce}
 use Rattle.hm_model.specs.Records.{unfinished}
 use Rattle.hm_model.specs.Rest.{IsAtRest}
-use Rattle.hm_model.specs.Tree.{Node, made, node_of}
+use Rattle.hm_model.specs.Tree.{made}
 use Rattle.hm_hall.specs.Recording.{Accepts, Passes, full_at}
 use Rattle.hm_hall.specs.declared.fault.Halt.{Halt}
 use Rattle.hm_hall.specs.declared.fault.Halt.TheVariants as halt_is
@@ -21,6 +19,7 @@ use Rattle.hm_script.specs.declared.command.Command.{Command}
 use Rattle.hm_script.specs.declared.command.Command.TheVariants as command_is
 use Rattle.hm_top.specs.Settling.{AreSteps, IsNextStep, IsWorked}
 use Rattle.hm_top.specs.Standing.{Comes, Standing, recording}
+use Rattle.hm_refusals.specs.Submissions.{IsMadeFor}
 use Rattle.hm_show.specs.Procs.{procs_table}
 
 -- what halted the run
@@ -44,14 +43,9 @@ answer_text (answer_is.Halted why) = codes "halted " ++ halt_text why ++ codes "
 abbrev pub submission : Nonce → List ℕ → Entry
 submission nonce ns = entry_is.Submit nonce (request_is.CreateNamespace ns)
 
--- the arguments of a procedure, where there is one
-abbrev pub args_of : Option Node → Option Args
-args_of None = None
-args_of (Some node) = Some node.args
-
--- the procedure was asked to create this namespace
+-- a procedure was made to create this namespace
 abbrev pub IsAsked : Past → ℕ → List ℕ → Type 0
-IsAsked before p ns = args_of (node_of before p) ≡ Some (args_are.Root (request_is.CreateNamespace ns) 1)
+IsAsked before p ns = IsMadeFor before p (request_is.CreateNamespace ns)
 
 -- no procedure was asked for under this nonce, and the journal is below its soft mark
 abbrev pub IsFree : Standing → Nonce → Type 0

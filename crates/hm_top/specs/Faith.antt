@@ -11,7 +11,7 @@ use Rattle.hm_data.specs.declared.entry.Entry.TheVariants as entry_is
 use Rattle.hm_data.specs.declared.step.StepOut.{StepOut}
 use Rattle.hm_model.specs.Catalog.{cat, keys_of, was}
 use Rattle.hm_model.specs.Journal.{Past}
-use Rattle.hm_model.specs.Locks.{NoneConflict}
+use Rattle.hm_model.specs.Holding.{NoneClash}
 use Rattle.hm_model.specs.Reads.{IsBusy, covers}
 use Rattle.hm_model.specs.Nonces.{NoncesActOnce}
 use Rattle.hm_model.specs.Phase.{cause, root_ended}
@@ -45,4 +45,4 @@ pub record KeepsFaith (before : Past) : Type 0 where
   pub deeds : DeedsApplied before
   pub failures : FailuresLeftAll before
   pub nonces : NoncesActOnce before
-  pub locks : NoneConflict before
+  pub locks : NoneClash before []

@@ -4,9 +4,10 @@ use Rattle.std.specs.List.{flat_map}
 use Rattle.hm_data.specs.declared.sheet.Sheet.{Sheet}
 use Rattle.hm_data.specs.declared.entry.Entry.{Entry}
 use Rattle.hm_data.specs.declared.entry.Entry.TheVariants as entry_is
-use Rattle.hm_model.specs.Kinds.{running_kinds, is_running_kind}
+use Rattle.hm_model.specs.Kinds.{all_kinds}
 use Rattle.hm_model.specs.Journal.{back}
 use Rattle.hm_model.specs.Sheets.{sheet_for, sheets_of as begun_with}
+use Rattle.hm_sheet.specs.Own.{is_kind}
 use Rattle.hm_top.specs.Ports.{HandsUse}
 
 -- a sheet that is there, as a list
@@ -14,13 +15,13 @@ abbrev pub listed : Option Sheet → List Sheet
 listed None = []
 listed (Some sheet) = sheet ∷ []
 
--- the sheets of the kinds that the master runs, in the order of the kinds
+-- the sheets of all kinds of procedures, in their order
 abbrev pub own_sheets : List Sheet → List Sheet
-own_sheets sheets = flat_map (λ kind. listed (sheet_for sheets kind)) running_kinds
+own_sheets sheets = flat_map (λ kind. listed (sheet_for sheets kind)) all_kinds
 
--- the same sheets for the kinds that the master runs
+-- the same sheets for all kinds of procedures
 abbrev pub AgreeOn : List Sheet → List Sheet → Type 0
-AgreeOn one other = (kind : ℕ) → IsTrue (is_running_kind kind) → sheet_for one kind ≡ sheet_for other kind
+AgreeOn one other = (kind : ℕ) → IsTrue (is_kind kind) → sheet_for one kind ≡ sheet_for other kind
 
 -- the same sheets for all kinds
 abbrev pub AreEqual : List Sheet → List Sheet → Type 0
@@ -31,7 +32,7 @@ abbrev pub first_sheets : List (List Sheet) → List Sheet
 first_sheets [] = []
 first_sheets (first ∷ others) = first
 
--- the sheets of the first of these registries, for the kinds that the master runs
+-- the sheets of the first of these registries, for all kinds of procedures
 abbrev pub sheets_used : HandsUse → List Sheet
 sheets_used hands = own_sheets (first_sheets hands.before)
 

@@ -88,11 +88,12 @@ module _ (run : Run) where
       → IsOnDisk (sheets_used hands) disk.before journal → ¬ script.failed → ¬ out.failed → ¬ disk.failed
       → (status ≡ Done) ⊎ (((bytes : ℕ) × (status ≡ JournalFull bytes)) ⊎ (status ≡ Memory))
 
-  -- where memory ran out for these commands: in opening what may be a log; over a journal, for their marks; or for the next of them
+  -- where memory ran out for these commands: in opening what may be a log; over a journal, for its executor or their marks; or for the
+  -- next of them
   abbrev pub RanOutOver : List Command → Type 0
   RanOutOver commands =
       (disk.tells → (place : ℕ) → IsNotALog disk.before place → ⊥)
-      ⊎ (((old : List Entry) × (commands ≢ []) × (disk.tells → IsOnDisk (sheets_used hands) disk.before old))
+      ⊎ (((old : List Entry) × (disk.tells → IsOnDisk (sheets_used hands) disk.before old))
       ⊎ ((answered : List Command) × (rest : List Command) × (commands ≡ answered ++ rest) × (at : Standing) × (entries : List Entry) × RunsOut rest at entries))
 
   -- what each run keeps to; the registries have the sheets that they had, and no count of runs fell

@@ -62,10 +62,10 @@ module _ (session : Session) where
   abbrev pub IsSilent : RunStatus → Type 0
   IsSilent status = (marks ≡ []) × said status [] × ((commands : List Command) × given commands)
 
-  -- the log was opened, no line was said, and there was no room for the marks of the commands
+  -- the log was opened, no line was said, and memory ran out for the executor or for the marks of the commands
   abbrev pub HasNoRoom : Type 0
   HasNoRoom =
-      (marks ≡ []) × said Memory [] × ((commands : List Command) × given commands × (commands ≢ [])) × ((old : List Entry) × IsLeft disk hands old (begun limits (sheets_used hands) old))
+      (marks ≡ []) × said Memory [] × ((commands : List Command) × given commands) × ((old : List Entry) × IsLeft disk hands old (begun limits (sheets_used hands) old))
 
   -- how it ended
   abbrev pub Outcome : RunStatus → Type 0

@@ -1,11 +1,13 @@
 -- What callers see of a world.
-use Rattle.std.specs.Prelude.{◌≡◌, ◌≢◌, List, [], None, IfSome, All}
+use Rattle.std.specs.Prelude.{◌≡◌, ℕ, List, [], None, IfSome}
 use Rattle.hm_data.specs.declared.entry.Entry.{Entry}
 use Rattle.hm_model.specs.Journal.{back}
 use Rattle.hm_model.specs.Rules.{Allowed, IsLegal}
-use Rattle.hm_entry.specs.Fits.{EntryFits}
 use Rattle.hm_hall.specs.Recording.{Recording}
 use Rattle.hm_disk.specs.declared.disk.Disk as Disk
+use Rattle.hm_exec.specs.Moment.{Moment}
+use Rattle.hm_exec.specs.View.{ExecView, moment_of}
+use Rattle.hm_journal.specs.View.{JournalView}
 use Rattle.hm_journal.specs.Opened.{Opened}
 use Rattle.hm_journal.specs.Since.{Since}
 use Rattle.hm_journal.specs.Stored.{AllStored}
@@ -30,13 +32,18 @@ standing_of world = standing_in world.kept
 abbrev pub Fits : {D : Type 0} → WorldView D → Standing → Type 0
 Fits world at = standing_of world ≡ at
 
--- the state is that of the entries, which are legal, begun and spelled; a tail may stand behind them, and none while nothing halts
-pub record IsWorld (entries : List Entry) (kept : Recording) : Type 0 where
+-- what an executor of a journal has
+abbrev pub moment_in : {D : Type 0} → ExecView (JournalView D) → Moment
+moment_in exec = moment_of (λ journal. journal.kept) exec
+
+-- the state is that of the entries, and nothing halted their recorder
+pub record IsStore (entries : List Entry) (kept : Recording) : Type 0 where
   pub same : entries ≡ kept.entries
-  pub legal : IsLegal (back kept.entries)
-  pub begun : back kept.entries ≢ []
-  pub fits : All EntryFits kept.entries
-  pub tailless : kept.halted ≡ None → kept.tail ≡ None
+  pub going : kept.halted ≡ None
+
+-- nobody is claimed, and a tail may stand behind the entries
+pub record IsWorld (claimed : List ℕ) (kept : Recording) : Type 0 where
+  pub unclaimed : claimed ≡ []
   pub tail_allowed : IfSome kept.tail (Allowed (back kept.entries))
 
 -- the disk that such a run left: what it holds, what was done to it since its journal was opened, and that its journal is legal

@@ -15,6 +15,7 @@ use crate::answering::answer_all;
 use crate::commands::Offered;
 use crate::last_line::finish;
 use crate::status::{EarlyEnd, LogWhy, RunStatus};
+use crate::store::Store;
 use crate::words::misfit;
 use crate::world::World;
 use hm_disk::Disk;
@@ -160,10 +161,14 @@ fn converse<D: Disk, K: Sink>(
     ensures later { K.faults out.old ≤ K.faults out.new }
     ensures run_by { RunBy (hands_use ⟦<dyn Handler as Handler>⟧ hands.old.items hands.new.items) 0 }
 {
-    let sheets = hands[0].running_sheets();
-    let world = match World::open(alloc, disk, sheets.as_slice(), limits) {
-        Ok(world) => world,
+    let sheets = hands[0].sheets();
+    let store = match Store::open(alloc, disk, sheets.as_slice(), limits) {
+        Ok(store) => store,
         Err((disk, why)) => return (status_of(why), disk),
+    };
+    let world = match World::of(alloc, store) {
+        Ok(world) => world,
+        Err(disk) => return (RunStatus::Memory, disk),
     };
     let Ok(()) = marks.reserve(commands.len()) else {
         return (RunStatus::Memory, world.into_disk());

@@ -10,6 +10,7 @@ mod last_line;
 mod laws;
 mod piece;
 mod status;
+mod store;
 mod words;
 mod world;
 

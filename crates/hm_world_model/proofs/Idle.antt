@@ -55,4 +55,4 @@ module _ (w : World) (kept : IsKept w) (run : (server : Server) → is_live w.pa
   ]
 
 pub idle_ended : IdleIsEnded
-idle_ended w kept kinds live run carried still = still_ended w.past (safe_past w kept).legal kinds live (all_settled w kept run carried) still
+idle_ended w kept live run carried still = still_ended w.past (safe_past w kept).legal live (all_settled w kept run carried) still

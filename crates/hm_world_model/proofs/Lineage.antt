@@ -437,7 +437,7 @@ module _ (pid : Pid) (pick : Option Server) (out : StepOut) (J : Past) (legal : 
 -- what is sound of new roots
 submit_sound : (nonce : Nonce) (request : Request) (J : Past) → IsLegal (entry_is.Submit nonce request ∷ J) → (p : ℕ) → made J < p → (node : Node) → node_of (entry_is.Submit nonce request ∷ J) p ≡ Some node → MayStand node.args
 submit_sound nonce request J legal p lt node is = elim (cases_eq p (made J + 1)) [
-  | inl same ↦ subst (λ (n : Node). MayStand n.args) (same_Some (submitted J request p) node (sym (submit_new nonce request J p same) ∙ is)) (legal.1.1.0.0, refl)
+  | inl same ↦ subst (λ (n : Node). MayStand n.args) (same_Some (submitted J request p) node (sym (submit_new nonce request J p same) ∙ is)) (legal.1.1.0, refl)
   | inr differs ↦ absurd (none-some node (sym ((submit_rooted nonce request J (grown_all J legal.0)).past p (omega (arith, lt, differs))) ∙ is))
 ]
 

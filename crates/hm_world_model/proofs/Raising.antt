@@ -17,7 +17,7 @@ use Rattle.hm_model.specs.Tree.{Node, made, node_of, pid_of}
 use Rattle.hm_model.proofs.Counting.{count_none, find_below}
 use Rattle.hm_model.proofs.Trees.{grown_all}
 use Rattle.hm_world_model.specs.Events.{Deliver, Flush, Hear, Ignore, Send, Travels, Works, happens, with_entry}
-use Rattle.hm_world_model.specs.Measure.{CanCarry, CarryingIsPossible, CarryingStays, ReportsMayCome, calls_made, is_to_send, left_to_carry, runs_if, travels}
+use Rattle.hm_world_model.specs.Measure.{CanCarry, CarryingIsPossible, CarryingStays, calls_made, is_to_send, left_to_carry, runs_if, travels}
 use Rattle.hm_world_model.specs.Outside.{Outside, runs}
 use Rattle.hm_world_model.specs.Runs.{GoesOn, May, MayEnter, MayHear}
 use Rattle.hm_world_model.specs.Safe.{IsKept}
@@ -192,10 +192,10 @@ pub carrying_stays : CarryingStays
 carrying_stays w kept = ((λ k. refl), (λ claim. refl), (λ claim. refl), (λ claim entry may. entry_raises w kept entry may.2), entry_raises w kept)
 
 -- something can be carried
-module _ (come : ReportsMayCome) (w : World) (kept : IsKept w) (going : GoesOn w) where
+module _ (w : World) (kept : IsKept w) (going : GoesOn w) where
   ignorable : (report : ReportMsg) → is_settled w.past report.call.0 ≡ true → MayHear w report → ⊥
   ignorable report settled hear =
-      let out = hear.0.1.1.0.1 in
+      let out = hear.0.1.1.0 in
       true≢false (sym settled ∙ or_from (is_reported w.past report.call.0) (ended w.past report.call.0) (ap is_some out.1) out.2)
 
   waits_on : (report : ReportMsg) (rest : List ReportMsg) → w.waiting ≡ report ∷ rest → CanCarry w
@@ -203,7 +203,7 @@ module _ (come : ReportsMayCome) (w : World) (kept : IsKept w) (going : GoesOn w
     | inl settled ↦ (let may : May w (Travels (Ignore report)) = (going, (rest, e), ignorable report settled) in inr (inr (inl (report, (may, ignore_nearer w kept report may settled)))))
     | inr unsettled ↦ (
         let h = reports_heard w kept report (kept.waiting_is report (subst (IsIn report) (sym e) (inl refl))) unsettled in
-        let may : May w (Travels (Hear report)) = (((going, ((λ none. h.0.0 (ap (λ J. verb_of J report.call.0) none)), ((come report.call report.told, h.0), (h.1, tt)))), h.2), (rest, e)) in
+        let may : May w (Travels (Hear report)) = (((going, ((λ none. h.0.0 (ap (λ J. verb_of J report.call.0) none)), (h.0, (h.1, tt)))), h.2), (rest, e)) in
         inr (inl (report, (may, hear_nearer w kept report may)))
         )
   ]
@@ -249,4 +249,4 @@ module _ (come : ReportsMayCome) (w : World) (kept : IsKept w) (going : GoesOn w
       by_wire (call ∷ rest) e = (let may : May w (Travels (Deliver call)) = (going, (rest, e)) in inr (inl (inl (call, (may, deliver_nearer w kept call may)))))
 
 pub carrying_possible : CarryingIsPossible
-carrying_possible come w kept going = possible come w kept going
+carrying_possible w kept going = possible w kept going

@@ -26,7 +26,7 @@ use Rattle.hm_model.specs.Locks.{AsksClash, Clash, IsAbove, IsIn, asks}
 use Rattle.hm_model.specs.Phase.{cause, children_ended, ended, root_ended}
 use Rattle.hm_model.specs.Picks.{needs_server}
 use Rattle.hm_model.specs.Reports.{is_reported, peer_in, peer_of, verb_of}
-use Rattle.hm_model.specs.Rest.{IsAnswered, MayUndo}
+use Rattle.hm_model.specs.Rest.{IsAnswered, IsAtRest, MayUndo}
 use Rattle.hm_model.specs.Rules.{IsLegal}
 use Rattle.hm_model.specs.Tree.{Node, is_top, node_of, root_node}
 use Rattle.hm_model.specs.Verbs.{verb_in}
@@ -35,7 +35,7 @@ use Rattle.hm_model.proofs.Forest.{rooted_all}
 use Rattle.hm_model.proofs.PlainActs.{is_caller}
 use Rattle.hm_model.proofs.StepDoes.{bears_by}
 use Rattle.hm_model.proofs.Trees.{IsWaiting, grown_all}
-use Rattle.hm_world_model.specs.Rest.{AllHaveEnded, CallsAreSettled, IsStill, KindsRun, StillIsEnded, can_answer}
+use Rattle.hm_world_model.specs.Rest.{AllHaveEnded, CallsAreSettled, StillIsEnded, can_answer}
 use Rattle.hm_model.proofs.Tops.{ended_top}
 use Rattle.hm_serial.proofs.Taken.{legal_apart, some_node}
 use Rattle.hm_world_model.proofs.Apart.{ended_below, root_open}
@@ -55,13 +55,13 @@ caller_parts (args_are.AssignCall region server) h = (refl, refl, refl)
 caller_parts (args_are.CloseCall region server) h = (refl, refl, refl)
 caller_parts args h = absurd (false≢true h)
 
-module _ (J : Past) (legal : IsLegal J) (kinds : KindsRun J) (live : has_live J ≡ true) (settled : CallsAreSettled J) (still : IsStill J) where
+module _ (J : Past) (legal : IsLegal J) (live : has_live J ≡ true) (settled : CallsAreSettled J) (still : IsAtRest J) where
   -- who can step can go on, if it is free
   module _ (p : ℕ) (x : Node) (is : node_of J p ≡ Some x) (runs : is_stopped (last_answer J p) ≡ false) (uncaused : x.above ≡ [] → cause J p ≡ None) (done : children_ended J p ≡ true) where
     steps : ((n : ℕ) → last_answer J p ≡ Some (answer_is.Await n) → IsAnswered J p x) → IsFree J [] p → ⊥
     steps answered free = elim (goes J legal p x is runs uncaused done) [
-      | inl runnable ↦ still p (free, inl (x, is, (kinds p x is, inl runnable), or_right (not (needs_server J p x)) (has_live J) live))
-      | inr awaits ↦ still p (free, inl (x, is, (kinds p x is, inr (awaits.0, answered awaits.1.0 awaits.1.1)), or_right (not (needs_server J p x)) (has_live J) live))
+      | inl runnable ↦ still p (λ none. none, free, inl (x, is, inl runnable, or_right (not (needs_server J p x)) (has_live J) live))
+      | inr awaits ↦ still p (λ none. none, free, inl (x, is, inr (awaits.0, answered awaits.1.0 awaits.1.1), or_right (not (needs_server J p x)) (has_live J) live))
     ]
 
   unended : (p : ℕ) (x : Node) → node_of J p ≡ Some x → is_stopped (last_answer J p) ≡ false → (x.above ≡ [] → cause J p ≡ None) → ended J p ≡ false
@@ -214,7 +214,7 @@ module _ (J : Past) (legal : IsLegal J) (kinds : KindsRun J) (live : has_live J 
 
   -- a root that holds has nothing to undo
   no_undo : (q : ℕ) → HoldsWith J [] q → MayUndo J q → ⊥
-  no_undo q holds undo = still q (held_free q holds, inr undo)
+  no_undo q holds undo = still q (λ none. none, held_free q holds, inr undo)
 
   -- nobody who moves a region holds
   moving_not : (q : ℕ) (x : Node) (r : Region) → node_of J q ≡ Some x → moved_by x.args ≡ Some r → HoldsWith J [] q → ⊥
@@ -407,7 +407,7 @@ module _ (J : Past) (legal : IsLegal J) (kinds : KindsRun J) (live : has_live J 
   root_done : (r : ℕ) (top : Node) → node_of J r ≡ Some top → top.above ≡ [] → root_ended J r ≡ false → ⊥
   root_done r top is at_top open_root = elim (tree_goes J legal r top is at_top open_root) [
     | inl g ↦ goer_not_free r g (all_free g.pid)
-    | inr undo ↦ still r (all_free r, inr undo)
+    | inr undo ↦ still r (λ none. none, all_free r, inr undo)
   ]
 
   all_ended : AllHaveEnded J
@@ -428,4 +428,4 @@ module _ (J : Past) (legal : IsLegal J) (kinds : KindsRun J) (live : has_live J 
           root_done x.root root.root root.there root.at_top (root_open J legal p x is runs (λ none. absurd (below none)))
 
 pub still_ended : StillIsEnded
-still_ended J legal kinds live settled still = all_ended J legal kinds live settled still
+still_ended J legal live settled still = all_ended J legal live settled still

@@ -77,7 +77,7 @@ not_up_before : (past : Past) (n : ℕ) (s : Server) → came_up past s ≡ fals
 not_up_before past n s h = false_from_ne_true (came_up (drop n past) s) (λ up. true≢false (sym (ups_grow past n s up) ∙ h))
 
 pub newer_of : (past : Past) (s : Server) → Allowed past (entry_is.Up s) → has_newer past s ≡ false
-newer_of past s allowed = allowed.1.0.1
+newer_of past s allowed = allowed.1.0
 
 -- a server that may come up never did
 never_up : (past : Past) (s : Server) → Allowed past (entry_is.Up s) → came_up past s ≡ false

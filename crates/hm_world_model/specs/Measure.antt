@@ -1,16 +1,13 @@
 -- How far calls still have to go.
 use Rattle.std.specs.Prelude.{◌≡◌, ℕ, ◌+◌, ◌*◌, ◌≤◌, length, Option, Some, None, Bool, true, false, not, is_some, ◌==◌, ◌&&◌, ◌||◌, ◌⊎◌}
 use Rattle.std.specs.List.{list_any}
-use Rattle.hm_names.specs.declared.pid.Pid.{Pid}
 use Rattle.hm_data.specs.declared.call.Call.{Call}
 use Rattle.hm_data.specs.declared.call.Peer.{Peer}
 use Rattle.hm_data.specs.declared.call.ReportMsg.{ReportMsg}
-use Rattle.hm_data.specs.declared.call.Told.{Told}
 use Rattle.hm_data.specs.declared.entry.Entry.{Entry}
 use Rattle.hm_data.specs.declared.entry.Entry.TheVariants as entry_is
 use Rattle.hm_model.specs.Counts.{count_below, one_if}
 use Rattle.hm_model.specs.Reports.{is_settled, peer_of}
-use Rattle.hm_model.specs.Requests.{MayCome}
 use Rattle.hm_model.specs.Tree.{made}
 use Rattle.hm_world_model.specs.Events.{Claim, Commit, Deliver, Event, Flush, GiveUp, Hear, Ignore, Send, Travels, Works, happens, with_entry}
 use Rattle.hm_world_model.specs.Outside.{Outside, runs}
@@ -84,13 +81,9 @@ CanCarry w =
     ⊎ (((report : ReportMsg) × Carries w (Travels (Ignore report)))
     ⊎ ((call : Call) × Carries w (Travels (Send call)))))
 
--- reports may be recorded
-abbrev pub ReportsMayCome : Type 0
-ReportsMayCome = (call : Pid) (told : Told) → MayCome (entry_is.Report call told)
-
 -- where nothing can be carried, at once or behind a flush of the whole journal, nothing is left to carry
 abbrev pub CarryingIsPossible : Type 0
 CarryingIsPossible =
-    ReportsMayCome → (w : World) → IsKept w → GoesOn w
+    (w : World) → IsKept w → GoesOn w
     → (left_to_carry w ≡ 0)
     ⊎ (CanCarry w ⊎ (May w (Works (Flush (length w.past))) × CanCarry (happens w (Works (Flush (length w.past))))))

@@ -8,7 +8,7 @@ pub returns-clause-start : goal.returns-clause-start
 returns-clause-start c = start_recorded
 
 pub returns-clause-submit : goal.returns-clause-submit
-returns-clause-submit c = λ nonce request may. submit_recorded nonce request may.0
+returns-clause-submit c = λ nonce request may. submit_recorded nonce request may
 
 pub returns-clause-step : goal.returns-clause-step
 returns-clause-step c = λ journal pid pick out legal fit allowed.

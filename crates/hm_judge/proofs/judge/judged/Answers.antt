@@ -1,8 +1,7 @@
-use Rattle.std.proofs.Common.{not, ap, sym, ◌∙◌, refl, inl, inr, subst}
+use Rattle.std.proofs.Common.{not, ap, sym, ◌∙◌, refl, inl, inr}
 use Rattle.std.proofs.lemmas.Bool.{false≢true}
 use Rattle.std.proofs.lemmas.Result.{err_from_is_err_and, on_ok_weaker}
-use Rattle.hm_model.specs.Requests.{MayCome}
-use Rattle.hm_judge.proofs.Rules.{broken_by, own_broken}
+use Rattle.hm_judge.proofs.Rules.{broken_by}
 use Rattle.hm_judge.proofs.Stepping.{not_true}
 use Rattle.hm_judge.proofs.judge.judged.Goals as goal
 
@@ -11,12 +10,12 @@ returns-in_err-rule-in-Step-2-clause-broken c =
     let p = err_from_is_err_and c.from_residual-in_err-rule-in-Step-2.result c.from_residual-in_err-rule-in-Step-2.ensures.1 in
     let broken = c.in_err-rule-in-Step-2.ensures.broken in
     let may = c.may_step.ensures.0 c.in_ok-rule-in-Step.ensures.ok in
-    rw (p.1, p.2, c.in-Step.is) (inr (c.procedures-begun.ensures.begun, inr (may, inl (broken.0, λ clear. false≢true (sym broken.1 ∙ c.is_clear.ensures.1 clear)))))
+    rw (p.1, p.2, c.in-Step.is) (inr (c.procedures-begun.ensures.begun, inr (may, inl (broken.0, λ clear. false≢true (sym broken.1 ∙ c.is_free.ensures.1 clear)))))
 
 pub returns-in_ok-rule-in-Step-2-clause-ok : goal.returns-in_ok-rule-in-Step-2-clause-ok
 returns-in_ok-rule-in-Step-2-clause-ok c =
     let may = c.may_step.ensures.0 c.in_ok-rule-in-Step.ensures.ok in
-    let clear = c.is_clear.ensures.0 c.in_ok-rule-in-Step-2.ensures.ok in
+    let clear = c.is_free.ensures.0 c.in_ok-rule-in-Step-2.ensures.ok in
     on_ok_weaker c.rule-in-Step-3.result
     (λ picks. rw c.in-Step.is (λ e. c.procedures-begun.ensures.begun, (λ e. may, (λ e. clear, (λ e. c.picks_right.ensures.0 picks, (λ not_it. absurd (not_it refl), tt))))))
     c.rule-in-Step-3.ensures.ok
@@ -24,91 +23,91 @@ returns-in_ok-rule-in-Step-2-clause-ok c =
 pub returns-in_ok-rule-in-Step-2-clause-broken : goal.returns-in_ok-rule-in-Step-2-clause-broken
 returns-in_ok-rule-in-Step-2-clause-broken c =
     let may = c.may_step.ensures.0 c.in_ok-rule-in-Step.ensures.ok in
-    let clear = c.is_clear.ensures.0 c.in_ok-rule-in-Step-2.ensures.ok in
+    let clear = c.is_free.ensures.0 c.in_ok-rule-in-Step-2.ensures.ok in
     broken_by c.args.records.now.past c.args.entry.now 7 c.picks_right.result c.rule-in-Step-3.result
     (λ k is off. rw c.in-Step.is (inr (c.procedures-begun.ensures.begun, inr (may, inr (clear, inl (is, λ picks. false≢true (sym off ∙ c.picks_right.ensures.1 picks)))))))
     c.rule-in-Step-3.ensures.broken
 
 pub returns-in-Undo-clause-ok : goal.returns-in-Undo-clause-ok
 returns-in-Undo-clause-ok c =
-    on_ok_weaker c.own_rule.result
-    (λ both. rw c.in-Undo.is (λ e. c.procedures-begun.ensures.begun, (λ e. (subst MayCome c.in-Undo.is both.0, c.is_latest.ensures.0 both.1), (λ not_it. absurd (not_it refl), tt))))
-    c.own_rule.ensures.ok
+    on_ok_weaker c.rule-in-Undo.result
+    (λ on. rw c.in-Undo.is (λ e. c.procedures-begun.ensures.begun, (λ e. c.is_latest.ensures.0 on, (λ not_it. absurd (not_it refl), tt))))
+    c.rule-in-Undo.ensures.ok
 
 pub returns-in-Undo-clause-broken : goal.returns-in-Undo-clause-broken
 returns-in-Undo-clause-broken c =
-    own_broken c.args.records.now.past c.args.entry.now 9 c.is_latest.result c.own_rule.result
-    (λ k is refused. rw c.in-Undo.is (inr (c.procedures-begun.ensures.begun, inl (is, λ it. refused (subst MayCome (sym c.in-Undo.is) it.0) (c.is_latest.ensures.1 it.1)))))
-    c.own_rule.ensures.broken
+    broken_by c.args.records.now.past c.args.entry.now 9 c.is_latest.result c.rule-in-Undo.result
+    (λ k is off. rw c.in-Undo.is (inr (c.procedures-begun.ensures.begun, inl (is, λ it. false≢true (sym off ∙ c.is_latest.ensures.1 it)))))
+    c.rule-in-Undo.ensures.broken
 
-pub returns-in_err-own_rule-in-Report-clause-broken : goal.returns-in_err-own_rule-in-Report-clause-broken
-returns-in_err-own_rule-in-Report-clause-broken c =
-    let p = err_from_is_err_and c.from_residual-in_err-own_rule-in-Report.result c.from_residual-in_err-own_rule-in-Report.ensures.1 in
-    let broken = c.in_err-own_rule-in-Report.ensures.broken in
-    rw (p.1, p.2, c.in-Report.is) (inr (c.procedures-begun.ensures.begun, inl (broken.0, λ it. broken.1 (subst MayCome (sym c.in-Report.is) it.0) (c.is_outstanding.ensures.1 it.1))))
+pub returns-in_err-rule-in-Report-clause-broken : goal.returns-in_err-rule-in-Report-clause-broken
+returns-in_err-rule-in-Report-clause-broken c =
+    let p = err_from_is_err_and c.from_residual-in_err-rule-in-Report.result c.from_residual-in_err-rule-in-Report.ensures.1 in
+    let broken = c.in_err-rule-in-Report.ensures.broken in
+    rw (p.1, p.2, c.in-Report.is) (inr (c.procedures-begun.ensures.begun, inl (broken.0, λ it. false≢true (sym broken.1 ∙ c.is_outstanding.ensures.1 it))))
 
-pub returns-in_ok-own_rule-in-Report-clause-ok : goal.returns-in_ok-own_rule-in-Report-clause-ok
-returns-in_ok-own_rule-in-Report-clause-ok c =
-    let first = c.in_ok-own_rule-in-Report.ensures.ok in
-    on_ok_weaker c.rule-in-Report.result
-    (λ on. rw c.in-Report.is (λ e. c.procedures-begun.ensures.begun, (λ e. (subst MayCome c.in-Report.is first.0, c.is_outstanding.ensures.0 first.1), (λ e. c.fits_call.ensures.0 on, tt))))
-    c.rule-in-Report.ensures.ok
+pub returns-in_ok-rule-in-Report-clause-ok : goal.returns-in_ok-rule-in-Report-clause-ok
+returns-in_ok-rule-in-Report-clause-ok c =
+    let first = c.in_ok-rule-in-Report.ensures.ok in
+    on_ok_weaker c.rule-in-Report-2.result
+    (λ on. rw c.in-Report.is (λ e. c.procedures-begun.ensures.begun, (λ e. c.is_outstanding.ensures.0 first, (λ e. c.fits_call.ensures.0 on, tt))))
+    c.rule-in-Report-2.ensures.ok
 
-pub returns-in_ok-own_rule-in-Report-clause-broken : goal.returns-in_ok-own_rule-in-Report-clause-broken
-returns-in_ok-own_rule-in-Report-clause-broken c =
-    let first = c.in_ok-own_rule-in-Report.ensures.ok in
-    broken_by c.args.records.now.past c.args.entry.now 12 c.fits_call.result c.rule-in-Report.result
-    (λ k is off. rw c.in-Report.is (inr (c.procedures-begun.ensures.begun, inr ((subst MayCome c.in-Report.is first.0, c.is_outstanding.ensures.0 first.1), inl (is, λ it. false≢true (sym off ∙ c.fits_call.ensures.1 it))))))
-    c.rule-in-Report.ensures.broken
+pub returns-in_ok-rule-in-Report-clause-broken : goal.returns-in_ok-rule-in-Report-clause-broken
+returns-in_ok-rule-in-Report-clause-broken c =
+    let first = c.in_ok-rule-in-Report.ensures.ok in
+    broken_by c.args.records.now.past c.args.entry.now 12 c.fits_call.result c.rule-in-Report-2.result
+    (λ k is off. rw c.in-Report.is (inr (c.procedures-begun.ensures.begun, inr (c.is_outstanding.ensures.0 first, inl (is, λ it. false≢true (sym off ∙ c.fits_call.ensures.1 it))))))
+    c.rule-in-Report-2.ensures.broken
 
-pub returns-in_err-own_rule-in-Up-clause-broken : goal.returns-in_err-own_rule-in-Up-clause-broken
-returns-in_err-own_rule-in-Up-clause-broken c =
-    let p = err_from_is_err_and c.from_residual-in_err-own_rule-in-Up.result c.from_residual-in_err-own_rule-in-Up.ensures.1 in
-    let broken = c.in_err-own_rule-in-Up.ensures.broken in
-    rw (p.1, p.2, c.in-Up.is) (inr (c.procedures-begun.ensures.begun, inl (broken.0, λ it. broken.1 (subst MayCome (sym c.in-Up.is) it.0) (ap not (c.has_newer.ensures ∙ it.1)))))
+pub returns-in_err-rule-in-Up-clause-broken : goal.returns-in_err-rule-in-Up-clause-broken
+returns-in_err-rule-in-Up-clause-broken c =
+    let p = err_from_is_err_and c.from_residual-in_err-rule-in-Up.result c.from_residual-in_err-rule-in-Up.ensures.1 in
+    let broken = c.in_err-rule-in-Up.ensures.broken in
+    rw (p.1, p.2, c.in-Up.is) (inr (c.procedures-begun.ensures.begun, inl (broken.0, λ it. false≢true (sym broken.1 ∙ ap not (c.has_newer.ensures ∙ it)))))
 
-pub returns-in_ok-own_rule-in-Up-clause-ok : goal.returns-in_ok-own_rule-in-Up-clause-ok
-returns-in_ok-own_rule-in-Up-clause-ok c =
-    let first = c.in_ok-own_rule-in-Up.ensures.ok in
-    on_ok_weaker c.rule-in-Up.result
-    (λ on. rw c.in-Up.is (λ e. c.procedures-begun.ensures.begun, (λ e. (subst MayCome c.in-Up.is first.0, sym c.has_newer.ensures ∙ not_true c.has_newer.result first.1), (λ e. sym c.has_older_live.ensures ∙ not_true c.has_older_live.result on, tt))))
-    c.rule-in-Up.ensures.ok
+pub returns-in_ok-rule-in-Up-clause-ok : goal.returns-in_ok-rule-in-Up-clause-ok
+returns-in_ok-rule-in-Up-clause-ok c =
+    let first = c.in_ok-rule-in-Up.ensures.ok in
+    on_ok_weaker c.rule-in-Up-2.result
+    (λ on. rw c.in-Up.is (λ e. c.procedures-begun.ensures.begun, (λ e. sym c.has_newer.ensures ∙ not_true c.has_newer.result first, (λ e. sym c.has_older_live.ensures ∙ not_true c.has_older_live.result on, tt))))
+    c.rule-in-Up-2.ensures.ok
 
-pub returns-in_ok-own_rule-in-Up-clause-broken : goal.returns-in_ok-own_rule-in-Up-clause-broken
-returns-in_ok-own_rule-in-Up-clause-broken c =
-    let first = c.in_ok-own_rule-in-Up.ensures.ok in
-    broken_by c.args.records.now.past c.args.entry.now 14 (not c.has_older_live.result) c.rule-in-Up.result
-    (λ k is off. rw c.in-Up.is (inr (c.procedures-begun.ensures.begun, inr ((subst MayCome c.in-Up.is first.0, sym c.has_newer.ensures ∙ not_true c.has_newer.result first.1), inl (is, λ it. false≢true (sym off ∙ ap not (c.has_older_live.ensures ∙ it)))))))
-    c.rule-in-Up.ensures.broken
+pub returns-in_ok-rule-in-Up-clause-broken : goal.returns-in_ok-rule-in-Up-clause-broken
+returns-in_ok-rule-in-Up-clause-broken c =
+    let first = c.in_ok-rule-in-Up.ensures.ok in
+    broken_by c.args.records.now.past c.args.entry.now 14 (not c.has_older_live.result) c.rule-in-Up-2.result
+    (λ k is off. rw c.in-Up.is (inr (c.procedures-begun.ensures.begun, inr (sym c.has_newer.ensures ∙ not_true c.has_newer.result first, inl (is, λ it. false≢true (sym off ∙ ap not (c.has_older_live.ensures ∙ it)))))))
+    c.rule-in-Up-2.ensures.broken
 
 pub returns-in-Down-clause-ok : goal.returns-in-Down-clause-ok
 returns-in-Down-clause-ok c =
-    on_ok_weaker c.own_rule-in-Down.result
-    (λ both. rw c.in-Down.is (λ e. c.procedures-begun.ensures.begun, (λ e. (subst MayCome c.in-Down.is both.0, sym c.is_live.ensures ∙ both.1), tt)))
-    c.own_rule-in-Down.ensures.ok
+    on_ok_weaker c.rule-in-Down.result
+    (λ on. rw c.in-Down.is (λ e. c.procedures-begun.ensures.begun, (λ e. sym c.is_live.ensures ∙ on, tt)))
+    c.rule-in-Down.ensures.ok
 
 pub returns-in-Down-clause-broken : goal.returns-in-Down-clause-broken
 returns-in-Down-clause-broken c =
-    own_broken c.args.records.now.past c.args.entry.now 15 c.is_live.result c.own_rule-in-Down.result
-    (λ k is refused. rw c.in-Down.is (inr (c.procedures-begun.ensures.begun, inl (is, λ it. refused (subst MayCome (sym c.in-Down.is) it.0) (c.is_live.ensures ∙ it.1)))))
-    c.own_rule-in-Down.ensures.broken
+    broken_by c.args.records.now.past c.args.entry.now 15 c.is_live.result c.rule-in-Down.result
+    (λ k is off. rw c.in-Down.is (inr (c.procedures-begun.ensures.begun, inl (is, λ it. false≢true (sym off ∙ c.is_live.ensures ∙ it)))))
+    c.rule-in-Down.ensures.broken
 
-pub returns-in_err-own_rule-in-Abort-clause-broken : goal.returns-in_err-own_rule-in-Abort-clause-broken
-returns-in_err-own_rule-in-Abort-clause-broken c =
-    let p = err_from_is_err_and c.from_residual-in_err-own_rule-in-Abort.result c.from_residual-in_err-own_rule-in-Abort.ensures.1 in
-    let broken = c.in_err-own_rule-in-Abort.ensures.broken in
-    rw (p.1, p.2, c.in-Abort.is) (inr (c.procedures-begun.ensures.begun, inl (broken.0, λ it. broken.1 (subst MayCome (sym c.in-Abort.is) it.0) (c.can_abort.ensures.1 it.1))))
+pub returns-in_err-rule-in-Abort-clause-broken : goal.returns-in_err-rule-in-Abort-clause-broken
+returns-in_err-rule-in-Abort-clause-broken c =
+    let p = err_from_is_err_and c.from_residual-in_err-rule-in-Abort.result c.from_residual-in_err-rule-in-Abort.ensures.1 in
+    let broken = c.in_err-rule-in-Abort.ensures.broken in
+    rw (p.1, p.2, c.in-Abort.is) (inr (c.procedures-begun.ensures.begun, inl (broken.0, λ it. false≢true (sym broken.1 ∙ c.can_abort.ensures.1 it))))
 
-pub returns-in_ok-own_rule-in-Abort-clause-ok : goal.returns-in_ok-own_rule-in-Abort-clause-ok
-returns-in_ok-own_rule-in-Abort-clause-ok c =
-    let first = c.in_ok-own_rule-in-Abort.ensures.ok in
-    on_ok_weaker c.rule-in-Abort.result
-    (λ on. rw c.in-Abort.is (λ e. c.procedures-begun.ensures.begun, (λ e. (subst MayCome c.in-Abort.is first.0, c.can_abort.ensures.0 first.1), (λ e. c.is_before_point.ensures.0 on, tt))))
-    c.rule-in-Abort.ensures.ok
+pub returns-in_ok-rule-in-Abort-clause-ok : goal.returns-in_ok-rule-in-Abort-clause-ok
+returns-in_ok-rule-in-Abort-clause-ok c =
+    let first = c.in_ok-rule-in-Abort.ensures.ok in
+    on_ok_weaker c.rule-in-Abort-2.result
+    (λ on. rw c.in-Abort.is (λ e. c.procedures-begun.ensures.begun, (λ e. c.can_abort.ensures.0 first, (λ e. c.is_before_point.ensures.0 on, tt))))
+    c.rule-in-Abort-2.ensures.ok
 
-pub returns-in_ok-own_rule-in-Abort-clause-broken : goal.returns-in_ok-own_rule-in-Abort-clause-broken
-returns-in_ok-own_rule-in-Abort-clause-broken c =
-    let first = c.in_ok-own_rule-in-Abort.ensures.ok in
-    broken_by c.args.records.now.past c.args.entry.now 17 c.is_before_point.result c.rule-in-Abort.result
-    (λ k is off. rw c.in-Abort.is (inr (c.procedures-begun.ensures.begun, inr ((subst MayCome c.in-Abort.is first.0, c.can_abort.ensures.0 first.1), inl (is, λ it. false≢true (sym off ∙ c.is_before_point.ensures.1 it))))))
-    c.rule-in-Abort.ensures.broken
+pub returns-in_ok-rule-in-Abort-clause-broken : goal.returns-in_ok-rule-in-Abort-clause-broken
+returns-in_ok-rule-in-Abort-clause-broken c =
+    let first = c.in_ok-rule-in-Abort.ensures.ok in
+    broken_by c.args.records.now.past c.args.entry.now 17 c.is_before_point.result c.rule-in-Abort-2.result
+    (λ k is off. rw c.in-Abort.is (inr (c.procedures-begun.ensures.begun, inr (c.can_abort.ensures.0 first, inl (is, λ it. false≢true (sym off ∙ c.is_before_point.ensures.1 it))))))
+    c.rule-in-Abort-2.ensures.broken

@@ -12,6 +12,6 @@ returns-then-is_some c =
     let J : Past = c.args.records.now.past in
     let its : Record = c.in-Some.found.now in
     let told : is_some (report_of J c.args.pid.0) ≡ true = ap (λ (l : Past). is_some (report_of l c.args.pid.0)) (sym c.procedures.ensures.past) ∙ ap is_some (sym c.report.ensures) ∙ sym c.is_some.ensures ∙ c.if-is_some.true in
-    let ready : IsReadyBy J c.args.pid.0 its = (sym c.is_running_kind.ensures ∙ c.if-not-is_running_kind.false, inr (c.in-Awaiting.is, inl (λ none. false≢true (sym (ap is_some none) ∙ told)))) in
+    let ready : IsReadyBy J c.args.pid.0 its = inr (c.in-Awaiting.is, inl (λ none. false≢true (sym (ap is_some none) ∙ told))) in
     let iff = may_iff J c.args.pid.0 its (sym (ap option_copied c.in-Some.is) ∙ c.find.ensures.found) in
     (λ on. iff.1 ready, λ may. c.if-is_some.true)

@@ -1,5 +1,5 @@
 use Rattle.hm_model.proofs.Counting.{all_ended, none_unfinished}
-use Rattle.hm_model.proofs.Holders.{nonces_once}
+use Rattle.hm_model.proofs.Nonces.{nonces_once}
 use Rattle.hm_model.proofs.laws.roots_are_told.Goals as goal
 
 pub returns-clause-nonces : goal.returns-clause-nonces

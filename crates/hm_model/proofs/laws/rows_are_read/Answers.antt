@@ -1,5 +1,5 @@
 use Rattle.hm_model.proofs.Ranges.{row_fits}
-use Rattle.hm_model.proofs.Rows.{keys_in_order, has_key, read_alike, row_read, read_none, read_one, row_of_ns}
+use Rattle.hm_model.proofs.Rows.{keys_in_order, has_key, read_alike, row_read}
 use Rattle.hm_model.proofs.laws.rows_are_read.Goals as goal
 
 pub returns-clause-listed : goal.returns-clause-listed
@@ -7,9 +7,6 @@ returns-clause-listed c = λ J. (keys_in_order J, has_key J)
 
 pub returns-clause-read : goal.returns-clause-read
 returns-clause-read c = row_read
-
-pub returns-clause-namespace : goal.returns-clause-namespace
-returns-clause-namespace c = λ J ns first. (read_none J ns first, read_one J ns first, row_of_ns J ns first)
 
 pub returns-clause-alike : goal.returns-clause-alike
 returns-clause-alike c = read_alike

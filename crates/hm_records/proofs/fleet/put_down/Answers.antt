@@ -17,7 +17,7 @@ unreachable-requires c =
     let why : DownRefused = c.in_default-down.field-0 in
     let legal : IsLegal (entry_is.Down server ∷ J) = subst (λ (e : Entry). IsLegal (e ∷ J)) c.in-Down.is c.requires.legal in
     let refused : CannotGoDown (standings_of J) server why = subst (λ l. CannotGoDown l server why) c.requires.servers c.in_default-down.ensures.refused in
-    can_go_down J server (c.servers_follow.ensures.tell J legal.0) legal.1.1.0.1 why refused
+    can_go_down J server (c.servers_follow.ensures.tell J legal.0) legal.1.1.0 why refused
 
 pub returns-clause-servers : goal.returns-clause-servers
 returns-clause-servers c other down =

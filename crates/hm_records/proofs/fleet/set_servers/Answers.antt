@@ -20,7 +20,7 @@ add-requires-clause-may c =
     let is = up_is c.args.entry.now server (sym c.requires.up ∙ c.in-Some.is) in
     let legal : IsLegal (entry_is.Up server ∷ J) = subst (λ (e : Entry). IsLegal (e ∷ J)) is c.requires.legal in
     let starts : 1 ≤ server.start = subst (λ (s : Server). 1 ≤ s.start) c.server.view_is c.server.invariant.1 in
-    subst (λ l. MayComeUp l server) (sym c.requires.servers) (may_come_up J server (c.servers_follow.ensures.tell J legal.0) starts legal.1.1.0.1)
+    subst (λ l. MayComeUp l server) (sym c.requires.servers) (may_come_up J server (c.servers_follow.ensures.tell J legal.0) starts legal.1.1.0)
 
 pub add-requires-clause-alone : goal.add-requires-clause-alone
 add-requires-clause-alone c =

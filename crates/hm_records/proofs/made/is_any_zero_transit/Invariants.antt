@@ -1,6 +1,6 @@
 use Rattle.std.proofs.Common.{◌≡◌, drop}
 use Rattle.std.specs.List.{list_any}
-use Rattle.hm_records.specs.Parts.{is_zero_transit}
+use Rattle.hm_model.specs.RegionIds.{is_zero_transit}
 use Rattle.hm_records.proofs.made.is_any_zero_transit.Given as goal
 
 abbrev pub invariant-loop-child : goal.invariant-loop-child

@@ -10,6 +10,7 @@ use Rattle.hm_top.specs.View.{IsLeftBy, standing_of}
 use Rattle.hm_top.proofs.Offered.{offered_in}
 use Rattle.hm_top.proofs.Ran.{run_none, ran_idle, ran_on}
 use Rattle.hm_top.proofs.Sessions.{begun_said, not_begun, said_less, said_more, stopped_within}
+use Rattle.hm_top.proofs.Steps.{serve_on}
 use Rattle.hm_top.proofs.answering.answer_all.Goals as goal
 
 pub returns-in-Err-clause-early : goal.returns-in-Err-clause-early
@@ -34,6 +35,11 @@ loop-command-init g c =
       ran = ran_idle _ was.kept.entries was.kept.entries refl (run_none _ _);
       sink_later = c.say.ensures.cause.later;
     }
+
+pub answer-requires-clause-hands : goal.answer-requires-clause-hands
+answer-requires-clause-hands g c =
+    let so_far = c.loop-command in
+    serve_on _ _ c.args.world.kept.entries so_far.world.kept.entries c.requires.hands so_far.invariant.ran.2.alike so_far.invariant.begun
 
 pub answer-requires-clause-offered : goal.answer-requires-clause-offered
 answer-requires-clause-offered g c =

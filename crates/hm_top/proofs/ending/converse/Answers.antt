@@ -1,10 +1,10 @@
-use Rattle.std.proofs.Common.{◌≡◌, ◌≢◌, [], length, Ok, Err, refl, sym, ap, ◌∙◌, subst, inl, inr, map, arith}
+use Rattle.std.proofs.Common.{◌≡◌, Ok, Err, refl, sym, ap, ◌∙◌, subst, inl, inr, map}
 use Rattle.std.specs.List.{flat_map}
-use Rattle.std.proofs.lemmas.Grind.{common_steps}
+use Rattle.hm_disk.specs.Called.{IsCalled}
 use Rattle.hm_journal.specs.Stored.{IsOnDisk}
 use Rattle.hm_journal.specs.Verdict.{IsUnjudged}
 use Rattle.hm_journal.specs.declared.why.JournalWhy.{JournalWhy}
-use Rattle.hm_sheet.specs.Words.{AreListed}
+use Rattle.hm_sheet.specs.Words.{AreWhole}
 use Rattle.hm_top.specs.declared.status.LogWhy.{LogWhy}
 use Rattle.hm_top.specs.declared.status.RunStatus.TheVariants.{LogFault, LogRefused, Memory}
 use Rattle.hm_model.specs.Journal.{back}
@@ -17,10 +17,10 @@ use Rattle.hm_top.specs.declared.status.EarlyEnd.TheVariants as early_is
 use Rattle.hm_top.specs.declared.status.EarlyEnd.TheVariants.{WriteFault}
 use Rattle.hm_top.specs.declared.status.RunStatus.TheVariants as run_is
 use Rattle.hm_top.specs.Ending.{early_status, halted_status, unopened_status}
-use Rattle.hm_top.specs.View.{IsLeftBy, standing_of}
+use Rattle.hm_top.specs.View.{IsLeftBy, WorldView, standing_of}
 use Rattle.hm_top.proofs.Ran.{run_less, run_none}
 use Rattle.hm_top.proofs.Registries.{agree_own, all_first, first_is, used_are}
-use Rattle.hm_top.proofs.Runs.{converse_answered, converse_full, converse_unopened}
+use Rattle.hm_top.proofs.Runs.{IsOpened, converse_answered, converse_full, converse_unopened}
 use Rattle.hm_top.proofs.ending.converse.Goals as goal
 
 -- an opening that isn't judged isn't told as a refusal
@@ -38,22 +38,25 @@ answer_all-requires-clause-hands g c =
     let f = λ (r : _). flat_map (λ h. (goal.Handler-dyn g (h.vtable, h.value)).sheets_are h.value) r.handlers.items in
     let hands = c.args.hands.now.items in
     let one = c.index.result.now in
-    let list = all_first f hands c.requires.agree (λ (r : _). AreListed (f r) r.list) one c.index.ensures c.requires.each in
-    let opened = c.in-Ok.ensures.sheets ∙ c.as_slice.ensures ∙ c.running_sheets-sheets.ensures in
+    let list = all_first f hands c.requires.agree (λ (r : _). AreWhole (f r) r.whole) one c.index.ensures c.requires.each in
+    let opened = ap (λ (w : WorldView _). begun_with (back w.kept.entries)) c.in-Ok-of.ensures.world ∙ c.in-Ok.ensures.sheets ∙ c.as_slice.ensures ∙ c.sheets-sheets.ensures in
     let first : first_sheets (map f hands) ≡ f one = first_is f hands c.requires.agree one c.index.ensures in
     record {
       agree = c.requires.agree;
-      begins = subst (λ s. AgreeOn s (begun_with (back c.in-Ok.world.kept.entries))) (sym first) (subst (AgreeOn (f one)) (sym opened) (agree_own (f one) one.list list));
+      begins = subst (λ s. AgreeOn s (begun_with (back c.in-Ok-of.world.kept.entries))) (sym first) (subst (AgreeOn (f one)) (sym opened) (agree_own (f one) one.whole list));
     }
 
 pub returns-in-Ok-answer_all-clause-outcome : goal.returns-in-Ok-answer_all-clause-outcome
 returns-in-Ok-answer_all-clause-outcome g c =
     let f = λ (r : _). flat_map (λ h. (goal.Handler-dyn g (h.vtable, h.value)).sheets_are h.value) r.handlers.items in
-    let listed = used_are f (λ (r : _). r.list) c.args.hands.now.items c.requires.agree c.requires.each c.index.result.now c.index.ensures c.as_slice.result.now (c.as_slice.ensures ∙ c.running_sheets-sheets.ensures) in
+    let listed = used_are f (λ (r : _). r.whole) c.args.hands.now.items c.requires.agree c.requires.each c.index.result.now c.index.ensures c.as_slice.result.now (c.as_slice.ensures ∙ c.sheets-sheets.ensures) in
     let opened = c.in-Ok.ensures in
+    let same = sym c.in-Ok-of.ensures.world in
+    let journal = subst (λ (w : WorldView _). IsOpened g.D.Disk c.as_slice.result.now c.args.limits c.args.disk w) same opened.journal in
+    let called = subst (λ (w : WorldView _). IsCalled g.D.Disk 1 c.args.disk w.opened.disk) same opened.called in
     let answered = c.in-Ok-answer_all.ensures in
     converse_answered g.D.Disk c.args.commands.items c.args.limits (sink_use g.K.Sink c.args.out.now c.answer_all.new.out) c.args.disk c.into_disk-in-Ok-answer_all.result _ c.answer_all.new.marks.items c.as_slice.result.now listed c.status_of_halt.result
-    c.in-Ok.world (standing_of c.in-Ok-answer_all.world) (Ok tt) (c.status_of_halt.ensures ∙ ap halted_status c.halted-halted.ensures.halted) opened.journal opened.called answered.done
+    c.in-Ok-of.world (standing_of c.in-Ok-answer_all.world) (Ok tt) (c.status_of_halt.ensures ∙ ap halted_status c.halted-halted.ensures.halted) journal called answered.done
     (subst (λ (at : OpenedAt _). IsLeftBy g.D.Disk at (standing_of c.in-Ok-answer_all.world) c.into_disk-in-Ok-answer_all.result) answered.opened c.into_disk-in-Ok-answer_all.ensures.left) answered.ran (λ is. absurd (cc))
 
 pub returns-in-Ok-answer_all-clause-run_by : goal.returns-in-Ok-answer_all-clause-run_by
@@ -62,11 +65,14 @@ returns-in-Ok-answer_all-clause-run_by g c = run_less _ _ c.in-Ok-answer_all.ens
 pub returns-in-Err-answer_all-clause-outcome : goal.returns-in-Err-answer_all-clause-outcome
 returns-in-Err-answer_all-clause-outcome g c =
     let f = λ (r : _). flat_map (λ h. (goal.Handler-dyn g (h.vtable, h.value)).sheets_are h.value) r.handlers.items in
-    let listed = used_are f (λ (r : _). r.list) c.args.hands.now.items c.requires.agree c.requires.each c.index.result.now c.index.ensures c.as_slice.result.now (c.as_slice.ensures ∙ c.running_sheets-sheets.ensures) in
+    let listed = used_are f (λ (r : _). r.whole) c.args.hands.now.items c.requires.agree c.requires.each c.index.result.now c.index.ensures c.as_slice.result.now (c.as_slice.ensures ∙ c.sheets-sheets.ensures) in
     let opened = c.in-Ok.ensures in
+    let same = sym c.in-Ok-of.ensures.world in
+    let journal = subst (λ (w : WorldView _). IsOpened g.D.Disk c.as_slice.result.now c.args.limits c.args.disk w) same opened.journal in
+    let called = subst (λ (w : WorldView _). IsCalled g.D.Disk 1 c.args.disk w.opened.disk) same opened.called in
     let early = c.in-Err-answer_all.ensures.early in
     converse_answered g.D.Disk c.args.commands.items c.args.limits (sink_use g.K.Sink c.args.out.now c.answer_all.new.out) c.args.disk c.in-Err-answer_all.disk _ c.answer_all.new.marks.items c.as_slice.result.now listed c.status_of_end.result
-    c.in-Ok.world early.0 (Err c.in-Err-answer_all.end) c.status_of_end.ensures opened.journal opened.called early.1 early.2 early.3
+    c.in-Ok-of.world early.0 (Err c.in-Err-answer_all.end) c.status_of_end.ensures journal called early.1 early.2 early.3
     (λ is. let same : c.in-Err-answer_all.end ≡ WriteFault = cc in c.in-Err-answer_all.ensures.fault same)
 
 pub returns-in-Err-answer_all-clause-run_by : goal.returns-in-Err-answer_all-clause-run_by
@@ -75,19 +81,32 @@ returns-in-Err-answer_all-clause-run_by g c = run_less _ _ c.in-Err-answer_all.e
 pub returns-in_default-clause-outcome : goal.returns-in_default-clause-outcome
 returns-in_default-clause-outcome g c =
     let f = λ (r : _). flat_map (λ h. (goal.Handler-dyn g (h.vtable, h.value)).sheets_are h.value) r.handlers.items in
-    let listed = used_are f (λ (r : _). r.list) c.args.hands.now.items c.requires.agree c.requires.each c.index.result.now c.index.ensures c.as_slice.result.now (c.as_slice.ensures ∙ c.running_sheets-sheets.ensures) in
+    let listed = used_are f (λ (r : _). r.whole) c.args.hands.now.items c.requires.agree c.requires.each c.index.result.now c.index.ensures c.as_slice.result.now (c.as_slice.ensures ∙ c.sheets-sheets.ensures) in
     let opened = c.in-Ok.ensures in
-    let some : c.args.commands.items ≢ [] = λ none. (let empty : length c.args.commands.items ≡ 0 = ap length none in grind (arith, common_steps)) in
+    let same = sym c.in-Ok-of.ensures.world in
+    let journal = subst (λ (w : WorldView _). IsOpened g.D.Disk c.as_slice.result.now c.args.limits c.args.disk w) same opened.journal in
+    let called = subst (λ (w : WorldView _). IsCalled g.D.Disk 1 c.args.disk w.opened.disk) same opened.called in
     converse_full g.D.Disk c.args.commands.items c.args.limits (sink_use g.K.Sink c.args.out.now c.args.out.now) c.args.disk c.into_disk.result _ c.reserve.new.self.items c.as_slice.result.now listed Memory
-    c.in-Ok.world refl opened.journal opened.called c.into_disk.ensures.left (run_none _ _) (c.reserve.ensures.items ∙ c.requires.fresh) some (λ told. refl)
+    c.in-Ok-of.world refl journal called c.into_disk.ensures.left (run_none _ _) (c.reserve.ensures.items ∙ c.requires.fresh) (λ told. refl)
 
 pub returns-in_default-clause-run_by : goal.returns-in_default-clause-run_by
 returns-in_default-clause-run_by g c = run_none _ _
 
+pub returns-in-Err-of-clause-outcome : goal.returns-in-Err-of-clause-outcome
+returns-in-Err-of-clause-outcome g c =
+    let f = λ (r : _). flat_map (λ h. (goal.Handler-dyn g (h.vtable, h.value)).sheets_are h.value) r.handlers.items in
+    let listed = used_are f (λ (r : _). r.whole) c.args.hands.now.items c.requires.agree c.requires.each c.index.result.now c.index.ensures c.as_slice.result.now (c.as_slice.ensures ∙ c.sheets-sheets.ensures) in
+    let opened = c.in-Ok.ensures in
+    converse_full g.D.Disk c.args.commands.items c.args.limits (sink_use g.K.Sink c.args.out.now c.args.out.now) c.args.disk c.in-Err-of.disk _ c.args.marks.now.items c.as_slice.result.now listed Memory
+    c.in-Ok.store refl opened.journal opened.called c.in-Err-of.ensures.left (run_none _ _) c.requires.fresh (λ told. refl)
+
+pub returns-in-Err-of-clause-run_by : goal.returns-in-Err-of-clause-run_by
+returns-in-Err-of-clause-run_by g c = run_none _ _
+
 pub returns-in-Err-clause-outcome : goal.returns-in-Err-clause-outcome
 returns-in-Err-clause-outcome g c =
     let f = λ (r : _). flat_map (λ h. (goal.Handler-dyn g (h.vtable, h.value)).sheets_are h.value) r.handlers.items in
-    let listed = used_are f (λ (r : _). r.list) c.args.hands.now.items c.requires.agree c.requires.each c.index.result.now c.index.ensures c.as_slice.result.now (c.as_slice.ensures ∙ c.running_sheets-sheets.ensures) in
+    let listed = used_are f (λ (r : _). r.whole) c.args.hands.now.items c.requires.agree c.requires.each c.index.result.now c.index.ensures c.as_slice.result.now (c.as_slice.ensures ∙ c.sheets-sheets.ensures) in
     let failed = c.in-Err.ensures in
     converse_unopened g.D.Disk c.args.commands.items c.args.limits (sink_use g.K.Sink c.args.out.now c.args.out.now) c.args.disk c.in-Err.disk _ c.args.marks.now.items c.as_slice.result.now listed c.status_of.result
     c.in-Err.why c.status_of.ensures c.requires.fresh failed.why failed.fault failed.same failed.spared failed.any_moment failed.called (λ told. refl)
@@ -98,7 +117,7 @@ returns-in-Err-clause-run_by g c = run_none _ _
 pub returns-in-Err-clause-accepts : goal.returns-in-Err-clause-accepts
 returns-in-Err-clause-accepts g c told journal on why is =
     let f = λ (r : _). flat_map (λ h. (goal.Handler-dyn g (h.vtable, h.value)).sheets_are h.value) r.handlers.items in
-    let listed = used_are f (λ (r : _). r.list) c.args.hands.now.items c.requires.agree c.requires.each c.index.result.now c.index.ensures c.as_slice.result.now (c.as_slice.ensures ∙ c.running_sheets-sheets.ensures) in
+    let listed = used_are f (λ (r : _). r.whole) c.args.hands.now.items c.requires.agree c.requires.each c.index.result.now c.index.ensures c.as_slice.result.now (c.as_slice.ensures ∙ c.sheets-sheets.ensures) in
     let unjudged : IsUnjudged c.in-Err.why = c.in-Err.ensures.accepts told journal (subst (λ s. IsOnDisk s (g.D.Disk.seen c.args.disk) journal) listed on) in
     unrefused c.in-Err.why why unjudged (sym c.status_of.ensures ∙ is)
 

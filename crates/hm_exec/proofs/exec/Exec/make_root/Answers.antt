@@ -27,7 +27,8 @@ invariant_of-self-2 g c =
     (subst (λ (e : ExecView _). Allowed (past_of (moment_of g.R.Recorder.kept e)) (entry_is.Submit c.args.nonce c.args.request)) (sym c.self.view_is) c.requires.allowed) in
     goes_on (g.R.Recorder.kept c.self.inside.recorder) (g.R.Recorder.kept c.add_made.new.recorder) c.self.inside.state.entries c.add_made.new.state.entries c.self.inside.desk c.behind_submit.new.self c.self.invariant
     c.add_made.ensures.entries (subst (λ (J : Past). Follows J c.behind_submit.new.self) c.records.ensures c.behind_submit.ensures.follows)
-    (ap (λ v. v.items) c.behind_submit.ensures.same.claimed ∙ c.add_made.ensures.claimed) c.args.nonce c.args.request c.in_ok-add_made.field-0 c.entries-legal.ensures.legal allowed c.in_ok-add_made.ensures.adds
+    (ap (λ v. v.items) c.behind_submit.ensures.same.claimed ∙ c.add_made.ensures.claimed) (entry_is.Submit c.args.nonce c.args.request) c.in_ok-add_made.field-0 c.entries-legal.ensures.legal allowed c.in_ok-add_made.ensures.adds
+    (λ q mine. tt)
 
 pub returns-clause-made : goal.returns-clause-made
 returns-clause-made g c =

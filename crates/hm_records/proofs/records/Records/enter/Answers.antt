@@ -6,9 +6,9 @@ use Rattle.hm_undo.specs.Laws.{Tells}
 use Rattle.hm_model.specs.Tree.{made}
 use Rattle.hm_records.specs.Book.{AreRows, asks_in, asks_of}
 use Rattle.hm_records.specs.Parts.{size_of}
-use Rattle.hm_records.specs.Records.{AreForgotten, AreRecords, Beside, IsRunning, RecordsView, is_open}
+use Rattle.hm_records.specs.Records.{AreForgotten, AreRecords, Beside, RecordsView, is_open}
 use Rattle.hm_records.proofs.Drafts.{asks_same, drafts_count}
-use Rattle.hm_records.proofs.Whole.{least_within, made_count, sheets_stay}
+use Rattle.hm_records.proofs.Whole.{least_within, made_count, named_more, sheets_stay}
 use Rattle.hm_records.proofs.records.Records.enter.Goals as goal
 
 pub invariant_of-self : goal.invariant_of-self
@@ -26,11 +26,11 @@ invariant_of-self c =
       nonces = c.add_nonce.new.nonces.pairs;
       drawn_ids = c.count_ids.new.drawn.pairs;
       sheets = c.self.inside.sheets.items;
-      running = c.running_behind-self-inside.result;
       book = c.release_ended.new.book.rows;
     } in
     subst (λ (l : Past). AreRecords l beside) (sym after) (record {
       begun = λ e. cc;
+      named = named_more entry J c.entry_names.ensures c.self.invariant.named;
       rows_are = c.set_rows.ensures.rows;
       stacks_tell = subst (λ (l : Past). Tells (is_open l) l c.enter_tree.new.stack.stacks) after c.enter_tree.ensures.tells;
       stacks_forget = subst (λ (l : Past). AreForgotten l c.enter_tree.new.stack.stacks) after c.enter_tree.ensures.forgotten;
@@ -39,7 +39,6 @@ invariant_of-self c =
       nonces_are = c.add_nonce.ensures.nonces;
       drawn_are = c.count_ids.ensures.drawn;
       sheets_are = c.self.invariant.sheets_are ∙ sym (sheets_stay entry J legal c.self.invariant.begun);
-      running_is = subst (λ (l : Past). IsRunning l c.running_behind-self-inside.result) after (c.running_behind-self-inside.ensures J entry after c.tree_of-tree.ensures c.self.invariant.running_is);
       book_is = subst (λ (l : Past). AreRows l c.release_ended.new.book.rows) after (c.release_ended.ensures.rows J after c.tree_of-tree.ensures c.enlist_made.ensures.rows);
     })
 

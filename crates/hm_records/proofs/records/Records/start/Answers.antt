@@ -1,4 +1,4 @@
-use Rattle.std.proofs.Common.{◌≡◌, List, [], ◌∷◌, None, refl, ap, sym, subst, ◌∙◌}
+use Rattle.std.proofs.Common.{◌≡◌, List, [], ◌∷◌, refl, ap, sym, subst, ◌∙◌}
 use Rattle.hm_data.specs.declared.entry.Entry.{Entry}
 use Rattle.hm_data.specs.declared.entry.Entry.TheVariants as entry_is
 use Rattle.hm_data.specs.declared.sheet.Sheet.{Sheet}
@@ -20,8 +20,7 @@ invariant_of-result c =
       nonces = c.in_ok-new-4.field-0.pairs;
       drawn_ids = c.in_ok-new-5.field-0.pairs;
       sheets = sheets;
-      running = None;
       book = c.in_ok-new-6.field-0.rows;
     } in
     subst (λ (l : Past). AreRecords l beside) (sym past_is)
-    (starts sheets beside c.in_ok-start.ensures c.in_ok-new.ensures c.in_ok-new-2.ensures c.in_ok-new-3.ensures c.in_ok-new-4.ensures c.in_ok-new-5.ensures refl refl c.in_ok-new-6.ensures)
+    (starts sheets beside c.in_ok-start.ensures c.in_ok-new.ensures c.in_ok-new-2.ensures c.in_ok-new-3.ensures c.in_ok-new-4.ensures c.in_ok-new-5.ensures refl c.in_ok-new-6.ensures)

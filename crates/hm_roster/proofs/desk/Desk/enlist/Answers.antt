@@ -6,7 +6,7 @@ use Rattle.hm_model.specs.Tree.{made}
 use Rattle.hm_tied.specs.Uses.{EnlistsBelow}
 use Rattle.hm_roster.specs.Roster.{rows_on}
 use Rattle.hm_roster.proofs.Alike.{book_on, book_self}
-use Rattle.hm_roster.proofs.Firsts.{made_first}
+use Rattle.hm_records.proofs.Firsts.{made_first}
 use Rattle.hm_roster.proofs.Listing.{lists_all, lists_first, lists_next, made_parent, more_same, none_more, one_more, parents_enlisted}
 use Rattle.hm_roster.proofs.Tried.{when_err, when_ok}
 use Rattle.hm_roster.proofs.desk.Desk.enlist.Goals as goal

@@ -1,7 +1,7 @@
 use Rattle.std.proofs.Common.{◌≡◌, List, ℕ, false, true, refl, ap, subst, sym, ◌∙◌}
 use Rattle.std.proofs.lemmas.Bool.{true≢false}
+use Rattle.hm_model.specs.Rest.{IsAvailable}
 use Rattle.hm_locks.specs.Book.{Book}
-use Rattle.hm_tied.specs.Tied.{IsAvailableFree}
 use Rattle.hm_tied.proofs.Uses.{ready_enlisted}
 use Rattle.hm_roster.specs.Roster.{number_on, roster_of}
 use Rattle.hm_roster.proofs.Desks.{enlisted_known, given_on, nobody_on}
@@ -22,7 +22,7 @@ returns-then-has_pick-clause-given g c =
 
 pub returns-then-has_pick-clause-available : goal.returns-then-has_pick-clause-available
 returns-then-has_pick-clause-available g c =
-    subst (λ (l : List ℕ). IsAvailableFree c.args.records.now.past l l c.in-Some.pid.0) (ap (λ v. v.items) c.loop-pid.invariant.same.claimed)
+    subst (λ (l : List ℕ). IsAvailable c.args.records.now.past l l c.in-Some.pid.0) (ap (λ v. v.items) c.loop-pid.invariant.same.claimed)
     (given_available c.args.records.now.past c.procedures-legal.ensures.legal (number_on c.loop-pid.self) (roster_of c.loop-pid.self) c.next.new.self.lists c.in-Some.pid.0 c.loop-pid.invariant.follows.tied c.in-Some.ensures.passes
     (c.can_go.ensures.go.0 c.if-can_go.true) (λ node is. sym (c.has_pick.ensures node is) ∙ c.if-has_pick.true))
 
@@ -46,5 +46,5 @@ returns-clause-follows g c =
 
 pub returns-clause-none : goal.returns-clause-none
 returns-clause-none g c =
-    subst (λ (l : List ℕ). (q : ℕ) → IsAvailableFree c.args.records.now.past l l q → ⊥) (ap (λ v. v.items) c.loop-pid.invariant.same.claimed)
+    subst (λ (l : List ℕ). (q : ℕ) → IsAvailable c.args.records.now.past l l q → ⊥) (ap (λ v. v.items) c.loop-pid.invariant.same.claimed)
     (none_given c.args.records.now.past (number_on c.loop-pid.self) (roster_of c.loop-pid.self) c.next.new.self.lists c.loop-pid.invariant.follows.tied c.in_default.ensures.passes).1

@@ -1,7 +1,7 @@
 use Rattle.std.proofs.Common.{[], ◌∷◌, ◌++◌, List, ap, ◌∙◌}
 use Rattle.hm_data.specs.declared.entry.Entry.{Entry}
 use Rattle.hm_data.specs.declared.entry.Entry.TheVariants as entry_is
-use Rattle.hm_state.proofs.Ending.{state_start}
+use Rattle.hm_state.proofs.Entering.{state_start}
 use Rattle.hm_state.proofs.state.State.start.Goals as goal
 
 pub invariant_of-result : goal.invariant_of-result

@@ -6,8 +6,8 @@ use Rattle.hm_top.specs.Settling.{IsWorked}
 use Rattle.hm_top.specs.View.{standing_of}
 use Rattle.hm_top.proofs.world.World.settle.Given as goal
 
-abbrev pub invariant-loop-pid : goal.invariant-loop-pid
-invariant-loop-pid g l = record {
+abbrev pub invariant-loop-why : goal.invariant-loop-why
+invariant-loop-why g l = record {
   worked : IsWorked (standing_of l.fn.self) (standing_of l.self);
   going : l.self.kept.halted ≡ None;
   opened : l.self.opened ≡ l.fn.self.opened;
@@ -19,5 +19,5 @@ invariant-loop-pid g l = record {
   }) l.fn.self.kept.entries l.self.kept.entries;
 }
 
-abbrev pub decreases-loop-pid : goal.decreases-loop-pid
-decreases-loop-pid g l = l.self.kept.hard - bytes_of l.self.kept.entries
+abbrev pub decreases-loop-why : goal.decreases-loop-why
+decreases-loop-why g l = l.self.kept.hard - bytes_of l.self.kept.entries

@@ -1,0 +1,56 @@
+//! An executor in two parts: its recorder, and all else.
+ghost use Rattle.std.specs.Prelude.{◌≡◌};
+ghost use Rattle.hm_hall.specs.Recording.{entries_of};
+
+use crate::exec::Exec;
+use hm_hall::Recorder;
+use hm_roster::Desk;
+use hm_state::State;
+use std::marker::Model;
+
+/// An executor but for its recorder. Contracts see the entries of its journal, and who is claimed.
+pub struct ExecCore {
+    state: State,
+    desk: Desk,
+}
+
+impl Model for ExecCore {
+    ghost use Rattle.hm_exec.specs.View.{CoreView, IsCore};
+    ghost use Rattle.hm_roster.specs.Roster.{claims_on};
+
+    ghost Value = { CoreView };
+
+    ghost view = { λ c. record { entries = c.state.entries; claimed = claims_on c.desk } };
+
+    ghost invariant = { λ c. IsCore c.state.entries c.desk };
+}
+
+impl<R: Recorder> Exec<R> {
+    /// Takes an executor apart.
+    pub fn part(self) -> (ExecCore, R)
+        ensures recorder { result.1 ≡ self.recorder }
+        ensures entries { result.0.entries ≡ entries_of (R.kept self.recorder) }
+        ensures claimed { result.0.claimed ≡ self.claimed }
+    {
+        let Exec {
+            state,
+            recorder,
+            desk,
+        } = self;
+        (ExecCore { state, desk }, recorder)
+    }
+
+    /// Puts it together again, with a recorder that has the same entries.
+    pub fn whole(core: ExecCore, recorder: R) -> Exec<R>
+        requires { entries_of (R.kept recorder) ≡ core.entries }
+        ensures recorder { result.recorder ≡ recorder }
+        ensures claimed { result.claimed ≡ core.claimed }
+    {
+        let ExecCore { state, desk } = core;
+        Exec {
+            state,
+            recorder,
+            desk,
+        }
+    }
+}

@@ -1,0 +1,40 @@
+-- No nonce acts twice.
+use Rattle.std.proofs.Common.{None, Option, Some, [], ap, arith, false, inl, inr, refl, sym, true, ℕ, ◌+◌, ◌∙◌, ◌∷◌, ◌≡◌, ◌≢◌}
+use Rattle.std.proofs.lemmas.Bool.{cases_eq, cond-false, false≢true, true≢false}
+use Rattle.std.proofs.lemmas.Bool.Decides.{nat_tests}
+use Rattle.std.proofs.lemmas.Option.{none-some}
+use Rattle.hm_names.specs.declared.nonce.Nonce.{Nonce}
+use Rattle.hm_model.specs.Journal.{Past}
+use Rattle.hm_model.specs.Nonces.{NoncesActOnce, by_nonce, is_same}
+use Rattle.hm_model.specs.Rules.{IsFresh, IsLegal}
+use Rattle.hm_model.specs.Tree.{Node, is_root, is_root_in, is_top, made, node_of}
+use Rattle.hm_data.specs.declared.entry.Entry.TheVariants as entry_is
+
+-- a nonce with the number 0 is none
+pub no_nonce : (used nonce : Nonce) → nonce.number ≡ 0 → is_same used nonce ≡ false
+no_nonce used nonce none = grind (arith, nat_tests)
+
+by_no_nonce : (J : Past) (nonce : Nonce) → nonce.number ≡ 0 → by_nonce J nonce ≡ None
+by_no_nonce [] nonce none = refl
+by_no_nonce (entry_is.Start sheets ∷ before) nonce none = by_no_nonce before nonce none
+by_no_nonce (entry_is.Submit used request ∷ before) nonce none = cond-false (is_same used nonce) (Some (made before + 1)) (by_nonce before nonce) (no_nonce used nonce none) ∙ by_no_nonce before nonce none
+by_no_nonce (entry_is.Step pid pick out ∷ before) nonce none = by_no_nonce before nonce none
+by_no_nonce (entry_is.Undo pid row out ∷ before) nonce none = by_no_nonce before nonce none
+by_no_nonce (entry_is.Report call told ∷ before) nonce none = by_no_nonce before nonce none
+by_no_nonce (entry_is.Up server ∷ before) nonce none = by_no_nonce before nonce none
+by_no_nonce (entry_is.Down server ∷ before) nonce none = by_no_nonce before nonce none
+by_no_nonce (entry_is.Abort pid ∷ before) nonce none = by_no_nonce before nonce none
+
+pub fresh_none : (before : Past) (nonce : Nonce) → IsFresh before nonce → by_nonce before nonce ≡ None
+fresh_none before nonce fresh = elim fresh [ inl none ↦ by_no_nonce before nonce none | inr new ↦ new ]
+
+pub nonces_once : (J : Past) → IsLegal J → NoncesActOnce J
+nonces_once [] legal = tt
+nonces_once (entry_is.Start sheets ∷ before) legal = nonces_once before legal.0
+nonces_once (entry_is.Submit nonce request ∷ before) legal = (nonces_once before legal.0, fresh_none before nonce legal.1.1.1.0)
+nonces_once (entry_is.Step pid pick out ∷ before) legal = nonces_once before legal.0
+nonces_once (entry_is.Undo pid row out ∷ before) legal = nonces_once before legal.0
+nonces_once (entry_is.Report call told ∷ before) legal = nonces_once before legal.0
+nonces_once (entry_is.Up server ∷ before) legal = nonces_once before legal.0
+nonces_once (entry_is.Down server ∷ before) legal = nonces_once before legal.0
+nonces_once (entry_is.Abort pid ∷ before) legal = nonces_once before legal.0

@@ -1,0 +1,84 @@
+//! A journal on a disk that was opened, before anything is done with it.
+ghost use Rattle.std.specs.Prelude.{◌≡◌, ◌≢◌, ◌⊎◌, ◌≤◌, [], List, length, IfOk, IfErr, MatchResult};
+ghost use Rattle.hm_ports.specs.Faults.{Rose};
+ghost use Rattle.hm_disk.specs.Called.{IsCalled};
+ghost use Rattle.hm_disk.specs.Disk.{LeavesOnly, LeavesThen};
+ghost use Rattle.hm_log.specs.Format.{Reads};
+ghost use Rattle.hm_log.specs.Opening.{IsMaking};
+ghost use Rattle.hm_data.specs.declared.entry.Entry.{Entry as EntryValue};
+ghost use Rattle.hm_model.specs.Journal.{back};
+ghost use Rattle.hm_model.specs.Rules.{AreSheets};
+ghost use Rattle.hm_model.specs.Sheets.{sheets_of as begun_with};
+ghost use Rattle.hm_journal.specs.Stored.{IsJournal, frames_of, IsOnDisk, Spares, SameFrames, IsOpening};
+ghost use Rattle.hm_journal.specs.Verdict.{Refuses, IsUnjudged};
+ghost use Rattle.hm_top.specs.Standing.{begun};
+ghost use Rattle.hm_top.specs.View.{IsLeftBy, standing_of};
+
+use hm_data::Sheet;
+use hm_disk::Disk;
+use hm_exec::Exec;
+use hm_journal::{Journal, JournalWhy, Limits};
+use hm_state::State;
+use std::alloc::Global;
+use std::marker::Model;
+
+/// A journal on a disk that was opened, and the state that it is in. Contracts see the disk, and what was recorded.
+#[derive(Drop)]
+pub(crate) struct Store<D: Disk> {
+    journal: Journal<D>,
+    state: State,
+}
+
+impl<D: Disk> Model for Store<D> {
+    ghost use Rattle.hm_top.specs.View.{WorldView, IsStore};
+
+    ghost Value = { WorldView D };
+
+    ghost view = { λ s. record { disk = s.journal.disk; opened = s.journal.opened; kept = s.journal.kept } };
+
+    ghost invariant = { λ s. IsStore s.state.entries s.journal.kept };
+}
+
+impl<D: Disk> Store<D> {
+    /// Opens a disk as a journal of these sheets. An error gives the disk back.
+    pub fn open(
+        alloc: Global,
+        disk: D,
+        sheets: &[Sheet],
+        limits: Limits,
+    ) -> Result<Store<D>, (D, JournalWhy)>
+        requires sheets { AreSheets sheets.now }
+        requires hard { 65551 ≤ limits.hard }
+        ensures journal { IfOk result (λ store. (old : List EntryValue) × IsJournal sheets.now old × (standing_of store ≡ begun limits sheets.now old)
+            × (store.opened.count ≡ length old) × (D.tells → IsOnDisk sheets.now (D.seen disk) old
+            × LeavesThen D.moment D.left_since disk store.opened.disk (λ c. D.image disk c ⊎ IsMaking (D.seen disk) c) (λ c. Reads c (frames_of old)))) }
+        ensures sheets { IfOk result (λ store. begun_with (back store.kept.entries) ≡ sheets.now) }
+        ensures why { D.tells → IfErr result (λ e. Refuses sheets.now (D.seen disk) e.1) }
+        ensures accepts { D.tells → (journal : List EntryValue) → IsOnDisk sheets.now (D.seen disk) journal → IfErr result (λ e. IsUnjudged e.1) }
+        ensures fault { IfErr result (λ e. e.1 ≡ JournalWhy.Fault → Rose (D.faults disk) (D.faults e.0)) }
+        ensures same { D.tells → IfErr result (λ e. e.1 ≢ JournalWhy.Fault → SameFrames (D.seen disk) (D.seen e.0) (D.image e.0)) }
+        ensures spared { D.tells → IfErr result (λ e. Spares sheets.now (D.seen disk) (D.image disk) (D.seen e.0) (D.image e.0)) }
+        ensures any_moment { D.tells → IfErr result (λ e. LeavesOnly D.moment D.left_since disk e.0 (IsOpening sheets.now (D.seen disk) (D.image disk))) }
+        ensures called { MatchResult result (λ store. IsCalled D.Disk 1 disk store.opened.disk) (λ e. IsCalled D.Disk 3 disk e.0) }
+    {
+        let (journal, state) = Journal::open(alloc, disk, sheets, limits)?;
+        Ok(Store { journal, state })
+    }
+
+    /// An executor for it, with nothing under way. Where memory runs out for that, the disk is given back.
+    pub(crate) fn into_exec(self, alloc: Global) -> Result<Exec<Journal<D>>, D>
+        ensures disk { IfOk result (λ exec. exec.recorder.disk ≡ self.disk) }
+        ensures opened { IfOk result (λ exec. exec.recorder.opened ≡ self.opened) }
+        ensures kept { IfOk result (λ exec. exec.recorder.kept ≡ self.kept) }
+        ensures claimed { IfOk result (λ exec. exec.claimed ≡ []) }
+        ensures left { IfErr result (IsLeftBy D.Disk self.opened (standing_of self)) }
+    {
+        let Store { journal, state } = self;
+        let _legal = state.entries();
+        let _whole = journal.halted();
+        match Exec::new(alloc, state, journal) {
+            Ok(exec) => Ok(exec),
+            Err((journal, _)) => Err(journal.into_disk()),
+        }
+    }
+}
