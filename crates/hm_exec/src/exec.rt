@@ -1,8 +1,14 @@
 //! The executor.
-ghost use Rattle.std.specs.Prelude.{◌≡◌, [], IfErr, IfOk, None};
+ghost use Rattle.std.specs.Prelude.{◌≡◌, ℕ, [], IfErr, IfOk, None, length};
+ghost use Rattle.hm_exec.specs.Moment.{past_of};
+ghost use Rattle.hm_exec.specs.View.{moment_of};
 ghost use Rattle.hm_hall.specs.Recording.{entries_of, halt_of};
+ghost use Rattle.hm_model.specs.Holding.{NoneClash};
+ghost use Rattle.hm_model.specs.Locks.{IsIn};
+ghost use Rattle.hm_tied.specs.Tied.{CanGo};
 
 use hm_hall::Recorder;
+use hm_names::Pid;
 use hm_roster::Desk;
 use hm_state::State;
 use std::alloc::{AllocError, Global};
@@ -61,6 +67,22 @@ impl<R: Recorder> Exec<R> {
         ensures { result.now ≡ self.now.recorder }
     {
         &self.recorder
+    }
+
+    /// No two that hold what they ask for conflict, and who is claimed holds too; and each that is claimed may make its step still, or
+    /// have one undone: a law that does nothing.
+    pub fn claims_stand(&self)
+        ensures apart { NoneClash (past_of (moment_of R.kept self.now)) self.now.claimed }
+        ensures able { (p : ℕ) → IsIn p self.now.claimed → CanGo (past_of (moment_of R.kept self.now)) p }
+    {
+        let _apart = self.desk.holds(Pid(0));
+    }
+
+    /// How many are claimed.
+    pub fn claims(&self) -> u64
+        ensures { result ≡ length self.now.claimed }
+    {
+        self.desk.claims()
     }
 
     /// Gives the recorder back.

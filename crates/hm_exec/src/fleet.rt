@@ -46,8 +46,8 @@ fn older_of(
     state.servers().older_of(alloc, server)
 }
 
-// Whether a server may come up, and else why not.
-fn may_come_up(state: &State, server: &ServerName) -> Result<(), UpRefused>
+/// Whether a server may come up, and else why not.
+pub fn may_come_up(state: &State, server: &ServerName) -> Result<(), UpRefused>
     ensures can { OnOk result (CanUp (back state.now.entries) server.now) }
     ensures cannot { IfErr result (CannotUp (back state.now.entries) server.now) }
 {

@@ -14,8 +14,8 @@ use hm_refusals::judge_report;
 use std::alloc::Global;
 
 impl<R: Recorder> Exec<R> {
-    // Hears a report that isn't owned.
-    fn hear(&mut self, alloc: Global, message: &ReportMsg) -> Result<Heard, HallFault>
+    /// Hears a report: it is recorded as the next entry, unless it is ignored.
+    pub fn hear(&mut self, alloc: Global, message: &ReportMsg) -> Result<Heard, HallFault>
         ensures answers { AnswersReport (moment_of R.kept self.old) message.now result (moment_of R.kept self.new) }
         ensures fault { IsErrOf result HallFault.LogFault → Rose (R.faults self.old.recorder) (R.faults self.new.recorder) }
         ensures later { R.faults self.old.recorder ≤ R.faults self.new.recorder }
@@ -41,7 +41,7 @@ impl<R: Recorder> Exec<R> {
         Ok(Heard::Accepted(number))
     }
 
-    /// Hears a report: it is recorded as the next entry, unless it is ignored.
+    /// The same of a report that is handed in.
     pub fn report(&mut self, alloc: Global, message: ReportMsg) -> Result<Heard, HallFault>
         ensures answers { AnswersReport (moment_of R.kept self.old) message result (moment_of R.kept self.new) }
         ensures fault { IsErrOf result HallFault.LogFault → Rose (R.faults self.old.recorder) (R.faults self.new.recorder) }

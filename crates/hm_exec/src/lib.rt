@@ -15,5 +15,6 @@ mod submitting;
 
 pub use answers::{Accepted, DownWhy, Heard, UpWhy};
 pub use exec::Exec;
+pub use fleet::may_come_up;
 pub use hm_refusals::{AbortRefused, IgnoredWhy, Refused};
 pub use parting::ExecCore;

@@ -51,8 +51,8 @@ fn comes_from(records: &Records, call: Pid, from: &Peer) -> bool
     }
 }
 
-// Whether a call has a report, or its procedure has ended.
-fn has_settled(records: &Records, call: Pid) -> bool
+/// Whether a call has a report, or its procedure has ended.
+pub fn has_settled(records: &Records, call: Pid) -> bool
     ensures { result ≡ is_settled records.now.past call.0 }
 {
     let procedures = records.procedures();

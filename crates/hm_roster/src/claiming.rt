@@ -1,8 +1,8 @@
 //! A procedure that was given is claimed, or let be.
-ghost use Rattle.std.specs.Prelude.{◌≡◌, ◌++◌, ◌∷◌, []};
+ghost use Rattle.std.specs.Prelude.{◌≡◌, ◌++◌, ◌∷◌, [], length};
 ghost use Rattle.hm_locks.specs.Book.{NoneClash, is_holding, row_of};
 ghost use Rattle.hm_roster.specs.Desk.{HasClaimRoom, IsClaimedToo};
-ghost use Rattle.hm_roster.specs.Roster.{Follows, IsGiven, IsSameBut, is_of_crash as of_crash};
+ghost use Rattle.hm_roster.specs.Roster.{Follows, IsGiven, IsSameBut, claims_on, is_of_crash as of_crash};
 ghost use Rattle.hm_sched.specs.Queues.{IsWith, members, ready_list};
 ghost use Rattle.hm_tied.specs.Tied.{CanGo};
 
@@ -18,6 +18,13 @@ impl Desk {
         ensures none_clash { NoneClash self.now.book.rows }
     {
         self.book.holds(pid)
+    }
+
+    /// How many are claimed.
+    pub fn claims(&self) -> u64
+        ensures { result ≡ length (claims_on self.now) }
+    {
+        self.claimed.len() as u64
     }
 
     /// A procedure that was given and can go on is claimed, in the room that was made for it. It keeps what it took.

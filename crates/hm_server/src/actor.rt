@@ -50,6 +50,13 @@ impl Actor {
         }
     }
 
+    /// Its name.
+    pub fn name(&self) -> &ServerName
+        ensures { result.now ≡ self.now.name }
+    {
+        &self.name
+    }
+
     /// Serves a call, whoever it is for, and answers it. There is no answer to a call about a region that is older than the
     /// last one, nor to one for the storage.
     pub fn serve(&mut self, call: &Call) -> Result<Option<ReportMsg>, AllocError>

@@ -1,9 +1,12 @@
 //! The storage.
-ghost use Rattle.std.specs.Prelude.{◌≡◌, ◌<◌, IfOk, OnErr, Some};
+ghost use Rattle.std.specs.Prelude.{◌≡◌, ◌<◌, ◌==◌, ◌||◌, IfOk, OnErr, OnOk, Some, if◌then◌else◌};
 ghost use Rattle.std.specs.Option.{option_map};
+ghost use Rattle.hm_names.specs.Server.{Server};
+ghost use Rattle.hm_names.specs.declared.pid.Pid.{Pid as PidValue};
 ghost use Rattle.hm_data.specs.declared.call.Told.TheVariants as told_is;
 ghost use Rattle.hm_model.specs.Actors.{empty_storage, store, stored, answered, fence_in, lay_in, refuse_in};
-ghost use Rattle.hm_server.specs.Actors.{storage_of, answer_in, is_fenced_in, IsStorage};
+ghost use Rattle.hm_model.specs.Fleet.{same_server};
+ghost use Rattle.hm_server.specs.Actors.{storage_of, answer_in, is_fenced_in, is_laid_in, IsStorage};
 
 use hm_data::{Call, Peer, ReportMsg, Told, Verb};
 use hm_index::Index;
@@ -40,6 +43,24 @@ impl StorageActor {
             laid: Index::new(alloc)?,
             refusals: 0,
         })
+    }
+
+    /// Has a server fenced, by no call.
+    pub fn show_fenced(&mut self, alloc: Global, server: &ServerName) -> Result<(), AllocError>
+        ensures storage { OnOk result (IsStorage (fence_in server.now (storage_of self.old)) (storage_of self.new)) }
+        ensures kept { OnErr result (self.new ≡ self.old) }
+    {
+        add_fence(&mut self.fenced, alloc, server)?;
+        Ok(())
+    }
+
+    /// Has the layout of a root be there, or not, by no call.
+    pub fn show_laid(&mut self, alloc: Global, root: Pid, there: bool) -> Result<(), AllocError>
+        ensures storage { OnOk result (IsStorage (lay_in root there (storage_of self.old)) (storage_of self.new)) }
+        ensures kept { OnErr result (self.new ≡ self.old) }
+    {
+        set_layout(&mut self.laid, alloc, root, there)?;
+        Ok(())
     }
 
     /// Serves a call, whoever it is for, and answers it. There is no answer to a call about a region.
@@ -107,9 +128,7 @@ impl StorageActor {
         ensures kept { OnErr result (self.new ≡ self.old) }
     {
         self.answers.reserve(alloc, 1)?;
-        self.fenced.reserve(alloc, 1)?;
-        let name = server.copy(alloc)?;
-        self.fenced.set(name, ());
+        add_fence(&mut self.fenced, alloc, server)?;
         self.answers.set(id, Told::Fenced);
         Ok(Some(report(id, Told::Fenced)))
     }
@@ -128,8 +147,7 @@ impl StorageActor {
         ensures kept { OnErr result (self.new ≡ self.old) }
     {
         self.answers.reserve(alloc, 1)?;
-        self.laid.reserve(alloc, 1)?;
-        self.laid.set(root, there);
+        set_layout(&mut self.laid, alloc, root, there)?;
         self.answers.set(id, told);
         Ok(Some(report(id, told)))
     }
@@ -146,6 +164,36 @@ impl StorageActor {
         self.refusals -= 1;
         Ok(Some(report(id, Told::Refused)))
     }
+}
+
+// Fences a server.
+fn add_fence(
+    fenced: &mut Index<ServerName, ()>,
+    alloc: Global,
+    server: &ServerName,
+) -> Result<(), AllocError>
+    ensures fenced { OnOk result ((other : Server) → (same_server server.now other || is_fenced_in fenced.old.pairs other) ≡ is_fenced_in fenced.new.pairs other) }
+    ensures kept { OnErr result (fenced.new.pairs ≡ fenced.old.pairs) }
+{
+    fenced.reserve(alloc, 1)?;
+    let name = server.copy(alloc)?;
+    fenced.set(name, ());
+    Ok(())
+}
+
+// Makes a layout or removes it.
+fn set_layout(
+    laid: &mut Index<Pid, bool>,
+    alloc: Global,
+    root: Pid,
+    there: bool,
+) -> Result<(), AllocError>
+    ensures laid { OnOk result ((other : PidValue) → (if root.0 == other.0 then there else is_laid_in laid.old.pairs other) ≡ is_laid_in laid.new.pairs other) }
+    ensures kept { OnErr result (laid.new.pairs ≡ laid.old.pairs) }
+{
+    laid.reserve(alloc, 1)?;
+    laid.set(root, there);
+    Ok(())
 }
 
 // An answer to a call.

@@ -91,7 +91,7 @@ report_of_it o call = by call.peer
     by peer_is.Storage = stored_of call.id o.storage call.verb
 
 -- who runs still does
-runs_on : (o : Outside) (call : Call) (peer : Peer) → runs (delivered o call) peer ≡ runs o peer
+pub runs_on : (o : Outside) (call : Call) (peer : Peer) → runs (delivered o call) peer ≡ runs o peer
 runs_on o call peer = by call.peer peer
   where
     behind : (x : Option Actor) → is_some (behind_call x call) ≡ is_some x

@@ -26,7 +26,8 @@ use Rattle.hm_model.proofs.NameTies.{same_server-refl}
 use Rattle.hm_cover.proofs.Never.{never_overlap}
 use Rattle.hm_single.specs.Calls.{IsOpenedBy, IsVoid}
 use Rattle.hm_single.proofs.All.{kept_all, one_transit_is, place_by_row}
-use Rattle.hm_single.proofs.Live.{all_live}
+use Rattle.hm_single.proofs.Closed.{closed_unplaced}
+use Rattle.hm_single.proofs.Live.{all_live, all_on}
 use Rattle.hm_single.proofs.Stage.{StageFor, child_of_step, work_of}
 use Rattle.hm_single.proofs.Transit.{AtRest, AtRow, Calls, at_place}
 use Rattle.hm_world_model.specs.Outside.{Outside}
@@ -141,7 +142,7 @@ module _ (J : Past) (o : Outside) (safe : Safe J o) where
       single = λ r p q. one_transit_is J safe.legal r p q;
       rows = λ r. place_by_row J safe.legal r;
     };
-    rows = record { live = all_live J safe.legal; apart = never_overlap J safe.legal };
+    rows = record { live = all_live J safe.legal; on = all_on J safe.legal; closed = closed_unplaced J safe.legal; apart = never_overlap J safe.legal };
   }
 
   -- a region that is held is placed

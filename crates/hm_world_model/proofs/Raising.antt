@@ -68,7 +68,7 @@ count_wide test n (suc more) off =
     rw e (omega (arith, before, last))
 
 -- who steps
-abbrev stepper : Entry → ℕ
+abbrev pub stepper : Entry → ℕ
 stepper (entry_is.Start sheets) = 0
 stepper (entry_is.Submit nonce request) = 0
 stepper (entry_is.Step pid pick out) = pid.0
@@ -79,7 +79,7 @@ stepper (entry_is.Down server) = 0
 stepper (entry_is.Abort pid) = 0
 
 -- a call that is recorded was, or is recorded now
-new_call : (e : Entry) (J : Past) (q : ℕ) (verb : Verb) → verb_of (e ∷ J) q ≡ Some verb → (verb_of J q ≡ Some verb) ⊎ ((calls_made e ≡ 1) × (q ≡ stepper e))
+pub new_call : (e : Entry) (J : Past) (q : ℕ) (verb : Verb) → verb_of (e ∷ J) q ≡ Some verb → (verb_of J q ≡ Some verb) ⊎ ((calls_made e ≡ 1) × (q ≡ stepper e))
 new_call (entry_is.Start sheets) J q verb is = inl is
 new_call (entry_is.Submit nonce request) J q verb is = inl is
 new_call (entry_is.Step pid pick out) J q verb is = elim (verb_was pid pick out J q verb is) [ inl old ↦ inl old | inr new ↦ inr (ap (λ c. one_if (is_some c)) new.1, new.0) ]
@@ -104,7 +104,7 @@ calls_at_most (entry_is.Down server) = inl refl
 calls_at_most (entry_is.Abort pid) = inl refl
 
 -- what has no report had none
-reported_back : (e : Entry) (J : Past) (q : ℕ) → is_reported (e ∷ J) q ≡ false → is_reported J q ≡ false
+pub reported_back : (e : Entry) (J : Past) (q : ℕ) → is_reported (e ∷ J) q ≡ false → is_reported J q ≡ false
 reported_back (entry_is.Start sheets) J q h = h
 reported_back (entry_is.Submit nonce request) J q h = h
 reported_back (entry_is.Step pid pick out) J q h = h

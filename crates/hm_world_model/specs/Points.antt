@@ -1,28 +1,37 @@
 -- What follows for each region, as a list of points.
-use Rattle.std.specs.Prelude.{◌≡◌, ◌≢◌, ℕ, ◌↔◌, ◌≤◌, [], length, Some, true, false, ◌⊎◌}
+use Rattle.std.specs.Prelude.{◌≡◌, ◌≢◌, ℕ, ◌↔◌, ◌≤◌, [], length, Some, true, false, ◌⊎◌, Option}
 use Rattle.hm_names.specs.Region.{Region}
 use Rattle.hm_names.specs.Server.{Server}
 use Rattle.hm_names.specs.declared.range.KeyRange.{KeyRange}
 use Rattle.hm_names.specs.declared.table.TableName.{TableName}
+use Rattle.hm_data.specs.declared.args.Args.TheVariants as args_are
 use Rattle.hm_data.specs.declared.call.Call.{Call}
 use Rattle.hm_data.specs.declared.call.Peer.TheVariants as peer_is
 use Rattle.hm_data.specs.declared.call.Told.TheVariants as told_is
 use Rattle.hm_data.specs.declared.call.Verb.TheVariants as verb_is
+use Rattle.hm_data.specs.declared.catalog.CatKey.TheVariants as key_is
+use Rattle.hm_data.specs.declared.catalog.CatRow.TheVariants as row_is
+use Rattle.hm_data.specs.declared.catalog.TableState.{TableState}
+use Rattle.hm_data.specs.declared.catalog.TableState.TheVariants as state_is
 use Rattle.hm_data.specs.declared.entry.Entry.TheVariants as entry_is
+use Rattle.hm_data.specs.declared.place.Goal.TheVariants as goal_is
+use Rattle.hm_data.specs.declared.request.Request.{Request}
 use Rattle.hm_data.specs.declared.place.RegionState.TheVariants as place_is
 use Rattle.hm_model.specs.Actors.{Actor, holds}
-use Rattle.hm_model.specs.Answers.{report_of}
+use Rattle.hm_model.specs.Answers.{is_stopped, last_answer, report_of}
 use Rattle.hm_model.specs.Catalog.{cat}
 use Rattle.hm_model.specs.Fleet.{is_fenced}
 use Rattle.hm_model.specs.Holding.{HoldsWith}
 use Rattle.hm_model.specs.Journal.{Past}
 use Rattle.hm_model.specs.Locks.{IsIn}
 use Rattle.hm_model.specs.Places.{is_at, place_of}
+use Rattle.hm_model.specs.Phase.{root_ended}
 use Rattle.hm_model.specs.Ranges.{IsLiveWith, NoneOverlap}
 use Rattle.hm_model.specs.Reports.{call_of, last_call, peer_of, verb_of}
 use Rattle.hm_model.specs.Rules.{Allowed}
-use Rattle.hm_model.specs.TransitActs.{is_state}
-use Rattle.hm_single.specs.Calls.{Moves, NextIs, PlacedAreLive}
+use Rattle.hm_model.specs.TransitActs.{is_placed, is_state}
+use Rattle.hm_model.specs.Tree.{Node, node_of}
+use Rattle.hm_single.specs.Calls.{Moves, MovesIn, NextIs, PlacedAreLive, closes_first}
 use Rattle.hm_world_model.specs.Outside.{Outside}
 use Rattle.hm_world_model.specs.Safe.{CallsTo, HasServed, IsKept, Runs}
 use Rattle.hm_world_model.specs.World.{World, first, whole}
@@ -69,9 +78,17 @@ pub record TransitPoints (J : Past) : Type 0 where
       → ((is_state place_is.Opening (place_of J region) ≡ true) ↔ (NextIs J region 1 ⊎ NextIs J region 2))
       × ((is_state place_is.Closing (place_of J region) ≡ true) ↔ NextIs J region 4)
 
--- of rows: each region that is open, or being opened or closed, is live, and live regions of one table don't overlap
+-- of rows: each region that is open, or being opened or closed, is live, and its table is there and isn't disabled; none is so once its
+-- Unassign under an unfinished disabling of its table, split or merge has ended; and live regions of one table don't overlap
 pub record RowPoints (J : Past) : Type 0 where
   pub live : PlacedAreLive J
+  pub on : (region : Region) → is_placed (place_of J region) ≡ true
+      → (state : TableState) × (version : ℕ) × (cat J (key_is.Table region.table) ≡ Some (row_is.Table state version)) × (state ≢ state_is.Disabled)
+  pub closed : (root : ℕ) (top : Node) (request : Request) (first : ℕ) → node_of J root ≡ Some top → top.above ≡ []
+      → top.args ≡ args_are.Root request first → closes_first request ≡ true → root_ended J root ≡ false
+      → (p : ℕ) (node : Node) (region : Region) (to : Option Server) → MovesIn J root region p node
+      → node.args ≡ args_are.Transit region goal_is.Unassign to → is_stopped (last_answer J p) ≡ true
+      → is_placed (place_of J region) ≡ false
   pub apart : (table : TableName) → NoneOverlap (cat J) table
 
 -- for one journal and what is outside

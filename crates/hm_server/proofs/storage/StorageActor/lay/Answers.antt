@@ -3,7 +3,7 @@ use Rattle.std.specs.Ordering.{is_eq}
 use Rattle.hm_names.specs.Order.{pid_cmp}
 use Rattle.hm_index.specs.Index.{find}
 use Rattle.hm_server.specs.Actors.{StorageView, is_fenced_in}
-use Rattle.hm_server.proofs.Alike.{kept_answer, kept_layout}
+use Rattle.hm_server.proofs.Alike.{kept_answer}
 use Rattle.hm_server.proofs.storage.StorageActor.lay.Goals as goal
 
 pub returns-clause-storage : goal.returns-clause-storage
@@ -14,8 +14,8 @@ returns-clause-storage c =
     let laid = ap (λ (t : StorageView). t.laid) c.self.view_is in
     let refusals = ap (λ (t : StorageView). t.refusals) c.self.view_is in
     record {
-      answer = rw (← answers) (kept_answer f.answers.pairs c.set-2.new.self.pairs c.args.id c.args.told (λ other. c.set-2.ensures.pairs other ∙ ap (λ l. if is_eq (pid_cmp c.args.id other) then Some c.args.told else find pid_cmp l other) c.in_ok-reserve.ensures.pairs));
+      answer = rw (← answers) (kept_answer f.answers.pairs c.set.new.self.pairs c.args.id c.args.told (λ other. c.set.ensures.pairs other ∙ ap (λ l. if is_eq (pid_cmp c.args.id other) then Some c.args.told else find pid_cmp l other) c.in_ok-reserve.ensures.pairs));
       fenced = λ server. ap (λ l. is_fenced_in l server) (sym fenced);
-      laid = rw (← laid) (kept_layout f.laid.pairs c.set.new.self.pairs c.args.root c.args.there (λ other. c.set.ensures.pairs other ∙ ap (λ l. if is_eq (pid_cmp c.args.root other) then Some c.args.there else find pid_cmp l other) c.in_ok-reserve-2.ensures.pairs));
+      laid = rw (← laid) c.in_ok-set_layout.ensures.laid;
       refusals = sym refusals;
     }

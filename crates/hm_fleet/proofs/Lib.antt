@@ -1,0 +1,4 @@
+pub mod Alike
+mod Running
+mod Starting
+mod Travelling

@@ -1,0 +1,16 @@
+use Rattle.std.proofs.Common.{◌∙◌, None, sym, arith}
+use Rattle.hm_fleet.specs.Crew.{address_of}
+use Rattle.hm_fleet.proofs.Running.{becomes_at}
+use Rattle.hm_fleet.proofs.crew.Crew.end.Goals as goal
+
+pub index_mut-requires : goal.index_mut-requires
+index_mut-requires c =
+    let lt = c.self.invariant.within (address_of c.args.server.now) c.in-Some.place (sym c.get.ensures ∙ sym c.in-Some.ensures) in
+    omega (arith, lt, c.self.inside.slots.ok.0)
+
+pub returns-in-Some-clause-actors : goal.returns-in-Some-clause-actors
+returns-in-Some-clause-actors c =
+    let f = c.self.inside in
+    let found = sym c.get.ensures ∙ sym c.in-Some.ensures in
+    let lt = c.self.invariant.within (address_of c.args.server.now) c.in-Some.place found in
+    rw (← c.self.view_is) (becomes_at f.places.pairs f.slots.items c.args.server.now c.in-Some.place c.index_mut.result.now c.end_at.new.slot (λ actor. None) found lt c.index_mut.ensures.value c.end_at.ensures)

@@ -1,0 +1,13 @@
+mod Entered
+mod Sounds
+mod Dues
+mod Sendings
+mod Heaps
+mod Running
+mod Keeps
+mod Scenes
+mod Below
+mod Carried
+mod Given
+mod Laws
+mod Nearer

@@ -1,0 +1,15 @@
+//! A world: the executor of a journal, the region servers and the storage as they run, and what travels between them. No
+//! region is ever held by two servers that run and aren't fenced.
+#![tactic(auto)]
+
+mod acting;
+mod carrying;
+mod due;
+mod numbers;
+mod opening;
+mod taking;
+mod task;
+mod world;
+
+pub use task::Task;
+pub use world::World;
