@@ -11,3 +11,4 @@ mod Carried
 mod Given
 mod Laws
 mod Nearer
+mod Storages

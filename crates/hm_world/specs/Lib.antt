@@ -5,3 +5,4 @@ pub mod Sound
 pub mod Carrying
 pub mod Taking
 pub mod Acts
+pub mod Shown

@@ -7,6 +7,7 @@ mod carrying;
 mod due;
 mod numbers;
 mod opening;
+mod shown;
 mod taking;
 mod task;
 mod world;

@@ -3,7 +3,6 @@ ghost use Rattle.std.specs.Prelude.{◌≡◌, ◌+◌, [], IfErr, IfOk, None, O
 ghost use Rattle.hm_fleet.specs.Fleet.{outside_of};
 ghost use Rattle.hm_hall.specs.Recording.{entries_of, halt_of};
 ghost use Rattle.hm_model.specs.Journal.{back};
-ghost use Rattle.hm_server.specs.Actors.{IsStorage, storage_of};
 ghost use Rattle.hm_world.specs.Scene.{scene_of};
 ghost use Rattle.hm_world.specs.Sound.{HaveDue, HaveDueBelow};
 ghost use Rattle.hm_world_model.specs.Outside.{nobody};
@@ -11,12 +10,12 @@ ghost use Rattle.hm_world_model.specs.World.{shown_storage};
 
 use crate::due::is_due;
 use crate::numbers::Numbers;
+use crate::shown::storage_shown;
 use crate::world::World;
 use hm_exec::Exec;
 use hm_fleet::Fleet;
 use hm_hall::Recorder;
 use hm_names::Pid;
-use hm_server::StorageActor;
 use hm_state::State;
 use std::alloc::{AllocError, Global};
 
@@ -46,16 +45,12 @@ fn all_due(alloc: Global, state: &State, fleet: &Fleet) -> Result<Numbers, Alloc
 }
 
 // Nobody runs but the storage, and the calls to it that are due.
-fn nobody_outside(
-    alloc: Global,
-    state: &State,
-    storage: StorageActor,
-) -> Result<(Fleet, Numbers), AllocError>
-    ensures outside { IfOk result (λ r. outside_of r.0 ≡ nobody (storage_of storage)) }
+fn nobody_outside(alloc: Global, state: &State) -> Result<(Fleet, Numbers), AllocError>
+    ensures outside { IfOk result (λ r. outside_of r.0 ≡ nobody (shown_storage (back state.now.entries))) }
     ensures still { IfOk result (λ r. (r.0.wire ≡ []) × (r.0.waiting ≡ [])) }
     ensures due { IfOk result (λ r. HaveDue (back state.now.entries) (outside_of r.0) r.1.items) }
 {
-    let fleet = Fleet::of(alloc, storage)?;
+    let fleet = Fleet::of(alloc, storage_shown(alloc, state)?)?;
     let due = all_due(alloc, state, &fleet)?;
     Ok((fleet, due))
 }
@@ -63,24 +58,18 @@ fn nobody_outside(
 impl<R: Recorder> World<R> {
     /// The world of a journal, in which nothing is under way: no server runs, nothing was sent, and the storage has the fences and the
     /// layouts that the journal's reports show. An error gives the recorder back.
-    pub fn new(
-        alloc: Global,
-        state: State,
-        recorder: R,
-        storage: StorageActor,
-    ) -> Result<World<R>, (R, AllocError)>
+    pub fn new(alloc: Global, state: State, recorder: R) -> Result<World<R>, (R, AllocError)>
         requires same { entries_of (R.kept recorder) ≡ state.entries }
         requires going { halt_of (R.kept recorder) ≡ None }
         requires tailless { (R.kept recorder).tail ≡ None }
-        requires shown { IsStorage (shown_storage (back state.entries)) (storage_of storage) }
         ensures recorder { IfOk result (λ world. world.recorder ≡ recorder) }
         ensures claimed { IfOk result (λ world. world.claimed ≡ []) }
-        ensures outside { IfOk result (λ world. outside_of world.fleet ≡ nobody (storage_of storage)) }
+        ensures outside { IfOk result (λ world. outside_of world.fleet ≡ nobody (shown_storage (back state.entries))) }
         ensures still { IfOk result (λ world. ((scene_of R.kept world).wire ≡ []) × ((scene_of R.kept world).waiting ≡ [])) }
         ensures back { IfErr result (λ e. e.0 ≡ recorder) }
     {
         let _legal = state.entries();
-        match nobody_outside(alloc, &state, storage) {
+        match nobody_outside(alloc, &state) {
             Ok((fleet, due)) => match Exec::new(alloc, state, recorder) {
                 Ok(exec) => Ok(World { exec, fleet, due }),
                 Err(back) => {

@@ -1,5 +1,5 @@
 //! A world: the executor of a journal, the servers and the storage, and what travels between them.
-ghost use Rattle.std.specs.Prelude.{◌≡◌};
+ghost use Rattle.std.specs.Prelude.{◌≡◌, length};
 ghost use Rattle.hm_fleet.specs.Fleet.{holds_if};
 ghost use Rattle.hm_hall.specs.Recording.{entries_of};
 ghost use Rattle.hm_world.specs.Scene.{scene_of, world_of};
@@ -46,6 +46,13 @@ impl<R: Recorder> World<R> {
         ensures { result.now ≡ self.now.recorder }
     {
         self.exec.recorder()
+    }
+
+    /// How many entries are recorded: each of them is durable.
+    pub fn durable(&self) -> u64
+        ensures { result ≡ length (entries_of (R.kept self.now.recorder)) }
+    {
+        self.state().entries()
     }
 
     /// What the laws of worlds want is kept, so that they speak of each world: no region is held by two servers that run and aren't

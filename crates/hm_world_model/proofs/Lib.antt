@@ -22,3 +22,4 @@ pub mod Clashing
 pub mod Going
 pub mod Resting
 pub mod Idle
+pub mod Layouts

@@ -12,3 +12,4 @@ pub mod Fleets
 pub mod Progress
 pub mod Measure
 pub mod Rest
+pub mod Layouts

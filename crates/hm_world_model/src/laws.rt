@@ -2,6 +2,7 @@
 ghost use Rattle.hm_world_model.specs.Claimed.{ClaimedOnce, NeverClash};
 ghost use Rattle.hm_world_model.specs.Fleets.{FitsTheFirst, ResumedIsKept, ResumedIsStopped};
 ghost use Rattle.hm_world_model.specs.Kept.{EntriesKeep, EventsKeep, OpenedIsKept, OutsideKeeps};
+ghost use Rattle.hm_world_model.specs.Layouts.{LayoutsTell};
 ghost use Rattle.hm_world_model.specs.Measure.{CarryingGoesOn, CarryingIsPossible, CarryingStays};
 ghost use Rattle.hm_world_model.specs.Progress.{EarlierHaveEnded, OpenIsAnswered, ReportsAreHeard};
 ghost use Rattle.hm_world_model.specs.Points.{HeldAreLive, PointsHold};
@@ -80,4 +81,10 @@ pub fn carrying_goes_on()
 pub fn rest_is_the_end()
     ensures still { StillIsEnded }
     ensures idle { IdleIsEnded }
+{}
+
+/// The layouts that the reports of a journal show are the same in the order of their calls' numbers as in the order in which
+/// they came: a layout is swept only once each call to make it has ended.
+pub fn layouts_tell()
+    ensures { LayoutsTell }
 {}

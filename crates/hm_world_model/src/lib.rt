@@ -8,5 +8,5 @@ mod laws;
 
 pub use laws::{
     calls_are_answered, carrying_goes_on, claims_are_apart, entries_keep, fleets_fit, held_by_one,
-    never_twice, outside_keeps, points_hold, rest_is_the_end, worlds_are_kept,
+    layouts_tell, never_twice, outside_keeps, points_hold, rest_is_the_end, worlds_are_kept,
 };
