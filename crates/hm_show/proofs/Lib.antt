@@ -5,3 +5,7 @@ mod RegionRows
 mod Values
 mod Tables
 mod JsonTexts
+mod InOrder
+mod ResourceOrder
+mod LockOrder
+mod Held

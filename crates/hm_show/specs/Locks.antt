@@ -15,19 +15,19 @@ use Rattle.hm_locks.specs.Kept.{key_of, lock_cmp}
 use Rattle.hm_show.specs.Procs.{pids, shown}
 use Rattle.hm_show.specs.Tables.{Line, table_of}
 use Rattle.hm_show.specs.Words.{mode_text, resource_words}
-
--- an ask that a procedure holds
-pub record Lock : Type 0 where
-  pub ask : Ask
-  pub pid : ℕ
+use Rattle.hm_show.specs.declared.lock_lines.Lock.{Lock}
 
 -- a procedure has a step and hasn't ended: it holds what it asks for
 abbrev pub holds : Past → ℕ → Bool
 holds past p = is_some (last_answer past p) && not (ended past p)
 
+-- an ask of a procedure
+abbrev pub lock_of : ℕ → Ask → Lock
+lock_of pid ask = record { ask = ask; pid = pid }
+
 -- what a procedure asks for
 abbrev pub locks_of : Record → List Lock
-locks_of one = map (λ ask. record { ask = ask; pid = one.pid.0 }) (asks one.args)
+locks_of one = map (lock_of one.pid.0) (asks one.args)
 
 -- namespaces, tables, regions, servers, each in name order
 abbrev pub resource_cmp : Resource → Resource → Ordering
@@ -53,10 +53,10 @@ by_resource (lock ∷ more) = with_lock lock (by_resource more)
 abbrev pub lock_line : Lock → Line
 lock_line lock = resource_words lock.ask.resource ++ mode_text lock.ask.exclusive ∷ decimal lock.pid ∷ []
 
--- what is held, by the number of who holds it
-abbrev pub held : Past → List Lock
-held past = flat_map locks_of (shown past (filter (holds past) (pids past)))
+-- what these procedures hold, in the order of their numbers
+abbrev pub held_by : Past → List ℕ → List Lock
+held_by past numbers = flat_map locks_of (shown past (filter (holds past) numbers))
 
 -- one line for each ask that is held, by resource and then by the number of who holds it
 abbrev pub locks_table : Past → List ℕ
-locks_table past = table_of (codes "locks") past (map lock_line (by_resource (held past)))
+locks_table past = table_of (codes "locks") past (map lock_line (by_resource (held_by past (pids past))))

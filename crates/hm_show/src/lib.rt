@@ -3,13 +3,14 @@
 
 mod json;
 mod lines;
+mod lock_lines;
 mod printed;
 mod proc_lines;
 mod region_lines;
 mod server_lines;
 mod words;
 
-pub use printed::{procs, procs_json, regions, servers};
+pub use printed::{locks, procs, procs_json, regions, servers};
 pub use words::{
     Subject, cause_name, cause_of, kind_name, mode_name, place_name, standing_name, state_name,
     status_name,

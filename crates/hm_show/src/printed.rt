@@ -1,11 +1,12 @@
 //! The tables of a state.
 ghost use Rattle.std.specs.Prelude.{◌≡◌, IfOk};
 ghost use Rattle.hm_model.specs.Journal.{back};
+ghost use Rattle.hm_show.specs.Locks.{locks_table};
 ghost use Rattle.hm_show.specs.Procs.{procs_json as json_of, procs_table};
 ghost use Rattle.hm_show.specs.Regions.{regions_table};
 ghost use Rattle.hm_show.specs.Servers.{servers_table};
 
-use crate::{json, proc_lines, region_lines, server_lines};
+use crate::{json, lock_lines, proc_lines, region_lines, server_lines};
 use hm_state::State;
 use std::alloc::{AllocError, Global};
 
@@ -35,4 +36,11 @@ pub fn servers(alloc: Global, state: &State) -> Result<Vec<u8>, AllocError>
     ensures { IfOk result (λ table. table.items ≡ servers_table (back state.now.entries)) }
 {
     server_lines::servers(alloc, state.entries(), state.records())
+}
+
+/// The table `locks`: what is held, by resource in name order and then by the number of the procedure that holds it.
+pub fn locks(alloc: Global, state: &State) -> Result<Vec<u8>, AllocError>
+    ensures { IfOk result (λ table. table.items ≡ locks_table (back state.now.entries)) }
+{
+    lock_lines::locks(alloc, state.entries(), state.records())
 }
