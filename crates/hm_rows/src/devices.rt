@@ -318,3 +318,51 @@ fn run_with_a_fault_at_each_call(rt: HostRuntime) -> Result<(), Fail> {
     leaves(&rt, behind, RunStatus::Done, text, (4, 4))?;
     Ok(())
 }
+
+// A table that is begun, aborted, and taken back.
+const ABORTS: &[u8] = b"create 1:1 t\nstep 2\nabort 1\nsettle\nprocs\n";
+
+#[test]
+fn run_of_an_abort_with_a_fault_at_each_call(rt: HostRuntime) -> Result<(), Fail> {
+    // The calls of the disk by number, four for each entry: the request, two steps, the abort, the step that fails, and
+    // what undoes the second.
+    let cases = [
+        (
+            [8, 9, 10, 11].as_slice(),
+            "halted LogFault\nhalted LogFault\nhalted LogFault\nhalted LogFault\nhalted LogFault\n",
+        ),
+        (
+            &[12, 13, 14, 15, 16, 17, 18, 19],
+            "pid 1\nhalted LogFault\nhalted LogFault\nhalted LogFault\nhalted LogFault\n",
+        ),
+        (
+            &[20, 21, 22, 23],
+            "pid 1\nstepped 2 at 4\nhalted LogFault\nhalted LogFault\nhalted LogFault\n",
+        ),
+        (
+            &[24, 25, 26, 27, 28, 29, 30, 31],
+            "pid 1\nstepped 2 at 4\naborting 1\nhalted LogFault\nhalted LogFault\n",
+        ),
+    ];
+    for (calls, answers) in cases {
+        let text = format!(in rt.alloc(); "opened at 1\n{answers}hmaster: log fault\n")?;
+        for call in calls {
+            let fails = Fails {
+                disk: &[*call],
+                ..NONE
+            };
+            let played = play(rt.alloc(), &RUN, ABORTS, b"", fails)?;
+            assert_eq!(rt; played.status, RunStatus::LogFault, "call {call}");
+            assert_eq!(rt; played.text.as_slice(), text.as_bytes(), "call {call}");
+            for choice in [Choice::Synced, Choice::AsRead] {
+                let left = stopped(rt.alloc(), ABORTS, b"", *call, choice)?;
+                let next = play(rt.alloc(), &RUN, b"settle\n", &left, NONE)?;
+                assert_eq!(rt; next.status, RunStatus::Done, "call {call}, {choice:?}");
+            }
+        }
+    }
+    let text =
+        "opened at 1\npid 1\nstepped 2 at 4\naborting 1\nsettled at 7\nprocs at 7: 1\n1 CreateTable t ROLLEDBACK Aborted\n";
+    says(&rt, ABORTS, b"", RunStatus::Done, text)?;
+    Ok(())
+}

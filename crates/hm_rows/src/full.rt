@@ -28,6 +28,13 @@ fn run_takes_no_submission_at_the_soft_mark(rt: HostRuntime) -> Result<(), Fail>
     let played = play_within(rt.alloc(), limits, script, b"")?;
     let text = "opened at 1\npid 1\nrefused JournalFull 325\n";
     ends_so(&rt, &played, RunStatus::Done, text, script)?;
+
+    // At the mark a root is aborted as ever.
+    let script = b"namespace 1:2 toys\nabort 1\nabort 1\nsettle\nprocs\n";
+    let played = play_within(rt.alloc(), limits, script, SHOP)?;
+    let text =
+        "opened at 2\nrefused JournalFull 325\naborting 1\naborting 1 repeated\nsettled at 4\nprocs at 4: 1\n1 CreateNamespace shop ROLLEDBACK Aborted\n";
+    ends_so(&rt, &played, RunStatus::Done, text, script)?;
     Ok(())
 }
 

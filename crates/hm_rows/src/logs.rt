@@ -75,6 +75,20 @@ fn run_answers_and_the_next_run_knows(rt: HostRuntime) -> Result<(), Fail> {
             "procs\n",
             "opened at 4\nprocs at 4: 3\n1 CreateNamespace shop RUNNABLE\n2 CreateNamespace a RUNNABLE\n3 CreateNamespace a RUNNABLE\n",
         ),
+        // A root that was aborted while its child's call was out: the next run sends the call again, and undoes.
+        (
+            "create 1:1 t\nstep 5\nabort 1\n",
+            "opened at 1\npid 1\nstepped 5 at 6\naborting 1\n",
+            "locks\nabort 1\nsettle\nprocs\nlocks\n",
+            "opened at 7\nlocks at 7: 2\nns default S 1\ntable t X 1\naborting 1 repeated\nsettled at 15\nprocs at 15: 2\n1 CreateTable t ROLLEDBACK Aborted\n3 SweepLayout 1 SUCCESS\nlocks at 15: 0\n",
+        ),
+        // What travels, and what the storage was to refuse, ends with its run.
+        (
+            "refuse storage 1\ncreate 1:1 t\nstep 5\n",
+            "opened at 1\narmed\npid 1\nstepped 5 at 6\n",
+            "repeat\nsettle\nregions\nabort 1\n",
+            "opened at 6\nrepeated 0\nwaiting at 12: 1\nregions at 12: 1\nt,1 \\- \\- Live OFFLINE -\nrefused TooLate SET_ENABLED\n",
+        ),
     ];
     for (script, text, again, next) in cases {
         let log = says(&rt, script.as_bytes(), b"", RunStatus::Done, text)?;

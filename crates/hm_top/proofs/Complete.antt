@@ -8,14 +8,14 @@ use Rattle.hm_top.specs.declared.status.RunStatus.{RunStatus}
 use Rattle.hm_top.specs.declared.status.RunStatus.TheVariants.{Done, Usage, BadScript, LogFault, LogRefused, ReadFault, WriteFault, JournalFull, Memory}
 use Rattle.hm_data.specs.declared.entry.Entry.{Entry}
 use Rattle.hm_journal.specs.Stored.{IsOnDisk}
-use Rattle.hm_top.specs.Hands.{sheets_used}
+use Rattle.hm_commands.specs.Hands.{sheets_used}
 use Rattle.hm_top.specs.Run.{Ends, IsComplete, IsIdle, IsRead, RanOutOver, Run, behind_line, session_of}
 use Rattle.hm_top.specs.Script.{IsBad, IsScript}
 use Rattle.hm_top.specs.Session.{Outcome}
 
 -- a script isn't bad
 pub not_bad : (bytes : List ℕ) (commands : List Command) (bad : Bad) → IsScript bytes commands → IsBad bytes bad → ⊥
-not_bad bytes commands bad script is = let wrong = is.1 in absurd (cc)
+not_bad bytes commands bad script is = absurd (cc)
 
 -- the words and the script are right, and nothing failed
 pub complete : (run : Run) (status : RunStatus) → (run.disk.tells → (journal : List Entry) → IsOnDisk (sheets_used run.hands) run.disk.before journal → (why : LogWhy) → status ≡ LogRefused why → ⊥)
@@ -38,4 +38,4 @@ ran_out run (inr (inl vain)) = inr (vain.0.2.0, vain.0.2.1, inl (λ told. (vain.
 ran_out run (inr (inr (inl full))) = inr (full.2.0, full.2.1, inr (inl (full.3.0, full.3.1.held)))
 ran_out run (inr (inr (inr opened))) =
     let its = opened.answering in
-    inr (opened.commands, opened.given_are, inr (inr (its.answered, its.rest, its.parts, opened.new, opened.unanswered, its.remains)))
+    inr (opened.commands, opened.given_are, inr (inr (its.answered, its.rest, its.parts, its.mid, opened.new, its.remains)))

@@ -2,6 +2,7 @@
 use Rattle.std.proofs.Common.{◌≡◌, ◌≢◌, ◌+◌, ◌-◌, ◌*◌, ℕ, List, [], ◌++◌, length, take, Option, Some, None, Result, Ok, Err, refl, sym, ap, ◌∙◌, subst, inl, inr, append-nil, append_assoc, arith, ◌∷◌}
 use Rattle.hm_data.specs.declared.entry.Entry.{Entry}
 use Rattle.hm_data.specs.declared.entry.Entry.TheVariants as entry_is
+use Rattle.hm_data.specs.declared.sheet.Sheet.{Sheet}
 use Rattle.hm_hall.specs.declared.fault.Halt.{Halt}
 use Rattle.hm_hall.specs.declared.fault.Halt.TheVariants as halt_is
 use Rattle.hm_journal.specs.Stored.{AllStored, IsOnDisk, opened}
@@ -15,8 +16,12 @@ use Rattle.hm_model.proofs.Prefixes.{legal_before, legal_cut}
 use Rattle.hm_serial.proofs.Failing.{failure_leaves_all}
 use Rattle.hm_serial.proofs.Serial.{catalog_is, deeds_apply_is}
 use Rattle.hm_serial.proofs.Taken.{legal_apart}
-use Rattle.hm_top.specs.declared.answer.Answer.{Answer}
-use Rattle.hm_top.specs.declared.answer.Answer.TheVariants.{Opened}
+use Rattle.hm_world.specs.Scene.{Scene}
+use Rattle.hm_commands.specs.Hands.{HandsUse, Ran, SumRisesBy, sheets_used, steps_in}
+use Rattle.hm_commands.specs.Scenes.{halt_at, journal_at, kept_at, whole}
+use Rattle.hm_commands.specs.declared.answer.Answer.{Answer}
+use Rattle.hm_commands.specs.declared.answer.Answer.TheVariants.{Opened}
+use Rattle.hm_commands.proofs.Ran.{steps_more}
 use Rattle.hm_script.specs.declared.command.Command.{Command}
 use Rattle.hm_top.specs.declared.status.EarlyEnd.{EarlyEnd}
 use Rattle.hm_top.specs.declared.status.EarlyEnd.TheVariants as early_is
@@ -26,16 +31,14 @@ use Rattle.hm_top.specs.declared.status.RunStatus.TheVariants.{Done, Usage, BadS
 use Rattle.hm_top.specs.Ending.{ended_status, log_why_of, unopened_status}
 use Rattle.hm_top.specs.Faith.{KeepsFaith}
 use Rattle.hm_top.specs.Got.{Got, GotAnswers, IsLast, IsPartOf, IsShort}
-use Rattle.hm_top.specs.Hands.{Ran, SumRisesBy, sheets_used, steps_in}
-use Rattle.hm_top.specs.Ports.{DiskUse, HandsUse, SinkUse}
+use Rattle.hm_top.specs.Ports.{DiskUse, SinkUse}
 use Rattle.hm_top.specs.Left.{IsLeft, IsNotOpened, IsSpared, StopsLeave}
 use Rattle.hm_top.specs.Run.{EndsBy, Run, WordsFit, before_line, session_of}
 use Rattle.hm_top.specs.Session.{AreAnswered, EndedBy, IsSilent, Outcome, Session, WasOpened}
-use Rattle.hm_top.specs.Standing.{Standing, begun, recording, whole}
+use Rattle.hm_top.specs.Standing.{begun}
 use Rattle.hm_top.specs.Status.{last_line}
 use Rattle.hm_top.specs.Answering.{IsAnswering, Remains}
 use Rattle.hm_top.specs.Transcript.{text_of}
-use Rattle.hm_top.proofs.Growth.{opened_grows, steps_more}
 
 -- no line
 last_none : (rose : Type 0) (old new : List ℕ) → IsLast rose old new [] → new ≡ old
@@ -66,14 +69,19 @@ faith_of J legal = record {
   locks = legal_apart J legal;
 }
 
+-- what the opening adds, which is no step
+pub opened_grows : (sheets : List Sheet) (old : List Entry) → (first : List Entry) × (opened sheets old ≡ old ++ first) × (steps_in first ≡ 0)
+opened_grows sheets [] = (entry_is.Start sheets ∷ [], refl, refl)
+opened_grows sheets (entry ∷ journal) = ([], sym (append-nil (entry ∷ journal)), refl)
+
 -- the commands of a run, with other words for what was given and said, and another sink
 module _ (session : Session) (given : List Command → Type 0) (said : RunStatus → List Answer → Type 0) (out : SinkUse) (status : RunStatus)
     (f : (commands : List Command) → session.given commands → given commands) (g : (answers : List Answer) → session.said status answers → said status answers) where
   abbrev pub other : Session
   other = record session { given = given; said = said; out = out }
 
-  answered_map : (commands : List Command) (old : List Entry) (new : Standing) (unanswered : List Entry) → AreAnswered session status commands old new unanswered → AreAnswered other status commands old new unanswered
-  answered_map commands old new unanswered a = record {
+  answered_map : (commands : List Command) (old : List Entry) (new : Scene) → AreAnswered session status commands old new → AreAnswered other status commands old new
+  answered_map commands old new a = record {
     lines = a.lines;
     start = a.start;
     opens = a.opens;
@@ -81,6 +89,7 @@ module _ (session : Session) (given : List Command → Type 0) (said : RunStatus
     rest = a.rest;
     parts = a.parts;
     answers = a.answers;
+    mid = a.mid;
     transcript = a.transcript;
     remains = a.remains;
     said_are = g (a.lines ++ a.answers) a.said_are;
@@ -92,8 +101,7 @@ module _ (session : Session) (given : List Command → Type 0) (said : RunStatus
     given_are = f o.commands o.given_are;
     old = o.old;
     new = o.new;
-    unanswered = o.unanswered;
-    answering = answered_map o.commands o.old o.new o.unanswered o.answering;
+    answering = answered_map o.commands o.old o.new o.answering;
     left = o.left;
   }
 
@@ -148,8 +156,8 @@ module _ (commands : List Command) (limits : Limits) (out : SinkUse) (disk : Dis
   spoken = record { given = λ read. read ≡ commands; said = before_line out; limits = limits; out = out; disk = disk; hands = hands; marks = marks }
 
   -- what was left of a journal that was opened
-  pub left_of : (old : List Entry) (new : Standing) → (disk.tells → IsOnDisk (sheets_used hands) disk.before old) → IsLegal (back (whole new)) → (disk.tells → AllStored disk.stops.after (recording new))
-      → (disk.tells → StopsLeave disk hands old new) → disk.called (1 + 2 * (length (whole new) - length old)) → (new.halted ≡ Some halt_is.LogFault → disk.failed) → Ran hands (opened (sheets_used hands) old) new.journal → IsLeft disk hands old new
+  pub left_of : (old : List Entry) (new : Scene) → (disk.tells → IsOnDisk (sheets_used hands) disk.before old) → IsLegal (back (whole new)) → (disk.tells → AllStored disk.stops.after (kept_at new))
+      → (disk.tells → StopsLeave disk hands old new) → disk.called (1 + 2 * (length (whole new) - length old)) → (halt_at new ≡ Some halt_is.LogFault → disk.failed) → Ran hands (opened (sheets_used hands) old) (journal_at new) → IsLeft disk hands old new
   left_of old new held legal holds stops called cause ran =
       let first = opened_grows (sheets_used hands) old in
       let steps : steps_in ran.0 ≡ steps_in (first.0 ++ ran.0) = let all = steps_more first.0 ran.0 in let none = first.2 in omega arith in
@@ -166,20 +174,19 @@ module _ (commands : List Command) (limits : Limits) (out : SinkUse) (disk : Dis
       }
 
   -- the outcome of answering the commands
-  module _ (old : List Entry) (new : Standing) (left : IsLeft disk hands old new) where
+  module _ (old : List Entry) (new : Scene) (left : IsLeft disk hands old new) where
     abbrev line : Answer
     line = Opened (length (opened (sheets_used hands) old))
 
     -- under a status that its end has, or one behind which as much remains
     abbrev was_opened : (status : RunStatus) (ended : Result (Unit {0}) EarlyEnd) → ((answers : List Answer) → GotAnswers out.before out.after (ended_status ended None) answers → GotAnswers out.before out.after status answers)
-        → ((rest : List Command) (at : Standing) (unanswered : List Entry) → Remains (ended_status ended None) rest at unanswered → Remains status rest at unanswered)
+        → ((rest : List Command) (at left : Scene) → Remains (ended_status ended None) rest at left → Remains status rest at left)
         → IsAnswering out.tells out.before out.after (line ∷ []) ended commands (begun limits (sheets_used hands) old) marks new → WasOpened spoken status
     was_opened status ended f r a = record {
       commands = commands;
       given_are = refl;
       old = old;
-      new = a.mid;
-      unanswered = a.unanswered;
+      new = new;
       answering = record {
         lines = line ∷ [];
         start = begun limits (sheets_used hands) old;
@@ -188,25 +195,26 @@ module _ (commands : List Command) (limits : Limits) (out : SinkUse) (disk : Dis
         rest = a.rest;
         parts = a.parts;
         answers = a.answers;
+        mid = a.mid;
         transcript = a.transcript;
-        remains = r a.rest a.mid a.unanswered a.remains;
+        remains = r a.rest a.mid new a.remains;
         said_are = λ told. f (line ∷ a.answers) (a.said told);
       };
-      left = subst (IsLeft disk hands old) a.grown left;
+      left = left;
     }
 
-    ended_by : (status : RunStatus) (halted : Option Halt) → new.halted ≡ halted → ((answers : List Answer) → GotAnswers out.before out.after Done answers → GotAnswers out.before out.after status answers)
-        → ((rest : List Command) (at : Standing) (unanswered : List Entry) → Remains Done rest at unanswered → Remains status rest at unanswered)
+    ended_by : (status : RunStatus) (halted : Option Halt) → halt_at new ≡ halted → ((answers : List Answer) → GotAnswers out.before out.after Done answers → GotAnswers out.before out.after status answers)
+        → ((rest : List Command) (at left : Scene) → Remains Done rest at left → Remains status rest at left)
         → IsAnswering out.tells out.before out.after (line ∷ []) (Ok tt) commands (begun limits (sheets_used hands) old) marks new → EndedBy spoken status halted
-    ended_by status halted is f r a = (was_opened status (Ok tt) f r a, sym (ap (λ (s : Standing). s.halted) a.grown) ∙ is)
+    ended_by status halted is f r a = (was_opened status (Ok tt) f r a, is)
 
-    pub outcome_answered : (ended : Result (Unit {0}) EarlyEnd) (halted : Option Halt) → new.halted ≡ halted → (ended ≡ Err early_is.WriteFault → out.failed)
+    pub outcome_answered : (ended : Result (Unit {0}) EarlyEnd) (halted : Option Halt) → halt_at new ≡ halted → (ended ≡ Err early_is.WriteFault → out.failed)
         → IsAnswering out.tells out.before out.after (line ∷ []) ended commands (begun limits (sheets_used hands) old) marks new → Outcome spoken (ended_status ended halted)
-    outcome_answered (Ok done) None is fails a = ended_by Done None is (λ answers t. t) (λ rest at unanswered r. r) a
-    outcome_answered (Ok done) (Some halt_is.LogFault) is fails a = (left.cause is, inr (ended_by LogFault (Some halt_is.LogFault) is (λ answers t. t) (λ rest at unanswered r. r) a))
-    outcome_answered (Ok done) (Some (halt_is.JournalFull bytes)) is fails a = ended_by (JournalFull bytes) (Some (halt_is.JournalFull bytes)) is (λ answers t. t) (λ rest at unanswered r. r) a
-    outcome_answered (Err early_is.WriteFault) halted is fails a = (fails refl, was_opened WriteFault (Err early_is.WriteFault) (λ answers t. t) (λ rest at unanswered r. r) a)
-    outcome_answered (Err early_is.Memory) halted is fails a = inr (inr (was_opened Memory (Err early_is.Memory) (λ answers t. t) (λ rest at unanswered r. r) a))
+    outcome_answered (Ok done) None is fails a = ended_by Done None is (λ answers t. t) (λ rest at left r. r) a
+    outcome_answered (Ok done) (Some halt_is.LogFault) is fails a = (left.cause is, inr (ended_by LogFault (Some halt_is.LogFault) is (λ answers t. t) (λ rest at left r. r) a))
+    outcome_answered (Ok done) (Some (halt_is.JournalFull bytes)) is fails a = ended_by (JournalFull bytes) (Some (halt_is.JournalFull bytes)) is (λ answers t. t) (λ rest at left r. r) a
+    outcome_answered (Err early_is.WriteFault) halted is fails a = (fails refl, was_opened WriteFault (Err early_is.WriteFault) (λ answers t. t) (λ rest at left r. r) a)
+    outcome_answered (Err early_is.Memory) halted is fails a = inr (inr (was_opened Memory (Err early_is.Memory) (λ answers t. t) (λ rest at left r. r) a))
 
   module _ (none : marks ≡ []) (quiet : out.tells → out.after ≡ out.before) where
     -- nothing was said yet

@@ -1,14 +1,14 @@
 -- A text written in pieces.
-use Rattle.std.proofs.Common.{◌≡◌, ◌<◌, ◌+◌, suc, get_or, drop-cons, arith, ℕ, List, ◌∷◌, ◌++◌, length, take, drop, Result, Ok, Err, sym, ap, ◌∙◌, inl, inr, append_assoc}
+use Rattle.std.proofs.Common.{◌≡◌, ◌<◌, ◌+◌, suc, get_or, drop-cons, arith, ℕ, List, ◌∷◌, [], ◌++◌, length, take, drop, Result, Ok, Err, refl, sym, ap, ◌∙◌, subst, inl, inr, append-nil, append_assoc}
 use Rattle.std.specs.Prelude.{OnOk, OnErr}
 use Rattle.std.specs.List.{flat_map}
 use Rattle.std.proofs.Math.Seq.{take-append-add}
 use Rattle.std.proofs.lemmas.Grind.{flat_map-append}
 use Rattle.std.proofs.lemmas.List.{length-append, take-append-drop, take-append-le}
-use Rattle.hm_top.specs.declared.piece.Piece.{Piece}
+use Rattle.hm_commands.specs.declared.piece.Piece.{Piece}
 use Rattle.hm_ports.specs.Faults.{HasCause, Rose}
 use Rattle.hm_top.specs.Got.{IsLast, IsPartOf}
-use Rattle.hm_top.specs.Pieces.{piece_text}
+use Rattle.hm_commands.specs.Pieces.{piece_text}
 
 -- a part of a text that stands between others
 part_between : (old mid new before text rest whole : List ℕ) → whole ≡ before ++ (text ++ rest) → mid ≡ old ++ before → IsPartOf mid new text → IsPartOf old new whole
@@ -18,6 +18,20 @@ part_between old mid new before text rest whole parts so_far part =
     let front : take (length before + part.0) whole ≡ before ++ take part.0 text =
     ap (take (length before + part.0)) parts ∙ take-append-add before (text ++ rest) part.0 ∙ ap (λ l. before ++ l) (take-append-le part.0 text rest (omega arith)) in
     (length before + part.0, omega arith, part.2 ∙ ap (λ l. l ++ take part.0 text) so_far ∙ append_assoc old before (take part.0 text) ∙ ap (λ l. old ++ l) (sym front))
+
+-- a part of a text behind another, which more may follow
+pub part_first : (old mid new before text rest : List ℕ) → mid ≡ old ++ before → IsPartOf mid new text → IsPartOf old new (before ++ (text ++ rest))
+part_first old mid new before text rest so_far part = part_between old mid new before text rest (before ++ (text ++ rest)) refl so_far part
+
+pub part_last : (old mid new before text : List ℕ) → mid ≡ old ++ before → IsPartOf mid new text → IsPartOf old new (before ++ text)
+part_last old mid new before text so_far part = subst (λ l. IsPartOf old new (before ++ l)) (append-nil text) (part_first old mid new before text [] so_far part)
+
+-- a host, a port and a start code with commas between, by the parts in which they are written
+pub parts_early : (host comma port start : List ℕ) → host ++ comma ++ port ++ comma ++ start ≡ (host ++ (comma ++ port)) ++ (comma ++ start)
+parts_early host comma port start = append_assoc (host ++ comma ++ port) comma start ∙ ap (λ l. l ++ (comma ++ start)) (append_assoc host comma port)
+
+pub parts_late : (host comma port start : List ℕ) → host ++ comma ++ port ++ comma ++ start ≡ host ++ ((comma ++ port) ++ (comma ++ start))
+parts_late host comma port start = parts_early host comma port start ∙ append_assoc host (comma ++ port) (comma ++ start)
 
 -- the first pieces were written, and a part of the next one
 pub written_part : (pieces : List Piece) (index : ℕ) (old mid new : List ℕ) → index < length pieces → mid ≡ old ++ flat_map piece_text (take index pieces) → (other : Piece) → IsPartOf mid new (piece_text (get_or pieces index other))
@@ -40,3 +54,8 @@ tried before now old new text (Err fault) all part cause = inr (cause.failed, pa
 pub on_err : {T E P : Type 0} (r : Result T E) → P → OnErr r P
 on_err (Ok done) p = tt
 on_err (Err fault) p = p
+
+-- what follows of a failure
+pub on_err_so : {T E P Q : Type 0} (r : Result T E) → (P → Q) → OnErr r P → OnErr r Q
+on_err_so (Ok done) f p = tt
+on_err_so (Err fault) f p = f p

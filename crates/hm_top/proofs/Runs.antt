@@ -12,13 +12,19 @@ use Rattle.hm_data.specs.declared.entry.Entry.{Entry}
 use Rattle.hm_data.specs.declared.sheet.Sheet.{Sheet}
 use Rattle.hm_hall.specs.declared.fault.Halt.TheVariants as halt_is
 use Rattle.hm_journal.specs.Since.{IsFront, with_tail}
-use Rattle.hm_journal.specs.Stored.{frames_of, IsJournal, IsOnDisk, IsOpening, SameFrames, Spares}
+use Rattle.hm_journal.specs.Stored.{frames_of, IsJournal, IsOnDisk, IsOpening, SameFrames, Spares, opened}
 use Rattle.hm_journal.specs.Verdict.{Refuses}
 use Rattle.hm_journal.specs.declared.limits.Limits.{Limits}
 use Rattle.hm_journal.specs.declared.why.JournalWhy.{JournalWhy}
 use Rattle.hm_journal.specs.declared.why.JournalWhy.TheVariants as why_is
-use Rattle.hm_top.specs.declared.answer.Answer.{Answer}
-use Rattle.hm_top.specs.declared.answer.Answer.TheVariants.{Opened}
+use Rattle.hm_hall.specs.Recording.{Recording}
+use Rattle.hm_world.specs.Scene.{Scene}
+use Rattle.hm_commands.specs.Hands.{HandsUse, Ran, RunBy, sheets_used}
+use Rattle.hm_commands.specs.Scenes.{halt_at, journal_at, kept_at, new_scene, whole}
+use Rattle.hm_commands.specs.View.{IsLeftBy}
+use Rattle.hm_commands.specs.declared.answer.Answer.{Answer}
+use Rattle.hm_commands.specs.declared.answer.Answer.TheVariants.{Opened}
+use Rattle.hm_commands.proofs.Ran.{ran_idle}
 use Rattle.hm_script.specs.declared.command.Command.{Command}
 use Rattle.hm_top.specs.declared.status.EarlyEnd.{EarlyEnd}
 use Rattle.hm_top.specs.declared.status.EarlyEnd.TheVariants as early_is
@@ -26,20 +32,21 @@ use Rattle.hm_top.specs.declared.status.RunStatus.{RunStatus}
 use Rattle.hm_top.specs.declared.status.RunStatus.TheVariants.{Memory}
 use Rattle.hm_top.specs.Ending.{ended_status, unopened_status}
 use Rattle.hm_top.specs.Got.{IsLast}
-use Rattle.hm_top.specs.Hands.{Ran, RunBy, sheets_used}
 use Rattle.hm_top.specs.Left.{AcceptsJournal, IsLeft}
-use Rattle.hm_top.specs.Ports.{HandsUse, SinkUse, disk_use, sink_use}
+use Rattle.hm_top.specs.Ports.{SinkUse, disk_use, sink_use}
 use Rattle.hm_top.specs.Run.{Ends, EndsUnfinished, IsRead, KeepsTo, Run, WordsFit, before_line, behind_line, session_of}
 use Rattle.hm_top.specs.Script.{IsScript}
 use Rattle.hm_top.specs.Session.{Outcome}
-use Rattle.hm_top.specs.Standing.{Standing, begun, whole}
+use Rattle.hm_top.specs.Standing.{begun, fresh}
 use Rattle.hm_top.specs.Status.{last_line}
 use Rattle.hm_top.specs.Answering.{IsAnswering}
-use Rattle.hm_top.specs.View.{IsLeftBy, WorldView, standing_of}
+use Rattle.hm_top.specs.View.{StoreView}
 use Rattle.hm_top.proofs.Complete.{complete}
-use Rattle.hm_top.proofs.Growth.{opened_grows}
-use Rattle.hm_top.proofs.Outcomes.{ends_fit, ends_map, got_finished, left_of, outcome_answered, outcome_full, outcome_map, outcome_unopened, spoken}
-use Rattle.hm_top.proofs.Ran.{ran_idle}
+use Rattle.hm_top.proofs.Outcomes.{ends_fit, ends_map, got_finished, left_of, opened_grows, outcome_answered, outcome_full, outcome_map, outcome_unopened, spoken}
+
+-- what ran, from a journal that is the same
+pub ran_from : {hands : HandsUse} (old other new : List Entry) → old ≡ other → Ran hands old new → Ran hands other new
+ran_from {hands} old other new same ran = subst (λ (l : List Entry). Ran hands l new) same ran
 
 rose_late : (old mid new : ℕ) → old ≤ mid → Rose mid new → Rose old new
 rose_late old mid new later rose = omega arith
@@ -63,7 +70,7 @@ tail_of : (entries : List Entry) (tail : Option Entry) → (more : List Entry) �
 tail_of entries None = ([], sym (append-nil entries))
 tail_of entries (Some entry) = (entry ∷ [], refl)
 
-module _ {D Setting : Type 0} (d : Disk.Ghosts D Setting) (sheets : List Sheet) (limits : Limits) (disk : D) (was : WorldView D) where
+module _ {D Setting : Type 0} (d : Disk.Ghosts D Setting) (sheets : List Sheet) (limits : Limits) (disk : D) (was : StoreView D) where
   -- what a stop may leave before a journal was opened
   abbrev early : List ℕ → Type 0
   early bytes = d.image disk bytes ⊎ IsMaking (d.seen disk) bytes
@@ -71,17 +78,17 @@ module _ {D Setting : Type 0} (d : Disk.Ghosts D Setting) (sheets : List Sheet) 
   -- a world was opened
   abbrev pub IsOpened : Type 0
   IsOpened =
-      (old : List Entry) × IsJournal sheets old × (standing_of was ≡ begun limits sheets old) × (was.opened.count ≡ length old)
+      (old : List Entry) × IsJournal sheets old × (was.kept ≡ fresh limits (opened sheets old)) × (was.opened.count ≡ length old)
       × (d.tells → IsOnDisk sheets (d.seen disk) old × LeavesThen d.moment d.left_since disk was.opened.disk early (λ c. Reads c (frames_of old)))
 
   -- what each stop left since
-  pub stops_leave : (at : Standing) (new : D) (opens : IsOpened) → ((more : List Entry) × (at.journal ≡ opens.0 ++ more))
+  pub stops_leave : (at : Scene) (new : D) (opens : IsOpened) → ((more : List Entry) × (journal_at at ≡ opens.0 ++ more))
       → (d.tells → LeavesOnly d.moment d.left_since was.opened.disk new (IsFront was.opened.count (whole at)))
       → d.tells → LeavesThen d.moment d.left_since disk new early (IsFront (length opens.0) (whole at))
   stops_leave at new opens grown leaves told =
       let old = opens.0 in
       let all = whole at in
-      let tail = tail_of at.journal at.tail in
+      let tail = tail_of (journal_at at) (kept_at at).tail in
       then_stays d.moment d.left_since disk was.opened.disk new early (IsFront (length old) all)
       (then_weaker d.moment d.left_since disk was.opened.disk early (λ c. Reads c (frames_of old)) (IsFront (length old) all)
       (λ c reads. record {
@@ -98,37 +105,37 @@ module _ {D Setting : Type 0} (d : Disk.Ghosts D Setting) (commands : List Comma
   its = Outcome (spoken commands limits out (disk_use d disk new) hands marks)
 
   -- what is left of a world that was opened, whose run stands so
-  left_opened : (was : WorldView D) (at : Standing) (opens : IsOpened d (sheets_used hands) limits disk was) → IsCalled d 1 disk was.opened.disk → IsLeftBy d was.opened at new → Ran hands was.kept.entries at.journal
+  left_opened : (was : StoreView D) (at : Scene) (opens : IsOpened d (sheets_used hands) limits disk was) → IsCalled d 1 disk was.opened.disk → IsLeftBy d was.opened at new → Ran hands was.kept.entries (journal_at at)
       → IsLeft (disk_use d disk new) hands opens.0 at
   left_opened was at opens first_called leaves ran =
       let own = sheets_used hands in
       let old = opens.0 in
-      let begins : was.kept.entries ≡ (begun limits own old).journal = ap (λ (s : Standing). s.journal) opens.2 in
+      let begins : was.kept.entries ≡ opened own old = ap (λ (k : Recording). k.entries) opens.2 in
       let first = opened_grows own old in
-      let grown : (more : List Entry) × (at.journal ≡ old ++ more) = (first.0 ++ ran.0, ran.1 ∙ ap (λ l. l ++ ran.0) (begins ∙ first.1) ∙ append_assoc old first.0 ran.0) in
-      let rose : at.halted ≡ Some halt_is.LogFault → Rose (d.faults disk) (d.faults new) = λ halted_is.
+      let grown : (more : List Entry) × (journal_at at ≡ old ++ more) = (first.0 ++ ran.0, ran.1 ∙ ap (λ l. l ++ ran.0) (begins ∙ first.1) ∙ append_assoc old first.0 ran.0) in
+      let rose : halt_at at ≡ Some halt_is.LogFault → Rose (d.faults disk) (d.faults new) = λ halted_is.
       rose_late (d.faults disk) (d.faults was.opened.disk) (d.faults new) first_called.fault (leaves.since.failed halted_is) in
       left_of commands limits out (disk_use d disk new) hands marks old at (λ told. (opens.4 told).0) leaves.legal leaves.stored (stops_leave d own limits disk was at new opens grown leaves.since.leaves)
       (called_on d 1 (2 * (length (whole at) - length old)) disk was.opened.disk new first_called
-      (subst (λ n. IsCalled d (2 * (length (whole at) - n)) was.opened.disk new) opens.3 leaves.since.called)) rose (subst (λ journal. Ran hands journal at.journal) begins ran)
+      (subst (λ n. IsCalled d (2 * (length (whole at) - n)) was.opened.disk new) opens.3 leaves.since.called)) rose (subst (λ journal. Ran hands journal (journal_at at)) begins ran)
 
   -- the outcome of answering over a world that was opened
-  pub converse_answered : (was : WorldView D) (at : Standing) (ended : Result (Unit {0}) EarlyEnd) → status ≡ ended_status ended at.halted → IsOpened d sheets limits disk was → IsCalled d 1 disk was.opened.disk
-      → IsAnswering out.tells out.before out.after (Opened (length was.kept.entries) ∷ []) ended commands (standing_of was) marks at → IsLeftBy d was.opened at new → Ran hands was.kept.entries at.journal
+  pub converse_answered : (was : StoreView D) (at : Scene) (ended : Result (Unit {0}) EarlyEnd) → status ≡ ended_status ended (halt_at at) → IsOpened d sheets limits disk was → IsCalled d 1 disk was.opened.disk
+      → IsAnswering out.tells out.before out.after (Opened (length was.kept.entries) ∷ []) ended commands (new_scene was.kept) marks at → IsLeftBy d was.opened at new → Ran hands was.kept.entries (journal_at at)
       → (ended ≡ Err early_is.WriteFault → out.failed) → its status
   converse_answered was at ended ends opening first_called answering leaves ran fails =
       let opens : IsOpened d (sheets_used hands) limits disk was = subst (λ (l : List Sheet). IsOpened d l limits disk was) (sym listed) opening in
       subst its (sym ends)
-      (outcome_answered commands limits out (disk_use d disk new) hands marks opens.0 at (left_opened was at opens first_called leaves ran) ended at.halted refl fails
-      (subst (λ (s : Standing). IsAnswering out.tells out.before out.after (Opened (length s.journal) ∷ []) ended commands s marks at) opens.2 answering))
+      (outcome_answered commands limits out (disk_use d disk new) hands marks opens.0 at (left_opened was at opens first_called leaves ran) ended (halt_at at) refl fails
+      (subst (λ (k : Recording). IsAnswering out.tells out.before out.after (Opened (length k.entries) ∷ []) ended commands (new_scene k) marks at) opens.2 answering))
 
   -- the outcome where there was no room for the executor of a journal that was opened, or for the marks
-  pub converse_full : (was : WorldView D) → status ≡ Memory → IsOpened d sheets limits disk was → IsCalled d 1 disk was.opened.disk → IsLeftBy d was.opened (standing_of was) new → RunBy hands 0
+  pub converse_full : (was : StoreView D) → status ≡ Memory → IsOpened d sheets limits disk was → IsCalled d 1 disk was.opened.disk → IsLeftBy d was.opened (new_scene was.kept) new → RunBy hands 0
       → marks ≡ [] → (out.tells → out.after ≡ out.before) → its status
   converse_full was ends opening first_called leaves run none quiet =
       let opens : IsOpened d (sheets_used hands) limits disk was = subst (λ (l : List Sheet). IsOpened d l limits disk was) (sym listed) opening in
-      let left = left_opened was (standing_of was) opens first_called leaves (ran_idle hands was.kept.entries was.kept.entries refl run) in
-      subst its (sym ends) (outcome_full commands limits out (disk_use d disk new) hands marks none quiet opens.0 (subst (IsLeft (disk_use d disk new) hands opens.0) opens.2 left))
+      let left = left_opened was (new_scene was.kept) opens first_called leaves (ran_idle hands was.kept.entries was.kept.entries refl run) in
+      subst its (sym ends) (outcome_full commands limits out (disk_use d disk new) hands marks none quiet opens.0 (subst (λ (k : Recording). IsLeft (disk_use d disk new) hands opens.0 (new_scene k)) opens.2 left))
 
   -- the outcome of an opening that failed
   pub converse_unopened : (why : JournalWhy) → status ≡ unopened_status why → marks ≡ [] → (d.tells → Refuses sheets (d.seen disk) why) → (why ≡ why_is.Fault → Rose (d.faults disk) (d.faults new))

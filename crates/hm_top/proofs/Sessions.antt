@@ -1,41 +1,45 @@
 -- How answering goes on.
-use Rattle.std.proofs.Common.{◌≡◌, ℕ, List, [], ◌∷◌, ◌++◌, length, Err, refl, sym, ap, ◌∙◌, append_assoc, append-nil, subst}
+use Rattle.std.proofs.Common.{◌≡◌, ℕ, List, [], ◌∷◌, ◌++◌, length, Some, Ok, Err, refl, sym, ap, ◌∙◌, append_assoc, append-nil, subst}
 use Rattle.std.proofs.lemmas.Grind.{flat_map-append}
 use Rattle.hm_script.specs.declared.command.Command.{Command}
-use Rattle.hm_top.specs.declared.answer.Answer.{Answer}
+use Rattle.hm_world.specs.Scene.{Scene, past_in}
+use Rattle.hm_world_model.specs.Twice.{Twice}
+use Rattle.hm_commands.specs.Answer.{answer_text}
+use Rattle.hm_commands.specs.Commands.{Answers, IsUnanswered}
+use Rattle.hm_commands.specs.Scenes.{journal_at}
+use Rattle.hm_commands.specs.declared.answer.Answer.{Answer}
+use Rattle.hm_commands.proofs.Growth.{comes_grows}
 use Rattle.hm_top.specs.declared.status.EarlyEnd.TheVariants as early_is
-use Rattle.hm_top.specs.Answer.{answer_text, Answers, IsUnanswered, MayRunOut, RunsOut}
-use Rattle.hm_top.specs.Answering.{IsAnswering}
+use Rattle.hm_top.specs.Answering.{IsAnswering, RunsOut}
 use Rattle.hm_top.specs.Got.{IsPartOf, IsShort}
-use Rattle.hm_top.specs.Standing.{Standing}
 use Rattle.hm_top.specs.Transcript.{Transcript, text_of}
-use Rattle.hm_top.proofs.Growth.{answer_adds, same_end}
 
 -- one more command at the end
-transcript_more : (commands : List Command) (command : Command) (answer : Answer) (old mid new : Standing) (marks : List ℕ) (answers : List Answer)
-    → Transcript commands old marks answers mid → Answers command mid answer new
-    → Transcript (commands ++ command ∷ []) old (marks ++ length new.journal ∷ []) (answers ++ answer ∷ []) new
-transcript_more [] command answer old mid new marks answers t fits =
-    let now = subst (λ j. Answers command j answer new) t.2 fits in
-    let adds = answer_adds command old answer new now in (
+transcript_more : (commands : List Command) (command : Command) (answer : Answer) (old mid new : Scene) (marks : List ℕ) (answers : List Answer)
+    → Transcript commands old marks answers mid → Answers command mid answer new → (Twice (past_in new) new.outside → ⊥)
+    → Transcript (commands ++ command ∷ []) old (marks ++ length (journal_at new) ∷ []) (answers ++ answer ∷ []) new
+transcript_more [] command answer old mid new marks answers t fits once =
+    let now = subst (λ (s : Scene). Answers command s answer new) t.2 fits in
+    let grows = comes_grows old new command (Some answer) now in (
       new,
       [],
       [],
       record {
         answer = answer;
         fits = now;
-        added = adds.0;
-        may = adds.1;
-        grown = adds.2;
-        mark = ap (λ m. m ++ length new.journal ∷ []) t.0;
+        added = grows.added;
+        may = grows.each;
+        grown = grows.grown;
+        once = once;
+        mark = ap (λ m. m ++ length (journal_at new) ∷ []) t.0;
         said = ap (λ s. s ++ answer ∷ []) t.1;
       },
       (refl, refl, refl),
     )
-transcript_more (begin ∷ commands) command answer old mid new marks answers t fits =
+transcript_more (begin ∷ commands) command answer old mid new marks answers t fits once =
     let first = t.3 in (
       t.0,
-      t.1 ++ length new.journal ∷ [],
+      t.1 ++ length (journal_at new) ∷ [],
       t.2 ++ answer ∷ [],
       record {
         answer = first.answer;
@@ -43,10 +47,11 @@ transcript_more (begin ∷ commands) command answer old mid new marks answers t 
         added = first.added;
         may = first.may;
         grown = first.grown;
-        mark = ap (λ m. m ++ length new.journal ∷ []) first.mark;
+        once = first.once;
+        mark = ap (λ m. m ++ length (journal_at new) ∷ []) first.mark;
         said = ap (λ s. s ++ answer ∷ []) first.said;
       },
-      transcript_more commands command answer t.0 mid new t.1 t.2 t.4 fits,
+      transcript_more commands command answer t.0 mid new t.1 t.2 t.4 fits once,
     )
 
 -- one answer more behind answers that the sink has whole
@@ -60,12 +65,12 @@ module _ (before mid after : List ℕ) (answers : List Answer) (answer : Answer)
       ∙ ap (λ l. before ++ l) (sym (flat_map-append answer_text answers (answer ∷ []) ∙ ap (λ l. text_of answers ++ l) (append-nil (answer_text answer))))
 
 -- these commands were answered, and the sink has the lines and the answers whole
-pub record SoFar (tells : Type 0) (before after : List ℕ) (lines : List Answer) (commands : List Command) (old : Standing) (marks : List ℕ) (mid : Standing) : Type 0 where
+pub record SoFar (tells : Type 0) (before after : List ℕ) (lines : List Answer) (commands : List Command) (old : Scene) (marks : List ℕ) (mid : Scene) : Type 0 where
   pub answers : List Answer
   pub transcript : Transcript commands old marks answers mid
   pub said : tells → after ≡ before ++ text_of (lines ++ answers)
 
-module _ {tells : Type 0} {got0 got1 : List ℕ} {line : Answer} (old : Standing) {marks : List ℕ} (none : marks ≡ []) where
+module _ {tells : Type 0} {got0 got1 : List ℕ} {line : Answer} (old : Scene) {marks : List ℕ} (none : marks ≡ []) where
   -- the line of the opening wasn't said whole
   pub not_begun : (commands : List Command) → (tells → IsPartOf got0 got1 (answer_text line)) → IsAnswering tells got0 got1 (line ∷ []) (Err early_is.WriteFault) commands old marks old
   not_begun commands part = record {
@@ -76,21 +81,33 @@ module _ {tells : Type 0} {got0 got1 : List ℕ} {line : Answer} (old : Standing
     answers = [];
     transcript = (none, refl, refl);
     said = λ told. short_more got0 got0 got1 [] line (sym (append-nil got0)) (part told);
-    unanswered = [];
     remains = refl;
-    grown = same_end old;
   }
 
   -- it was said
   pub begun_said : (tells → got1 ≡ got0 ++ answer_text line) → SoFar tells got0 got1 (line ∷ []) [] old marks old
   begun_said said = record { answers = []; transcript = (none, refl, refl); said = λ told. whole_more got0 got0 got1 [] line (sym (append-nil got0)) (said told) }
 
+-- all were answered
+pub all_answered : {tells : Type 0} {got0 got1 : List ℕ} {lines : List Answer} {commands done : List Command} {old mid : Scene} {before : List ℕ} → SoFar tells got0 got1 lines done old before mid
+    → (rest : List Command) → commands ≡ done ++ rest → rest ≡ [] → IsAnswering tells got0 got1 lines (Ok tt) commands old before mid
+all_answered {done} {mid} so_far rest parts none = record {
+  answered = done;
+  rest = rest;
+  parts = parts;
+  mid = mid;
+  answers = so_far.answers;
+  transcript = so_far.transcript;
+  said = so_far.said;
+  remains = (none, refl);
+}
+
 -- So many commands were answered, and there is a next one.
-module _ {tells : Type 0} {got0 got1 : List ℕ} {lines : List Answer} {commands done : List Command} (rest : List Command) {old mid : Standing} {before : List ℕ} (so_far : SoFar tells got0 got1 lines done old before mid)
+module _ {tells : Type 0} {got0 got1 : List ℕ} {lines : List Answer} {commands done : List Command} (rest : List Command) {old mid : Scene} {before : List ℕ} (so_far : SoFar tells got0 got1 lines done old before mid)
     (parts : commands ≡ done ++ rest) {command : Command} {more : List Command} (next : rest ≡ command ∷ more) where
   -- memory ran out in it
-  pub stopped_within : {new : Standing} → IsUnanswered command mid new → IsAnswering tells got0 got1 lines (Err early_is.Memory) commands old before new
-  stopped_within left = record {
+  pub stopped_within : (new : Scene) → IsUnanswered command mid new → IsAnswering tells got0 got1 lines (Err early_is.Memory) commands old before new
+  stopped_within new left = record {
     answered = done;
     rest = rest;
     parts = parts;
@@ -98,17 +115,15 @@ module _ {tells : Type 0} {got0 got1 : List ℕ} {lines : List Answer} {commands
     answers = so_far.answers;
     transcript = so_far.transcript;
     said = so_far.said;
-    unanswered = left.1;
-    remains = subst (λ l. RunsOut l mid left.1) (sym next) (subst (MayRunOut command) left.3 left.0, left.2);
-    grown = left.3;
+    remains = subst (λ l. RunsOut l mid new) (sym next) left;
   }
 
   -- it was answered
-  module _ (answer : Answer) (new : Standing) {marks : List ℕ} (fits : Answers command mid answer new) (marked : marks ≡ before ++ length new.journal ∷ []) where
+  module _ (answer : Answer) (new : Scene) {marks : List ℕ} (fits : Answers command mid answer new) (once : Twice (past_in new) new.outside → ⊥) (marked : marks ≡ before ++ length (journal_at new) ∷ []) where
     transcript : Transcript (done ++ command ∷ []) old marks (so_far.answers ++ answer ∷ []) new
     transcript =
         subst (λ m. Transcript (done ++ command ∷ []) old m (so_far.answers ++ answer ∷ []) new) (sym marked)
-        (transcript_more done command answer old mid new before so_far.answers so_far.transcript fits)
+        (transcript_more done command answer old mid new before so_far.answers so_far.transcript fits once)
 
     -- and the sink has its text
     pub said_more : {got2 : List ℕ} → (tells → got2 ≡ got1 ++ answer_text answer) → SoFar tells got0 got2 lines (done ++ command ∷ []) old marks new
@@ -128,7 +143,5 @@ module _ {tells : Type 0} {got0 got1 : List ℕ} {lines : List Answer} {commands
       answers = so_far.answers ++ answer ∷ [];
       transcript = transcript;
       said = λ told. subst (IsShort got0 got2) (append_assoc lines so_far.answers (answer ∷ [])) (short_more got0 got1 got2 (lines ++ so_far.answers) answer (so_far.said told) (part told));
-      unanswered = [];
       remains = refl;
-      grown = same_end new;
     }

@@ -1,9 +1,9 @@
 -- What a sink got of a text.
 use Rattle.std.specs.Prelude.{◌≡◌, ◌⊎◌, ◌<◌, ℕ, List, [], ◌∷◌, ◌++◌, length, take}
-use Rattle.hm_top.specs.declared.answer.Answer.{Answer}
+use Rattle.hm_commands.specs.Answer.{answer_text}
+use Rattle.hm_commands.specs.declared.answer.Answer.{Answer}
 use Rattle.hm_top.specs.declared.status.RunStatus.{RunStatus}
 use Rattle.hm_top.specs.declared.status.RunStatus.TheVariants.{Done, WriteFault, Memory}
-use Rattle.hm_top.specs.Answer.{answer_text}
 use Rattle.hm_top.specs.Status.{last_line}
 use Rattle.hm_top.specs.Transcript.{text_of}
 

@@ -12,26 +12,27 @@ use Rattle.hm_top.specs.declared.status.LogWhy.{LogWhy}
 use Rattle.hm_top.specs.declared.status.RunStatus.{RunStatus}
 use Rattle.hm_top.specs.declared.status.RunStatus.TheVariants.{LogRefused}
 use Rattle.hm_top.specs.Faith.{KeepsFaith}
-use Rattle.hm_top.specs.Hands.{SumRisesBy, sheets_used, steps_in}
-use Rattle.hm_top.specs.Ports.{DiskUse, HandsUse}
-use Rattle.hm_top.specs.Standing.{Standing, recording, whole}
+use Rattle.hm_world.specs.Scene.{Scene}
+use Rattle.hm_commands.specs.Hands.{HandsUse, SumRisesBy, sheets_used, steps_in}
+use Rattle.hm_commands.specs.Scenes.{halt_at, journal_at, kept_at, whole}
+use Rattle.hm_top.specs.Ports.{DiskUse}
 
 module _ (disk : DiskUse) (hands : HandsUse) where
   -- up to some moment a stop left the disk handed in, or a log in the making, and then a front of the new no shorter than the old
-  abbrev pub StopsLeave : List Entry → Standing → Type 0
+  abbrev pub StopsLeave : List Entry → Scene → Type 0
   StopsLeave old new = disk.stops.leave_then (λ bytes. disk.stops.before bytes ⊎ IsMaking disk.before bytes) (IsFront (length old) (whole new))
 
   -- the disk held the old journal, and holds the new one, which begins so and keeps faith; what stops, counts and runs say of it
-  pub record IsLeft (old : List Entry) (new : Standing) : Type 0 where
+  pub record IsLeft (old : List Entry) (new : Scene) : Type 0 where
     pub added : List Entry
-    pub longer : new.journal ≡ old ++ added
+    pub longer : journal_at new ≡ old ++ added
     pub faith : (mark : ℕ) → KeepsFaith (back (take mark (whole new)))
     pub held : disk.tells → IsOnDisk (sheets_used hands) disk.before old
-    pub holds : disk.tells → AllStored disk.stops.after (recording new)
+    pub holds : disk.tells → AllStored disk.stops.after (kept_at new)
     pub stops : disk.tells → StopsLeave old new
     pub called : disk.called (1 + 2 * (length (whole new) - length old))
     pub ran : SumRisesBy (steps_in added) hands.runs_before hands.runs_after
-    pub cause : new.halted ≡ Some halt_is.LogFault → disk.failed
+    pub cause : halt_at new ≡ Some halt_is.LogFault → disk.failed
 
   -- each stop left what one in the middle of an opening may leave
   abbrev pub StopsInOpening : Type 0

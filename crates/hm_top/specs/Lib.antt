@@ -1,17 +1,13 @@
 pub mod Words
 pub mod Script
 pub mod Standing
-pub mod Settling
-pub mod Answer
 pub mod Transcript
 pub mod Status
-pub mod Pieces
 pub mod Ending
 pub mod Got
 pub mod Answering
 pub mod Faith
 pub mod Ports
-pub mod Hands
 pub mod View
 pub mod Left
 pub mod Session

@@ -1,15 +1,11 @@
 -- What a call did with each of its ports: what it was handed and what it left, as far as the port tells.
-use Rattle.std.specs.Prelude.{◌≡◌, ℕ, List, map}
+use Rattle.std.specs.Prelude.{◌≡◌, ℕ, List}
 use Rattle.hm_ports.specs.Faults.{Rose}
 use Rattle.hm_ports.specs.declared.source.Source as Source
 use Rattle.hm_ports.specs.declared.sink.Sink as Sink
 use Rattle.hm_disk.specs.Called.{IsCalled}
 use Rattle.hm_disk.specs.Disk.{LeavesOnly, LeavesThen}
 use Rattle.hm_disk.specs.declared.disk.Disk as Disk
-use Rattle.hm_data.specs.declared.sheet.Sheet.{Sheet}
-use Rattle.hm_sheet.specs.declared.handler.Handler as Handler
-use Rattle.hm_sheet.specs.Registry.{runs_of, sheets_of}
-use Rattle.hm_sheet.specs.declared.registry.Registry.{Registry}
 
 -- a source: its bytes before and after, that a read failed, and that it is as handed in
 pub record SourceUse : Type 1 where
@@ -85,21 +81,4 @@ disk_use disk old new =
       called = λ most. IsCalled disk most old new;
       failed = Rose (disk.faults old) (disk.faults new);
       untouched = new ≡ old;
-    }
-
--- registries: the sheets of each before and after, and how often each was run
-pub record HandsUse : Type 0 where
-  pub before : List (List Sheet)
-  pub after : List (List Sheet)
-  pub runs_before : List ℕ
-  pub runs_after : List ℕ
-
--- what a call did with registries
-abbrev pub hands_use : {X : Type 0} {F : X → Type 0} → ((x : X) → Handler.Ghosts (F x)) → List (Registry X F) → List (Registry X F) → HandsUse
-hands_use hand old new =
-    record {
-      before = map (sheets_of hand) old;
-      after = map (sheets_of hand) new;
-      runs_before = map runs_of old;
-      runs_after = map runs_of new;
     }

@@ -10,17 +10,17 @@ use Rattle.hm_journal.specs.Stored.{IsOnDisk}
 use Rattle.hm_script.specs.declared.command.Command.{Command}
 use Rattle.hm_script.specs.declared.bad.Bad.{Bad}
 use Rattle.hm_script.specs.declared.bad.Why.TheVariants as why_is
-use Rattle.hm_top.specs.declared.answer.Answer.{Answer}
+use Rattle.hm_world.specs.Scene.{Scene}
+use Rattle.hm_commands.specs.Hands.{HandsUse, RunBy, sheets_used}
+use Rattle.hm_commands.specs.declared.answer.Answer.{Answer}
 use Rattle.hm_top.specs.declared.status.RunStatus.{RunStatus}
 use Rattle.hm_top.specs.declared.status.RunStatus.TheVariants.{Done, Usage, BadScript, ReadFault, JournalFull, Memory}
-use Rattle.hm_top.specs.Answer.{RunsOut}
+use Rattle.hm_top.specs.Answering.{RunsOut}
 use Rattle.hm_top.specs.Got.{Got, GotAnswers}
-use Rattle.hm_top.specs.Hands.{RunBy, sheets_used}
 use Rattle.hm_top.specs.Left.{AcceptsJournal}
-use Rattle.hm_top.specs.Ports.{DiskUse, HandsUse, SinkUse, SourceUse, disk_use, sink_use, source_use}
+use Rattle.hm_top.specs.Ports.{DiskUse, SinkUse, SourceUse, disk_use, sink_use, source_use}
 use Rattle.hm_top.specs.Script.{IsBad, IsScript}
 use Rattle.hm_top.specs.Session.{Outcome, Session}
-use Rattle.hm_top.specs.Standing.{Standing}
 use Rattle.hm_top.specs.Words.{misfit_of}
 
 -- what the sink has of the answers under a status, before the last line
@@ -94,7 +94,7 @@ module _ (run : Run) where
   RanOutOver commands =
       (disk.tells → (place : ℕ) → IsNotALog disk.before place → ⊥)
       ⊎ (((old : List Entry) × (disk.tells → IsOnDisk (sheets_used hands) disk.before old))
-      ⊎ ((answered : List Command) × (rest : List Command) × (commands ≡ answered ++ rest) × (at : Standing) × (entries : List Entry) × RunsOut rest at entries))
+      ⊎ ((answered : List Command) × (rest : List Command) × (commands ≡ answered ++ rest) × (at new : Scene) × RunsOut rest at new))
 
   -- what each run keeps to; the registries have the sheets that they had, and no count of runs fell
   pub record KeepsTo (status : RunStatus) : Type 0 where

@@ -7,15 +7,17 @@ use Rattle.hm_journal.specs.declared.limits.Limits.{Limits}
 use Rattle.hm_journal.specs.declared.why.JournalWhy.{JournalWhy}
 use Rattle.hm_journal.specs.declared.why.JournalWhy.TheVariants as journal_why_is
 use Rattle.hm_script.specs.declared.command.Command.{Command}
-use Rattle.hm_top.specs.declared.answer.Answer.{Answer}
+use Rattle.hm_world.specs.Scene.{Scene}
+use Rattle.hm_commands.specs.Hands.{HandsUse, sheets_used}
+use Rattle.hm_commands.specs.Scenes.{halt_at}
+use Rattle.hm_commands.specs.declared.answer.Answer.{Answer}
 use Rattle.hm_top.specs.declared.status.RunStatus.{RunStatus}
 use Rattle.hm_top.specs.declared.status.RunStatus.TheVariants.{Done, LogFault, LogRefused, WriteFault, JournalFull, Memory}
 use Rattle.hm_top.specs.Answering.{Remains}
 use Rattle.hm_top.specs.Ending.{log_why_of}
-use Rattle.hm_top.specs.Hands.{sheets_used}
 use Rattle.hm_top.specs.Left.{IsLeft, IsNotOpened, IsSpared}
-use Rattle.hm_top.specs.Ports.{DiskUse, HandsUse, SinkUse}
-use Rattle.hm_top.specs.Standing.{Standing, begun}
+use Rattle.hm_top.specs.Ports.{DiskUse, SinkUse}
+use Rattle.hm_top.specs.Standing.{begun}
 use Rattle.hm_top.specs.Transcript.{Opens, Transcript}
 
 -- commands answered over the ports: which they are, what the sink has of answers under a status, and the marks
@@ -32,16 +34,17 @@ module _ (session : Session) where
   open session use {given, said, limits, out, disk, hands, marks}
 
   -- behind the lines of the opening these commands were answered in turn, but for what remains under this status
-  pub record AreAnswered (status : RunStatus) (commands : List Command) (old : List Entry) (new : Standing) (unanswered : List Entry) : Type 0 where
+  pub record AreAnswered (status : RunStatus) (commands : List Command) (old : List Entry) (new : Scene) : Type 0 where
     pub lines : List Answer
-    pub start : Standing
+    pub start : Scene
     pub opens : Opens limits (sheets_used hands) old lines start
     pub answered : List Command
     pub rest : List Command
     pub parts : commands ≡ answered ++ rest
     pub answers : List Answer
-    pub transcript : Transcript answered start marks answers new
-    pub remains : Remains status rest new unanswered
+    pub mid : Scene
+    pub transcript : Transcript answered start marks answers mid
+    pub remains : Remains status rest mid new
     pub said_are : said status (lines ++ answers)
 
   -- the log was opened, and commands were answered, but for what remains under this status
@@ -49,14 +52,13 @@ module _ (session : Session) where
     pub commands : List Command
     pub given_are : given commands
     pub old : List Entry
-    pub new : Standing
-    pub unanswered : List Entry
-    pub answering : AreAnswered status commands old new unanswered
-    pub left : IsLeft disk hands old (record new { journal = new.journal ++ unanswered })
+    pub new : Scene
+    pub answering : AreAnswered status commands old new
+    pub left : IsLeft disk hands old new
 
   -- the same, and this halted the run behind its lines, or nothing
   abbrev pub EndedBy : RunStatus → Option Halt → Type 0
-  EndedBy status halted = (opened : WasOpened status) × (opened.new.halted ≡ halted)
+  EndedBy status halted = (opened : WasOpened status) × (halt_at opened.new ≡ halted)
 
   -- there were commands, and no line was said
   abbrev pub IsSilent : RunStatus → Type 0

@@ -1,36 +1,41 @@
 -- What is said to a list of commands.
-use Rattle.std.specs.Prelude.{◌≡◌, ℕ, List, [], ◌∷◌, ◌++◌, length}
+use Rattle.std.specs.Prelude.{◌≡◌, ℕ, List, [], ◌∷◌, ◌++◌, length, All}
 use Rattle.std.specs.List.{flat_map}
 use Rattle.hm_data.specs.declared.entry.Entry.{Entry}
 use Rattle.hm_data.specs.declared.sheet.Sheet.{Sheet}
 use Rattle.hm_journal.specs.Stored.{opened}
 use Rattle.hm_journal.specs.declared.limits.Limits.{Limits}
-use Rattle.hm_top.specs.declared.answer.Answer.{Answer}
-use Rattle.hm_top.specs.declared.answer.Answer.TheVariants.{Opened}
 use Rattle.hm_script.specs.declared.command.Command.{Command}
-use Rattle.hm_top.specs.Answer.{answer_text, Answers, MayAdd}
-use Rattle.hm_top.specs.Standing.{Standing, begun}
+use Rattle.hm_world.specs.Scene.{Scene, past_in}
+use Rattle.hm_world_model.specs.Twice.{Twice}
+use Rattle.hm_commands.specs.Answer.{answer_text}
+use Rattle.hm_commands.specs.Commands.{Answers, MayAdd}
+use Rattle.hm_commands.specs.Scenes.{journal_at}
+use Rattle.hm_commands.specs.declared.answer.Answer.{Answer}
+use Rattle.hm_commands.specs.declared.answer.Answer.TheVariants.{Opened}
+use Rattle.hm_top.specs.Standing.{begun}
 
 -- the text of answers, one after another
 abbrev pub text_of : List Answer → List ℕ
 text_of answers = flat_map answer_text answers
 
 -- the lines of an opening of a log with this journal, and where they leave the run
-abbrev pub Opens : Limits → List Sheet → List Entry → List Answer → Standing → Type 0
+abbrev pub Opens : Limits → List Sheet → List Entry → List Answer → Scene → Type 0
 Opens limits sheets old lines new = (lines ≡ Opened (length (opened sheets old)) ∷ []) × (new ≡ begun limits sheets old)
 
--- one command answered, what was recorded for it, and the length of the journal then as its mark
-pub record Exchange (command : Command) (old mid : Standing) (marks later : List ℕ) (answers rest : List Answer) : Type 0 where
+-- one command answered, what was recorded for it, and the length of the journal then as its mark; and no row is served twice
+pub record Exchange (command : Command) (old mid : Scene) (marks later : List ℕ) (answers rest : List Answer) : Type 0 where
   pub answer : Answer
   pub fits : Answers command old answer mid
   pub added : List Entry
-  pub may : MayAdd command old added
-  pub grown : mid.journal ≡ old.journal ++ added
-  pub mark : marks ≡ length mid.journal ∷ later
+  pub may : All (MayAdd command) added
+  pub grown : journal_at mid ≡ journal_at old ++ added
+  pub once : Twice (past_in mid) mid.outside → ⊥
+  pub mark : marks ≡ length (journal_at mid) ∷ later
   pub said : answers ≡ answer ∷ rest
 
 -- From old, these commands have these answers, one each, with these marks, and leave new.
-abbrev pub Transcript : List Command → Standing → List ℕ → List Answer → Standing → Type 0
+abbrev pub Transcript : List Command → Scene → List ℕ → List Answer → Scene → Type 0
 Transcript [] old marks answers new = (marks ≡ []) × (answers ≡ []) × (new ≡ old)
 Transcript (command ∷ commands) old marks answers new =
-    (mid : Standing) × (later : List ℕ) × (rest : List Answer) × Exchange command old mid marks later answers rest × Transcript commands mid later rest new
+    (mid : Scene) × (later : List ℕ) × (rest : List Answer) × Exchange command old mid marks later answers rest × Transcript commands mid later rest new

@@ -2,22 +2,22 @@
 ghost use Rattle.std.specs.Prelude.{◌≡◌, ◌⊎◌, ◌≤◌, List, ℕ, [], length, map, string_bytes, IfOk, IfErr, OnOk, All};
 ghost use Rattle.hm_ports.specs.Faults.{Rose};
 ghost use Rattle.hm_script.specs.declared.bad.Bad.{Bad as BadValue};
-ghost use Rattle.hm_top.specs.Hands.{HandsAgree, RunBy};
+ghost use Rattle.hm_commands.specs.Hands.{HandsAgree, RunBy, hands_use};
+ghost use Rattle.hm_commands.specs.Offered.{IsOffered};
 ghost use Rattle.hm_top.specs.Left.{AcceptsJournal};
 ghost use Rattle.hm_top.specs.Ending.{early_status, halted_status, unopened_status};
-ghost use Rattle.hm_top.specs.Ports.{disk_use, hands_use, sink_use, source_use};
+ghost use Rattle.hm_top.specs.Ports.{disk_use, sink_use, source_use};
 ghost use Rattle.hm_sheet.specs.Registry.{IsRegistry, sheets_of};
 ghost use Rattle.hm_top.specs.Run.{EndsUnfinished, KeepsTo, before_line};
-ghost use Rattle.hm_top.specs.Script.{IsBad, IsOffered, IsScript, told_as};
+ghost use Rattle.hm_top.specs.Script.{IsBad, IsScript};
 ghost use Rattle.hm_top.specs.Session.{Outcome};
 
 use crate::answering::answer_all;
-use crate::commands::Offered;
 use crate::last_line::finish;
 use crate::status::{EarlyEnd, LogWhy, RunStatus};
 use crate::store::Store;
 use crate::words::misfit;
-use crate::world::World;
+use hm_commands::Offered;
 use hm_disk::Disk;
 use hm_hall::Halt;
 use hm_journal::{JournalWhy, Limits};
@@ -51,20 +51,6 @@ enum ScriptEnd {
     Memory,
 }
 
-// How the fault of a script is told.
-fn told(bad: Bad) -> Bad
-    ensures { result ≡ told_as bad.line bad.why }
-{
-    let why = match bad.why {
-        Why::TooLong => Why::TooLong,
-        _ => Why::Word(0),
-    };
-    Bad {
-        line: bad.line,
-        why,
-    }
-}
-
 // The commands of the script.
 fn read_script<S: Source>(alloc: Global, script: &mut S) -> Result<Vec<Command>, ScriptEnd>
     ensures ok { S.tells → IfOk result (λ commands. IsScript (S.left script.old) commands.items) }
@@ -91,7 +77,7 @@ fn read_script<S: Source>(alloc: Global, script: &mut S) -> Result<Vec<Command>,
         Ok(commands) => Ok(commands),
         Err(bad) => match bad.why {
             Why::Memory => Err(ScriptEnd::Memory),
-            _ => Err(ScriptEnd::Bad(told(bad))),
+            _ => Err(ScriptEnd::Bad(bad)),
         },
     }
 }
@@ -166,17 +152,17 @@ fn converse<D: Disk, K: Sink>(
         Ok(store) => store,
         Err((disk, why)) => return (status_of(why), disk),
     };
-    let world = match World::of(alloc, store) {
-        Ok(world) => world,
+    let cluster = match store.into_cluster(alloc) {
+        Ok(cluster) => cluster,
         Err(disk) => return (RunStatus::Memory, disk),
     };
     let Ok(()) = marks.reserve(commands.len()) else {
-        return (RunStatus::Memory, world.into_disk());
+        return (RunStatus::Memory, cluster.into_disk());
     };
-    match answer_all(alloc, world, hands, commands, out, marks) {
-        Ok(world) => {
-            let halted = world.halted();
-            (status_of_halt(halted), world.into_disk())
+    match answer_all(alloc, cluster, hands, commands, out, marks) {
+        Ok(cluster) => {
+            let halted = cluster.halted();
+            (status_of_halt(halted), cluster.into_disk())
         }
         Err((disk, end)) => (status_of_end(end), disk),
     }

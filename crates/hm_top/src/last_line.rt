@@ -5,11 +5,12 @@ ghost use Rattle.hm_ports.specs.Faults.{Rose};
 ghost use Rattle.hm_top.specs.Got.{IsLast};
 ghost use Rattle.hm_script.specs.Faults.{why_text};
 ghost use Rattle.hm_top.specs.Status.{last_line, log_text};
-ghost use Rattle.hm_top.specs.Pieces.{piece_text};
+ghost use Rattle.hm_commands.specs.Pieces.{piece_text};
 
-use crate::piece::{NONE, Piece, put_all};
+use crate::piece::{NONE, put_all};
 use crate::status::{LogWhy, RunStatus};
 use Piece::{Number, Text};
+use hm_commands::Piece;
 use hm_names::NameFault;
 use hm_ports::Sink;
 use hm_script::Why;

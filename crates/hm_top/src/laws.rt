@@ -7,7 +7,7 @@ ghost use Rattle.hm_script.specs.declared.command.Command.{Command};
 ghost use Rattle.hm_script.specs.declared.bad.Bad.{Bad};
 ghost use Rattle.hm_top.specs.declared.status.LogWhy.{LogWhy};
 ghost use Rattle.hm_top.specs.declared.status.RunStatus.TheVariants as status_is;
-ghost use Rattle.hm_top.specs.Hands.{sheets_used};
+ghost use Rattle.hm_commands.specs.Hands.{sheets_used};
 ghost use Rattle.hm_top.specs.Run.{EachRun, IsRead, KeepsTo, RanOutOver};
 ghost use Rattle.hm_top.specs.Script.{IsBad, IsScript};
 ghost use Rattle.hm_top.specs.Words.{misfit_of};

@@ -1,26 +1,51 @@
 //! Text in pieces, whose writing takes no memory.
-ghost use Rattle.std.specs.Prelude.{◌≡◌, ◌++◌, IfOk, OnOk, OnErr};
+ghost use Rattle.std.specs.Prelude.{◌≡◌, ◌++◌, IfOk, OnOk, OnErr, codes};
+ghost use Rattle.std.specs.Fmt.{decimal};
 ghost use Rattle.std.specs.List.{flat_map};
 ghost use Rattle.hm_ports.specs.Faults.{HasCause};
 ghost use Rattle.hm_top.specs.Got.{IsPartOf};
-ghost use Rattle.hm_top.specs.Pieces.{piece_text};
+ghost use Rattle.hm_names.specs.Servers.{server_text};
+ghost use Rattle.hm_commands.specs.Pieces.{piece_text};
 
+use Piece::{Bytes, Number, Server, Text};
+use hm_commands::Piece;
+use hm_names::ServerName;
 use hm_ports::{Failed, Sink, write_all};
 use itoa::Buffer;
 use std::alloc::{AllocError, Global};
 
-/// A piece of a text.
-#[derive(Clone, Copy)]
-pub(crate) enum Piece<'a> {
-    Text(&'a str),
-    Bytes(&'a [u8]),
-    Number(u64),
-}
-
-use Piece::{Bytes, Number, Text};
-
 /// A piece that isn't there.
 pub(crate) const NONE: Piece<'static> = Text("");
+
+// Writes bytes.
+fn write<K: Sink>(out: &mut K, bytes: &[u8]) -> Result<(), Failed>
+    ensures all { K.tells → OnOk result (K.got out.new ≡ K.got out.old ++ bytes.now) }
+    ensures part { K.tells → OnErr result (IsPartOf (K.got out.old) (K.got out.new) bytes.now) }
+    ensures cause { HasCause (K.faults out.old) (K.faults out.new) result }
+{
+    write_all(out, bytes)
+}
+
+// Writes a number behind a comma.
+fn put_behind_comma<K: Sink>(out: &mut K, number: u64) -> Result<(), Failed>
+    ensures all { K.tells → OnOk result (K.got out.new ≡ K.got out.old ++ (codes "," ++ decimal number)) }
+    ensures part { K.tells → OnErr result (IsPartOf (K.got out.old) (K.got out.new) (codes "," ++ decimal number)) }
+    ensures cause { HasCause (K.faults out.old) (K.faults out.new) result }
+{
+    write(out, b",")?;
+    write(out, Buffer::new().format(number).as_bytes())
+}
+
+// Writes a host and what is behind it.
+fn put_server<K: Sink>(out: &mut K, server: &ServerName) -> Result<(), Failed>
+    ensures all { K.tells → OnOk result (K.got out.new ≡ K.got out.old ++ server_text server.now) }
+    ensures part { K.tells → OnErr result (IsPartOf (K.got out.old) (K.got out.new) (server_text server.now)) }
+    ensures cause { HasCause (K.faults out.old) (K.faults out.new) result }
+{
+    write(out, server.host.as_bytes())?;
+    put_behind_comma(out, u64::from(server.port))?;
+    put_behind_comma(out, server.start)
+}
 
 // Writes a piece.
 fn put<K: Sink>(out: &mut K, piece: &Piece<'_>) -> Result<(), Failed>
@@ -29,9 +54,10 @@ fn put<K: Sink>(out: &mut K, piece: &Piece<'_>) -> Result<(), Failed>
     ensures cause { HasCause (K.faults out.old) (K.faults out.new) result }
 {
     match piece {
-        Text(text) => write_all(out, text.as_bytes()),
-        Bytes(bytes) => write_all(out, bytes),
-        Number(number) => write_all(out, Buffer::new().format(*number).as_bytes()),
+        Text(text) => write(out, text.as_bytes()),
+        Bytes(bytes) => write(out, bytes),
+        Number(number) => write(out, Buffer::new().format(*number).as_bytes()),
+        Server(server) => put_server(out, server),
     }
 }
 
@@ -47,6 +73,17 @@ pub(crate) fn put_all<K: Sink>(out: &mut K, pieces: &[Piece<'_>]) -> Result<(), 
     Ok(())
 }
 
+// Appends the name of a server to a text.
+fn append_server(text: &mut Vec<u8>, server: &ServerName) -> Result<(), AllocError>
+    ensures { OnOk result (text.new.items ≡ text.old.items ++ server_text server.now) }
+{
+    text.extend_from_slice(server.host.as_bytes())?;
+    text.extend_from_slice(b",")?;
+    text.extend_from_slice(Buffer::new().format(server.port).as_bytes())?;
+    text.extend_from_slice(b",")?;
+    text.extend_from_slice(Buffer::new().format(server.start).as_bytes())
+}
+
 // Appends a piece to a text.
 fn append(text: &mut Vec<u8>, piece: &Piece<'_>) -> Result<(), AllocError>
     ensures { OnOk result (text.new.items ≡ text.old.items ++ piece_text piece.now) }
@@ -55,6 +92,7 @@ fn append(text: &mut Vec<u8>, piece: &Piece<'_>) -> Result<(), AllocError>
         Text(part) => text.extend_from_slice(part.as_bytes()),
         Bytes(bytes) => text.extend_from_slice(bytes),
         Number(number) => text.extend_from_slice(Buffer::new().format(*number).as_bytes()),
+        Server(server) => append_server(text, server),
     }
 }
 

@@ -9,14 +9,15 @@ ghost use Rattle.hm_data.specs.declared.entry.Entry.{Entry as EntryValue};
 ghost use Rattle.hm_model.specs.Journal.{back};
 ghost use Rattle.hm_model.specs.Rules.{AreSheets};
 ghost use Rattle.hm_model.specs.Sheets.{sheets_of as begun_with};
-ghost use Rattle.hm_journal.specs.Stored.{IsJournal, frames_of, IsOnDisk, Spares, SameFrames, IsOpening};
+ghost use Rattle.hm_journal.specs.Stored.{IsJournal, frames_of, opened, IsOnDisk, Spares, SameFrames, IsOpening};
 ghost use Rattle.hm_journal.specs.Verdict.{Refuses, IsUnjudged};
-ghost use Rattle.hm_top.specs.Standing.{begun};
-ghost use Rattle.hm_top.specs.View.{IsLeftBy, standing_of};
+ghost use Rattle.hm_commands.specs.Scenes.{new_scene};
+ghost use Rattle.hm_commands.specs.View.{IsLeftBy, scene_in};
+ghost use Rattle.hm_top.specs.Standing.{fresh};
 
+use hm_commands::Cluster;
 use hm_data::Sheet;
 use hm_disk::Disk;
-use hm_exec::Exec;
 use hm_journal::{Journal, JournalWhy, Limits};
 use hm_state::State;
 use std::alloc::Global;
@@ -30,9 +31,9 @@ pub(crate) struct Store<D: Disk> {
 }
 
 impl<D: Disk> Model for Store<D> {
-    ghost use Rattle.hm_top.specs.View.{WorldView, IsStore};
+    ghost use Rattle.hm_top.specs.View.{IsStore, StoreView};
 
-    ghost Value = { WorldView D };
+    ghost Value = { StoreView D };
 
     ghost view = { λ s. record { disk = s.journal.disk; opened = s.journal.opened; kept = s.journal.kept } };
 
@@ -49,7 +50,7 @@ impl<D: Disk> Store<D> {
     ) -> Result<Store<D>, (D, JournalWhy)>
         requires sheets { AreSheets sheets.now }
         requires hard { 65551 ≤ limits.hard }
-        ensures journal { IfOk result (λ store. (old : List EntryValue) × IsJournal sheets.now old × (standing_of store ≡ begun limits sheets.now old)
+        ensures journal { IfOk result (λ store. (old : List EntryValue) × IsJournal sheets.now old × (store.kept ≡ fresh limits (opened sheets.now old))
             × (store.opened.count ≡ length old) × (D.tells → IsOnDisk sheets.now (D.seen disk) old
             × LeavesThen D.moment D.left_since disk store.opened.disk (λ c. D.image disk c ⊎ IsMaking (D.seen disk) c) (λ c. Reads c (frames_of old)))) }
         ensures sheets { IfOk result (λ store. begun_with (back store.kept.entries) ≡ sheets.now) }
@@ -65,20 +66,13 @@ impl<D: Disk> Store<D> {
         Ok(Store { journal, state })
     }
 
-    /// An executor for it, with nothing under way. Where memory runs out for that, the disk is given back.
-    pub(crate) fn into_exec(self, alloc: Global) -> Result<Exec<Journal<D>>, D>
-        ensures disk { IfOk result (λ exec. exec.recorder.disk ≡ self.disk) }
-        ensures opened { IfOk result (λ exec. exec.recorder.opened ≡ self.opened) }
-        ensures kept { IfOk result (λ exec. exec.recorder.kept ≡ self.kept) }
-        ensures claimed { IfOk result (λ exec. exec.claimed ≡ []) }
-        ensures left { IfErr result (IsLeftBy D.Disk self.opened (standing_of self)) }
+    /// A cluster for it, in which nobody runs and nothing is under way. Where memory runs out for that, the disk is given back.
+    pub(crate) fn into_cluster(self, alloc: Global) -> Result<Cluster<D>, D>
+        ensures opened { IfOk result (λ cluster. cluster.recorder.opened ≡ self.opened) }
+        ensures at { IfOk result (λ cluster. scene_in cluster ≡ new_scene self.kept) }
+        ensures left { IfErr result (IsLeftBy D.Disk self.opened (new_scene self.kept)) }
     {
         let Store { journal, state } = self;
-        let _legal = state.entries();
-        let _whole = journal.halted();
-        match Exec::new(alloc, state, journal) {
-            Ok(exec) => Ok(exec),
-            Err((journal, _)) => Err(journal.into_disk()),
-        }
+        Cluster::new(alloc, state, journal)
     }
 }

@@ -1,45 +1,44 @@
-use Rattle.std.proofs.Common.{◌≡◌, ◌∷◌, ◌++◌, [], All, List, length, refl, sym, ap, subst, ◌∙◌, append_assoc, arith}
+use Rattle.std.proofs.Common.{◌≡◌, ◌∷◌, ◌++◌, [], All, List, length, Some, refl, sym, ap, subst, ◌∙◌, append_assoc, arith}
 use Rattle.hm_script.specs.declared.command.Command.{Command}
 use Rattle.std.specs.Vec.Iter.{into_iter_items}
 use Rattle.std.proofs.lemmas.Grind.{common_steps}
 use Rattle.hm_journal.specs.Opened.{Opened as OpenedAt}
-use Rattle.hm_top.specs.declared.status.EarlyEnd.TheVariants.{Memory, WriteFault}
-use Rattle.hm_top.specs.Answer.{Answers}
-use Rattle.hm_top.specs.Script.{IsOffered}
-use Rattle.hm_top.specs.View.{IsLeftBy, standing_of}
+use Rattle.hm_commands.specs.Offered.{IsOffered}
+use Rattle.hm_commands.specs.Scenes.{journal_at}
+use Rattle.hm_commands.specs.View.{IsLeftBy, scene_in}
+use Rattle.hm_commands.proofs.Ran.{run_none, ran_idle, ran_on}
+use Rattle.hm_commands.proofs.Serving.{comes_sheets, serve_on}
 use Rattle.hm_top.proofs.Offered.{offered_in}
-use Rattle.hm_top.proofs.Ran.{run_none, ran_idle, ran_on}
-use Rattle.hm_top.proofs.Sessions.{begun_said, not_begun, said_less, said_more, stopped_within}
-use Rattle.hm_top.proofs.Steps.{serve_on}
+use Rattle.hm_top.proofs.Sessions.{all_answered, begun_said, not_begun, said_less, said_more, stopped_within}
 use Rattle.hm_top.proofs.answering.answer_all.Goals as goal
 
 pub returns-in-Err-clause-early : goal.returns-in-Err-clause-early
 returns-in-Err-clause-early g c =
-    let was = c.args.world in (
-      standing_of was,
-      not_begun (standing_of was) c.requires.fresh c.args.commands.items (rw c.entries.ensures.length at c.in-Err.ensures.part),
+    let was = scene_in c.args.cluster in (
+      was,
+      not_begun was c.requires.fresh c.args.commands.items (rw c.entries.ensures.length at c.in-Err.ensures.part),
       c.into_disk.ensures.left,
-      ran_idle _ was.kept.entries was.kept.entries refl (run_none _ _),
+      ran_idle _ (journal_at was) (journal_at was) refl (run_none _ _),
     )
 
 pub loop-command-init : goal.loop-command-init
 loop-command-init g c =
-    let was = c.args.world in
+    let was = scene_in c.args.cluster in
     let given = c.into_iter-command-iterator.ensures.into_iter_gives.0 in
     record {
-      answered = begun_said (standing_of was) c.requires.fresh (rw c.entries.ensures.length at c.in_default.ensures.all);
+      answered = begun_said was c.requires.fresh (rw c.entries.ensures.length at c.in_default.ensures.all);
       parts = sym given;
       room = omega (arith, ap length given, c.requires.room);
       begun = refl;
       opened = refl;
-      ran = ran_idle _ was.kept.entries was.kept.entries refl (run_none _ _);
+      ran = ran_idle _ (journal_at was) (journal_at was) refl (run_none _ _);
       sink_later = c.say.ensures.cause.later;
     }
 
 pub answer-requires-clause-hands : goal.answer-requires-clause-hands
 answer-requires-clause-hands g c =
     let so_far = c.loop-command in
-    serve_on _ _ c.args.world.kept.entries so_far.world.kept.entries c.requires.hands so_far.invariant.ran.2.alike so_far.invariant.begun
+    serve_on _ _ (journal_at (scene_in c.args.cluster)) (journal_at (scene_in so_far.cluster)) c.requires.hands so_far.invariant.ran.2.alike so_far.invariant.begun
 
 pub answer-requires-clause-offered : goal.answer-requires-clause-offered
 answer-requires-clause-offered g c =
@@ -50,46 +49,42 @@ answer-requires-clause-offered g c =
 pub returns-in-Err-answer-clause-early : goal.returns-in-Err-answer-clause-early
 returns-in-Err-answer-clause-early g c =
     let so_far = c.loop-command in
-    let lost = c.in-Err-answer.ensures.early (standing_of so_far.world) refl in (
-      lost.1,
-      rw lost.0 (stopped_within _ so_far.invariant.answered so_far.invariant.parts c.in-Some.ensures.steps.0 lost.2),
-      subst (λ (opened : OpenedAt _). IsLeftBy g.D.Disk opened lost.1 c.in-Err-answer.early.0) so_far.invariant.opened lost.3,
-      ran_on c.args.world.kept.entries so_far.world.kept.entries lost.1.journal _ _ _ _ _ _ so_far.invariant.ran lost.4,
+    let lost = c.in-Err-answer.ensures.early in (
+      lost.0,
+      stopped_within _ so_far.invariant.answered so_far.invariant.parts c.in-Some.ensures.steps.0 lost.0 lost.1,
+      subst (λ (opened : OpenedAt _). IsLeftBy g.D.Disk opened lost.0 c.in-Err-answer.disk) so_far.invariant.opened lost.2,
+      ran_on (journal_at (scene_in c.args.cluster)) (journal_at (scene_in so_far.cluster)) (journal_at lost.0) _ _ _ _ _ _ so_far.invariant.ran lost.3,
     )
-
-pub returns-in-Err-answer-clause-fault : goal.returns-in-Err-answer-clause-fault
-returns-in-Err-answer-clause-fault g c is =
-    let lost = c.in-Err-answer.ensures.early (standing_of c.loop-command.world) refl in
-    let no : Memory ≡ WriteFault = sym lost.0 ∙ is in
-    absurd (cc)
 
 pub returns-in-Err-said-clause-early : goal.returns-in-Err-said-clause-early
 returns-in-Err-said-clause-early g c =
     let so_far = c.loop-command in
-    let now = c.in-Ok.answered.0 in
-    let marked : c.push_reserved.new.self.items ≡ so_far.marks.items ++ length now.kept.entries ∷ [] = grind (arith, common_steps) in
-    let said = c.in-Ok.ensures.answers (standing_of so_far.world) refl in
-    let fits = subst (Answers c.in-Some.command (standing_of so_far.world) c.in-Ok.answered.1) (sym said.1) said.2 in (
-      standing_of now,
-      said_less _ so_far.invariant.answered so_far.invariant.parts c.in-Some.ensures.steps.0 c.in-Ok.answered.1 (standing_of now) fits marked c.in-Err-said.ensures.part,
-      subst (λ (opened : OpenedAt _). IsLeftBy g.D.Disk opened (standing_of now) c.into_disk-in-Err-said.result) (c.in-Ok.ensures.opened ∙ so_far.invariant.opened) c.into_disk-in-Err-said.ensures.left,
-      ran_on c.args.world.kept.entries so_far.world.kept.entries now.kept.entries _ _ _ _ _ _ so_far.invariant.ran c.in-Ok.ensures.ran,
+    let now = scene_in c.in-Ok.answered.0 in
+    let marked : c.push_reserved.new.self.items ≡ so_far.marks.items ++ length (journal_at now) ∷ [] = grind (arith, common_steps) in (
+      now,
+      said_less _ so_far.invariant.answered so_far.invariant.parts c.in-Some.ensures.steps.0 c.in-Ok.answered.1 now c.in-Ok.ensures.answers c.keeps.ensures.once marked c.in-Err-said.ensures.part,
+      subst (λ (opened : OpenedAt _). IsLeftBy g.D.Disk opened now c.into_disk-in-Err-said.result) (c.in-Ok.ensures.opened ∙ so_far.invariant.opened) c.into_disk-in-Err-said.ensures.left,
+      ran_on (journal_at (scene_in c.args.cluster)) (journal_at (scene_in so_far.cluster)) (journal_at now) _ _ _ _ _ _ so_far.invariant.ran c.in-Ok.ensures.ran,
     )
 
 pub loop-command-preserved : goal.loop-command-preserved
 loop-command-preserved g c =
     let so_far = c.loop-command in
-    let now = c.in-Ok.answered.0 in
+    let now = scene_in c.in-Ok.answered.0 in
     let rest = c.in-Some.ensures.steps.0 in
-    let marked : c.push_reserved.new.self.items ≡ so_far.marks.items ++ length now.kept.entries ∷ [] = grind (arith, common_steps) in
-    let said = c.in-Ok.ensures.answers (standing_of so_far.world) refl in
-    let fits = subst (Answers c.in-Some.command (standing_of so_far.world) c.in-Ok.answered.1) (sym said.1) said.2 in
+    let marked : c.push_reserved.new.self.items ≡ so_far.marks.items ++ length (journal_at now) ∷ [] = grind (arith, common_steps) in
     record {
-      answered = said_more _ so_far.invariant.answered so_far.invariant.parts rest c.in-Ok.answered.1 (standing_of now) fits marked c.in_default-said.ensures.all;
+      answered = said_more _ so_far.invariant.answered so_far.invariant.parts rest c.in-Ok.answered.1 now c.in-Ok.ensures.answers c.keeps.ensures.once marked c.in_default-said.ensures.all;
       parts = so_far.invariant.parts ∙ ap (λ (l : List Command). so_far.yielded ++ l) rest ∙ sym (append_assoc so_far.yielded (c.in-Some.command ∷ []) (into_iter_items c.next.new.self));
       room = omega (arith, ap length rest, so_far.invariant.room, c.push_reserved.ensures.len, c.push_reserved.ensures.capacity);
-      begun = c.in-Ok.ensures.begun ∙ so_far.invariant.begun;
+      begun = comes_sheets c.in-Some.command (scene_in so_far.cluster) (Some c.in-Ok.answered.1) now c.in-Ok.ensures.answers ∙ so_far.invariant.begun;
       opened = c.in-Ok.ensures.opened ∙ so_far.invariant.opened;
-      ran = ran_on c.args.world.kept.entries so_far.world.kept.entries now.kept.entries _ _ _ _ _ _ so_far.invariant.ran c.in-Ok.ensures.ran;
+      ran = ran_on (journal_at (scene_in c.args.cluster)) (journal_at (scene_in so_far.cluster)) (journal_at now) _ _ _ _ _ _ so_far.invariant.ran c.in-Ok.ensures.ran;
       sink_later = let later = c.say-said.ensures.cause.later in omega (arith, so_far.invariant.sink_later, later);
     }
+
+pub returns-clause-done : goal.returns-clause-done
+returns-clause-done g c =
+    let so_far = c.loop-command.invariant in
+    let none : into_iter_items c.loop-command.command-iterator ≡ [] = grind (arith, common_steps) in
+    all_answered so_far.answered (into_iter_items c.loop-command.command-iterator) so_far.parts none

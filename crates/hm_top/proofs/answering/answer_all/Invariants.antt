@@ -4,24 +4,25 @@ use Rattle.std.specs.Vec.{vec_capacity}
 use Rattle.std.specs.Vec.Iter.{into_iter_items}
 use Rattle.hm_model.specs.Journal.{back}
 use Rattle.hm_model.specs.Sheets.{sheets_of}
-use Rattle.hm_top.specs.declared.answer.Answer.TheVariants.{Opened}
-use Rattle.hm_top.specs.Hands.{Ran}
-use Rattle.hm_top.specs.View.{standing_of}
+use Rattle.hm_commands.specs.declared.answer.Answer.TheVariants.{Opened}
+use Rattle.hm_commands.specs.Hands.{Ran}
+use Rattle.hm_commands.specs.Scenes.{journal_at}
+use Rattle.hm_commands.specs.View.{scene_in}
 use Rattle.hm_top.proofs.Sessions.{SoFar}
 use Rattle.hm_top.proofs.answering.answer_all.Given as goal
 
 abbrev pub invariant-loop-command : goal.invariant-loop-command
 invariant-loop-command g l = record {
-  answered : SoFar g.K.Sink.tells (g.K.Sink.got l.fn.out) (g.K.Sink.got l.out) (Opened (length l.fn.world.kept.entries) ∷ []) l.yielded (standing_of l.fn.world) l.marks.items (standing_of l.world);
+  answered : SoFar g.K.Sink.tells (g.K.Sink.got l.fn.out) (g.K.Sink.got l.out) (Opened (length (journal_at (scene_in l.fn.cluster))) ∷ []) l.yielded (scene_in l.fn.cluster) l.marks.items (scene_in l.cluster);
   parts : l.fn.commands.items ≡ l.yielded ++ into_iter_items l.command-iterator;
   room : vec_len l.marks + length (into_iter_items l.command-iterator) ≤ vec_capacity l.marks;
-  begun : sheets_of (back l.world.kept.entries) ≡ sheets_of (back l.fn.world.kept.entries);
-  opened : l.world.opened ≡ l.fn.world.opened;
+  begun : sheets_of (back (journal_at (scene_in l.cluster))) ≡ sheets_of (back (journal_at (scene_in l.fn.cluster)));
+  opened : l.cluster.recorder.opened ≡ l.fn.cluster.recorder.opened;
   ran : Ran (record {
     before = map (λ r. flat_map (λ h. (goal.Handler-dyn g (h.vtable, h.value)).sheets_are h.value) r.handlers.items) l.fn.hands.items;
     after = map (λ r. flat_map (λ h. (goal.Handler-dyn g (h.vtable, h.value)).sheets_are h.value) r.handlers.items) l.hands.items;
     runs_before = map (λ r. r.runs) l.fn.hands.items;
     runs_after = map (λ r. r.runs) l.hands.items;
-  }) l.fn.world.kept.entries l.world.kept.entries;
+  }) (journal_at (scene_in l.fn.cluster)) (journal_at (scene_in l.cluster));
   sink_later : g.K.Sink.faults l.fn.out ≤ g.K.Sink.faults l.out;
 }

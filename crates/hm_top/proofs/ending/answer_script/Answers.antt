@@ -1,6 +1,6 @@
 use Rattle.std.proofs.Common.{map, string_bytes, refl, sym, ◌∙◌}
 use Rattle.hm_top.specs.Ports.{source_use}
-use Rattle.hm_top.proofs.Ran.{run_none}
+use Rattle.hm_commands.proofs.Ran.{run_none}
 use Rattle.hm_top.proofs.Runs.{script_read}
 use Rattle.hm_top.proofs.ending.answer_script.Goals as goal
 

@@ -1,4 +1,4 @@
-use Rattle.std.proofs.Common.{◌≡◌, Ok, Err, refl, sym, ap, ◌∙◌, subst, inl, inr, map}
+use Rattle.std.proofs.Common.{◌≡◌, ◌∷◌, [], length, Ok, Err, refl, sym, ap, ◌∙◌, subst, inl, inr, map}
 use Rattle.std.specs.List.{flat_map}
 use Rattle.hm_disk.specs.Called.{IsCalled}
 use Rattle.hm_journal.specs.Stored.{IsOnDisk}
@@ -9,7 +9,12 @@ use Rattle.hm_top.specs.declared.status.LogWhy.{LogWhy}
 use Rattle.hm_top.specs.declared.status.RunStatus.TheVariants.{LogFault, LogRefused, Memory}
 use Rattle.hm_model.specs.Journal.{back}
 use Rattle.hm_model.specs.Sheets.{sheets_of as begun_with}
-use Rattle.hm_top.specs.Hands.{AgreeOn, first_sheets}
+use Rattle.hm_commands.specs.Hands.{AgreeOn, first_sheets}
+use Rattle.hm_commands.specs.Scenes.{journal_at}
+use Rattle.hm_commands.specs.View.{IsLeftBy, scene_in}
+use Rattle.hm_commands.proofs.Ran.{run_less, run_none}
+use Rattle.hm_commands.proofs.Registries.{agree_own, all_first, first_is, used_are}
+use Rattle.hm_world.specs.Scene.{Scene}
 use Rattle.hm_top.specs.Ports.{sink_use}
 use Rattle.hm_journal.specs.Opened.{Opened as OpenedAt}
 use Rattle.hm_top.specs.declared.status.EarlyEnd.{EarlyEnd}
@@ -17,10 +22,9 @@ use Rattle.hm_top.specs.declared.status.EarlyEnd.TheVariants as early_is
 use Rattle.hm_top.specs.declared.status.EarlyEnd.TheVariants.{WriteFault}
 use Rattle.hm_top.specs.declared.status.RunStatus.TheVariants as run_is
 use Rattle.hm_top.specs.Ending.{early_status, halted_status, unopened_status}
-use Rattle.hm_top.specs.View.{IsLeftBy, WorldView, standing_of}
-use Rattle.hm_top.proofs.Ran.{run_less, run_none}
-use Rattle.hm_top.proofs.Registries.{agree_own, all_first, first_is, used_are}
-use Rattle.hm_top.proofs.Runs.{IsOpened, converse_answered, converse_full, converse_unopened}
+use Rattle.hm_commands.specs.declared.answer.Answer.TheVariants.{Opened}
+use Rattle.hm_top.specs.Answering.{IsAnswering}
+use Rattle.hm_top.proofs.Runs.{converse_answered, converse_full, converse_unopened, ran_from}
 use Rattle.hm_top.proofs.ending.converse.Goals as goal
 
 -- an opening that isn't judged isn't told as a refusal
@@ -39,25 +43,29 @@ answer_all-requires-clause-hands g c =
     let hands = c.args.hands.now.items in
     let one = c.index.result.now in
     let list = all_first f hands c.requires.agree (λ (r : _). AreWhole (f r) r.whole) one c.index.ensures c.requires.each in
-    let opened = ap (λ (w : WorldView _). begun_with (back w.kept.entries)) c.in-Ok-of.ensures.world ∙ c.in-Ok.ensures.sheets ∙ c.as_slice.ensures ∙ c.sheets-sheets.ensures in
+    let at = scene_in c.in-Ok-into_cluster.cluster in
+    let opened = ap (λ (s : Scene). begun_with (back (journal_at s))) c.in-Ok-into_cluster.ensures.at ∙ c.in-Ok.ensures.sheets ∙ c.as_slice.ensures ∙ c.sheets-sheets.ensures in
     let first : first_sheets (map f hands) ≡ f one = first_is f hands c.requires.agree one c.index.ensures in
     record {
       agree = c.requires.agree;
-      begins = subst (λ s. AgreeOn s (begun_with (back c.in-Ok-of.world.kept.entries))) (sym first) (subst (AgreeOn (f one)) (sym opened) (agree_own (f one) one.whole list));
+      begins = subst (λ s. AgreeOn s (begun_with (back (journal_at at)))) (sym first) (subst (AgreeOn (f one)) (sym opened) (agree_own (f one) one.whole list));
     }
 
 pub returns-in-Ok-answer_all-clause-outcome : goal.returns-in-Ok-answer_all-clause-outcome
 returns-in-Ok-answer_all-clause-outcome g c =
     let f = λ (r : _). flat_map (λ h. (goal.Handler-dyn g (h.vtable, h.value)).sheets_are h.value) r.handlers.items in
     let listed = used_are f (λ (r : _). r.whole) c.args.hands.now.items c.requires.agree c.requires.each c.index.result.now c.index.ensures c.as_slice.result.now (c.as_slice.ensures ∙ c.sheets-sheets.ensures) in
-    let opened = c.in-Ok.ensures in
-    let same = sym c.in-Ok-of.ensures.world in
-    let journal = subst (λ (w : WorldView _). IsOpened g.D.Disk c.as_slice.result.now c.args.limits c.args.disk w) same opened.journal in
-    let called = subst (λ (w : WorldView _). IsCalled g.D.Disk 1 c.args.disk w.opened.disk) same opened.called in
+    let store = c.in-Ok.store in
+    let cluster = c.in-Ok-into_cluster.ensures in
+    let new = scene_in c.in-Ok-answer_all.cluster in
     let answered = c.in-Ok-answer_all.ensures in
-    converse_answered g.D.Disk c.args.commands.items c.args.limits (sink_use g.K.Sink c.args.out.now c.answer_all.new.out) c.args.disk c.into_disk-in-Ok-answer_all.result _ c.answer_all.new.marks.items c.as_slice.result.now listed c.status_of_halt.result
-    c.in-Ok-of.world (standing_of c.in-Ok-answer_all.world) (Ok tt) (c.status_of_halt.ensures ∙ ap halted_status c.halted-halted.ensures.halted) journal called answered.done
-    (subst (λ (at : OpenedAt _). IsLeftBy g.D.Disk at (standing_of c.in-Ok-answer_all.world) c.into_disk-in-Ok-answer_all.result) answered.opened c.into_disk-in-Ok-answer_all.ensures.left) answered.ran (λ is. absurd (cc))
+    let out = sink_use g.K.Sink c.args.out.now c.answer_all.new.out in
+    let marks = c.answer_all.new.marks.items in
+    converse_answered g.D.Disk c.args.commands.items c.args.limits out c.args.disk c.into_disk-in-Ok-answer_all.result _ marks c.as_slice.result.now listed c.status_of_halt.result
+    store new (Ok tt) (c.status_of_halt.ensures ∙ ap halted_status c.halted-halted.ensures.halted) c.in-Ok.ensures.journal c.in-Ok.ensures.called
+    (subst (λ (s : Scene). IsAnswering out.tells out.before out.after (Opened (length (journal_at s)) ∷ []) (Ok tt) c.args.commands.items s marks new) cluster.at answered.done)
+    (subst (λ (at : OpenedAt _). IsLeftBy g.D.Disk at new c.into_disk-in-Ok-answer_all.result) (answered.opened ∙ cluster.opened) c.into_disk-in-Ok-answer_all.ensures.left)
+    (ran_from (journal_at (scene_in c.in-Ok-into_cluster.cluster)) store.kept.entries (journal_at new) (ap journal_at cluster.at) answered.ran) (λ is. absurd (cc))
 
 pub returns-in-Ok-answer_all-clause-run_by : goal.returns-in-Ok-answer_all-clause-run_by
 returns-in-Ok-answer_all-clause-run_by g c = run_less _ _ c.in-Ok-answer_all.ensures.ran.2
@@ -66,13 +74,16 @@ pub returns-in-Err-answer_all-clause-outcome : goal.returns-in-Err-answer_all-cl
 returns-in-Err-answer_all-clause-outcome g c =
     let f = λ (r : _). flat_map (λ h. (goal.Handler-dyn g (h.vtable, h.value)).sheets_are h.value) r.handlers.items in
     let listed = used_are f (λ (r : _). r.whole) c.args.hands.now.items c.requires.agree c.requires.each c.index.result.now c.index.ensures c.as_slice.result.now (c.as_slice.ensures ∙ c.sheets-sheets.ensures) in
-    let opened = c.in-Ok.ensures in
-    let same = sym c.in-Ok-of.ensures.world in
-    let journal = subst (λ (w : WorldView _). IsOpened g.D.Disk c.as_slice.result.now c.args.limits c.args.disk w) same opened.journal in
-    let called = subst (λ (w : WorldView _). IsCalled g.D.Disk 1 c.args.disk w.opened.disk) same opened.called in
+    let store = c.in-Ok.store in
+    let cluster = c.in-Ok-into_cluster.ensures in
     let early = c.in-Err-answer_all.ensures.early in
-    converse_answered g.D.Disk c.args.commands.items c.args.limits (sink_use g.K.Sink c.args.out.now c.answer_all.new.out) c.args.disk c.in-Err-answer_all.disk _ c.answer_all.new.marks.items c.as_slice.result.now listed c.status_of_end.result
-    c.in-Ok-of.world early.0 (Err c.in-Err-answer_all.end) c.status_of_end.ensures journal called early.1 early.2 early.3
+    let out = sink_use g.K.Sink c.args.out.now c.answer_all.new.out in
+    let marks = c.answer_all.new.marks.items in
+    converse_answered g.D.Disk c.args.commands.items c.args.limits out c.args.disk c.in-Err-answer_all.disk _ marks c.as_slice.result.now listed c.status_of_end.result
+    store early.0 (Err c.in-Err-answer_all.end) c.status_of_end.ensures c.in-Ok.ensures.journal c.in-Ok.ensures.called
+    (subst (λ (s : Scene). IsAnswering out.tells out.before out.after (Opened (length (journal_at s)) ∷ []) (Err c.in-Err-answer_all.end) c.args.commands.items s marks early.0) cluster.at early.1)
+    (subst (λ (at : OpenedAt _). IsLeftBy g.D.Disk at early.0 c.in-Err-answer_all.disk) cluster.opened early.2)
+    (ran_from (journal_at (scene_in c.in-Ok-into_cluster.cluster)) store.kept.entries (journal_at early.0) (ap journal_at cluster.at) early.3)
     (λ is. let same : c.in-Err-answer_all.end ≡ WriteFault = cc in c.in-Err-answer_all.ensures.fault same)
 
 pub returns-in-Err-answer_all-clause-run_by : goal.returns-in-Err-answer_all-clause-run_by
@@ -82,26 +93,24 @@ pub returns-in_default-clause-outcome : goal.returns-in_default-clause-outcome
 returns-in_default-clause-outcome g c =
     let f = λ (r : _). flat_map (λ h. (goal.Handler-dyn g (h.vtable, h.value)).sheets_are h.value) r.handlers.items in
     let listed = used_are f (λ (r : _). r.whole) c.args.hands.now.items c.requires.agree c.requires.each c.index.result.now c.index.ensures c.as_slice.result.now (c.as_slice.ensures ∙ c.sheets-sheets.ensures) in
-    let opened = c.in-Ok.ensures in
-    let same = sym c.in-Ok-of.ensures.world in
-    let journal = subst (λ (w : WorldView _). IsOpened g.D.Disk c.as_slice.result.now c.args.limits c.args.disk w) same opened.journal in
-    let called = subst (λ (w : WorldView _). IsCalled g.D.Disk 1 c.args.disk w.opened.disk) same opened.called in
+    let store = c.in-Ok.store in
+    let cluster = c.in-Ok-into_cluster.ensures in
+    let left = subst (λ (at : OpenedAt _). IsLeftBy g.D.Disk at (scene_in c.in-Ok-into_cluster.cluster) c.into_disk.result) cluster.opened c.into_disk.ensures.left in
     converse_full g.D.Disk c.args.commands.items c.args.limits (sink_use g.K.Sink c.args.out.now c.args.out.now) c.args.disk c.into_disk.result _ c.reserve.new.self.items c.as_slice.result.now listed Memory
-    c.in-Ok-of.world refl journal called c.into_disk.ensures.left (run_none _ _) (c.reserve.ensures.items ∙ c.requires.fresh) (λ told. refl)
+    store refl c.in-Ok.ensures.journal c.in-Ok.ensures.called (subst (λ (s : Scene). IsLeftBy g.D.Disk store.opened s c.into_disk.result) cluster.at left) (run_none _ _) (c.reserve.ensures.items ∙ c.requires.fresh) (λ told. refl)
 
 pub returns-in_default-clause-run_by : goal.returns-in_default-clause-run_by
 returns-in_default-clause-run_by g c = run_none _ _
 
-pub returns-in-Err-of-clause-outcome : goal.returns-in-Err-of-clause-outcome
-returns-in-Err-of-clause-outcome g c =
+pub returns-in-Err-into_cluster-clause-outcome : goal.returns-in-Err-into_cluster-clause-outcome
+returns-in-Err-into_cluster-clause-outcome g c =
     let f = λ (r : _). flat_map (λ h. (goal.Handler-dyn g (h.vtable, h.value)).sheets_are h.value) r.handlers.items in
     let listed = used_are f (λ (r : _). r.whole) c.args.hands.now.items c.requires.agree c.requires.each c.index.result.now c.index.ensures c.as_slice.result.now (c.as_slice.ensures ∙ c.sheets-sheets.ensures) in
-    let opened = c.in-Ok.ensures in
-    converse_full g.D.Disk c.args.commands.items c.args.limits (sink_use g.K.Sink c.args.out.now c.args.out.now) c.args.disk c.in-Err-of.disk _ c.args.marks.now.items c.as_slice.result.now listed Memory
-    c.in-Ok.store refl opened.journal opened.called c.in-Err-of.ensures.left (run_none _ _) c.requires.fresh (λ told. refl)
+    converse_full g.D.Disk c.args.commands.items c.args.limits (sink_use g.K.Sink c.args.out.now c.args.out.now) c.args.disk c.in-Err-into_cluster.disk _ c.args.marks.now.items c.as_slice.result.now listed Memory
+    c.in-Ok.store refl c.in-Ok.ensures.journal c.in-Ok.ensures.called c.in-Err-into_cluster.ensures.left (run_none _ _) c.requires.fresh (λ told. refl)
 
-pub returns-in-Err-of-clause-run_by : goal.returns-in-Err-of-clause-run_by
-returns-in-Err-of-clause-run_by g c = run_none _ _
+pub returns-in-Err-into_cluster-clause-run_by : goal.returns-in-Err-into_cluster-clause-run_by
+returns-in-Err-into_cluster-clause-run_by g c = run_none _ _
 
 pub returns-in-Err-clause-outcome : goal.returns-in-Err-clause-outcome
 returns-in-Err-clause-outcome g c =

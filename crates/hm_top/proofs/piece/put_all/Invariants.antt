@@ -1,6 +1,6 @@
 use Rattle.std.proofs.Common.{◌≡◌, ◌≤◌, ◌++◌, take}
 use Rattle.std.specs.List.{flat_map}
-use Rattle.hm_top.specs.Pieces.{piece_text}
+use Rattle.hm_commands.specs.Pieces.{piece_text}
 use Rattle.hm_top.proofs.piece.put_all.Given as goal
 
 abbrev pub invariant-loop-piece : goal.invariant-loop-piece

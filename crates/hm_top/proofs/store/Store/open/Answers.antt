@@ -1,7 +1,8 @@
 use Rattle.std.proofs.Common.{List}
 use Rattle.std.proofs.lemmas.Result.{err_from_is_err_and}
 use Rattle.hm_data.specs.declared.entry.Entry.{Entry}
-use Rattle.hm_top.proofs.Stores.{opened_sheets, opened_standing}
+use Rattle.hm_journal.specs.Stored.{opened}
+use Rattle.hm_top.proofs.Stores.{opened_kept, opened_sheets}
 use Rattle.hm_top.proofs.store.Store.open.Goals as goal
 
 pub returns-in_err-journal-clause-same : goal.returns-in_err-journal-clause-same
@@ -19,7 +20,7 @@ returns-clause-journal g c =
     let kept = c.in_ok-journal.journal.kept in (
       old,
       found.1,
-      opened_standing c.args.sheets.now old kept c.args.limits found.2 c.in_ok-journal.ensures.fresh.1 c.in_ok-journal.ensures.fresh.2 c.in_ok-journal.ensures.limits.0 c.in_ok-journal.ensures.limits.1,
+      opened_kept (opened c.args.sheets.now old) kept c.args.limits found.2 c.in_ok-journal.ensures.fresh.0 c.in_ok-journal.ensures.fresh.1 c.in_ok-journal.ensures.fresh.2 c.in_ok-journal.ensures.limits.0 c.in_ok-journal.ensures.limits.1,
       found.3,
       found.4,
     )
@@ -30,4 +31,4 @@ returns-clause-sheets g c =
     opened_sheets c.args.sheets.now found.0 c.in_ok-journal.journal.kept.entries found.1 found.2
 
 pub invariant_of-result : goal.invariant_of-result
-invariant_of-result g c = record { same = c.in_ok-journal.ensures.state; going = c.in_ok-journal.ensures.fresh.2 }
+invariant_of-result g c = record { same = c.in_ok-journal.ensures.state; going = c.in_ok-journal.ensures.fresh.2; tailless = c.in_ok-journal.ensures.fresh.1 }

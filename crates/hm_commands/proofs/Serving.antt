@@ -1,0 +1,117 @@
+-- Registries that serve a journal.
+use Rattle.std.proofs.Common.{◌≡◌, ◌==◌, ◌||◌, ℕ, List, [], ◌∷◌, ◌++◌, map, All, Bool, true, false, if◌then◌else◌, IsTrue, Option, Some, None, refl, sym, ap, ◌∙◌, subst, inl, inr, append-nil, append_assoc}
+use Rattle.std.specs.Prelude.{MatchOption}
+use Rattle.std.proofs.lemmas.Option.{none-some}
+use Rattle.std.proofs.lemmas.List.Elements.{All-head, All-tail}
+use Rattle.hm_names.specs.declared.nonce.Nonce.{Nonce}
+use Rattle.hm_data.specs.declared.entry.Entry.{Entry}
+use Rattle.hm_data.specs.declared.entry.Entry.TheVariants as entry_is
+use Rattle.hm_data.specs.declared.request.Request.{Request}
+use Rattle.hm_data.specs.declared.sheet.Sheet.{Sheet}
+use Rattle.hm_data.specs.declared.step.StepIn.{StepIn}
+use Rattle.hm_data.specs.declared.step.StepOut.{StepOut}
+use Rattle.hm_hall.specs.Recording.{Recording}
+use Rattle.hm_model.specs.Evaluation.{CanBeAsked, CanRun, answer_of}
+use Rattle.hm_model.specs.Journal.{Past, back}
+use Rattle.hm_model.specs.Rules.{IsLegal}
+use Rattle.hm_model.specs.Sheets.{sheet_for, sheets_of}
+use Rattle.hm_model.specs.Validity.{is_among}
+use Rattle.hm_model.proofs.Grown.{sheets_are}
+use Rattle.hm_model.proofs.Prefixes.{back-push}
+use Rattle.hm_model.proofs.Sheets.{said_alike}
+use Rattle.hm_script.specs.declared.command.Command.{Command}
+use Rattle.hm_script.specs.declared.command.Command.TheVariants as command_is
+use Rattle.hm_sheet.specs.Own.{is_kind}
+use Rattle.hm_world.specs.Scene.{Scene}
+use Rattle.hm_commands.specs.Commands.{Comes, IsWork, MayAdd, OtherMayAdd, asked}
+use Rattle.hm_commands.specs.Hands.{AgreeOn, Serve, first_sheets}
+use Rattle.hm_commands.specs.Scenes.{journal_at, kept_at}
+use Rattle.hm_commands.specs.Tasks.{Tasks}
+use Rattle.hm_commands.specs.declared.answer.Answer.{Answer}
+use Rattle.hm_commands.proofs.Growth.{Grows, comes_grows, tasks_grow}
+
+-- a sheet that is found is of its kind
+found_among : (sheets : List Sheet) (kind : ℕ) (sheet : Sheet) → sheet_for sheets kind ≡ Some sheet → IsTrue (is_among (map (λ sheet. sheet.kind) sheets) kind)
+found_among [] kind sheet found = absurd (none-some sheet found)
+found_among (first ∷ sheets) kind sheet found = by (first.kind == kind) (found_among sheets kind sheet) found
+  where
+    by : (is : Bool) → (sheet_for sheets kind ≡ Some sheet → IsTrue (is_among (map (λ sheet. sheet.kind) sheets) kind))
+        → (if is then Some first else sheet_for sheets kind) ≡ Some sheet → IsTrue (is || is_among (map (λ sheet. sheet.kind) sheets) kind)
+    by true more found = refl
+    by false more found = more found
+
+-- a journal has sheets of the kinds of procedures alone
+kind_is : (J : Past) → IsLegal J → (kind : ℕ) (sheet : Sheet) → sheet_for (sheets_of J) kind ≡ Some sheet → IsTrue (is_kind kind)
+kind_is [] legal kind sheet found = absurd (none-some sheet found)
+kind_is (entry ∷ J) legal kind sheet found =
+    subst (λ kinds. IsTrue (is_among kinds kind)) (sheets_are (entry ∷ J) legal (λ none. cc)).0 (found_among (sheets_of (entry ∷ J)) kind sheet found)
+
+-- a sheet of the journal is the registry's too
+pub same_sheet : (J : Past) → IsLegal J → (at : StepIn) (sheets : List Sheet) → AgreeOn sheets (sheets_of J) → CanRun (sheets_of J) at
+    → sheet_for sheets at.kind ≡ sheet_for (sheets_of J) at.kind
+same_sheet J legal at sheets agree runs = by (sheet_for (sheets_of J) at.kind) refl runs
+  where
+    by : (found : Option Sheet) → sheet_for (sheets_of J) at.kind ≡ found → CanBeAsked found at → sheet_for sheets at.kind ≡ sheet_for (sheets_of J) at.kind
+    by None is runs = absurd runs
+    by (Some sheet) is runs = agree at.kind (kind_is J legal at.kind sheet is)
+
+-- the registry can be run where the journal's sheets can be asked
+pub runs_there : (J : Past) → IsLegal J → (at : StepIn) (sheets : List Sheet) → AgreeOn sheets (sheets_of J) → CanRun (sheets_of J) at → CanRun sheets at
+runs_there J legal at sheets agree runs = subst (λ (o : Option Sheet). CanBeAsked o at) (sym (same_sheet J legal at sheets agree runs)) runs
+
+-- and what it answers is what those say
+pub answered_there : (J : Past) → IsLegal J → (at : StepIn) (sheets : List Sheet) (out : StepOut) → AgreeOn sheets (sheets_of J) → CanRun (sheets_of J) at
+    → answer_of sheets at ≡ Some out → answer_of (sheets_of J) at ≡ Some out
+answered_there J legal at sheets out agree runs answered = said_alike (sheets_of J) sheets at (sym (same_sheet J legal at sheets agree runs)) ∙ answered
+
+-- an entry that leaves the sheets
+abbrev LeavesSheets : Entry → Type 0
+LeavesSheets entry = (J : Past) → sheets_of (entry ∷ J) ≡ sheets_of J
+
+work_leaves : (entry : Entry) → IsWork entry → LeavesSheets entry
+work_leaves (entry_is.Step pid pick out) work J = refl
+work_leaves (entry_is.Undo pid row out) work J = refl
+work_leaves (entry_is.Report call told) work J = refl
+work_leaves entry work J = absurd work
+
+same_leaves : (entry other : Entry) → entry ≡ other → LeavesSheets other → LeavesSheets entry
+same_leaves entry other same leaves J = subst (λ (e : Entry). sheets_of (e ∷ J) ≡ sheets_of J) (sym same) (leaves J)
+
+other_leaves : (command : Command) (entry : Entry) → OtherMayAdd command entry → LeavesSheets entry
+other_leaves (command_is.Abort pid) entry may = same_leaves entry (entry_is.Abort pid) may (λ J. refl)
+other_leaves (command_is.Server server) entry (inl up) = same_leaves entry (entry_is.Up server) up (λ J. refl)
+other_leaves (command_is.Server server) entry (inr down) = same_leaves entry (entry_is.Down down.0) down.1 (λ J. refl)
+other_leaves (command_is.Expire server) entry may = same_leaves entry (entry_is.Down server) may (λ J. refl)
+other_leaves (command_is.Step count) entry may = work_leaves entry may
+other_leaves command_is.Settle entry may = work_leaves entry may
+other_leaves command entry may = absurd may
+
+may_leaves : (command : Command) (entry : Entry) → MayAdd command entry → LeavesSheets entry
+may_leaves command entry = by (asked command)
+  where
+    by : (ask : Option (Nonce × Request)) → MatchOption ask (OtherMayAdd command entry) (λ ask. entry ≡ entry_is.Submit ask.0 ask.1) → LeavesSheets entry
+    by None may = other_leaves command entry may
+    by (Some ask) may = same_leaves entry (entry_is.Submit ask.0 ask.1) may (λ J. refl)
+
+sheets_all : (P : Entry → Type 0) → ((entry : Entry) → P entry → LeavesSheets entry) → (journal added : List Entry) → All P added → sheets_of (back (journal ++ added)) ≡ sheets_of (back journal)
+sheets_all P leaves journal [] all = ap (λ (j : List Entry). sheets_of (back j)) (append-nil journal)
+sheets_all P leaves journal (entry ∷ added) all =
+    ap (λ (j : List Entry). sheets_of (back j)) (sym (append_assoc journal (entry ∷ []) added))
+    ∙ sheets_all P leaves (journal ++ entry ∷ []) added (All-tail P entry added all)
+    ∙ ap sheets_of (back-push journal entry) ∙ leaves entry (All-head P entry added all) (back journal)
+
+grown_sheets : (P : Entry → Type 0) → ((entry : Entry) → P entry → LeavesSheets entry) → (old new : Recording) → Grows P old new → sheets_of (back new.entries) ≡ sheets_of (back old.entries)
+grown_sheets P leaves old new grows = ap (λ (j : List Entry). sheets_of (back j)) grows.grown ∙ sheets_all P leaves old.entries grows.added grows.each
+
+-- the sheets behind a command, and behind tasks
+pub comes_sheets : (command : Command) (old : Scene) (answer : Option Answer) (new : Scene) → Comes command old answer new → sheets_of (back (journal_at new)) ≡ sheets_of (back (journal_at old))
+comes_sheets command old answer new c = grown_sheets (MayAdd command) (may_leaves command) (kept_at old) (kept_at new) (comes_grows old new command answer c)
+
+pub tasks_sheets : (count : ℕ) (old new : Scene) → Tasks count old new → sheets_of (back (journal_at new)) ≡ sheets_of (back (journal_at old))
+tasks_sheets count old new t = grown_sheets IsWork work_leaves (kept_at old) (kept_at new) (tasks_grow count old new t)
+
+-- registries that served a journal serve one with the same sheets
+pub serve_on : (one other : List (List Sheet)) (old new : List Entry) → Serve one old → other ≡ one → sheets_of (back new) ≡ sheets_of (back old) → Serve other new
+serve_on one other old new serve same sheets =
+    subst (λ (hands : List (List Sheet)). Serve hands new) (sym same)
+    (record { agree = serve.agree; begins = subst (AgreeOn (first_sheets one)) (sym sheets) serve.begins })

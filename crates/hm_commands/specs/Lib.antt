@@ -1,0 +1,10 @@
+pub mod Hands
+pub mod RowNames
+pub mod Answer
+pub mod Pieces
+pub mod Scenes
+pub mod Telling
+pub mod Tasks
+pub mod Offered
+pub mod Commands
+pub mod View

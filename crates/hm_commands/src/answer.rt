@@ -1,0 +1,284 @@
+//! What the run answers.
+ghost use Rattle.std.specs.Prelude.{◌≡◌};
+ghost use Rattle.std.specs.List.{flat_map};
+ghost use Rattle.hm_commands.specs.Answer.{answer_text, refusal_detail, refusal_number, refusal_word};
+ghost use Rattle.hm_commands.specs.Pieces.{piece_text};
+
+use crate::piece::{NONE, Piece};
+use crate::row_names::row_name;
+use Piece::{Bytes, Number, Server, Text};
+use hm_data::{Act, Phase};
+use hm_hall::Halt;
+use hm_names::ServerName;
+use hm_show::state_name;
+
+/// Why a command is refused. What it names is told beside it.
+#[derive(Clone, Copy)]
+pub enum Refusal {
+    /// The lowest number of what is wrong with a request by itself.
+    BadArgs(u8),
+    /// Another request was submitted under the nonce, which made this procedure.
+    NonceClash(u64),
+    /// So many region ids were drawn for the table that the new ones don't fit any more.
+    TooManyRegions(u64),
+    /// The journal has reached its soft mark at this many bytes, and takes no submission.
+    JournalFull(u64),
+    /// There is no such procedure, or no such server ever came up.
+    Unknown,
+    /// The procedure is no root; this one is its root.
+    Child(u64),
+    /// The root has failed or ended, and is in this phase.
+    Finished(Phase),
+    /// The root runs a row next, which does this, that is after the point.
+    TooLate(Option<Act>),
+    /// A server of this host and port came up with this start code, which isn't lower.
+    OldStart(u64),
+    /// The server is live.
+    Known,
+    /// The server isn't live any more.
+    AlreadyDown,
+    /// No server of this name runs.
+    NoServer,
+}
+
+/// The lines that the run writes for the opening and for each command.
+#[derive(Drop)]
+pub enum Answer {
+    /// The log is open; its journal has so many entries.
+    Opened(u64),
+    /// The submission was recorded as this procedure.
+    Pid(u64),
+    /// The submission had been recorded as this procedure before.
+    Repeated(u64),
+    Refused(Refusal),
+    /// The root is aborted.
+    Aborting(u64),
+    /// The root was aborted before.
+    AbortingAlready(u64),
+    /// The server came up.
+    Up(ServerName),
+    /// The server came up in place of an older one, whose crash this procedure sees to.
+    UpInPlaceOf {
+        older: ServerName,
+        pid: u64,
+        server: ServerName,
+    },
+    /// The server is held to be dead, and this procedure sees to its crash.
+    Expired {
+        server: ServerName,
+        pid: u64,
+    },
+    /// The server runs no longer.
+    Dead(ServerName),
+    /// Some of the next calls are refused.
+    Armed,
+    /// So many tasks were done, with so many entries in the journal then.
+    Stepped(u64, u64),
+    /// All roots have ended, with so many entries in the journal.
+    Settled(u64),
+    /// Nothing can go on, with so many entries in the journal, and so many roots haven't ended.
+    Waiting(u64, u64),
+    /// So many calls and reports were lost.
+    Lost(u64),
+    /// So many calls and reports travel once more.
+    Resent(u64),
+    /// A table, whole.
+    Table(Vec<u8>),
+    /// Nothing is recorded any more, for this reason, which came now or before.
+    Halted(Halt),
+}
+
+impl Refusal {
+    // Its first word, with a space where more follows.
+    fn word(&self) -> &str
+        ensures { result.now ≡ refusal_word self.now }
+    {
+        match self {
+            Refusal::BadArgs(_) => "BadArgs ",
+            Refusal::NonceClash(_) => "NonceClash ",
+            Refusal::TooManyRegions(_) => "TooManyRegions ",
+            Refusal::JournalFull(_) => "JournalFull ",
+            Refusal::Unknown => "Unknown",
+            Refusal::Child(_) => "Child ",
+            Refusal::Finished(_) => "Finished ",
+            Refusal::TooLate(_) => "TooLate ",
+            Refusal::OldStart(_) => "OldStart ",
+            Refusal::Known => "Known",
+            Refusal::AlreadyDown => "AlreadyDown",
+            Refusal::NoServer => "NoServer",
+        }
+    }
+
+    // The word behind it.
+    fn detail(&self) -> &str
+        ensures { result.now ≡ refusal_detail self.now }
+    {
+        match self {
+            Refusal::Finished(phase) => state_name(*phase),
+            Refusal::TooLate(Some(act)) => row_name(*act),
+            _ => "",
+        }
+    }
+
+    // The number behind it.
+    fn number(self) -> Option<u64>
+        ensures { result ≡ refusal_number self }
+    {
+        match self {
+            Refusal::BadArgs(number) => Some(u64::from(number)),
+            Refusal::NonceClash(pid) => Some(pid),
+            Refusal::TooManyRegions(drawn) => Some(drawn),
+            Refusal::JournalFull(bytes) => Some(bytes),
+            Refusal::Child(root) => Some(root),
+            Refusal::OldStart(start) => Some(start),
+            _ => None,
+        }
+    }
+}
+
+impl Answer {
+    /// Its lines, in pieces.
+    pub fn pieces(&self) -> [Piece<'_>; 7]
+        ensures { flat_map piece_text result ≡ answer_text self.now }
+    {
+        let end = Text("\n");
+        match self {
+            Answer::Opened(at) => [Text("opened at "), Number(*at), end, NONE, NONE, NONE, NONE],
+            Answer::Pid(pid) => [Text("pid "), Number(*pid), end, NONE, NONE, NONE, NONE],
+            Answer::Repeated(pid) => {
+                [
+                    Text("pid "),
+                    Number(*pid),
+                    Text(" repeated\n"),
+                    NONE,
+                    NONE,
+                    NONE,
+                    NONE,
+                ]
+            }
+            Answer::Refused(why) => match why.number() {
+                Some(number) => [
+                    Text("refused "),
+                    Text(why.word()),
+                    Text(why.detail()),
+                    Number(number),
+                    end,
+                    NONE,
+                    NONE,
+                ],
+                None => [
+                    Text("refused "),
+                    Text(why.word()),
+                    Text(why.detail()),
+                    end,
+                    NONE,
+                    NONE,
+                    NONE,
+                ],
+            },
+            Answer::Aborting(pid) => [Text("aborting "), Number(*pid), end, NONE, NONE, NONE, NONE],
+            Answer::AbortingAlready(pid) => {
+                [
+                    Text("aborting "),
+                    Number(*pid),
+                    Text(" repeated\n"),
+                    NONE,
+                    NONE,
+                    NONE,
+                    NONE,
+                ]
+            }
+            Answer::Up(server) => [Text("up "), Server(server), end, NONE, NONE, NONE, NONE],
+            Answer::UpInPlaceOf { older, pid, server } => {
+                [
+                    Text("expired "),
+                    Server(older),
+                    Text(" pid "),
+                    Number(*pid),
+                    Text("\nup "),
+                    Server(server),
+                    end,
+                ]
+            }
+            Answer::Expired { server, pid } => {
+                [
+                    Text("expired "),
+                    Server(server),
+                    Text(" pid "),
+                    Number(*pid),
+                    end,
+                    NONE,
+                    NONE,
+                ]
+            }
+            Answer::Dead(server) => [Text("dead "), Server(server), end, NONE, NONE, NONE, NONE],
+            Answer::Armed => [Text("armed\n"), NONE, NONE, NONE, NONE, NONE, NONE],
+            Answer::Stepped(tasks, at) => {
+                [
+                    Text("stepped "),
+                    Number(*tasks),
+                    Text(" at "),
+                    Number(*at),
+                    end,
+                    NONE,
+                    NONE,
+                ]
+            }
+            Answer::Settled(at) => [
+                Text("settled at "),
+                Number(*at),
+                end,
+                NONE,
+                NONE,
+                NONE,
+                NONE,
+            ],
+            Answer::Waiting(at, roots) => {
+                [
+                    Text("waiting at "),
+                    Number(*at),
+                    Text(": "),
+                    Number(*roots),
+                    end,
+                    NONE,
+                    NONE,
+                ]
+            }
+            Answer::Lost(count) => [Text("lost "), Number(*count), end, NONE, NONE, NONE, NONE],
+            Answer::Resent(count) => {
+                [
+                    Text("repeated "),
+                    Number(*count),
+                    end,
+                    NONE,
+                    NONE,
+                    NONE,
+                    NONE,
+                ]
+            }
+            Answer::Table(table) => [Bytes(table.as_slice()), NONE, NONE, NONE, NONE, NONE, NONE],
+            Answer::Halted(Halt::LogFault) => {
+                [
+                    Text("halted LogFault\n"),
+                    NONE,
+                    NONE,
+                    NONE,
+                    NONE,
+                    NONE,
+                    NONE,
+                ]
+            }
+            Answer::Halted(Halt::JournalFull(bytes)) => {
+                [
+                    Text("halted JournalFull "),
+                    Number(*bytes),
+                    end,
+                    NONE,
+                    NONE,
+                    NONE,
+                    NONE,
+                ]
+            }
+        }
+    }
+}

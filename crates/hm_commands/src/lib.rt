@@ -1,0 +1,21 @@
+//! The commands of a script, as a cluster answers them.
+#![tactic(auto)]
+
+mod answer;
+mod answering;
+mod cluster;
+mod fleet;
+mod hands;
+mod offered;
+mod piece;
+mod requests;
+mod row_names;
+mod tables;
+mod tasks;
+mod telling;
+
+pub use answer::{Answer, Refusal};
+pub use cluster::Cluster;
+pub use hands::hands_agree;
+pub use offered::Offered;
+pub use piece::Piece;
