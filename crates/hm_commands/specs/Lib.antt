@@ -8,3 +8,4 @@ pub mod Tasks
 pub mod Offered
 pub mod Commands
 pub mod View
+pub mod Live

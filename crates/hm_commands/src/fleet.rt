@@ -53,8 +53,8 @@ impl<D: Disk> Cluster<D> {
         tell_death(server, ran)
     }
 
-    // Takes a server for dead.
-    pub(crate) fn expire(&mut self, alloc: Global, server: ServerName) -> Result<Answer, AllocError>
+    /// Holds a server to be dead, whether it runs or not: its crash is recorded. Memory runs out only for one that is live.
+    pub fn expire(&mut self, alloc: Global, server: ServerName) -> Result<Answer, AllocError>
         ensures comes { Expires server (scene_in self.old) (result_ok result) (scene_in self.new) }
         ensures opened { self.new.recorder.opened ≡ self.old.recorder.opened }
     {

@@ -6,6 +6,7 @@ mod answering;
 mod cluster;
 mod fleet;
 mod hands;
+mod live;
 mod offered;
 mod piece;
 mod requests;

@@ -12,13 +12,6 @@ impl Commands for Offered {
     fn has(command: &Command) -> bool {
         match command {
             Command::Workers { count: _ } => false,
-            Command::Server { server: _ } => false,
-            Command::Die { server: _ } => false,
-            Command::Expire { server: _ } => false,
-            Command::Refuse {
-                server: _,
-                count: _,
-            } => false,
             Command::Balance => false,
             Command::Cut {
                 changes: _,

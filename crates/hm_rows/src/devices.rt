@@ -22,7 +22,7 @@ fn submissions(alloc: Global, count: u64) -> Result<String, AllocError> {
 }
 
 // The calls that a run makes of its disk: it is done where the next one is to fail.
-fn disk_calls(alloc: Global, script: &[u8], log: &[u8]) -> Result<u64, AllocError>
+pub fn disk_calls(alloc: Global, script: &[u8], log: &[u8]) -> Result<u64, AllocError>
     ensures { IfOk result (λ n. n ≤ 100) }
 {
     for call in 0..100 {
@@ -322,6 +322,34 @@ fn run_with_a_fault_at_each_call(rt: HostRuntime) -> Result<(), Fail> {
 // A table that is begun, aborted, and taken back.
 const ABORTS: &[u8] = b"create 1:1 t\nstep 2\nabort 1\nsettle\nprocs\n";
 
+// A run of it in which this call of the disk fails has this text; and what a stop leaves then settles.
+fn is_halted(rt: &(impl Abort + AllocGlobal), call: u64, text: &str) -> Result<(), AllocError> {
+    let fails = Fails {
+        disk: &[call],
+        ..NONE
+    };
+    let played = play(rt.alloc(), &RUN, ABORTS, b"", fails)?;
+    assert_eq!(rt; played.status, RunStatus::LogFault, "call {call}");
+    assert_eq!(rt; played.text.as_slice(), text.as_bytes(), "call {call}");
+    for choice in [Choice::Synced, Choice::AsRead] {
+        let left = stopped(rt.alloc(), ABORTS, b"", call, choice)?;
+        let next = play(rt.alloc(), &RUN, b"settle\n", &left, NONE)?;
+        assert_eq!(rt; next.status, RunStatus::Done, "call {call}, {choice:?}");
+    }
+    Ok(())
+}
+
+fn each_is_halted(
+    rt: &(impl Abort + AllocGlobal),
+    calls: &[u64],
+    text: &str,
+) -> Result<(), AllocError> {
+    for call in calls {
+        is_halted(rt, *call, text)?;
+    }
+    Ok(())
+}
+
 #[test]
 fn run_of_an_abort_with_a_fault_at_each_call(rt: HostRuntime) -> Result<(), Fail> {
     // The calls of the disk by number, four for each entry: the request, two steps, the abort, the step that fails, and
@@ -346,20 +374,7 @@ fn run_of_an_abort_with_a_fault_at_each_call(rt: HostRuntime) -> Result<(), Fail
     ];
     for (calls, answers) in cases {
         let text = format!(in rt.alloc(); "opened at 1\n{answers}hmaster: log fault\n")?;
-        for call in calls {
-            let fails = Fails {
-                disk: &[*call],
-                ..NONE
-            };
-            let played = play(rt.alloc(), &RUN, ABORTS, b"", fails)?;
-            assert_eq!(rt; played.status, RunStatus::LogFault, "call {call}");
-            assert_eq!(rt; played.text.as_slice(), text.as_bytes(), "call {call}");
-            for choice in [Choice::Synced, Choice::AsRead] {
-                let left = stopped(rt.alloc(), ABORTS, b"", *call, choice)?;
-                let next = play(rt.alloc(), &RUN, b"settle\n", &left, NONE)?;
-                assert_eq!(rt; next.status, RunStatus::Done, "call {call}, {choice:?}");
-            }
-        }
+        each_is_halted(&rt, calls, &text)?;
     }
     let text =
         "opened at 1\npid 1\nstepped 2 at 4\naborting 1\nsettled at 7\nprocs at 7: 1\n1 CreateTable t ROLLEDBACK Aborted\n";

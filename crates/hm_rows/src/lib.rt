@@ -21,4 +21,6 @@ mod play;
 #[cfg(test)]
 mod rules;
 #[cfg(test)]
+mod servers;
+#[cfg(test)]
 mod statuses;

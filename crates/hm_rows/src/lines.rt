@@ -192,10 +192,6 @@ fn run_refuses_commands_that_it_does_not_have(rt: HostRuntime) -> Result<(), Fai
     // The place is that of the first word.
     let lines = [
         (b"workers 2\n".as_slice(), 0),
-        (b"server h1,16020,1\n", 0),
-        (b"die h1,16020,1\n", 0),
-        (b"expire h1,16020,1\n", 0),
-        (b"refuse h1,16020,1 1\n", 0),
         (b"balance\n", 0),
         (b"cut 0 0\n", 0),
         (b"reopen\n", 0),

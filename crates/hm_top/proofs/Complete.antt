@@ -38,4 +38,4 @@ ran_out run (inr (inl vain)) = inr (vain.0.2.0, vain.0.2.1, inl (λ told. (vain.
 ran_out run (inr (inr (inl full))) = inr (full.2.0, full.2.1, inr (inl (full.3.0, full.3.1.held)))
 ran_out run (inr (inr (inr opened))) =
     let its = opened.answering in
-    inr (opened.commands, opened.given_are, inr (inr (its.answered, its.rest, its.parts, its.mid, opened.new, its.remains)))
+    inr (opened.commands, opened.given_are, inr (inr (its.left, its.answered, its.rest, its.parts, its.mid, opened.new, its.remains)))

@@ -1,18 +1,24 @@
 -- What halts a run as full is an entry that would have passed the hard mark.
-use Rattle.std.proofs.Common.{◌≡◌, ℕ, List, [], ◌∷◌, Option, Some, None, refl, sym, ap, ◌∙◌, subst}
+use Rattle.std.proofs.Common.{◌≡◌, ℕ, List, [], ◌∷◌, Option, Some, None, refl, sym, ap, ◌∙◌, subst, inl, inr}
 use Rattle.std.specs.Prelude.{MatchOption}
 use Rattle.std.proofs.lemmas.Option.{none-some}
 use Rattle.hm_hall.specs.Recording.{Recording}
 use Rattle.hm_hall.specs.declared.fault.Halt.{Halt}
 use Rattle.hm_hall.specs.declared.fault.Halt.TheVariants as halt_is
 use Rattle.hm_script.specs.declared.command.Command.{Command}
-use Rattle.hm_world.specs.Scene.{Scene}
+use Rattle.hm_names.specs.Server.{Server}
+use Rattle.hm_script.specs.declared.command.Command.TheVariants as command_is
+use Rattle.hm_world.specs.Scene.{GoesOn, Scene}
 use Rattle.hm_commands.specs.Commands.{Comes, ComesAt, MayAdd}
 use Rattle.hm_commands.specs.Scenes.{halt_at, kept_at}
 use Rattle.hm_commands.specs.declared.answer.Answer.{Answer}
 use Rattle.hm_commands.specs.declared.answer.Answer.TheVariants as answer_is
 use Rattle.hm_commands.proofs.Growth.{Grows, IsPassed, comes_grows}
+use Rattle.hm_top.specs.Answering.{Remains}
+use Rattle.hm_top.specs.Opening.{Downs, PassesBy}
+use Rattle.hm_top.specs.declared.status.RunStatus.TheVariants.{JournalFull}
 use Rattle.hm_top.specs.Transcript.{Transcript}
+use Rattle.hm_top.proofs.Openings.{down_keeps, expire_comes}
 
 -- with this hard mark a run is halted as full only so
 abbrev pub IsFull : ℕ → Scene → Type 0
@@ -38,3 +44,25 @@ pub answered_full : (hard : ℕ) (commands : List Command) (old : Scene) (marks 
 answered_full hard [] old marks answers new was t = subst (IsFull hard) (sym t.2) was
 answered_full hard (command ∷ commands) old marks answers new was t =
     answered_full hard commands t.0 t.1 t.2 new (comes_full hard command old (Some t.3.answer) t.0 was t.3.fits) t.4
+
+pass_full : (hard : ℕ) (server : Server) (old : Scene) (lines : List Answer) (new : Scene) → GoesOn old → IsFull hard old → PassesBy server old lines new → IsFull hard new × GoesOn new
+pass_full hard server old lines new going was (inl down) =
+    let comes = expire_comes server old (Some (answer_is.Expired server down.pid)) new going down.expires in
+    (comes_full hard (command_is.Expire server) old (Some (answer_is.Expired server down.pid)) new was comes, (down_keeps server old new lines down).going)
+pass_full hard server old lines new going was (inr same) = (subst (IsFull hard) (sym same.2) was, subst GoesOn (sym same.2) going)
+
+-- behind servers that were held to be dead
+pub downs_full : (hard : ℕ) (servers : List Server) (old : Scene) (lines : List Answer) (new : Scene) → GoesOn old → IsFull hard old → Downs servers old lines new → IsFull hard new × GoesOn new
+downs_full hard [] old lines new going was downs = (subst (IsFull hard) (sym downs.1) was, subst GoesOn (sym downs.1) going)
+downs_full hard (server ∷ servers) old lines new going was downs =
+    let here = pass_full hard server old downs.1 downs.0 going was downs.3 in downs_full hard servers downs.0 downs.2 new here.1 here.0 downs.5
+
+-- behind an opening, and behind what follows
+pub remains_full : (hard bytes : ℕ) (left : List Server) (answered rest : List Command) (start : Scene) (marks : List ℕ) (answers : List Answer) (mid new : Scene) → GoesOn start → IsFull hard start → Transcript answered start marks answers mid
+    → Remains (JournalFull bytes) left answered rest mid new → IsFull hard new
+remains_full hard bytes left answered rest start marks answers mid new going was t (inl none) = subst (IsFull hard) (sym none.2) (answered_full hard answered start marks answers mid was t)
+remains_full hard bytes [] answered rest start marks answers mid new going was t (inr halts) = absurd halts.1
+remains_full hard bytes (server ∷ left) answered rest start marks answers mid new going was t (inr halts) =
+    let here : mid ≡ start = (subst (λ (l : List Command). Transcript l start marks answers mid) halts.0 t).2 in
+    comes_full hard (command_is.Expire server) mid (Some (answer_is.Halted (halt_is.JournalFull bytes))) new (subst (IsFull hard) (sym here) was)
+    (expire_comes server mid (Some (answer_is.Halted (halt_is.JournalFull bytes))) new (subst GoesOn (sym here) going) halts.1.1)

@@ -1,8 +1,9 @@
 pub mod Pieces
 pub mod Stores
 pub mod Offered
-pub mod Full
 pub mod Sessions
+pub mod Openings
+pub mod Full
 pub mod Outcomes
 pub mod Complete
 pub mod Scripts

@@ -16,11 +16,11 @@ use Rattle.hm_model.proofs.Prefixes.{legal_before, legal_cut}
 use Rattle.hm_serial.proofs.Failing.{failure_leaves_all}
 use Rattle.hm_serial.proofs.Serial.{catalog_is, deeds_apply_is}
 use Rattle.hm_serial.proofs.Taken.{legal_apart}
+use Rattle.hm_names.specs.Server.{Server}
 use Rattle.hm_world.specs.Scene.{Scene}
 use Rattle.hm_commands.specs.Hands.{HandsUse, Ran, SumRisesBy, sheets_used, steps_in}
 use Rattle.hm_commands.specs.Scenes.{halt_at, journal_at, kept_at, whole}
 use Rattle.hm_commands.specs.declared.answer.Answer.{Answer}
-use Rattle.hm_commands.specs.declared.answer.Answer.TheVariants.{Opened}
 use Rattle.hm_commands.proofs.Ran.{steps_more}
 use Rattle.hm_script.specs.declared.command.Command.{Command}
 use Rattle.hm_top.specs.declared.status.EarlyEnd.{EarlyEnd}
@@ -38,6 +38,7 @@ use Rattle.hm_top.specs.Session.{AreAnswered, EndedBy, IsSilent, Outcome, Sessio
 use Rattle.hm_top.specs.Standing.{begun}
 use Rattle.hm_top.specs.Status.{last_line}
 use Rattle.hm_top.specs.Answering.{IsAnswering, Remains}
+use Rattle.hm_top.specs.Opening.{IsEndOf, opening_lines}
 use Rattle.hm_top.specs.Transcript.{text_of}
 
 -- no line
@@ -69,6 +70,11 @@ faith_of J legal = record {
   locks = legal_apart J legal;
 }
 
+-- what an end says of the run
+abbrev pub EndsSo : Result (Unit {0}) EarlyEnd → Scene → Type 0
+EndsSo (Ok done) new = Unit {0}
+EndsSo (Err end) new = IsEndOf end new
+
 -- what the opening adds, which is no step
 pub opened_grows : (sheets : List Sheet) (old : List Entry) → (first : List Entry) × (opened sheets old ≡ old ++ first) × (steps_in first ≡ 0)
 opened_grows sheets [] = (entry_is.Start sheets ∷ [], refl, refl)
@@ -82,9 +88,12 @@ module _ (session : Session) (given : List Command → Type 0) (said : RunStatus
 
   answered_map : (commands : List Command) (old : List Entry) (new : Scene) → AreAnswered session status commands old new → AreAnswered other status commands old new
   answered_map commands old new a = record {
+    passed = a.passed;
+    left = a.left;
+    servers = a.servers;
     lines = a.lines;
     start = a.start;
-    opens = a.opens;
+    downs = a.downs;
     answered = a.answered;
     rest = a.rest;
     parts = a.parts;
@@ -92,7 +101,7 @@ module _ (session : Session) (given : List Command → Type 0) (said : RunStatus
     mid = a.mid;
     transcript = a.transcript;
     remains = a.remains;
-    said_are = g (a.lines ++ a.answers) a.said_are;
+    said_are = g (opening_lines (begun session.limits (sheets_used session.hands) old) a.lines ++ a.answers) a.said_are;
   }
 
   abbrev opened_map : WasOpened session status → WasOpened other status
@@ -173,48 +182,55 @@ module _ (commands : List Command) (limits : Limits) (out : SinkUse) (disk : Dis
         cause = cause;
       }
 
-  -- the outcome of answering the commands
+  -- the outcome of beginning, and of answering the commands
   module _ (old : List Entry) (new : Scene) (left : IsLeft disk hands old new) where
-    abbrev line : Answer
-    line = Opened (length (opened (sheets_used hands) old))
+    abbrev first : Scene
+    first = begun limits (sheets_used hands) old
 
     -- under a status that its end has, or one behind which as much remains
     abbrev was_opened : (status : RunStatus) (ended : Result (Unit {0}) EarlyEnd) → ((answers : List Answer) → GotAnswers out.before out.after (ended_status ended None) answers → GotAnswers out.before out.after status answers)
-        → ((rest : List Command) (at left : Scene) → Remains (ended_status ended None) rest at left → Remains status rest at left)
-        → IsAnswering out.tells out.before out.after (line ∷ []) ended commands (begun limits (sheets_used hands) old) marks new → WasOpened spoken status
+        → ((servers : List Server) (answered rest : List Command) (at left : Scene) → Remains (ended_status ended None) servers answered rest at left → Remains status servers answered rest at left)
+        → IsAnswering out.tells out.before out.after ended commands first marks new → WasOpened spoken status
     was_opened status ended f r a = record {
       commands = commands;
       given_are = refl;
       old = old;
       new = new;
       answering = record {
-        lines = line ∷ [];
-        start = begun limits (sheets_used hands) old;
-        opens = (refl, refl);
+        passed = a.passed;
+        left = a.left;
+        servers = a.servers;
+        lines = a.lines;
+        start = a.start;
+        downs = a.downs;
         answered = a.answered;
         rest = a.rest;
         parts = a.parts;
         answers = a.answers;
         mid = a.mid;
         transcript = a.transcript;
-        remains = r a.rest a.mid new a.remains;
-        said_are = λ told. f (line ∷ a.answers) (a.said told);
+        remains = r a.left a.answered a.rest a.mid new a.remains;
+        said_are = λ told. f (opening_lines first a.lines ++ a.answers) (a.said told);
       };
       left = left;
     }
 
     ended_by : (status : RunStatus) (halted : Option Halt) → halt_at new ≡ halted → ((answers : List Answer) → GotAnswers out.before out.after Done answers → GotAnswers out.before out.after status answers)
-        → ((rest : List Command) (at left : Scene) → Remains Done rest at left → Remains status rest at left)
-        → IsAnswering out.tells out.before out.after (line ∷ []) (Ok tt) commands (begun limits (sheets_used hands) old) marks new → EndedBy spoken status halted
+        → ((servers : List Server) (answered rest : List Command) (at left : Scene) → Remains Done servers answered rest at left → Remains status servers answered rest at left)
+        → IsAnswering out.tells out.before out.after (Ok tt) commands first marks new → EndedBy spoken status halted
     ended_by status halted is f r a = (was_opened status (Ok tt) f r a, is)
 
-    pub outcome_answered : (ended : Result (Unit {0}) EarlyEnd) (halted : Option Halt) → halt_at new ≡ halted → (ended ≡ Err early_is.WriteFault → out.failed)
-        → IsAnswering out.tells out.before out.after (line ∷ []) ended commands (begun limits (sheets_used hands) old) marks new → Outcome spoken (ended_status ended halted)
-    outcome_answered (Ok done) None is fails a = ended_by Done None is (λ answers t. t) (λ rest at left r. r) a
-    outcome_answered (Ok done) (Some halt_is.LogFault) is fails a = (left.cause is, inr (ended_by LogFault (Some halt_is.LogFault) is (λ answers t. t) (λ rest at left r. r) a))
-    outcome_answered (Ok done) (Some (halt_is.JournalFull bytes)) is fails a = ended_by (JournalFull bytes) (Some (halt_is.JournalFull bytes)) is (λ answers t. t) (λ rest at left r. r) a
-    outcome_answered (Err early_is.WriteFault) halted is fails a = (fails refl, was_opened WriteFault (Err early_is.WriteFault) (λ answers t. t) (λ rest at left r. r) a)
-    outcome_answered (Err early_is.Memory) halted is fails a = inr (inr (was_opened Memory (Err early_is.Memory) (λ answers t. t) (λ rest at left r. r) a))
+    pub outcome_answered : (ended : Result (Unit {0}) EarlyEnd) (halted : Option Halt) → halt_at new ≡ halted → EndsSo ended new → (ended ≡ Err early_is.WriteFault → out.failed)
+        → IsAnswering out.tells out.before out.after ended commands first marks new → Outcome spoken (ended_status ended halted)
+    outcome_answered (Ok done) None is so fails a = ended_by Done None is (λ answers t. t) (λ servers answered rest at left r. r) a
+    outcome_answered (Ok done) (Some halt_is.LogFault) is so fails a = (left.cause is, inr (ended_by LogFault (Some halt_is.LogFault) is (λ answers t. t) (λ servers answered rest at left r. inl r) a))
+    outcome_answered (Ok done) (Some (halt_is.JournalFull bytes)) is so fails a = ended_by (JournalFull bytes) (Some (halt_is.JournalFull bytes)) is (λ answers t. t) (λ servers answered rest at left r. inl r) a
+    outcome_answered (Err (early_is.Halted halt_is.LogFault)) halted is so fails a =
+        (left.cause so, inr (was_opened LogFault (Err (early_is.Halted halt_is.LogFault)) (λ answers t. t) (λ servers answered rest at left r. r) a, so))
+    outcome_answered (Err (early_is.Halted (halt_is.JournalFull bytes))) halted is so fails a =
+        (was_opened (JournalFull bytes) (Err (early_is.Halted (halt_is.JournalFull bytes))) (λ answers t. t) (λ servers answered rest at left r. r) a, so)
+    outcome_answered (Err early_is.WriteFault) halted is so fails a = (fails refl, was_opened WriteFault (Err early_is.WriteFault) (λ answers t. t) (λ servers answered rest at left r. r) a)
+    outcome_answered (Err early_is.Memory) halted is so fails a = inr (inr (was_opened Memory (Err early_is.Memory) (λ answers t. t) (λ servers answered rest at left r. r) a))
 
   module _ (none : marks ≡ []) (quiet : out.tells → out.after ≡ out.before) where
     -- nothing was said yet

@@ -23,7 +23,6 @@ use Rattle.hm_commands.specs.Hands.{HandsUse, Ran, RunBy, sheets_used}
 use Rattle.hm_commands.specs.Scenes.{halt_at, journal_at, kept_at, new_scene, whole}
 use Rattle.hm_commands.specs.View.{IsLeftBy}
 use Rattle.hm_commands.specs.declared.answer.Answer.{Answer}
-use Rattle.hm_commands.specs.declared.answer.Answer.TheVariants.{Opened}
 use Rattle.hm_commands.proofs.Ran.{ran_idle}
 use Rattle.hm_script.specs.declared.command.Command.{Command}
 use Rattle.hm_top.specs.declared.status.EarlyEnd.{EarlyEnd}
@@ -42,13 +41,13 @@ use Rattle.hm_top.specs.Status.{last_line}
 use Rattle.hm_top.specs.Answering.{IsAnswering}
 use Rattle.hm_top.specs.View.{StoreView}
 use Rattle.hm_top.proofs.Complete.{complete}
-use Rattle.hm_top.proofs.Outcomes.{ends_fit, ends_map, got_finished, left_of, opened_grows, outcome_answered, outcome_full, outcome_map, outcome_unopened, spoken}
+use Rattle.hm_top.proofs.Outcomes.{EndsSo, ends_fit, ends_map, got_finished, left_of, opened_grows, outcome_answered, outcome_full, outcome_map, outcome_unopened, spoken}
 
 -- what ran, from a journal that is the same
 pub ran_from : {hands : HandsUse} (old other new : List Entry) → old ≡ other → Ran hands old new → Ran hands other new
 ran_from {hands} old other new same ran = subst (λ (l : List Entry). Ran hands l new) same ran
 
-rose_late : (old mid new : ℕ) → old ≤ mid → Rose mid new → Rose old new
+pub rose_late : (old mid new : ℕ) → old ≤ mid → Rose mid new → Rose old new
 rose_late old mid new later rose = omega arith
 
 -- one call after another
@@ -121,13 +120,13 @@ module _ {D Setting : Type 0} (d : Disk.Ghosts D Setting) (commands : List Comma
 
   -- the outcome of answering over a world that was opened
   pub converse_answered : (was : StoreView D) (at : Scene) (ended : Result (Unit {0}) EarlyEnd) → status ≡ ended_status ended (halt_at at) → IsOpened d sheets limits disk was → IsCalled d 1 disk was.opened.disk
-      → IsAnswering out.tells out.before out.after (Opened (length was.kept.entries) ∷ []) ended commands (new_scene was.kept) marks at → IsLeftBy d was.opened at new → Ran hands was.kept.entries (journal_at at)
+      → IsAnswering out.tells out.before out.after ended commands (new_scene was.kept) marks at → EndsSo ended at → IsLeftBy d was.opened at new → Ran hands was.kept.entries (journal_at at)
       → (ended ≡ Err early_is.WriteFault → out.failed) → its status
-  converse_answered was at ended ends opening first_called answering leaves ran fails =
+  converse_answered was at ended ends opening first_called answering so leaves ran fails =
       let opens : IsOpened d (sheets_used hands) limits disk was = subst (λ (l : List Sheet). IsOpened d l limits disk was) (sym listed) opening in
       subst its (sym ends)
-      (outcome_answered commands limits out (disk_use d disk new) hands marks opens.0 at (left_opened was at opens first_called leaves ran) ended (halt_at at) refl fails
-      (subst (λ (k : Recording). IsAnswering out.tells out.before out.after (Opened (length k.entries) ∷ []) ended commands (new_scene k) marks at) opens.2 answering))
+      (outcome_answered commands limits out (disk_use d disk new) hands marks opens.0 at (left_opened was at opens first_called leaves ran) ended (halt_at at) refl so fails
+      (subst (λ (k : Recording). IsAnswering out.tells out.before out.after ended commands (new_scene k) marks at) opens.2 answering))
 
   -- the outcome where there was no room for the executor of a journal that was opened, or for the marks
   pub converse_full : (was : StoreView D) → status ≡ Memory → IsOpened d sheets limits disk was → IsCalled d 1 disk was.opened.disk → IsLeftBy d was.opened (new_scene was.kept) new → RunBy hands 0

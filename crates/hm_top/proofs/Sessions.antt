@@ -1,5 +1,5 @@
 -- How answering goes on.
-use Rattle.std.proofs.Common.{◌≡◌, ℕ, List, [], ◌∷◌, ◌++◌, length, Some, Ok, Err, refl, sym, ap, ◌∙◌, append_assoc, append-nil, subst}
+use Rattle.std.proofs.Common.{◌≡◌, ℕ, List, [], ◌∷◌, ◌++◌, length, Some, Ok, Err, refl, sym, ap, ◌∙◌, append_assoc, append-nil, subst, arith}
 use Rattle.std.proofs.lemmas.Grind.{flat_map-append}
 use Rattle.hm_script.specs.declared.command.Command.{Command}
 use Rattle.hm_world.specs.Scene.{Scene, past_in}
@@ -10,12 +10,12 @@ use Rattle.hm_commands.specs.Scenes.{journal_at}
 use Rattle.hm_commands.specs.declared.answer.Answer.{Answer}
 use Rattle.hm_commands.proofs.Growth.{comes_grows}
 use Rattle.hm_top.specs.declared.status.EarlyEnd.TheVariants as early_is
-use Rattle.hm_top.specs.Answering.{IsAnswering, RunsOut}
+use Rattle.hm_top.specs.Answering.{IsAnsweringOn, RunsOut}
 use Rattle.hm_top.specs.Got.{IsPartOf, IsShort}
 use Rattle.hm_top.specs.Transcript.{Transcript, text_of}
 
 -- one more command at the end
-transcript_more : (commands : List Command) (command : Command) (answer : Answer) (old mid new : Scene) (marks : List ℕ) (answers : List Answer)
+pub transcript_more : (commands : List Command) (command : Command) (answer : Answer) (old mid new : Scene) (marks : List ℕ) (answers : List Answer)
     → Transcript commands old marks answers mid → Answers command mid answer new → (Twice (past_in new) new.outside → ⊥)
     → Transcript (commands ++ command ∷ []) old (marks ++ length (journal_at new) ∷ []) (answers ++ answer ∷ []) new
 transcript_more [] command answer old mid new marks answers t fits once =
@@ -56,41 +56,27 @@ transcript_more (begin ∷ commands) command answer old mid new marks answers t 
 
 -- one answer more behind answers that the sink has whole
 module _ (before mid after : List ℕ) (answers : List Answer) (answer : Answer) (whole : mid ≡ before ++ text_of answers) where
-  short_more : IsPartOf mid after (answer_text answer) → IsShort before after (answers ++ answer ∷ [])
+  pub short_more : IsPartOf mid after (answer_text answer) → IsShort before after (answers ++ answer ∷ [])
   short_more part = record { before = answers; last = answer; parts = refl; got = subst (λ m. IsPartOf m after (answer_text answer)) whole part }
 
-  whole_more : after ≡ mid ++ answer_text answer → after ≡ before ++ text_of (answers ++ answer ∷ [])
+  pub whole_more : after ≡ mid ++ answer_text answer → after ≡ before ++ text_of (answers ++ answer ∷ [])
   whole_more said =
       said ∙ ap (λ l. l ++ answer_text answer) whole ∙ append_assoc before (text_of answers) (answer_text answer)
       ∙ ap (λ l. before ++ l) (sym (flat_map-append answer_text answers (answer ∷ []) ∙ ap (λ l. text_of answers ++ l) (append-nil (answer_text answer))))
 
--- these commands were answered, and the sink has the lines and the answers whole
-pub record SoFar (tells : Type 0) (before after : List ℕ) (lines : List Answer) (commands : List Command) (old : Scene) (marks : List ℕ) (mid : Scene) : Type 0 where
+-- these commands were answered, and the sink has the answers whole
+pub record SoFar (tells : Type 0) (before after : List ℕ) (commands : List Command) (old : Scene) (marks : List ℕ) (mid : Scene) : Type 0 where
   pub answers : List Answer
   pub transcript : Transcript commands old marks answers mid
-  pub said : tells → after ≡ before ++ text_of (lines ++ answers)
+  pub said : tells → after ≡ before ++ text_of answers
 
-module _ {tells : Type 0} {got0 got1 : List ℕ} {line : Answer} (old : Scene) {marks : List ℕ} (none : marks ≡ []) where
-  -- the line of the opening wasn't said whole
-  pub not_begun : (commands : List Command) → (tells → IsPartOf got0 got1 (answer_text line)) → IsAnswering tells got0 got1 (line ∷ []) (Err early_is.WriteFault) commands old marks old
-  not_begun commands part = record {
-    answered = [];
-    rest = commands;
-    parts = refl;
-    mid = old;
-    answers = [];
-    transcript = (none, refl, refl);
-    said = λ told. short_more got0 got0 got1 [] line (sym (append-nil got0)) (part told);
-    remains = refl;
-  }
-
-  -- it was said
-  pub begun_said : (tells → got1 ≡ got0 ++ answer_text line) → SoFar tells got0 got1 (line ∷ []) [] old marks old
-  begun_said said = record { answers = []; transcript = (none, refl, refl); said = λ told. whole_more got0 got0 got1 [] line (sym (append-nil got0)) (said told) }
+-- none was answered yet
+pub none_answered : {tells : Type 0} {got : List ℕ} (old : Scene) {marks : List ℕ} → marks ≡ [] → SoFar tells got got [] old marks old
+none_answered {got} old none = record { answers = []; transcript = (none, refl, refl); said = λ told. sym (append-nil got) }
 
 -- all were answered
-pub all_answered : {tells : Type 0} {got0 got1 : List ℕ} {lines : List Answer} {commands done : List Command} {old mid : Scene} {before : List ℕ} → SoFar tells got0 got1 lines done old before mid
-    → (rest : List Command) → commands ≡ done ++ rest → rest ≡ [] → IsAnswering tells got0 got1 lines (Ok tt) commands old before mid
+pub all_answered : {tells : Type 0} {got0 got1 : List ℕ} {commands done : List Command} {old mid : Scene} {before : List ℕ} → SoFar tells got0 got1 done old before mid
+    → (rest : List Command) → commands ≡ done ++ rest → rest ≡ [] → IsAnsweringOn tells got0 got1 (Ok tt) commands old before mid
 all_answered {done} {mid} so_far rest parts none = record {
   answered = done;
   rest = rest;
@@ -99,14 +85,14 @@ all_answered {done} {mid} so_far rest parts none = record {
   answers = so_far.answers;
   transcript = so_far.transcript;
   said = so_far.said;
-  remains = (none, refl);
+  ends = (none, refl);
 }
 
 -- So many commands were answered, and there is a next one.
-module _ {tells : Type 0} {got0 got1 : List ℕ} {lines : List Answer} {commands done : List Command} (rest : List Command) {old mid : Scene} {before : List ℕ} (so_far : SoFar tells got0 got1 lines done old before mid)
+module _ {tells : Type 0} {got0 got1 : List ℕ} {commands done : List Command} (rest : List Command) {old mid : Scene} {before : List ℕ} (so_far : SoFar tells got0 got1 done old before mid)
     (parts : commands ≡ done ++ rest) {command : Command} {more : List Command} (next : rest ≡ command ∷ more) where
   -- memory ran out in it
-  pub stopped_within : (new : Scene) → IsUnanswered command mid new → IsAnswering tells got0 got1 lines (Err early_is.Memory) commands old before new
+  pub stopped_within : (new : Scene) → IsUnanswered command mid new → IsAnsweringOn tells got0 got1 (Err early_is.Memory) commands old before new
   stopped_within new left = record {
     answered = done;
     rest = rest;
@@ -115,7 +101,7 @@ module _ {tells : Type 0} {got0 got1 : List ℕ} {lines : List Answer} {commands
     answers = so_far.answers;
     transcript = so_far.transcript;
     said = so_far.said;
-    remains = subst (λ l. RunsOut l mid new) (sym next) left;
+    ends = subst (λ l. RunsOut l mid new) (sym next) left;
   }
 
   -- it was answered
@@ -126,15 +112,15 @@ module _ {tells : Type 0} {got0 got1 : List ℕ} {lines : List Answer} {commands
         (transcript_more done command answer old mid new before so_far.answers so_far.transcript fits once)
 
     -- and the sink has its text
-    pub said_more : {got2 : List ℕ} → (tells → got2 ≡ got1 ++ answer_text answer) → SoFar tells got0 got2 lines (done ++ command ∷ []) old marks new
+    pub said_more : {got2 : List ℕ} → (tells → got2 ≡ got1 ++ answer_text answer) → SoFar tells got0 got2 (done ++ command ∷ []) old marks new
     said_more {got2} said = record {
       answers = so_far.answers ++ answer ∷ [];
       transcript = transcript;
-      said = λ told. whole_more got0 got1 got2 (lines ++ so_far.answers) answer (so_far.said told) (said told) ∙ ap (λ l. got0 ++ text_of l) (append_assoc lines so_far.answers (answer ∷ []));
+      said = λ told. whole_more got0 got1 got2 so_far.answers answer (so_far.said told) (said told);
     }
 
     -- and the sink has a part of it
-    pub said_less : {got2 : List ℕ} → (tells → IsPartOf got1 got2 (answer_text answer)) → IsAnswering tells got0 got2 lines (Err early_is.WriteFault) commands old marks new
+    pub said_less : {got2 : List ℕ} → (tells → IsPartOf got1 got2 (answer_text answer)) → IsAnsweringOn tells got0 got2 (Err early_is.WriteFault) commands old marks new
     said_less {got2} part = record {
       answered = done ++ command ∷ [];
       rest = more;
@@ -142,6 +128,11 @@ module _ {tells : Type 0} {got0 got1 : List ℕ} {lines : List Answer} {commands
       mid = new;
       answers = so_far.answers ++ answer ∷ [];
       transcript = transcript;
-      said = λ told. subst (IsShort got0 got2) (append_assoc lines so_far.answers (answer ∷ [])) (short_more got0 got1 got2 (lines ++ so_far.answers) answer (so_far.said told) (part told));
-      remains = refl;
+      said = λ told. short_more got0 got1 got2 so_far.answers answer (so_far.said told) (part told);
+      ends = refl;
     }
+
+-- a list that is over
+pub none_left : (items : List Command) → length items ≡ 0 → items ≡ []
+none_left [] over = refl
+none_left (item ∷ items) over = absurd (omega arith)

@@ -39,6 +39,7 @@ halted_status (Some (halt_is.JournalFull bytes)) = JournalFull bytes
 
 -- the status of a run that ended early
 abbrev pub early_status : EarlyEnd → RunStatus
+early_status (early_is.Halted why) = halted_status (Some why)
 early_status early_is.WriteFault = WriteFault
 early_status early_is.Memory = Memory
 

@@ -5,6 +5,7 @@ pub mod Transcript
 pub mod Status
 pub mod Ending
 pub mod Got
+pub mod Opening
 pub mod Answering
 pub mod Faith
 pub mod Ports

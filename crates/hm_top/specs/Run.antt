@@ -10,12 +10,13 @@ use Rattle.hm_journal.specs.Stored.{IsOnDisk}
 use Rattle.hm_script.specs.declared.command.Command.{Command}
 use Rattle.hm_script.specs.declared.bad.Bad.{Bad}
 use Rattle.hm_script.specs.declared.bad.Why.TheVariants as why_is
+use Rattle.hm_names.specs.Server.{Server}
 use Rattle.hm_world.specs.Scene.{Scene}
 use Rattle.hm_commands.specs.Hands.{HandsUse, RunBy, sheets_used}
 use Rattle.hm_commands.specs.declared.answer.Answer.{Answer}
 use Rattle.hm_top.specs.declared.status.RunStatus.{RunStatus}
 use Rattle.hm_top.specs.declared.status.RunStatus.TheVariants.{Done, Usage, BadScript, ReadFault, JournalFull, Memory}
-use Rattle.hm_top.specs.Answering.{RunsOut}
+use Rattle.hm_top.specs.Answering.{Remains}
 use Rattle.hm_top.specs.Got.{Got, GotAnswers}
 use Rattle.hm_top.specs.Left.{AcceptsJournal}
 use Rattle.hm_top.specs.Ports.{DiskUse, SinkUse, SourceUse, disk_use, sink_use, source_use}
@@ -88,13 +89,13 @@ module _ (run : Run) where
       → IsOnDisk (sheets_used hands) disk.before journal → ¬ script.failed → ¬ out.failed → ¬ disk.failed
       → (status ≡ Done) ⊎ (((bytes : ℕ) × (status ≡ JournalFull bytes)) ⊎ (status ≡ Memory))
 
-  -- where memory ran out for these commands: in opening what may be a log; over a journal, for its executor or their marks; or for the
-  -- next of them
+  -- where memory ran out for these commands: in opening what may be a log; over a journal, for its executor or their marks, or for a
+  -- server that is live; or for the next of them
   abbrev pub RanOutOver : List Command → Type 0
   RanOutOver commands =
       (disk.tells → (place : ℕ) → IsNotALog disk.before place → ⊥)
       ⊎ (((old : List Entry) × (disk.tells → IsOnDisk (sheets_used hands) disk.before old))
-      ⊎ ((answered : List Command) × (rest : List Command) × (commands ≡ answered ++ rest) × (at new : Scene) × RunsOut rest at new))
+      ⊎ ((left : List Server) × (answered : List Command) × (rest : List Command) × (commands ≡ answered ++ rest) × (at new : Scene) × Remains Memory left answered rest at new))
 
   -- what each run keeps to; the registries have the sheets that they had, and no count of runs fell
   pub record KeepsTo (status : RunStatus) : Type 0 where

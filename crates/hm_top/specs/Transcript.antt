@@ -2,9 +2,6 @@
 use Rattle.std.specs.Prelude.{◌≡◌, ℕ, List, [], ◌∷◌, ◌++◌, length, All}
 use Rattle.std.specs.List.{flat_map}
 use Rattle.hm_data.specs.declared.entry.Entry.{Entry}
-use Rattle.hm_data.specs.declared.sheet.Sheet.{Sheet}
-use Rattle.hm_journal.specs.Stored.{opened}
-use Rattle.hm_journal.specs.declared.limits.Limits.{Limits}
 use Rattle.hm_script.specs.declared.command.Command.{Command}
 use Rattle.hm_world.specs.Scene.{Scene, past_in}
 use Rattle.hm_world_model.specs.Twice.{Twice}
@@ -12,16 +9,10 @@ use Rattle.hm_commands.specs.Answer.{answer_text}
 use Rattle.hm_commands.specs.Commands.{Answers, MayAdd}
 use Rattle.hm_commands.specs.Scenes.{journal_at}
 use Rattle.hm_commands.specs.declared.answer.Answer.{Answer}
-use Rattle.hm_commands.specs.declared.answer.Answer.TheVariants.{Opened}
-use Rattle.hm_top.specs.Standing.{begun}
 
 -- the text of answers, one after another
 abbrev pub text_of : List Answer → List ℕ
 text_of answers = flat_map answer_text answers
-
--- the lines of an opening of a log with this journal, and where they leave the run
-abbrev pub Opens : Limits → List Sheet → List Entry → List Answer → Scene → Type 0
-Opens limits sheets old lines new = (lines ≡ Opened (length (opened sheets old)) ∷ []) × (new ≡ begun limits sheets old)
 
 -- one command answered, what was recorded for it, and the length of the journal then as its mark; and no row is served twice
 pub record Exchange (command : Command) (old mid : Scene) (marks later : List ℕ) (answers rest : List Answer) : Type 0 where

@@ -14,6 +14,7 @@ ghost use Rattle.hm_top.specs.Session.{Outcome};
 
 use crate::answering::answer_all;
 use crate::last_line::finish;
+use crate::opening::begin;
 use crate::status::{EarlyEnd, LogWhy, RunStatus};
 use crate::store::Store;
 use crate::words::misfit;
@@ -114,12 +115,13 @@ fn status_of_end(end: EarlyEnd) -> RunStatus
     ensures { result ≡ early_status end }
 {
     match end {
+        EarlyEnd::Halted(why) => status_of_halt(Some(why)),
         EarlyEnd::WriteFault => RunStatus::WriteFault,
         EarlyEnd::Memory => RunStatus::Memory,
     }
 }
 
-// Opens the log and answers the commands.
+// Opens the log, begins a run over it, and answers the commands.
 fn converse<D: Disk, K: Sink>(
     alloc: Global,
     commands: Vec<Command>,
@@ -159,7 +161,11 @@ fn converse<D: Disk, K: Sink>(
     let Ok(()) = marks.reserve(commands.len()) else {
         return (RunStatus::Memory, cluster.into_disk());
     };
-    match answer_all(alloc, cluster, hands, commands, out, marks) {
+    let begun = match begin(alloc, cluster, out) {
+        Ok(begun) => begun,
+        Err((disk, end)) => return (status_of_end(end), disk),
+    };
+    match answer_all(alloc, begun, hands, commands, out, marks) {
         Ok(cluster) => {
             let halted = cluster.halted();
             (status_of_halt(halted), cluster.into_disk())

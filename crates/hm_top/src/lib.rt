@@ -5,6 +5,7 @@ mod answering;
 mod ending;
 mod last_line;
 mod laws;
+mod opening;
 mod piece;
 mod status;
 mod store;

@@ -5,10 +5,11 @@ ghost use Rattle.std.specs.List.{flat_map};
 ghost use Rattle.hm_ports.specs.Faults.{HasCause};
 ghost use Rattle.hm_top.specs.Got.{IsPartOf};
 ghost use Rattle.hm_names.specs.Servers.{server_text};
+ghost use Rattle.hm_commands.specs.Answer.{answer_text};
 ghost use Rattle.hm_commands.specs.Pieces.{piece_text};
 
 use Piece::{Bytes, Number, Server, Text};
-use hm_commands::Piece;
+use hm_commands::{Answer, Piece};
 use hm_names::ServerName;
 use hm_ports::{Failed, Sink, write_all};
 use itoa::Buffer;
@@ -105,4 +106,17 @@ pub(crate) fn joined(alloc: Global, pieces: &[Piece<'_>]) -> Result<Vec<u8>, All
         append(&mut text, piece)?;
     }
     Ok(text)
+}
+
+/// Writes an answer's lines: at once, or piece by piece where there is no memory for their text.
+pub(crate) fn say<K: Sink>(alloc: Global, out: &mut K, answer: &Answer) -> Result<(), Failed>
+    ensures all { K.tells → OnOk result (K.got out.new ≡ K.got out.old ++ answer_text answer.now) }
+    ensures part { K.tells → OnErr result (IsPartOf (K.got out.old) (K.got out.new) (answer_text answer.now)) }
+    ensures cause { HasCause (K.faults out.old) (K.faults out.new) result }
+{
+    let pieces = answer.pieces();
+    match joined(alloc, &pieces) {
+        Ok(text) => write_all(out, text.as_slice()),
+        Err(_) => put_all(out, &pieces),
+    }
 }

@@ -1,6 +1,7 @@
 //! How a run ends, and the last line that says so.
 ghost use Rattle.std.specs.Prelude.{◌≡◌, Some};
 
+use hm_hall::Halt;
 use hm_script::Bad;
 use std::fmt;
 use thiserror::Error;
@@ -42,6 +43,8 @@ impl fmt::Display for LogWhy {
 /// Why a conversation ends early.
 #[derive(Clone, Copy, Debug, PartialEq, Eq)]
 pub enum EarlyEnd {
+    /// The journal was halted in the opening.
+    Halted(Halt),
     /// The sink failed.
     WriteFault,
     /// Memory ran out.

@@ -1,10 +1,9 @@
 use Rattle.std.proofs.Common.{◌≡◌, ◌≤◌, ◌+◌, ◌∷◌, ◌++◌, [], length, map, vec_len}
 use Rattle.std.specs.List.{flat_map}
 use Rattle.std.specs.Vec.{vec_capacity}
-use Rattle.std.specs.Vec.Iter.{into_iter_items}
+use Rattle.std.specs.Vec.Iter.{into_iter_items, into_iter_len}
 use Rattle.hm_model.specs.Journal.{back}
 use Rattle.hm_model.specs.Sheets.{sheets_of}
-use Rattle.hm_commands.specs.declared.answer.Answer.TheVariants.{Opened}
 use Rattle.hm_commands.specs.Hands.{Ran}
 use Rattle.hm_commands.specs.Scenes.{journal_at}
 use Rattle.hm_commands.specs.View.{scene_in}
@@ -13,8 +12,9 @@ use Rattle.hm_top.proofs.answering.answer_all.Given as goal
 
 abbrev pub invariant-loop-command : goal.invariant-loop-command
 invariant-loop-command g l = record {
-  answered : SoFar g.K.Sink.tells (g.K.Sink.got l.fn.out) (g.K.Sink.got l.out) (Opened (length (journal_at (scene_in l.fn.cluster))) ∷ []) l.yielded (scene_in l.fn.cluster) l.marks.items (scene_in l.cluster);
+  answered : SoFar g.K.Sink.tells (g.K.Sink.got l.fn.out) (g.K.Sink.got l.out) l.yielded (scene_in l.fn.cluster) l.marks.items (scene_in l.cluster);
   parts : l.fn.commands.items ≡ l.yielded ++ into_iter_items l.command-iterator;
+  counted : into_iter_len l.command-iterator ≡ length (into_iter_items l.command-iterator);
   room : vec_len l.marks + length (into_iter_items l.command-iterator) ≤ vec_capacity l.marks;
   begun : sheets_of (back (journal_at (scene_in l.cluster))) ≡ sheets_of (back (journal_at (scene_in l.fn.cluster)));
   opened : l.cluster.recorder.opened ≡ l.fn.cluster.recorder.opened;

@@ -1,10 +1,10 @@
-use Rattle.std.proofs.Common.{refl, subst, sym}
+use Rattle.std.proofs.Common.{refl}
 use Rattle.hm_top.specs.Ports.{disk_use, sink_use, source_use}
 use Rattle.hm_top.specs.Run.{Run}
 use Rattle.hm_top.proofs.Complete.{ran_out}
 use Rattle.hm_commands.specs.Hands.{sheets_used}
 use Rattle.hm_top.specs.Standing.{begun}
-use Rattle.hm_top.proofs.Full.{IsFull, answered_full, going_full}
+use Rattle.hm_top.proofs.Full.{downs_full, going_full, remains_full}
 use Rattle.hm_top.proofs.laws.each_status_has_a_cause.Goals as goal
 
 pub returns-clause-usage : goal.returns-clause-usage
@@ -29,9 +29,9 @@ pub returns-clause-journal_full : goal.returns-clause-journal_full
 returns-clause-journal_full g c bytes words limits s0 s1 k0 k1 d0 d1 hands marks keeps =
     let opened = keeps.ends.1.0 in
     let its = opened.answering in
-    let start = subst (IsFull limits.hard) (sym its.opens.1) (going_full limits.hard (begun limits (sheets_used hands) opened.old) refl refl) in
-    let mid = answered_full limits.hard its.answered its.start marks its.answers its.mid start its.transcript in
-    (subst (IsFull limits.hard) (sym its.remains.1) mid).1 bytes keeps.ends.1.1
+    let first = begun limits (sheets_used hands) opened.old in
+    let start = downs_full limits.hard its.passed first its.lines its.start refl (going_full limits.hard first refl refl) its.downs in
+    (remains_full limits.hard bytes its.left its.answered its.rest its.start marks its.answers its.mid opened.new start.1 start.0 its.transcript its.remains).1 bytes keeps.ends.1.1
 
 pub returns-clause-memory : goal.returns-clause-memory
 returns-clause-memory g c words limits s0 s1 k0 k1 d0 d1 hands marks keeps =

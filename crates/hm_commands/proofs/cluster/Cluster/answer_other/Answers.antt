@@ -35,3 +35,18 @@ returns-in-Locks-clause-ran g c = ran_idle _ (journal_at (scene_in c.args.self.n
 
 pub returns-in-Servers-clause-ran : goal.returns-in-Servers-clause-ran
 returns-in-Servers-clause-ran g c = ran_idle _ (journal_at (scene_in c.args.self.now)) (journal_at (scene_in c.args.self.now)) refl (run_none _ _)
+
+pub returns-in-Server-clause-ran : goal.returns-in-Server-clause-ran
+returns-in-Server-clause-ran g c =
+    other_ran _ (command_is.Server c.in-Server.server) tt (scene_in c.args.self.now) (result_ok c.start.result) (scene_in c.start.new.self) c.start.ensures.comes (run_none _ _)
+
+pub returns-in-Die-clause-ran : goal.returns-in-Die-clause-ran
+returns-in-Die-clause-ran g c = other_ran _ (command_is.Die c.in-Die.server) tt (scene_in c.args.self.now) (Some c.die.result) (scene_in c.die.new.self) c.die.ensures.comes (run_none _ _)
+
+pub returns-in-Expire-clause-ran : goal.returns-in-Expire-clause-ran
+returns-in-Expire-clause-ran g c =
+    other_ran _ (command_is.Expire c.in-Expire.server) tt (scene_in c.args.self.now) (result_ok c.expire.result) (scene_in c.expire.new.self) c.expire.ensures.comes (run_none _ _)
+
+pub returns-in-Refuse-clause-ran : goal.returns-in-Refuse-clause-ran
+returns-in-Refuse-clause-ran g c =
+    other_ran _ (command_is.Refuse c.in-Refuse.server c.in-Refuse.count) tt (scene_in c.args.self.now) (Some c.arm.result) (scene_in c.arm.new.self) c.arm.ensures.comes (run_none _ _)
