@@ -39,7 +39,7 @@ some_one test (first ∷ more) any = by (test first) refl any (some_one test mor
     by false e on rest = rest on
 
 -- an address, by its parts
-address_is : (a b : Server) → same_address a b ≡ true → (a.host ≡ b.host) × (a.port ≡ b.port)
+pub address_is : (a b : Server) → same_address a b ≡ true → (a.host ≡ b.host) × (a.port ≡ b.port)
 address_is a b same =
     let parts = and_parts (bytes_eq a.host b.host) (a.port == b.port) same in
     (bytes_eq-is a.host b.host parts.0, grind (arith, nat_tests, parts.1))

@@ -4,6 +4,7 @@ use Rattle.hm_names.specs.Server.{Server}
 use Rattle.hm_names.specs.declared.pid.Pid.{Pid}
 use Rattle.hm_data.specs.declared.entry.Entry.{Entry}
 use Rattle.hm_data.specs.declared.entry.Entry.TheVariants as entry_is
+use Rattle.hm_hall.specs.Recording.{Accepts}
 use Rattle.hm_hall.specs.declared.fault.HallFault.{HallFault}
 use Rattle.hm_hall.specs.declared.fault.HallFault.TheVariants as fault_is
 use Rattle.hm_model.specs.Fleet.{came_up, has_older_live, is_live, same_address}
@@ -56,6 +57,14 @@ FaultsFirst old server fault new =
     ((has_older_live (past_of old) server ≡ false) × FaultsCopying old (entry_is.Up server) fault new)
     ⊎ ((older : Server) × IsOlder (past_of old) server older × FaultsCopying old (entry_is.Down older) fault new)
 
+-- memory runs out only where what is recorded first would be: the entry of an older server that goes down is as long as this one
+abbrev pub RunsOutLast : Moment → Server → HallFault → Type 0
+RunsOutLast old server fault = fault ≡ fault_is.Memory → Accepts old.kept (entry_is.Up server)
+
+-- the entry brings a server up
+abbrev pub BringsUp : Entry → Type 0
+BringsUp entry = (server : Server) × (entry ≡ entry_is.Up server)
+
 -- what `server_up` answers, and what is left: the one exception is that a Down may stand without its Up, where the Up met a fault
 abbrev pub AnswersUp : Moment → Server → Result (Option (Server × Pid)) UpWhy → Moment → Type 0
 AnswersUp old server (Ok None) new =
@@ -67,6 +76,7 @@ AnswersUp old server (Err (up_why.Fault (fault_is.Halted why))) new = IsHalted o
 AnswersUp old server (Err (up_why.Fault fault)) new =
     CanUp (past_of old) server × (FaultsFirst old server fault new
     ⊎ ((older : Server) × (pid : Pid) × (between : Moment) × PutsDown old server older pid between × FaultsAt between (entry_is.Up server) fault new))
+    × RunsOutLast old server fault
 
 -- why a server can't go down: it never came up, or isn't live
 abbrev pub CannotDown : Past → Server → DownRefused → Type 0

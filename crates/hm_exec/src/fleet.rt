@@ -2,16 +2,17 @@
 ghost use Rattle.std.specs.Prelude.{◌≡◌, ◌≢◌, ◌≤◌, ◌+◌, [], IfErr, IfOk, IfNone, IfSome, OnOk, IsErrOf, true, false};
 ghost use Rattle.hm_ports.specs.Faults.{Rose};
 ghost use Rattle.hm_data.specs.declared.entry.Entry.TheVariants as entry_is;
-ghost use Rattle.hm_exec.specs.Fleet.{AnswersDown, AnswersUp, CanUp, CannotDown, CannotUp, IsOlder, FaultsCopying, FaultsFirst, PutsDown};
+ghost use Rattle.hm_exec.specs.Fleet.{AnswersDown, AnswersUp, BringsUp, CanUp, CannotDown, CannotUp, IsOlder, FaultsCopying, FaultsFirst, PutsDown};
 ghost use Rattle.hm_exec.specs.Moment.{FaultsAt, IsAdded, IsGoing, past_of};
 ghost use Rattle.hm_exec.specs.View.{moment_of};
+ghost use Rattle.hm_hall.specs.Recording.{Accepts};
 ghost use Rattle.hm_model.specs.Fleet.{has_older_live as older_lives, is_live as lives};
 ghost use Rattle.hm_model.specs.Journal.{back};
 ghost use Rattle.hm_model.specs.Rules.{Allowed, IsLegal};
 ghost use Rattle.hm_model.specs.Tree.{made};
 ghost use Rattle.hm_places.specs.Laws.{StandingsTell};
 
-use crate::adding::add;
+use crate::adding::{add, refuse};
 use crate::answers::{DownWhy, UpWhy};
 use crate::exec::Exec;
 use crate::making::add_made;
@@ -62,6 +63,17 @@ fn may_go_down(state: &State, server: &ServerName) -> Result<(), DownRefused>
 {
     fleet_is_told(state);
     state.servers().may_go_down(server)
+}
+
+// The server that an entry brings up.
+fn newcomer(up: Entry) -> ServerName
+    requires { BringsUp up }
+    ensures { up ≡ entry_is.Up result }
+{
+    match up {
+        Entry::Up { server } => server,
+        _ => unreachable!(),
+    }
 }
 
 impl<R: Recorder> Exec<R> {
@@ -148,7 +160,30 @@ impl<R: Recorder> Exec<R> {
         Ok(())
     }
 
-    // The same of a server that may come up.
+    // The same of a server that may come up, where the recorder would record what comes first.
+    fn come_up(
+        &mut self,
+        alloc: Global,
+        server: ServerName,
+    ) -> Result<Option<(ServerName, Pid)>, HallFault>
+        requires going { IsGoing (moment_of R.kept self.old) }
+        requires can { CanUp (past_of (moment_of R.kept self.old)) server }
+        requires accepted { Accepts (R.kept self.old.recorder) (entry_is.Up server) }
+        ensures up { IfOk result (λ down. AnswersUp (moment_of R.kept self.old) server (Ok down) (moment_of R.kept self.new)) }
+        ensures refused { IfErr result (λ fault. AnswersUp (moment_of R.kept self.old) server (Err (UpWhy.Fault fault)) (moment_of R.kept self.new)) }
+        ensures fault { IsErrOf result HallFault.LogFault → Rose (R.faults self.old.recorder) (R.faults self.new.recorder) }
+        ensures later { R.faults self.old.recorder ≤ R.faults self.new.recorder }
+        ensures opened { R.opened self.new.recorder ≡ R.opened self.old.recorder }
+    {
+        fleet_is_told(&self.state);
+        self.number(alloc, &server)?;
+        let down = self.put_older_down(alloc, &server)?;
+        self.bring_up(alloc, server)?;
+        Ok(down)
+    }
+
+    // The same of a server that may come up. What the recorder would refuse needs no memory: the entry of an older server that goes
+    // down first is as long.
     fn change(
         &mut self,
         alloc: Global,
@@ -162,11 +197,15 @@ impl<R: Recorder> Exec<R> {
         ensures later { R.faults self.old.recorder ≤ R.faults self.new.recorder }
         ensures opened { R.opened self.new.recorder ≡ R.opened self.old.recorder }
     {
+        server_fits(&server);
+        entries_fit_frames();
         fleet_is_told(&self.state);
-        self.number(alloc, &server)?;
-        let down = self.put_older_down(alloc, &server)?;
-        self.bring_up(alloc, server)?;
-        Ok(down)
+        let up = Entry::Up { server };
+        if self.recorder.will_refuse(&up) {
+            refuse(&mut self.recorder, alloc, up)?;
+            return Ok(None);
+        }
+        self.come_up(alloc, newcomer(up))
     }
 
     /// Brings a server up. An older one of its address that is live goes down first; it is told with the number of the root that does

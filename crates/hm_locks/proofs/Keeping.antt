@@ -1,9 +1,9 @@
 -- A lock book stays kept when an entry takes, gives back, leaves or comes.
-use Rattle.std.proofs.Common.{◌≡◌, ◌≢◌, ℕ, ◌+◌, ◌-◌, ◌<◌, ◌≤◌, ◌^◌, true, false, List, [], ◌∷◌, ◌++◌, length, set, cond, Option, Some, None, slice_get, refl, sym, ap, ◌∙◌, subst, inl, inr, ◌⊎◌, arith, length-append}
+use Rattle.std.proofs.Common.{◌≡◌, ◌≢◌, ℕ, ◌+◌, ◌-◌, ◌<◌, ◌≤◌, ◌^◌, true, false, List, [], ◌∷◌, ◌++◌, length, set, cond, Option, Some, None, Result, slice_get, refl, sym, ap, ◌∙◌, subst, inl, inr, ◌⊎◌, arith, length-append}
 use Rattle.std.proofs.lemmas.Bool.{cases_eq, cases_lt, false≢true}
 use Rattle.std.proofs.lemmas.Option.{same_Some, none-some}
 use Rattle.std.specs.Ordering.{is_eq, nat_cmp}
-use Rattle.std.specs.Prelude.{◌↔◌}
+use Rattle.std.specs.Prelude.{◌↔◌, OnErr, OnOk, replicate}
 use Rattle.hm_index.specs.Index.{find}
 use Rattle.hm_lists.specs.Chains.{IsIn, list_at}
 use Rattle.hm_model.specs.declared.lock.Ask.{Ask}
@@ -15,6 +15,7 @@ use Rattle.hm_locks.specs.Book.{row_of}
 use Rattle.hm_locks.specs.Entries.{with_holds}
 use Rattle.hm_locks.specs.Kept.{desk_of, entry_at, lane, rows_in, HaveNodes, HoldsNode, IsAmong, IsKept, IsWanted, Sits, SitsBy, WantsList}
 use Rattle.hm_locks.proofs.Found.{found_nothing, which, found_set, which_push, found_push}
+use Rattle.hm_locks.proofs.Room.{wider}
 use Rattle.hm_locks.proofs.Places.{entry_within, get_left, get_right, get_within, got}
 
 -- the want that sits
@@ -222,6 +223,14 @@ module _ (places : List (ℕ × ℕ)) (es : List (Option Entry)) (wants : List W
     listed = λ l n here. kept.listed l n (subst (IsIn n) (same l) here);
     sits = λ l n sits. subst (IsIn n) (sym (same l)) (kept.sits l n sits);
   }
+
+  -- more lists behind the others, and more nodes
+  pub kept_wider : {T E : Type 0} (r : Result T E) (old new : List (List ℕ)) (n spare' : ℕ) → old ≡ lists → OnOk r (new ≡ old ++ replicate n []) → OnErr r (new ≡ old) → spare ≤ spare' → IsKept places es wants numbers new spare'
+  kept_wider r old new n spare' is ok err wide =
+      let more = wider r old new n ok err in
+      let long = ap length is in
+      let longer = more.1 in
+      kept_room numbers new spare' (λ a d e. e) (λ l. more.0 l ∙ ap (λ ls. list_at ls l) is) (omega (arith, long, longer)) wide
 
   -- an entry more, with its wants
   pub kept_push : (places' : List (ℕ × ℕ)) (e : Entry) (more : List Want) → row_of (rows_in es) e.pid ≡ None

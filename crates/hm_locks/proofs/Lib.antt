@@ -2,6 +2,7 @@ pub mod Adding
 pub mod Blocking
 pub mod Clashes
 pub mod Found
+pub mod Holders
 pub mod Keeping
 pub mod Keys
 pub mod Lowest

@@ -1,5 +1,5 @@
 -- Who is enlisted in a lock book, and who holds what another asks for.
-use Rattle.std.specs.Prelude.{◌≡◌, ◌≢◌, ℕ, ◌≤◌, List, [], ◌∷◌, Option, Some, None, Bool, true, false, ◌==◌, if◌then◌else◌, IsSome}
+use Rattle.std.specs.Prelude.{◌≡◌, ◌≢◌, ◌↔◌, ℕ, ◌≤◌, List, [], ◌∷◌, AllPairs, Contains, Option, Some, None, Bool, true, false, ◌==◌, if◌then◌else◌, IsSome}
 use Rattle.hm_names.specs.declared.pid.Pid.{Pid}
 use Rattle.hm_model.specs.declared.lock.Ask.{Ask}
 use Rattle.hm_model.specs.Locks.{IsIn, Clash}
@@ -91,6 +91,11 @@ IsFirst rows p h = IsBlockedBy rows p h × ((q : ℕ) → IsBlockedBy rows p q �
 -- no two that hold clash
 abbrev pub NoneClash : List Row → Type 0
 NoneClash rows = (p q : ℕ) → is_holding (row_of rows p) ≡ true → IsBlockedBy rows p q → ⊥
+
+-- the procedures that hold, each once
+pub record AreHolders (rows : List Row) (pids : List Pid) : Type 0 where
+  pub once : AllPairs (λ p q. p ≢ q) pids
+  pub hold : (p : Pid) → Contains pids p ↔ (is_holding (row_of rows p.0) ≡ true)
 
 -- the rows with those of one procedure changed
 abbrev pub AreChanged : List Row → ℕ → Option Row → List Row → Type 0

@@ -1,6 +1,6 @@
 -- How a lock book is kept: a place for each procedure that was enlisted, a node for each of its asks, and for each
 -- resource a list of the nodes that hold it shared and one of those that hold it exclusively.
-use Rattle.std.specs.Prelude.{◌≡◌, ℕ, ◌+◌, ◌<◌, ◌≤◌, ◌^◌, List, [], ◌∷◌, ◌++◌, length, Option, Some, None, Bool, true, false, slice_get}
+use Rattle.std.specs.Prelude.{◌≡◌, ◌↔◌, ℕ, ◌+◌, ◌<◌, ◌≤◌, ◌^◌, List, [], ◌∷◌, ◌++◌, length, Option, Some, None, Bool, true, false, slice_get}
 use Rattle.std.specs.Option.{option_map, option_and_then, option_flatten}
 use Rattle.std.specs.Ordering.{nat_cmp}
 use Rattle.std.specs.declared.cmp.Ordering.{Ordering}
@@ -143,6 +143,18 @@ pub record IsKept (places : List (ℕ × ℕ)) (entries : List (Option Entry)) (
   pub small : length wants < 2 ^ 32
   pub listed : (l n : ℕ) → IsIn n (list_at lists l) → Sits entries wants l n
   pub sits : (l n : ℕ) → Sits entries wants l n → IsIn n (list_at lists l)
+
+-- whether an entry is there and holds
+abbrev pub holds_in : Option Entry → Bool
+holds_in None = false
+holds_in (Some entry) = entry.holds
+
+-- one list is that of the places of the entries that hold, and there is a node for each place
+pub record AreListed (entries : List (Option Entry)) (lists : List (List ℕ)) (spare : ℕ) : Type 0 where
+  pub one : 0 < length lists
+  pub nodes : length entries ≤ spare
+  pub small : length entries < 2 ^ 32
+  pub listed : (l i : ℕ) → IsIn i (list_at lists l) ↔ ((l ≡ 0) × (holds_in (entry_at entries i) ≡ true))
 
 -- how the entry at a place stands
 abbrev pub standing_at : ℕ → Entry → Standing

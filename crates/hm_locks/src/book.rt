@@ -1,6 +1,6 @@
 ghost use Rattle.std.specs.Prelude.{◌≡◌, ◌+◌, ◌≤◌, [], Some, None, true, false, is_some, length, IfOk, IfSome, OnOk, OnErr, MatchOption};
 ghost use Rattle.std.specs.Option.{option_map};
-ghost use Rattle.hm_locks.specs.Book.{AreChanged, IsEnlisted, IsFirst, IsFree, NoneClash, above_child, asks_in, drafted, holding, is_holding, new_row, row_of};
+ghost use Rattle.hm_locks.specs.Book.{AreChanged, AreHolders, IsEnlisted, IsFirst, IsFree, NoneClash, above_child, asks_in, drafted, holding, is_holding, new_row, row_of};
 
 use crate::draft::Draft;
 use crate::pages::Pages;
@@ -21,13 +21,13 @@ pub struct LockBook {
 
 impl Model for LockBook {
     ghost use Rattle.hm_locks.specs.Book.{Book, NoneClash};
-    ghost use Rattle.hm_locks.specs.Entries.{AreKept, HaveLists, room_of, rows_of, spare_of, wants_spare};
+    ghost use Rattle.hm_locks.specs.Entries.{AreKept, HaveLists, ListHolders, room_of, rows_of, spare_of, wants_spare};
 
     ghost Value = { Book };
 
     ghost view = { λ s. record { rows = rows_of s.pages; spare = spare_of s.pages; spare_asks = wants_spare s.pages; room = room_of s.pages } };
 
-    ghost invariant = { λ s. AreKept s.pages × HaveLists s.pages × NoneClash (rows_of s.pages) };
+    ghost invariant = { λ s. AreKept s.pages × HaveLists s.pages × ListHolders s.pages × NoneClash (rows_of s.pages) };
 }
 
 impl LockBook {
@@ -40,8 +40,8 @@ impl LockBook {
     }
 
     /// Enlists a procedure, which holds nothing yet, and makes all the room that it will need to take and to give back
-    /// what it asks for. There are at most 2^32 - 1 asks of all procedures that were ever enlisted, and 2^31 - 1 resources:
-    /// what is more than that answers as memory that is missing.
+    /// what it asks for. There are at most 2^32 - 1 procedures that were ever enlisted, as many asks of them all, and
+    /// 2^31 - 1 resources: what is more than that answers as memory that is missing.
     pub fn enlist(
         &mut self,
         alloc: Global,
@@ -150,5 +150,12 @@ impl LockBook {
         ensures none_clash { NoneClash self.now.rows }
     {
         self.pages.holds(pid.0)
+    }
+
+    /// The procedures that hold what they ask for, in no order of their own. It looks at no others.
+    pub fn holders(&self, alloc: Global) -> Result<Vec<Pid>, AllocError>
+        ensures { IfOk result (λ pids. AreHolders self.now.rows pids.items) }
+    {
+        self.pages.holders(alloc)
     }
 }

@@ -4,23 +4,24 @@ ghost use Rattle.std.specs.Option.{option_copied, option_map};
 ghost use Rattle.hm_locks.specs.declared.entry.Want.{Want as WantOf};
 ghost use Rattle.hm_locks.specs.declared.key.Key.{Key as KeyOf};
 ghost use Rattle.hm_index.specs.Index.{find};
-ghost use Rattle.hm_locks.specs.Book.{AreChanged, IsFirst, IsFree, above_child, asks_in, drafted, holding, is_holding, row_of};
+ghost use Rattle.hm_locks.specs.Book.{AreChanged, AreHolders, IsFirst, IsFree, above_child, asks_in, drafted, holding, is_holding, row_of};
 ghost use Rattle.hm_locks.specs.Kept.{AreAdded, IsClaimed, entry_of, lock_cmp};
 
 use crate::conflicts::Search;
 use crate::desks::Desks;
 use crate::draft::{Claim, Draft};
 use crate::entry::{Entry, Want, entry_at, set_holds, standing_of, with_front};
-use crate::seats::{seat, unseat};
+use crate::seats::{link, seat, unlink, unseat};
 use hm_index::Index;
 use hm_lists::{Lists, Steps};
 use hm_model::Ask;
 use hm_names::{List, Pid};
 use std::alloc::{AllocError, Global};
-use std::sync::ledger::Ledger;
+use std::marker::Brand;
+use std::sync::ledger::{Blank, Ledger};
 
-// The procedures that were enlisted, with a place for each that stays; their asks, each with the number of a node; and for
-// each resource two lists of the nodes that hold it, shared and exclusively.
+// The procedures that were enlisted, with a place for each that stays; their asks, each with the number of a node; for each
+// resource two lists of the nodes that hold it, shared and exclusively; and a list of the places of those that hold.
 #[derive(Drop)]
 pub(crate) struct Pages {
     pub(crate) places: Index<u64, usize>,
@@ -28,6 +29,18 @@ pub(crate) struct Pages {
     pub(crate) wants: Vec<Want>,
     pub(crate) desks: Desks,
     pub(crate) lists: Lists,
+    pub(crate) held: Lists,
+}
+
+// How many nodes there are with so many more.
+fn nodes_for(count: usize, more: usize) -> Result<u32, AllocError>
+    ensures { IfOk result (λ nodes. nodes ≡ count + more) }
+{
+    let nodes = count.checked_add(more).ok_or(AllocError)?;
+    if nodes > u32::MAX as usize {
+        return Err(AllocError);
+    }
+    Ok(nodes as u32)
 }
 
 // Adds the want of a claim of the entry at a place, in the room that was made for it.
@@ -69,11 +82,12 @@ fn add_wants(wants: &mut Vec<Want>, desks: &mut Desks, place: usize, claims: Vec
 }
 
 impl Pages {
-    ghost use Rattle.hm_locks.specs.Entries.{AreKept, HaveLists, IsSameBook, room_of, rows_of, spare_of, wants_spare};
+    ghost use Rattle.hm_locks.specs.Entries.{AreKept, HaveLists, IsSameBook, ListHolders, room_of, rows_of, spare_of, wants_spare};
 
     pub(crate) fn new(alloc: Global) -> Result<Pages, AllocError>
         ensures kept { IfOk result AreKept }
         ensures lists { IfOk result HaveLists }
+        ensures held { IfOk result ListHolders }
         ensures rows { IfOk result (λ pages. rows_of pages ≡ []) }
     {
         Ok(Pages {
@@ -82,6 +96,7 @@ impl Pages {
             wants: Vec::new(alloc),
             desks: Desks::new(alloc)?,
             lists: Lists::new(alloc, 0)?,
+            held: Lists::new(alloc, 1)?,
         })
     }
 
@@ -130,22 +145,23 @@ impl Pages {
     ) -> Result<(), AllocError>
         requires kept { AreKept self.old }
         requires lists { HaveLists self.old }
+        requires held { ListHolders self.old }
         ensures kept { AreKept self.new }
         ensures lists { HaveLists self.new }
+        ensures held { ListHolders self.new }
         ensures same { IsSameBook self.old self.new }
         ensures room { OnOk result ((rows ≤ spare_of self.new) × (count ≤ wants_spare self.new)) }
         ensures spare { (spare_of self.old ≤ spare_of self.new) × (wants_spare self.old ≤ wants_spare self.new) }
     {
-        let nodes = self.wants.len().checked_add(count).ok_or(AllocError)?;
-        if nodes > u32::MAX as usize {
-            return Err(AllocError);
-        }
+        let seats = nodes_for(self.entries.len(), rows)?;
+        let nodes = nodes_for(self.wants.len(), count)?;
         let limit = self.desks.limit_for(count)?;
         self.places.reserve(alloc, rows)?;
         self.entries.reserve(rows)?;
         self.wants.reserve(count)?;
-        self.lists.reserve_nodes(alloc, nodes as u32)?;
+        self.lists.reserve_nodes(alloc, nodes)?;
         self.lists.reserve_lists(alloc, limit + limit)?;
+        self.held.reserve_nodes(alloc, seats)?;
         self.desks.reserve(alloc, limit)
     }
 
@@ -153,11 +169,13 @@ impl Pages {
     pub(crate) fn enlist(&mut self, pid: u64, draft: Draft)
         requires kept { AreKept self.old }
         requires lists { HaveLists self.old }
+        requires held { ListHolders self.old }
         requires new { row_of (rows_of self.old) pid ≡ None }
         requires spare { 1 ≤ spare_of self.old }
         requires wants { length draft.asks ≤ wants_spare self.old }
         ensures kept { AreKept self.new }
         ensures lists { HaveLists self.new }
+        ensures held { ListHolders self.new }
         ensures rows { AreChanged (rows_of self.old) pid (Some (drafted pid draft)) (rows_of self.new) }
         ensures spare { spare_of self.old ≤ spare_of self.new + 1 }
         ensures wants { wants_spare self.old ≤ wants_spare self.new + length draft.asks }
@@ -182,9 +200,11 @@ impl Pages {
     // A procedure takes what it asks for.
     pub(crate) fn take(&mut self, pid: u64)
         requires kept { AreKept self.old }
+        requires held { ListHolders self.old }
         requires free { IsFree (rows_of self.old) pid }
         ensures kept { AreKept self.new }
         ensures lists { HaveLists self.old → HaveLists self.new }
+        ensures held { ListHolders self.new }
         ensures rows { AreChanged (rows_of self.old) pid (option_map (holding true) (row_of (rows_of self.old) pid)) (rows_of self.new) }
         ensures spare { (spare_of self.new ≡ spare_of self.old) × (wants_spare self.new ≡ wants_spare self.old) }
         ensures room { room_of self.new ≡ room_of self.old }
@@ -197,13 +217,16 @@ impl Pages {
         }
         seat(&mut self.lists, &self.wants, at.first, at.count);
         set_holds(&mut self.entries, at.place, true);
+        link::<Brand>(&mut self.held, 0, at.place as u32, Blank::new(1));
     }
 
     // A procedure gives back what it holds.
     pub(crate) fn give_up(&mut self, pid: u64)
-        requires { AreKept self.old }
+        requires kept { AreKept self.old }
+        requires held { ListHolders self.old }
         ensures kept { AreKept self.new }
         ensures lists { HaveLists self.old → HaveLists self.new }
+        ensures held { ListHolders self.new }
         ensures rows { AreChanged (rows_of self.old) pid (option_map (holding false) (row_of (rows_of self.old) pid)) (rows_of self.new) }
         ensures spare { (spare_of self.new ≡ spare_of self.old) × (wants_spare self.new ≡ wants_spare self.old) }
         ensures room { room_of self.new ≡ room_of self.old }
@@ -216,14 +239,17 @@ impl Pages {
         }
         unseat(&mut self.lists, at.first, at.count);
         set_holds(&mut self.entries, at.place, false);
+        unlink::<Brand>(&mut self.held, at.place as u32, Blank::new(1));
     }
 
     // A procedure that holds nothing is enlisted no longer.
     pub(crate) fn remove(&mut self, pid: u64)
         requires kept { AreKept self.old }
+        requires held { ListHolders self.old }
         requires free { is_holding (row_of (rows_of self.old) pid) ≡ false }
         ensures kept { AreKept self.new }
         ensures lists { HaveLists self.old → HaveLists self.new }
+        ensures held { ListHolders self.new }
         ensures rows { AreChanged (rows_of self.old) pid None (rows_of self.new) }
         ensures spare { (spare_of self.new ≡ spare_of self.old) × (wants_spare self.new ≡ wants_spare self.old) }
         ensures room { room_of self.new ≡ room_of self.old }
@@ -250,6 +276,22 @@ impl Pages {
             Some(entry) => entry.holds,
             None => false,
         }
+    }
+
+    // The procedures that hold what they ask for.
+    pub(crate) fn holders(&self, alloc: Global) -> Result<Vec<Pid>, AllocError>
+        requires kept { AreKept self.now }
+        requires held { ListHolders self.now }
+        ensures { IfOk result (λ pids. AreHolders (rows_of self.now) pids.items) }
+    {
+        let _list = self.held.list_of(0);
+        let mut pids = Vec::new(alloc);
+        for place in self.held.iter(0) {
+            if let Some(entry) = entry_at(&self.entries, place as usize) {
+                pids.push(Pid(entry.pid))?;
+            }
+        }
+        Ok(pids)
     }
 
     // The lowest procedure that holds what clashes with what this one asks for.

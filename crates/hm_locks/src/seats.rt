@@ -11,7 +11,7 @@ use std::marker::Brand;
 use std::sync::ledger::{Blank, Ledger};
 
 // Puts a node behind the last of a list, with a count of steps of its own.
-fn link<L: Ledger>(lists: &mut Lists, list: u32, node: u32, blank: Blank)
+pub(crate) fn link<L: Ledger>(lists: &mut Lists, list: u32, node: u32, blank: Blank)
     requires name { blank.name ≡ L.name }
     requires parts { blank.parts ≡ L.parts }
     requires some { 1 ≤ L.parts }
@@ -28,7 +28,7 @@ fn link<L: Ledger>(lists: &mut Lists, list: u32, node: u32, blank: Blank)
 }
 
 // Takes a node out of its list, with a count of steps of its own.
-fn unlink<L: Ledger>(lists: &mut Lists, node: u32, blank: Blank)
+pub(crate) fn unlink<L: Ledger>(lists: &mut Lists, node: u32, blank: Blank)
     requires name { blank.name ≡ L.name }
     requires parts { blank.parts ≡ L.parts }
     requires some { 1 ≤ L.parts }

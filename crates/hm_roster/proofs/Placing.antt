@@ -1,5 +1,5 @@
 -- A procedure that is looked at, and one that has ended.
-use Rattle.std.proofs.Common.{◌≡◌, ◌≢◌, ℕ, List, Option, Bool, true, false, not, ◌&&◌, refl, inl, inr, ap, sym, ◌∙◌}
+use Rattle.std.proofs.Common.{◌≡◌, ◌≢◌, ℕ, List, Option, None, Some, Bool, true, false, not, ◌==◌, ◌&&◌, refl, inl, inr, ap, sym, ◌∙◌}
 use Rattle.std.proofs.lemmas.Bool.{cases_eq, eq-eqb, ne_eqb, true≢false}
 use Rattle.hm_names.specs.Server.{Server}
 use Rattle.hm_model.specs.Journal.{Past}
@@ -15,6 +15,7 @@ use Rattle.hm_tied.specs.Tied.{Awaits, CanGo, Debts, IsOpen, IsTiedBut, Roster, 
 use Rattle.hm_tied.proofs.Calls.{join_owes, over_less, owed_less, wake_owes}
 use Rattle.hm_tied.proofs.Going.{busy_open}
 use Rattle.hm_tied.proofs.Uses.{debts_rise}
+use Rattle.hm_roster.specs.Roster.{settled, settled_if}
 
 -- one isn't among those without it
 pub out_of : (test : ℕ → Bool) (p : ℕ) → without test p p ≡ false
@@ -23,6 +24,15 @@ out_of test p = ap (λ b. test p && not b) (eq-eqb p p refl) ∙ neither (test p
     neither : (b : Bool) → (b && false) ≡ false
     neither true = refl
     neither false = refl
+
+-- nor among those without another too
+out_still : (test : ℕ → Bool) (p q : ℕ) → test p ≡ false → without test q p ≡ false
+out_still test p q none = ap (λ b. b && not (p == q)) none
+
+-- who was looked at isn't owed, once its parent was looked at too
+pub own_out : (debts : Debts) (p : ℕ) (parent : Option ℕ) → (let left = settled_if (settled debts p) parent in (left.owed p ≡ false) × (left.slack p ≡ false))
+own_out debts p None = (out_of debts.owed p, out_of debts.slack p)
+own_out debts p (Some up) = (out_still (without debts.owed p) p up (out_of debts.owed p), out_still (without debts.slack p) p up (out_of debts.slack p))
 
 -- others are among those without it as before
 still_in : (test : ℕ → Bool) (p q : ℕ) → q ≢ p → without test p q ≡ test q
@@ -74,4 +84,14 @@ module _ (J : Past) (n : Option Server → ℕ) (roster : Roster) (debts : Debts
       over_still q = elim (cases_eq q p) [
         | inl same ↦ ap debts.over same ∙ none ∙ sym (ap (without debts.over p) same ∙ out_of debts.over p)
         | inr differs ↦ sym (still_in debts.over p q differs)
+      ]
+
+  -- who isn't said to be owed or to be taken from the calls
+  pub not_owed : debts.owed p ≡ false → debts.slack p ≡ false → IsTiedBut J n roster (settled debts p)
+  not_owed owed slack = debts_rise J n roster debts (settled debts p) tied (record { owed = λ q on. others debts.owed owed q on; slack = λ q on. others debts.slack slack q on; over = λ q. refl; late = λ e. e })
+    where
+      others : (test : ℕ → Bool) → test p ≡ false → (q : ℕ) → test q ≡ true → without test p q ≡ true
+      others test none q on = elim (cases_eq q p) [
+        | inl same ↦ absurd (true≢false (sym on ∙ ap test same ∙ none))
+        | inr differs ↦ still_in test p q differs ∙ on
       ]

@@ -69,15 +69,14 @@ impl Desk {
         self.wake_held_uncounted::<Brand>(Blank::new(1));
     }
 
-    /// Behind an abort too: whoever is aborted needs no server any more at a row before the point.
-    pub fn behind_abort(&mut self, records: &Records, pid: Pid)
-        requires { IsBehind records.now.past (entry_is.Abort pid) self.old }
-        ensures follows { Follows records.now.past self.new }
-        ensures same { IsSameBut self.old self.new }
+    /// Behind an abort there is nothing to do: whoever is aborted is before the point, where no server is needed. A law that does
+    /// nothing.
+    pub fn behind_abort(&self, records: &Records, pid: Pid)
+        requires { IsBehind records.now.past (entry_is.Abort pid) self.now }
+        ensures { Follows records.now.past self.now }
     {
         let _legal = records.procedures();
         let _pid = pid;
-        self.wake_held_uncounted::<Brand>(Blank::new(1));
     }
 
     // The number of the list for the calls to the server that a procedure is to fence.

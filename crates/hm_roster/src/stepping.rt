@@ -69,6 +69,26 @@ impl Desk {
         self.finish_other(records, pid, root, steps);
     }
 
+    // The root of a procedure, where that is another one, stands where it belongs too. A root that called was suspended just now, and
+    // its own step doesn't wake it.
+    fn settle_other<L: Ledger>(
+        &mut self,
+        records: &Records,
+        pid: Pid,
+        root: Pid,
+        steps: &mut Steps<L>,
+    )
+        requires known { root.0 < self.old.sched.pids }
+        requires there { node_of records.now.past root.0 ≢ None }
+        requires below { HasLists self.old }
+        ensures owes { (debts : Debts) → debts.owed pid.0 ≡ false → debts.slack pid.0 ≡ false → Owes records.now.past self.old debts → Owes records.now.past self.new (settled debts root.0) }
+        ensures same { IsSameBut self.old self.new }
+    {
+        if root != pid {
+            self.settle(records, root, steps);
+        }
+    }
+
     // A procedure, its parent and its root stand where they belong.
     fn settle_kin<L: Ledger>(
         &mut self,
@@ -90,7 +110,7 @@ impl Desk {
     {
         self.settle(records, pid, steps);
         self.settle_if(records, parent, steps);
-        self.settle(records, root, steps);
+        self.settle_other(records, pid, root, steps);
     }
 
     // Who has ended is enlisted no longer, and those who waited for it are ready; then those that were made, from this number on, the

@@ -9,3 +9,4 @@ mod InOrder
 mod ResourceOrder
 mod LockOrder
 mod Held
+mod Holders

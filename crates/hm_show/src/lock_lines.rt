@@ -1,9 +1,10 @@
 //! The table `locks`.
-ghost use Rattle.std.specs.Prelude.{◌≡◌, ◌+◌, ◌<◌, ◌^◌, ◌++◌, [], ◌∷◌, IfOk, OnOk, length, map};
+ghost use Rattle.std.specs.Prelude.{◌≡◌, ◌+◌, ◌<◌, ◌^◌, ◌++◌, [], ◌∷◌, IfOk, OnOk, filter, length, map};
+ghost use Rattle.std.specs.List.{flat_map};
 ghost use Rattle.hm_locks.specs.Needs.{HasFirst};
 ghost use Rattle.hm_show.specs.Lines.{AreLines, IsMore};
 ghost use Rattle.hm_show.specs.Locks.{by_resource, held_by, holds, lock_line, locks_of, locks_table, resource_cmp};
-ghost use Rattle.hm_show.specs.Procs.{pids};
+ghost use Rattle.hm_show.specs.Procs.{pids, shown};
 
 use crate::lines::Lines;
 use crate::words::mode_name;
@@ -77,40 +78,40 @@ fn add_asks(locks: &mut Vec<Lock>, alloc: Global, one: &Record) -> Result<(), Al
     Ok(())
 }
 
-// Whether a procedure holds what it asks for.
-fn holds(procedures: &Procedures, pid: Pid) -> bool
-    ensures { result ≡ holds procedures.now.past pid.0 }
-{
-    procedures.has_step(pid) && !procedures.has_ended(pid)
-}
-
-// Adds what a procedure holds.
-fn add_held(
+// Adds what the procedure of a number asks for.
+fn add_asks_of(
     locks: &mut Vec<Lock>,
     alloc: Global,
     procedures: &Procedures,
     pid: Pid,
 ) -> Result<(), AllocError>
-    ensures { OnOk result (locks.new.items ≡ locks.old.items ++ held_by procedures.now.past (pid.0 ∷ [])) }
+    ensures { OnOk result (locks.new.items ≡ locks.old.items ++ flat_map locks_of (shown procedures.now.past (pid.0 ∷ []))) }
 {
     let _last = procedures.last_pid();
-    if !holds(procedures, pid) {
-        return Ok(());
-    }
     match procedures.find(pid) {
         Some(one) => add_asks(locks, alloc, one),
         None => Ok(()),
     }
 }
 
-// What is held, by the number of who holds it.
-fn all_held(alloc: Global, procedures: &Procedures) -> Result<Vec<Lock>, AllocError>
-    ensures { IfOk result (λ locks. locks.items ≡ held_by procedures.now.past (pids procedures.now.past)) }
+// The procedures that hold what they ask for, in the order of their numbers.
+fn holders(alloc: Global, records: &Records) -> Result<Vec<Pid>, AllocError>
+    ensures { IfOk result (λ holders. map (λ pid. pid.0) holders.items ≡ filter (holds records.now.past) (pids records.now.past)) }
 {
-    let count = procedures.last_pid();
+    let _procedures = records.procedures();
+    names_order_by_parts();
+    let mut holders = records.book().holders(alloc)?;
+    holders.sort_unstable();
+    Ok(holders)
+}
+
+// What is held, by the number of who holds it.
+fn all_held(alloc: Global, records: &Records) -> Result<Vec<Lock>, AllocError>
+    ensures { IfOk result (λ locks. locks.items ≡ held_by records.now.past (pids records.now.past)) }
+{
     let mut locks = Vec::new(alloc);
-    for index in 0..count {
-        add_held(&mut locks, alloc, procedures, Pid(index + 1))?;
+    for pid in holders(alloc, records)? {
+        add_asks_of(&mut locks, alloc, records.procedures(), pid)?;
     }
     Ok(locks)
 }
@@ -151,7 +152,7 @@ pub(crate) fn locks(alloc: Global, entries: u64, records: &Records) -> Result<Ve
     requires { entries ≡ length records.now.past }
     ensures { IfOk result (λ table. table.items ≡ locks_table records.now.past) }
 {
-    let mut held = all_held(alloc, records.procedures())?;
+    let mut held = all_held(alloc, records)?;
     sort_locks(&mut held)?;
     lock_lines(alloc, &held)?.into_table(alloc, "locks", entries)
 }

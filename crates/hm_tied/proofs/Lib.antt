@@ -3,6 +3,7 @@ mod Rows
 pub mod Calls
 mod Entering
 mod Picking
+mod Aborted
 mod Staying
 pub mod Others
 pub mod Stepping

@@ -1,5 +1,5 @@
 -- What submissions, servers that come and go, reports and aborts leave to do.
-use Rattle.std.proofs.Common.{Bool, List, Option, Some, ap, false, inl, inr, is_none, not, refl, sym, true, ℕ, ◌+◌, ◌==◌, ◌||◌, ◌∙◌, ◌∷◌, ◌≡◌, ◌≢◌, ◌⊎◌}
+use Rattle.std.proofs.Common.{Bool, List, Option, Some, ap, false, inl, inr, is_none, not, refl, subst, sym, true, ℕ, ◌+◌, ◌==◌, ◌||◌, ◌∙◌, ◌∷◌, ◌≡◌, ◌≢◌, ◌⊎◌}
 use Rattle.std.proofs.lemmas.Bool.{and_from, cases_Bool, cases_eq, cond-false, eq-eqb, false≢true, ne_eqb, or_left, or_right}
 use Rattle.std.proofs.lemmas.Option.{none-some}
 use Rattle.hm_names.specs.declared.pid.Pid.{Pid}
@@ -8,7 +8,7 @@ use Rattle.hm_data.specs.declared.args.Args.{Args}
 use Rattle.hm_data.specs.declared.call.Told.{Told}
 use Rattle.hm_data.specs.declared.entry.Entry.{Entry}
 use Rattle.hm_data.specs.declared.entry.Entry.TheVariants as entry_is
-use Rattle.hm_model.specs.Answers.{last_answer, report_of}
+use Rattle.hm_model.specs.Answers.{is_aborted, last_answer, report_of}
 use Rattle.hm_model.specs.Apart.{tree_of}
 use Rattle.hm_model.specs.Inputs.{fenced_if, undoes}
 use Rattle.hm_model.specs.Journal.{Past}
@@ -19,8 +19,9 @@ use Rattle.hm_model.specs.Phase.{ended, phase}
 use Rattle.hm_model.specs.Whereabouts.{called_by, moved_by}
 use Rattle.hm_model.proofs.Grown.{nodes_stay}
 use Rattle.hm_model.proofs.Trees.{grown_all, some_of}
-use Rattle.hm_tied.specs.Tied.{CanGo, IsBusy, IsCalm, IsTied, IsTiedBut, LacksPick, Roster}
-use Rattle.hm_tied.specs.Entries.{AbortOwes, DownOwes, ReportOwes, SubmitOwes, UpOwes, is_fenced_by, late_debts, report_debts, root_debts}
+use Rattle.hm_tied.specs.Tied.{CanGo, IsBusy, IsCalm, IsTied, IsTiedBut, LacksPick, Roster, no_debts}
+use Rattle.hm_tied.specs.Entries.{AbortTies, DownOwes, ReportOwes, SubmitOwes, UpOwes, is_fenced_by, late_debts, report_debts, root_debts}
+use Rattle.hm_tied.proofs.Aborted.{unaborted}
 use Rattle.hm_tied.proofs.Entering.{Changes, changed, same_enlists}
 use Rattle.hm_model.proofs.Running.{awaits_call, run_open, unstepped_open}
 use Rattle.hm_tied.proofs.Picking.{SeesSame, place_same}
@@ -119,9 +120,26 @@ pub up_owes : UpOwes
 up_owes server J number_of roster legal =
     look_aside (entry_is.Up server) J number_of roster legal (λ q. refl) (λ q. refl) (λ q. refl) (λ q calm. calm) (record { reports = λ q. refl; fenced = λ s e. e }) (λ q x. refl) (λ q x. refl)
 
-pub abort_owes : AbortOwes
-abort_owes pid J number_of roster legal =
-    look_aside (entry_is.Abort pid) J number_of roster legal (λ q. refl) (λ q. refl) (λ q. refl) (λ q calm. calm) (record { reports = λ q. refl; fenced = λ s e. e }) (λ q x. refl) (λ q x. refl)
+pub abort_ties : AbortTies
+abort_ties pid J number_of roster legal tied =
+    changed J after legal number_of roster roster.claimed roster.rows no_debts tied
+    (mild (entry_is.Abort pid) J legal (λ q. refl) (λ q. refl) (λ q. refl) (λ q calm. calm) (λ q. false) false roster.claimed (λ q go. inl (before q go)) (λ q go. inl (before q go)) lacks)
+    (same_enlists J after number_of roster tied (λ q. refl))
+  where
+    after : Past
+    after = entry_is.Abort pid ∷ J
+
+    before : (q : ℕ) → CanGo after q → CanGo J q
+    before = going_same (entry_is.Abort pid) J (λ q. refl) (record { reports = λ q. refl; fenced = λ s e. e }) (λ q x. refl) (λ q x. refl)
+
+    lacks : (q : ℕ) → LacksPick J q → LacksPick after q ⊎ (false ≡ true)
+    lacks q lack = elim (cases_eq q pid.0) [
+      | inl own ↦ absurd (unaborted pid J legal (subst (LacksPick J) own lack))
+      | inr differs ↦ inl (lacks_after (entry_is.Abort pid) J legal q lack (
+        lack.2,
+        record { sheets = refl; last = refl; aborted = cond-false (q == pid.0) true (is_aborted J q) (ne_eqb q pid.0 differs); rows = refl; place = place_same J after (λ region. refl) (let x = lack.0 in moved_by x.args); fenced = λ s e. e; live = refl },
+      ))
+    ]
 
 -- a report
 module _ (call : Pid) (told : Told) (J : Past) (legal : IsLegal (entry_is.Report call told ∷ J)) where

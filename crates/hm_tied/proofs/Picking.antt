@@ -1,6 +1,6 @@
 -- Who lacks a server to be picked goes on lacking one, where what it looks at is the same.
 use Rattle.std.proofs.Common.{Bool, List, None, Option, Some, ap, false, inl, inr, not, refl, subst, sym, true, ℕ, ◌&&◌, ◌||◌, ◌∙◌, ◌≡◌}
-use Rattle.std.proofs.lemmas.Bool.{false≢true, not-false, or_cases, or_left, or_parts, or_right}
+use Rattle.std.proofs.lemmas.Bool.{and_parts, false≢true, not-false, or_cases, or_left, or_parts, or_right}
 use Rattle.hm_names.specs.Region.{Region}
 use Rattle.hm_names.specs.Server.{Server}
 use Rattle.hm_data.specs.declared.args.Args.{Args}
@@ -18,7 +18,7 @@ use Rattle.hm_model.specs.Kinds.{first_row_of, kind_of}
 use Rattle.hm_model.specs.Picks.{has_pick, needs_server}
 use Rattle.hm_model.specs.Places.{place_of}
 use Rattle.hm_model.specs.Procedures.{sheet_at, sheet_of}
-use Rattle.hm_model.specs.Sheets.{row_in, sheet_for, sheets_of}
+use Rattle.hm_model.specs.Sheets.{next_row, row_in, sheet_for, sheets_of}
 use Rattle.hm_model.specs.TransitActs.{is_open, may_open_in, told_place}
 use Rattle.hm_model.specs.Tree.{Node, node_of}
 use Rattle.hm_model.specs.Undo.{stack}
@@ -64,6 +64,16 @@ needs_is J q x is none =
     by : (o : Option Row) → picks_at o (step_input J q x None) ≡ needs (sight_of J q x.args) x.args o
     by None = refl
     by (Some row) = ap (λ b. is_picking row.act && (not (is_aborted J q && not row.after) && b)) (look (region_of x.args))
+
+-- whoever lacks one runs a row that places a region
+pub lacking_row : (J : Past) (q : ℕ) (x : Node) → node_of J q ≡ Some x → undoes J q x ≡ false → has_pick J q x ≡ false → (row : Row) × (next_row J q x ≡ Some row) × (is_picking row.act ≡ true)
+lacking_row J q x is none lacks =
+    let parts = or_parts (not (needs_server J q x)) (has_live J) lacks in
+    by (next_row J q x) (sym (needs_is J q x is none) ∙ not-false (needs_server J q x) parts.0)
+  where
+    by : (o : Option Row) → needs (sight_of J q x.args) x.args o ≡ true → (row : Row) × (o ≡ Some row) × (is_picking row.act ≡ true)
+    by None h = absurd (false≢true h)
+    by (Some row) h = (let sight = sight_of J q x.args in (row, refl, (and_parts (is_picking row.act) (not (sight.aborted && not row.after) && wants sight (region_of x.args)) h).0))
 
 -- with a server fenced it needs one still
 needs_more : (one other : Sight) (args : Args) → other.row ≡ one.row → other.aborted ≡ one.aborted → other.rows ≡ one.rows → other.place ≡ one.place → (one.fenced ≡ true → other.fenced ≡ true) → needs one args one.row ≡ true → needs other args other.row ≡ true

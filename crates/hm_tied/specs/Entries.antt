@@ -117,8 +117,8 @@ UpOwes =
     (server : Server) (J : Past) (number_of : Option Server → ℕ) (roster : Roster)
     → IsLegal (entry_is.Up server ∷ J) → IsTied J number_of roster → IsTiedBut (entry_is.Up server ∷ J) number_of roster late_debts
 
--- an abort: whoever is aborted needs no server at a row before the point
-abbrev pub AbortOwes : Type 0
-AbortOwes =
+-- an abort leaves nothing to do: whoever is aborted is before the point, where no server is needed
+abbrev pub AbortTies : Type 0
+AbortTies =
     (pid : Pid) (J : Past) (number_of : Option Server → ℕ) (roster : Roster)
-    → IsLegal (entry_is.Abort pid ∷ J) → IsTied J number_of roster → IsTiedBut (entry_is.Abort pid ∷ J) number_of roster late_debts
+    → IsLegal (entry_is.Abort pid ∷ J) → IsTied J number_of roster → IsTied (entry_is.Abort pid ∷ J) number_of roster

@@ -1,7 +1,7 @@
 //! The laws.
 ghost use Rattle.hm_tied.specs.Ables.{AblesStay, ClaimedStayAble};
 ghost use Rattle.hm_tied.specs.Calls.{ClaimTies, EndOwes, GiveBackTies, GiveUpOwes, JoinOwes, KeepOnOwes, NextOwes, OverIsLess, OwedIsLess, ReadyAreAvailable, SlackIsLess, WakeAllOwes, WakeHeldOwes, WakeOwes};
-ghost use Rattle.hm_tied.specs.Entries.{AbortOwes, DownOwes, ReportOwes, StepOwes, SubmitOwes, UndoOwes, UpOwes};
+ghost use Rattle.hm_tied.specs.Entries.{AbortTies, DownOwes, ReportOwes, StepOwes, SubmitOwes, UndoOwes, UpOwes};
 ghost use Rattle.hm_tied.specs.Settled.{FenceSettles, OneSettles, OwedIsTold, ReportSettles};
 ghost use Rattle.hm_tied.specs.Uses.{AncestorsAreTold, DebtsMayRise, EnlistingBegins, EnlistingEnds, EnlistingGoesOn, FencesOne, FreeTies, KnownAreMade, NoneClashTies, NumbersTie, OpeningOwes, ReadyAreEnlisted, RoomTies};
 
@@ -83,9 +83,9 @@ pub fn servers_owe()
     ensures { UpOwes }
 {}
 
-/// Behind an abort those that wait for a server are looked at: whoever is aborted needs none at a row before the point.
-pub fn aborts_owe()
-    ensures { AbortOwes }
+/// Behind an abort nothing is left to do: whoever is aborted is before the point, where no server is needed.
+pub fn aborts_tie()
+    ensures { AbortTies }
 {}
 
 /// What a tied lock book tells of the journal.

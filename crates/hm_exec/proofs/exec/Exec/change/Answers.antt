@@ -1,38 +1,23 @@
-use Rattle.std.proofs.Common.{◌≢◌, ◌≡◌, [], Err, false, sym, ap, subst, ◌∙◌}
-use Rattle.std.specs.Option.{IfNone, IfSome}
-use Rattle.hm_hall.specs.declared.fault.HallFault.TheVariants as fault_is
-use Rattle.hm_model.specs.Fleet.{has_older_live}
-use Rattle.hm_model.specs.Journal.{Past, back}
+use Rattle.std.proofs.Common.{◌≢◌, [], List, Err, refl, subst, sym}
+use Rattle.std.specs.Result.{IfErr}
+use Rattle.hm_data.specs.declared.entry.Entry.{Entry}
+use Rattle.hm_model.specs.Journal.{back}
 use Rattle.hm_places.specs.Laws.{StandingsTell}
-use Rattle.hm_exec.specs.Fleet.{AnswersUp, PutsDown}
-use Rattle.hm_exec.specs.Moment.{Moment, past_of}
+use Rattle.hm_roster.specs.Roster.{claims_on}
+use Rattle.hm_exec.specs.Fleet.{AnswersUp, CanUp}
+use Rattle.hm_exec.specs.Moment.{IsGoing, Moment, past_of}
 use Rattle.hm_exec.specs.View.{ExecView, moment_of}
 use Rattle.hm_exec.specs.declared.answers.UpWhy.TheVariants as up_why
-use Rattle.hm_exec.proofs.Coming.{at_fault, came, came_not, first_memory, up_first}
+use Rattle.hm_exec.proofs.Coming.{at_fault, up_refused}
 use Rattle.hm_exec.proofs.exec.Exec.change.Goals as goal
 
-pub returns-in_err-number-clause-refused : goal.returns-in_err-number-clause-refused
-returns-in_err-number-clause-refused g c =
-    let old = moment_of g.R.Recorder.kept c.args.self.now in
-    let here = ap back (sym c.self.invariant.same) ∙ ap (λ (e : ExecView _). past_of (moment_of g.R.Recorder.kept e)) c.self.view_is in
-    at_fault (λ f. AnswersUp old c.args.server (Err (up_why.Fault f)) (moment_of g.R.Recorder.kept c.number.new.self)) c.from_residual.result fault_is.Memory c.from_residual.ensures.1
-    (subst (λ (m : Moment). AnswersUp old c.args.server (Err (up_why.Fault fault_is.Memory)) m) (sym c.number.ensures.same) (up_first old old c.args.server fault_is.Memory c.requires.can
-    (first_memory old c.args.server c.requires.going (subst (λ (J : Past). J ≢ []) here c.fleet_is_told.ensures.begun) (subst (λ (J : Past). StandingsTell J) here c.fleet_is_told.ensures.tell) c.requires.can)))
-
-pub returns-in_err-bring_up-clause-refused : goal.returns-in_err-bring_up-clause-refused
-returns-in_err-bring_up-clause-refused g c =
-    let old = moment_of g.R.Recorder.kept c.args.self.now in
-    let mid = moment_of g.R.Recorder.kept c.put_older_down.new.self in
-    let new = moment_of g.R.Recorder.kept c.bring_up.new.self in
-    at_fault (λ f. AnswersUp old c.args.server (Err (up_why.Fault f)) new) c.from_residual-in_err-bring_up.result c.in_err-bring_up.field-0.0 c.from_residual-in_err-bring_up.ensures.1
-    (came_not old mid c.args.server c.in_ok-down.down (subst (λ (m : Moment). IfNone c.in_ok-down.down ((has_older_live (past_of m) c.args.server ≡ false) × (mid ≡ m))) c.number.ensures.same c.in_ok-down.ensures.none)
-    (subst (λ (m : Moment). IfSome c.in_ok-down.down (λ older. PutsDown m c.args.server older.0 older.1 mid)) c.number.ensures.same c.in_ok-down.ensures.down) c.requires.can new c.in_err-bring_up.field-0.0
-    c.in_err-bring_up.ensures.refused)
-
-pub returns-clause-up : goal.returns-clause-up
-returns-clause-up g c =
-    let old = moment_of g.R.Recorder.kept c.args.self.now in
-    let mid = moment_of g.R.Recorder.kept c.put_older_down.new.self in
-    let new = moment_of g.R.Recorder.kept c.bring_up.new.self in
-    came old mid c.args.server c.in_ok-down.down (subst (λ (m : Moment). IfNone c.in_ok-down.down ((has_older_live (past_of m) c.args.server ≡ false) × (mid ≡ m))) c.number.ensures.same c.in_ok-down.ensures.none)
-    (subst (λ (m : Moment). IfSome c.in_ok-down.down (λ older. PutsDown m c.args.server older.0 older.1 mid)) c.number.ensures.same c.in_ok-down.ensures.down) c.requires.can new c.in_ok-bring_up.ensures.up
+pub returns-in_err-refuse-clause-refused : goal.returns-in_err-refuse-clause-refused
+returns-in_err-refuse-clause-refused g c =
+    let was : Moment = record { kept = g.R.Recorder.kept c.self.inside.recorder; claimed = claims_on c.self.inside.desk } in
+    let now : Moment = record { kept = g.R.Recorder.kept c.refuse.new.recorder; claimed = claims_on c.self.inside.desk } in
+    let told = c.fleet_is_told.ensures in
+    subst (λ (e : ExecView _). IfErr c.from_residual.result (λ fault. AnswersUp (moment_of g.R.Recorder.kept e) c.args.server (Err (up_why.Fault fault)) now)) c.self.view_is
+    (at_fault (λ fault. AnswersUp was c.args.server (Err (up_why.Fault fault)) now) c.from_residual.result c.in_err-refuse.field-0.0 c.from_residual.ensures.1
+    (up_refused was now c.args.server c.in_err-refuse.field-0.0 (subst (λ (e : ExecView _). IsGoing (moment_of g.R.Recorder.kept e)) (sym c.self.view_is) c.requires.going)
+    (subst (λ (l : List Entry). back l ≢ []) (sym c.self.invariant.same) told.begun) (subst (λ (l : List Entry). StandingsTell (back l)) (sym c.self.invariant.same) told.tell)
+    (subst (λ (e : ExecView _). CanUp (past_of (moment_of g.R.Recorder.kept e)) c.args.server) (sym c.self.view_is) c.requires.can) (c.will_refuse.ensures.0 c.if-will_refuse.true) c.in_err-refuse.ensures.adds refl))

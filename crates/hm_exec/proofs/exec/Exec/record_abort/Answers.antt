@@ -1,4 +1,4 @@
-use Rattle.std.proofs.Common.{List, subst, sym, ap}
+use Rattle.std.proofs.Common.{List, refl, subst, sym}
 use Rattle.hm_data.specs.declared.entry.Entry.{Entry}
 use Rattle.hm_data.specs.declared.entry.Entry.TheVariants as entry_is
 use Rattle.hm_model.specs.Journal.{Past, back}
@@ -25,7 +25,7 @@ invariant_of-self-2 g c =
     let allowed =
     subst (λ (l : List Entry). Allowed (back l) (entry_is.Abort c.args.pid)) c.self.invariant.same
     (subst (λ (e : ExecView _). Allowed (past_of (moment_of g.R.Recorder.kept e)) (entry_is.Abort c.args.pid)) (sym c.self.view_is) c.requires.allowed) in
-    goes_on (g.R.Recorder.kept c.self.inside.recorder) (g.R.Recorder.kept c.add.new.recorder) c.self.inside.state.entries c.add.new.state.entries c.self.inside.desk c.behind_abort.new.self c.self.invariant
-    c.add.ensures.entries (subst (λ (J : Past). Follows J c.behind_abort.new.self) c.records.ensures c.behind_abort.ensures.follows)
-    (ap (λ v. v.items) c.behind_abort.ensures.same.claimed) (entry_is.Abort c.args.pid) c.in_ok-add.field-0 c.entries-legal.ensures.legal allowed c.in_ok-add.ensures.adds
+    goes_on (g.R.Recorder.kept c.self.inside.recorder) (g.R.Recorder.kept c.add.new.recorder) c.self.inside.state.entries c.add.new.state.entries c.self.inside.desk c.self.inside.desk c.self.invariant
+    c.add.ensures.entries (subst (λ (J : Past). Follows J c.self.inside.desk) c.records.ensures c.behind_abort.ensures)
+    refl (entry_is.Abort c.args.pid) c.in_ok-add.field-0 c.entries-legal.ensures.legal allowed c.in_ok-add.ensures.adds
     (λ q mine. tt)

@@ -8,6 +8,7 @@ use Rattle.hm_model.specs.declared.lock.Ask.{Ask}
 use Rattle.hm_locks.specs.declared.entry.Entry.{Entry}
 use Rattle.hm_locks.proofs.Adding.{wants_asked}
 use Rattle.hm_locks.proofs.Found.{rows_push}
+use Rattle.hm_locks.proofs.Holders.{listed_push}
 use Rattle.hm_locks.proofs.Keeping.{kept_push, kept_room}
 use Rattle.hm_locks.proofs.pages.Pages.enlist.Goals as goal
 
@@ -42,3 +43,12 @@ returns-clause-rows c =
     (subst (λ es. AreChanged (rows_of p) c.args.pid (Some (drafted c.args.pid (record { above = entry.above; asks = entry.asked }))) (rows_in es)) (sym c.push_reserved.ensures.items)
     (rows_push p.places.pairs c.set.new.self.pairs p.entries.items c.requires.kept.index entry c.requires.new
     (subst (λ n. (q : ℕ) → find nat_cmp c.set.new.self.pairs q ≡ cond (is_eq (nat_cmp c.args.pid q)) (Some n) (find nat_cmp p.places.pairs q)) place c.set.ensures.pairs)))
+
+pub returns-clause-held : goal.returns-clause-held
+returns-clause-held c =
+    let p = c.args.self.now in
+    let spare = c.requires.spare in
+    let long = p.entries.ok.0 in
+    let entry : Entry = record { pid = c.args.pid; above = c.into_parts-above.result.0; asked = c.into_parts-above.result.1; first = c.len-first.result; holds = false } in
+    rw (c.push_reserved.ensures.items)
+    (listed_push p.entries.items p.held.lists p.held.spare c.requires.held entry refl (omega (arith, spare, long)) (omega (arith, spare, long)))
