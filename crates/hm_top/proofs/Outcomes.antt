@@ -16,6 +16,9 @@ use Rattle.hm_model.proofs.Prefixes.{legal_before, legal_cut}
 use Rattle.hm_serial.proofs.Failing.{failure_leaves_all}
 use Rattle.hm_serial.proofs.Serial.{catalog_is, deeds_apply_is}
 use Rattle.hm_serial.proofs.Taken.{legal_apart}
+use Rattle.hm_cover.proofs.Never.{never_overlap}
+use Rattle.hm_cover.proofs.Now.{live_cover, missing_bare}
+use Rattle.hm_single.proofs.SingleLive.{single_over}
 use Rattle.hm_names.specs.Server.{Server}
 use Rattle.hm_world.specs.Scene.{Scene}
 use Rattle.hm_commands.specs.Hands.{HandsUse, Ran, SumRisesBy, sheets_used, steps_in}
@@ -68,6 +71,10 @@ faith_of J legal = record {
   failures = λ newer older entry is. failure_leaves_all entry older (legal_before newer (entry ∷ older) (subst IsLegal is legal));
   nonces = nonces_once J legal;
   locks = legal_apart J legal;
+  apart = never_overlap J legal;
+  covered = live_cover J legal;
+  bare = missing_bare J legal;
+  single = single_over J legal;
 }
 
 -- what an end says of the run

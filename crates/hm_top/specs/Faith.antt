@@ -2,9 +2,11 @@
 use Rattle.std.specs.Prelude.{◌≡◌, ◌≢◌, ◌⊎◌, ℕ, List, [], ◌∷◌, ◌++◌, Option, Some, None, true, false, Ok}
 use Rattle.hm_names.specs.Server.{Server}
 use Rattle.hm_names.specs.declared.pid.Pid.{Pid}
+use Rattle.hm_names.specs.declared.table.TableName.{TableName}
 use Rattle.hm_data.specs.declared.answer.Answer.TheVariants as answer_is
 use Rattle.hm_data.specs.declared.call.Told.{Told}
 use Rattle.hm_data.specs.declared.catalog.CatKey.{CatKey}
+use Rattle.hm_data.specs.declared.catalog.CatKey.TheVariants as key_is
 use Rattle.hm_data.specs.declared.catalog.Edit.{Edit}
 use Rattle.hm_data.specs.declared.entry.Entry.{Entry}
 use Rattle.hm_data.specs.declared.entry.Entry.TheVariants as entry_is
@@ -15,9 +17,11 @@ use Rattle.hm_model.specs.Holding.{NoneClash}
 use Rattle.hm_model.specs.Reads.{IsBusy, covers}
 use Rattle.hm_model.specs.Nonces.{NoncesActOnce}
 use Rattle.hm_model.specs.Phase.{cause, root_ended}
+use Rattle.hm_model.specs.Ranges.{IsBare, IsCovered, NoneOverlap}
 use Rattle.hm_model.specs.Rules.{IsLegal}
 use Rattle.hm_model.specs.Deeds.{deed_of}
 use Rattle.hm_model.specs.Serial.{serial}
+use Rattle.hm_model.specs.Single.{Single}
 use Rattle.hm_model.specs.Tree.{Node, node_of}
 use Rattle.hm_serial.specs.Theorem.{TreeEdits}
 
@@ -38,11 +42,39 @@ FailuresLeftAll before =
     → (key : CatKey) → TreeEdits (entry ∷ older) r key ⊎ (covers node.args key ≡ true)
     → cat (entry ∷ older) key ≡ was (entry ∷ older) r key
 
--- legal; where nothing is busy as by the deeds of roots, one after another; all or nothing; a nonce once; no two holders conflict
+-- live regions of one table never overlap
+abbrev pub RegionsApart : Past → Type 0
+RegionsApart before = (table : TableName) → NoneOverlap (cat before) table
+
+-- each key lies in a live region of each table that has a row that isn't busy
+abbrev pub RegionsCover : Past → Type 0
+RegionsCover before =
+    (table : TableName) → (IsBusy before (key_is.Table table) → ⊥) → cat before (key_is.Table table) ≢ None → IsCovered (cat before) table
+
+-- a table without a row, whose key isn't busy, has no region's row
+abbrev pub MissingAreBare : Past → Type 0
+MissingAreBare before =
+    (table : TableName) → (IsBusy before (key_is.Table table) → ⊥) → cat before (key_is.Table table) ≡ None → IsBare (cat before) table
+
+-- what each journal keeps to
 pub record KeepsFaith (before : Past) : Type 0 where
+  -- each entry may follow those before it
   pub legal : IsLegal before
+  -- what isn't busy is as by the deeds of roots, one after another
   pub serial_is : (key : CatKey) → (IsBusy before key → ⊥) → cat before key ≡ serial before key
+  -- each deed that counts is a list of edits
   pub deeds : DeedsApplied before
+  -- all or nothing
   pub failures : FailuresLeftAll before
+  -- a nonce acts once
   pub nonces : NoncesActOnce before
+  -- no two holders conflict
   pub locks : NoneClash before []
+  -- live regions of one table never overlap, at any moment
+  pub apart : RegionsApart before
+  -- and cover every key, where their table isn't busy
+  pub covered : RegionsCover before
+  -- or there is no region, where there is no such table
+  pub bare : MissingAreBare before
+  -- no region is assigned while another opening of it, or of one whose range overlaps its own, may still stand
+  pub single : Single before
