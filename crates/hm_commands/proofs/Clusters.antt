@@ -10,7 +10,8 @@ use Rattle.hm_data.specs.declared.entry.Entry.TheVariants as entry_is
 use Rattle.hm_data.specs.declared.request.Request.{Request}
 use Rattle.hm_script.specs.declared.command.Command.{Command}
 use Rattle.hm_script.specs.declared.command.Command.TheVariants as command_is
-use Rattle.hm_commands.specs.Commands.{ComesOther, OtherMayAdd, Submits}
+use Rattle.hm_commands.specs.Commands.{ComesOther, OtherMayAdd}
+use Rattle.hm_commands.specs.Submissions.{Submits}
 use Rattle.hm_commands.specs.declared.answer.Answer.{Answer}
 use Rattle.hm_commands.proofs.Growth.{Grows, other_grows, submit_grows}
 use Rattle.hm_data.specs.declared.act.Act.{Act}
@@ -218,6 +219,7 @@ other_quiet (command_is.Server server) quiet entry (inr down) = ap one_step down
 other_quiet (command_is.Expire server) quiet entry may = ap one_step may
 other_quiet (command_is.Step count) quiet entry may = absurd quiet
 other_quiet command_is.Settle quiet entry may = absurd quiet
+other_quiet command_is.Balance quiet entry may = ap one_step may.2
 other_quiet command quiet entry may = absurd may
 
 no_steps : (P : Entry → Type 0) → ((entry : Entry) → P entry → one_step entry ≡ 0) → (added : List Entry) → All P added → steps_in added ≡ 0

@@ -1,5 +1,5 @@
 -- What becomes of commands adds to the journal.
-use Rattle.std.proofs.Common.{◌≡◌, ◌⊎◌, ℕ, zero, suc, Bool, true, false, List, [], ◌∷◌, ◌++◌, All, Option, Some, None, Result, Ok, Err, refl, sym, ap, ◌∙◌, subst, inl, inr, append-nil, append_assoc}
+use Rattle.std.proofs.Common.{◌≡◌, ◌⊎◌, ℕ, zero, suc, Bool, true, false, List, [], ◌∷◌, ◌++◌, get_or, All, Option, Some, None, Result, Ok, Err, refl, sym, ap, ◌∙◌, subst, inl, inr, append-nil, append_assoc}
 use Rattle.std.specs.Prelude.{MatchOption}
 use Rattle.std.proofs.lemmas.Option.{none-some}
 use Rattle.std.proofs.lemmas.List.Elements.{All-nil, All-cons, All-append}
@@ -13,6 +13,7 @@ use Rattle.hm_data.specs.declared.call.ReportMsg.{ReportMsg}
 use Rattle.hm_data.specs.declared.entry.Entry.{Entry}
 use Rattle.hm_data.specs.declared.entry.Entry.TheVariants as entry_is
 use Rattle.hm_data.specs.declared.request.Request.{Request}
+use Rattle.hm_data.specs.declared.request.Request.TheVariants as request_is
 use Rattle.hm_data.specs.declared.step.StepIn.{StepIn}
 use Rattle.hm_data.specs.declared.step.StepOut.{StepOut}
 use Rattle.hm_data.specs.declared.step.Turn.{Turn}
@@ -44,7 +45,11 @@ use Rattle.hm_script.specs.declared.command.Command.TheVariants as command_is
 use Rattle.hm_world.specs.Acts.{Arms, Dies, Repeats, Starts}
 use Rattle.hm_world.specs.Carrying.{Carries, CarriesBy}
 use Rattle.hm_world.specs.Scene.{Scene}
-use Rattle.hm_commands.specs.Commands.{Aborts, Comes, ComesAt, ComesOther, ComesUp, Expires, IsWork, Kills, LosesAll, MayAdd, OtherMayAdd, Refuses, RepeatsAll, Settles, Shows, Submits, WorksFor, asked}
+use Rattle.hm_commands.specs.Commands.{Aborts, Comes, ComesAt, ComesOther, ComesUp, Expires, IsMove, IsWork, Kills, LosesAll, MayAdd, OtherMayAdd, Refuses, RepeatsAll, Settles, Shows, WorksFor, asked}
+use Rattle.hm_commands.specs.Balancing.{AreRecorded, Balances, Ends, HaltsAt, MayTry, SubmitsMove, no_nonce}
+use Rattle.hm_commands.specs.Submissions.{Submits}
+use Rattle.hm_commands.specs.Telling.{told_accepted, told_full, told_submit}
+use Rattle.hm_moves.specs.declared.moving.Move.{Move}
 use Rattle.hm_commands.specs.Scenes.{halt_at, kept_at}
 use Rattle.hm_commands.specs.Tasks.{Becomes, Breaks, Carried, LacksMemory, RunsTo, Steps, Tasks, Works}
 use Rattle.hm_commands.specs.declared.answer.Answer.{Answer}
@@ -178,6 +183,24 @@ submit_grows nonce request old new result = by result
     by (Err (refused_is.JournalFull bytes)) (inr a) = fault_grows P old new (entry_is.Submit nonce request) (fault_is.JournalFull bytes) a.1
     by (Err refused_is.Memory) a = fault_grows P old new (entry_is.Submit nonce request) fault_is.Memory a.1
     by (Err refused_is.LogFault) a = fault_grows P old new (entry_is.Submit nonce request) fault_is.LogFault a.1
+
+-- what may be more
+grows_as : (P Q : Entry → Type 0) → ((entry : Entry) → P entry → Q entry) → (old new : Recording) → Grows P old new → Grows Q old new
+grows_as P Q f old new g = record { added = g.added; each = λ k d lt. f (get_or g.added k d) (g.each k d lt); grown = g.grown; soft = g.soft; hard = g.hard; full = g.full }
+
+-- where a submission is told as a new procedure nothing was halted
+told_going : (nonce : Nonce) (request : Request) (old new : Moment) (halted : Option Halt) (pid : ℕ) (result : Result Accepted Refused) → AnswersSubmit old nonce request result new → Some (answer_is.Pid pid) ≡ told_submit halted result
+    → old.kept.halted ≡ None → new.kept.halted ≡ None
+told_going nonce request old new halted pid (Ok accepted) (inl a) told going = recorded_going old.kept new.kept (entry_is.Submit nonce request) a.3.2.0 a.3.2.1
+told_going nonce request old new halted pid (Ok accepted) (inr a) told going = ap (λ (m : Moment). m.kept.halted) a.3 ∙ going
+told_going nonce request old new halted pid (Err (refused_is.Halted why)) a told going = absurd (cc)
+told_going nonce request old new halted pid (Err (refused_is.BadArgs number)) a told going = absurd (cc)
+told_going nonce request old new halted pid (Err (refused_is.NonceClash other)) a told going = absurd (cc)
+told_going nonce request old new halted pid (Err (refused_is.TooManyRegions drawn)) a told going = absurd (cc)
+told_going nonce request old new None pid (Err (refused_is.JournalFull bytes)) a told going = absurd (cc)
+told_going nonce request old new (Some why) pid (Err (refused_is.JournalFull bytes)) a told going = absurd (cc)
+told_going nonce request old new halted pid (Err refused_is.Memory) a told going = absurd (cc)
+told_going nonce request old new halted pid (Err refused_is.LogFault) a told going = absurd (cc)
 
 -- an abort
 abort_grows : (pid : Pid) (old new : Moment) (result : Result Bool AbortRefused) → AnswersAbort old pid result new → Grows (λ entry. entry ≡ entry_is.Abort pid) old.kept new.kept
@@ -389,6 +412,46 @@ module _ (old new : Scene) where
   repeats_grow P (Err fault_is.LogFault) r = absurd r
   repeats_grow P (Err (fault_is.JournalFull b)) r = absurd r
 
+  move_grows : (move : Move) (before : Scene) (answer : Answer) (after : Scene) → SubmitsMove move before answer after → Grows IsMove (kept_at before) (kept_at after)
+  move_grows move before answer after s =
+      let request = request_is.Move move.region (Some move.to) in
+      grows_as (λ entry. entry ≡ entry_is.Submit no_nonce request) IsMove (λ entry is. (move.region, move.to, is)) (kept_at before) (kept_at after)
+      (submit_grows no_nonce request before.exec after.exec s.0 s.1)
+
+  recorded_grow : (moved : List (Move × ℕ)) (before after : Scene) → AreRecorded moved before after
+      → Grows IsMove (kept_at before) (kept_at after) × ((kept_at before).halted ≡ None → (kept_at after).halted ≡ None)
+  recorded_grow [] before after same = (scene_grows IsMove before after same, λ going. ap halt_at same ∙ going)
+  recorded_grow (one ∷ moved) before after (mid, first, rest) =
+      let request = request_is.Move one.0.region (Some one.0.to) in
+      let goes = told_going no_nonce request before.exec mid.exec (halt_at mid) one.1 first.0 first.1 first.3 in
+      let more = recorded_grow moved mid after rest in
+      (grows_on IsMove (kept_at before) (kept_at mid) (kept_at after) goes (move_grows one.0 before (answer_is.Pid one.1) mid first) more.0, λ going. more.1 (goes going))
+
+  ends_grow : (left : List Move) (mid : Scene) (end : Option Answer) → Ends left mid end new → Grows IsMove (kept_at mid) (kept_at new)
+  ends_grow [] mid None same = scene_grows IsMove mid new same
+  ends_grow [] mid (Some answer) e = absurd e
+  ends_grow (move ∷ more) mid None e = absurd e
+  ends_grow (move ∷ more) mid (Some answer) e = move_grows move mid answer new e.0
+
+  halts_grow : (left : List Move) (mid : Scene) (why : Halt) → HaltsAt left mid why new → Grows IsMove (kept_at mid) (kept_at new)
+  halts_grow [] mid why e = absurd e
+  halts_grow (move ∷ more) mid why e = move_grows move mid (answer_is.Halted why) new e
+
+  try_grows : (left : List Move) (mid : Scene) → MayTry left mid new → Grows IsMove (kept_at mid) (kept_at new)
+  try_grows [] mid same = scene_grows IsMove mid new same
+  try_grows (move ∷ more) mid (inl same) = scene_grows IsMove mid new same
+  try_grows (move ∷ more) mid (inr (answer, submits)) = move_grows move mid answer new submits
+
+  moved_grow : (moved : List (Move × ℕ)) (mid : Scene) → AreRecorded moved old mid → Grows IsMove (kept_at mid) (kept_at new) → Grows IsMove (kept_at old) (kept_at new)
+  moved_grow moved mid recorded more = let first = recorded_grow moved old mid recorded in grows_on IsMove (kept_at old) (kept_at mid) (kept_at new) first.1 first.0 more
+
+  balances_grow : (answer : Option Answer) → Balances old answer new → Grows IsMove (kept_at old) (kept_at new)
+  balances_grow (Some (answer_is.Balanced lines)) b = moved_grow b.0.moved b.1 b.3.recorded (ends_grow b.0.left b.1 b.2 b.4)
+  balances_grow (Some (answer_is.Halted why)) b = moved_grow b.0.moved b.1 b.2.recorded (halts_grow b.0.left b.1 why b.3)
+  balances_grow (Some answer) b = absurd b
+  balances_grow None (inl same) = scene_grows IsMove old new same
+  balances_grow None (inr b) = moved_grow b.0.moved b.1 b.2.recorded (try_grows b.0.left b.1 b.3)
+
   pub other_grows : (command : Command) (answer : Option Answer) → ComesOther command old answer new → Grows (OtherMayAdd command) (kept_at old) (kept_at new)
   other_grows (command_is.Abort pid) answer c = abort_grows pid old.exec new.exec c.0 c.1
   other_grows (command_is.Server server) answer c = start_grows server old new c.0 c.1
@@ -400,6 +463,7 @@ module _ (old new : Scene) where
   other_grows command_is.Settle answer c = settles_grow answer c
   other_grows command_is.Lose answer c = exec_grows (OtherMayAdd command_is.Lose) old new (ap (λ (s : Scene). s.exec) c.1.1)
   other_grows command_is.Repeat answer c = repeats_grow (OtherMayAdd command_is.Repeat) c.0 c.1
+  other_grows command_is.Balance answer c = balances_grow answer c
   other_grows command_is.Procs answer c = scene_grows (OtherMayAdd command_is.Procs) old new c.1
   other_grows command_is.ProcsJson answer c = scene_grows (OtherMayAdd command_is.ProcsJson) old new c.1
   other_grows command_is.Regions answer c = scene_grows (OtherMayAdd command_is.Regions) old new c.1

@@ -6,3 +6,5 @@ pub mod Growth
 pub mod Serving
 pub mod Working
 pub mod Clusters
+pub mod Moving
+pub mod Counting

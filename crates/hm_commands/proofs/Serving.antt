@@ -7,6 +7,7 @@ use Rattle.hm_names.specs.declared.nonce.Nonce.{Nonce}
 use Rattle.hm_data.specs.declared.entry.Entry.{Entry}
 use Rattle.hm_data.specs.declared.entry.Entry.TheVariants as entry_is
 use Rattle.hm_data.specs.declared.request.Request.{Request}
+use Rattle.hm_data.specs.declared.request.Request.TheVariants as request_is
 use Rattle.hm_data.specs.declared.sheet.Sheet.{Sheet}
 use Rattle.hm_data.specs.declared.step.StepIn.{StepIn}
 use Rattle.hm_data.specs.declared.step.StepOut.{StepOut}
@@ -23,6 +24,7 @@ use Rattle.hm_script.specs.declared.command.Command.{Command}
 use Rattle.hm_script.specs.declared.command.Command.TheVariants as command_is
 use Rattle.hm_sheet.specs.Own.{is_kind}
 use Rattle.hm_world.specs.Scene.{Scene}
+use Rattle.hm_commands.specs.Balancing.{no_nonce}
 use Rattle.hm_commands.specs.Commands.{Comes, IsWork, MayAdd, OtherMayAdd, asked}
 use Rattle.hm_commands.specs.Hands.{AgreeOn, Serve, first_sheets}
 use Rattle.hm_commands.specs.Scenes.{journal_at, kept_at}
@@ -84,6 +86,7 @@ other_leaves (command_is.Server server) entry (inr down) = same_leaves entry (en
 other_leaves (command_is.Expire server) entry may = same_leaves entry (entry_is.Down server) may (λ J. refl)
 other_leaves (command_is.Step count) entry may = work_leaves entry may
 other_leaves command_is.Settle entry may = work_leaves entry may
+other_leaves command_is.Balance entry may = same_leaves entry (entry_is.Submit no_nonce (request_is.Move may.0 (Some may.1))) may.2 (λ J. refl)
 other_leaves command entry may = absurd may
 
 may_leaves : (command : Command) (entry : Entry) → MayAdd command entry → LeavesSheets entry

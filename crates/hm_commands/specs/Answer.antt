@@ -83,4 +83,5 @@ answer_text (answer_is.Waiting at roots) = codes "waiting at " ++ decimal at ++ 
 answer_text (answer_is.Lost count) = codes "lost " ++ decimal count ++ codes "\n"
 answer_text (answer_is.Resent count) = codes "repeated " ++ decimal count ++ codes "\n"
 answer_text (answer_is.Table table) = table.items
+answer_text (answer_is.Balanced lines) = lines.items
 answer_text (answer_is.Halted why) = codes "halted " ++ halt_text why ++ codes "\n"

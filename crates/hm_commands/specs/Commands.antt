@@ -1,5 +1,6 @@
 -- What becomes of each command: what it is answered, unless memory runs out, and what it leaves.
 use Rattle.std.specs.Prelude.{◌≡◌, ◌≢◌, ◌⊎◌, ◌<◌, ◌≤◌, ℕ, List, length, Bool, Option, Some, None, Result, MatchOption}
+use Rattle.hm_names.specs.Region.{Region}
 use Rattle.hm_names.specs.Server.{Server}
 use Rattle.hm_names.specs.declared.nonce.Nonce.{Nonce}
 use Rattle.hm_names.specs.declared.pid.Pid.{Pid}
@@ -13,7 +14,6 @@ use Rattle.hm_hall.specs.declared.fault.Halt.{Halt}
 use Rattle.hm_hall.specs.declared.fault.HallFault.{HallFault}
 use Rattle.hm_model.specs.Records.{unfinished}
 use Rattle.hm_refusals.specs.declared.aborts.AbortRefused.{AbortRefused}
-use Rattle.hm_refusals.specs.declared.submissions.Refused.{Refused}
 use Rattle.hm_script.specs.declared.command.Command.{Command}
 use Rattle.hm_script.specs.declared.command.Command.TheVariants as command_is
 use Rattle.hm_show.specs.Locks.{locks_table}
@@ -21,16 +21,17 @@ use Rattle.hm_show.specs.Procs.{procs_json, procs_table}
 use Rattle.hm_show.specs.Regions.{regions_table}
 use Rattle.hm_show.specs.Servers.{servers_table}
 use Rattle.hm_exec.specs.Fleet.{AnswersDown}
-use Rattle.hm_exec.specs.Submitting.{AnswersAbort, AnswersSubmit}
-use Rattle.hm_exec.specs.declared.answers.Accepted.{Accepted}
+use Rattle.hm_exec.specs.Submitting.{AnswersAbort}
 use Rattle.hm_exec.specs.declared.answers.DownWhy.{DownWhy}
 use Rattle.hm_exec.specs.declared.answers.UpWhy.{UpWhy}
 use Rattle.hm_world.specs.Acts.{Arms, Dies, Loses, Repeats, Starts}
 use Rattle.hm_world.specs.Carrying.{OnlyExec}
 use Rattle.hm_world.specs.Scene.{Scene, past_in}
+use Rattle.hm_commands.specs.Balancing.{Balances, no_nonce}
 use Rattle.hm_commands.specs.Scenes.{halt_at, journal_at}
+use Rattle.hm_commands.specs.Submissions.{Submits}
 use Rattle.hm_commands.specs.Tasks.{Breaks, IsDone, LacksMemory, Tasks}
-use Rattle.hm_commands.specs.Telling.{told_abort, told_arming, told_death, told_down, told_repeat, told_submit, told_up}
+use Rattle.hm_commands.specs.Telling.{told_abort, told_arming, told_death, told_down, told_repeat, told_up}
 use Rattle.hm_commands.specs.declared.answer.Answer.{Answer}
 use Rattle.hm_commands.specs.declared.answer.Answer.TheVariants as answer_is
 
@@ -47,11 +48,6 @@ asked (command_is.Split nonce region key) = Some (nonce, request_is.SplitRegion 
 asked (command_is.Merge nonce regions) = Some (nonce, request_is.MergeRegions regions)
 asked (command_is.Move nonce region to) = Some (nonce, request_is.Move region to)
 asked command = None
-
--- a request is submitted
-abbrev pub Submits : Nonce → Request → Scene → Option Answer → Scene → Type 0
-Submits nonce request old answer new =
-    (result : Result Accepted Refused) × AnswersSubmit old.exec nonce request result new.exec × OnlyExec old new × (answer ≡ told_submit (halt_at new) result)
 
 -- a root is aborted
 abbrev pub Aborts : Pid → Scene → Option Answer → Scene → Type 0
@@ -113,7 +109,7 @@ IsTable text None = Unit {0}
 abbrev pub Shows : List ℕ → Scene → Option Answer → Scene → Type 0
 Shows text old answer new = IsTable text answer × (new ≡ old)
 
--- what becomes of a command that submits nothing
+-- what becomes of a command that asks for nothing under a nonce
 abbrev pub ComesOther : Command → Scene → Option Answer → Scene → Type 0
 ComesOther (command_is.Abort pid) old answer new = Aborts pid old answer new
 ComesOther (command_is.Server server) old answer new = ComesUp server old answer new
@@ -125,6 +121,7 @@ ComesOther (command_is.Step count) old answer new = WorksFor count old answer ne
 ComesOther command_is.Settle old answer new = Settles old answer new
 ComesOther command_is.Lose old answer new = LosesAll old answer new
 ComesOther command_is.Repeat old answer new = RepeatsAll old answer new
+ComesOther command_is.Balance old answer new = Balances old answer new
 ComesOther command_is.Procs old answer new = Shows (procs_table (past_in old)) old answer new
 ComesOther command_is.ProcsJson old answer new = Shows (procs_json (past_in old)) old answer new
 ComesOther command_is.Regions old answer new = Shows (regions_table (past_in old)) old answer new
@@ -159,13 +156,18 @@ IsWork (entry_is.Up server) = ⊥
 IsWork (entry_is.Down server) = ⊥
 IsWork (entry_is.Abort pid) = ⊥
 
--- the entries that a command which submits nothing may add
+-- a move of a region to a server, under no nonce
+abbrev pub IsMove : Entry → Type 0
+IsMove entry = (region : Region) × (to : Server) × (entry ≡ entry_is.Submit no_nonce (request_is.Move region (Some to)))
+
+-- the entries that a command which submits nothing of its own may add
 abbrev pub OtherMayAdd : Command → Entry → Type 0
 OtherMayAdd (command_is.Abort pid) entry = entry ≡ entry_is.Abort pid
 OtherMayAdd (command_is.Server server) entry = (entry ≡ entry_is.Up server) ⊎ ((older : Server) × (entry ≡ entry_is.Down older))
 OtherMayAdd (command_is.Expire server) entry = entry ≡ entry_is.Down server
 OtherMayAdd (command_is.Step count) entry = IsWork entry
 OtherMayAdd command_is.Settle entry = IsWork entry
+OtherMayAdd command_is.Balance entry = IsMove entry
 OtherMayAdd command entry = ⊥
 
 -- the entries that a command may add, answered or not

@@ -5,7 +5,10 @@ pub mod Pieces
 pub mod Scenes
 pub mod Telling
 pub mod Tasks
+pub mod Submissions
+pub mod Balancing
 pub mod Offered
 pub mod Commands
 pub mod View
 pub mod Live
+pub mod Census

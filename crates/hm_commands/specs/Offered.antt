@@ -3,14 +3,13 @@ use Rattle.std.specs.Prelude.{◌≡◌, Bool, true, false}
 use Rattle.hm_script.specs.declared.command.Command.{Command}
 use Rattle.hm_script.specs.declared.keyword.Keyword.{Keyword}
 use Rattle.hm_script.specs.declared.keyword.Keyword.TheVariants.{Workers, Cut, Alone}
-use Rattle.hm_script.specs.declared.keyword.LoneWord.TheVariants.{Balance, Reopen}
+use Rattle.hm_script.specs.declared.keyword.LoneWord.TheVariants.{Reopen}
 use Rattle.hm_script.specs.Spellings.{Spelling, spelling}
 
--- by the word that begins its line: all but `workers`, `balance`, `cut` and `reopen`
+-- by the word that begins its line: all but `workers`, `cut` and `reopen`
 abbrev pub is_offered_as : Keyword → Bool
 is_offered_as Workers = false
 is_offered_as Cut = false
-is_offered_as (Alone Balance) = false
 is_offered_as (Alone Reopen) = false
 is_offered_as keyword = true
 

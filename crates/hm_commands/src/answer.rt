@@ -84,6 +84,8 @@ pub enum Answer {
     Resent(u64),
     /// A table, whole.
     Table(Vec<u8>),
+    /// The regions were balanced: a line for the plan, and one for each move, up to the first that wasn't recorded.
+    Balanced(Vec<u8>),
     /// Nothing is recorded any more, for this reason, which came now or before.
     Halted(Halt),
 }
@@ -257,6 +259,15 @@ impl Answer {
                 ]
             }
             Answer::Table(table) => [Bytes(table.as_slice()), NONE, NONE, NONE, NONE, NONE, NONE],
+            Answer::Balanced(lines) => [
+                Bytes(lines.as_slice()),
+                NONE,
+                NONE,
+                NONE,
+                NONE,
+                NONE,
+                NONE,
+            ],
             Answer::Halted(Halt::LogFault) => {
                 [
                     Text("halted LogFault\n"),

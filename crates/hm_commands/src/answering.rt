@@ -5,7 +5,8 @@ ghost use Rattle.hm_data.specs.declared.entry.Entry.{Entry as EntryValue};
 ghost use Rattle.hm_model.specs.Journal.{back};
 ghost use Rattle.hm_sheet.specs.Registry.{sheets_of};
 ghost use Rattle.hm_world.specs.Scene.{GoesOn, Scene as SceneValue};
-ghost use Rattle.hm_commands.specs.Commands.{Aborts, Answers, Comes, ComesAt, ComesOther, IsUnanswered, Submits, asked};
+ghost use Rattle.hm_commands.specs.Commands.{Aborts, Answers, Comes, ComesAt, ComesOther, IsUnanswered, asked};
+ghost use Rattle.hm_commands.specs.Submissions.{Submits};
 ghost use Rattle.hm_commands.specs.Hands.{Ran, Serve, hands_use};
 ghost use Rattle.hm_commands.specs.Offered.{IsOffered};
 ghost use Rattle.hm_commands.specs.Scenes.{journal_at};
@@ -24,7 +25,7 @@ use std::alloc::{AllocError, Global};
 
 impl<D: Disk> Cluster<D> {
     // Submits a request.
-    fn submit(
+    pub(crate) fn submit(
         &mut self,
         alloc: Global,
         nonce: Nonce,
@@ -72,6 +73,7 @@ impl<D: Disk> Cluster<D> {
             Command::Settle => self.settle(alloc, hands),
             Command::Lose => Ok(self.lose()),
             Command::Repeat => self.repeat(),
+            Command::Balance => self.balance(alloc),
             Command::Procs => self.show_procs(alloc),
             Command::ProcsJson => self.show_json(alloc),
             Command::Regions => self.show_regions(alloc),

@@ -3,6 +3,8 @@
 
 mod answer;
 mod answering;
+mod balancing;
+mod census;
 mod cluster;
 mod fleet;
 mod hands;
@@ -14,9 +16,12 @@ mod row_names;
 mod tables;
 mod tasks;
 mod telling;
+mod text;
 
 pub use answer::{Answer, Refusal};
+pub use census::Census;
 pub use cluster::Cluster;
 pub use hands::hands_agree;
 pub use offered::Offered;
 pub use piece::Piece;
+pub use text::append_all;

@@ -12,7 +12,6 @@ impl Commands for Offered {
     fn has(command: &Command) -> bool {
         match command {
             Command::Workers { count: _ } => false,
-            Command::Balance => false,
             Command::Cut {
                 changes: _,
                 bytes: _,

@@ -1,26 +1,12 @@
-//! Runs over memory, in tables: a script and a log, and what is to be answered. This library is empty
-//! but for its tests.
+//! Runs over memory, in tables: the words of a run and the lines of a script, what a run leaves in its log, and what it takes
+//! for a journal. This library is empty but for its tests.
 #![tactic(auto)]
 
-#[cfg(test)]
-mod commands;
-#[cfg(test)]
-mod devices;
-#[cfg(test)]
-mod full;
-#[cfg(test)]
-mod hands;
-#[cfg(test)]
-mod journal;
 #[cfg(test)]
 mod lines;
 #[cfg(test)]
 mod logs;
 #[cfg(test)]
-mod play;
-#[cfg(test)]
 mod rules;
-#[cfg(test)]
-mod servers;
 #[cfg(test)]
 mod statuses;

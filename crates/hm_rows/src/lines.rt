@@ -1,19 +1,9 @@
-//! The words of a run and the lines of a script.
-use crate::logs::{NEW, SHOP};
-use crate::play::{NONE, RUN, play, says};
+//! The lines of a script.
 use hm_names::NameFault;
+use hm_play::{NEW, SHOP, says};
 use hm_top::{Bad, RunStatus, Why};
 use std::process::Abort;
 use std::test::Fail;
-
-/// A name of the greatest length.
-pub const LONGEST: &str = "abcdefghijklmnopqrstuvwxyzabcdefghijklmnopqrstuvwxyzabcdefghijkl";
-
-/// What a first line that is no command is answered.
-pub const FROB: Bad = Bad {
-    line: 1,
-    why: Why::Word(0),
-};
 
 #[test]
 fn run_reads_these_lines(rt: HostRuntime) -> Result<(), Fail> {
@@ -56,7 +46,7 @@ fn run_reads_these_lines(rt: HostRuntime) -> Result<(), Fail> {
     ];
     for (script, answers) in cases {
         let text = format!(in rt.alloc(); "opened at 1\n{answers}")?;
-        says(&rt, script, b"", RunStatus::Done, &text)?;
+        says(rt.alloc(), script, b"", RunStatus::Done, &text)?;
     }
     Ok(())
 }
@@ -71,7 +61,7 @@ fn refuses(
     let status = RunStatus::BadScript(Bad { line, why });
     let text = format!(in rt.alloc(); "hmaster: script: line {line}: {why}\n")?;
     for log in [b"".as_slice(), SHOP, b"HMASTER"] {
-        let left = says(rt, script, log, status, &text)?;
+        let left = says(rt.alloc(), script, log, status, &text)?;
         assert_eq!(rt; left.as_slice(), log, "the script {script:?}");
     }
     Ok(())
@@ -192,7 +182,6 @@ fn run_refuses_commands_that_it_does_not_have(rt: HostRuntime) -> Result<(), Fai
     // The place is that of the first word.
     let lines = [
         (b"workers 2\n".as_slice(), 0),
-        (b"balance\n", 0),
         (b"cut 0 0\n", 0),
         (b"reopen\n", 0),
         (b"  reopen\n", 2),
@@ -206,7 +195,7 @@ fn run_refuses_commands_that_it_does_not_have(rt: HostRuntime) -> Result<(), Fai
 #[test]
 fn run_reads_scripts_up_to_their_limit(rt: HostRuntime) -> Result<(), Fail> {
     let mut script = vec![in rt.alloc(); b'\n'; 1_048_576]?;
-    let left = says(&rt, &script, b"", RunStatus::Done, "opened at 1\n")?;
+    let left = says(rt.alloc(), &script, b"", RunStatus::Done, "opened at 1\n")?;
     assert_eq!(rt; left.as_slice(), NEW);
     script.push(b'\n')?;
     let status = RunStatus::BadScript(Bad {
@@ -214,44 +203,12 @@ fn run_reads_scripts_up_to_their_limit(rt: HostRuntime) -> Result<(), Fail> {
         why: Why::TooLong,
     });
     let left = says(
-        &rt,
+        rt.alloc(),
         &script,
         SHOP,
         status,
         "hmaster: script: line 0: TooLong\n",
     )?;
     assert_eq!(rt; left.as_slice(), SHOP);
-    Ok(())
-}
-
-#[test]
-fn run_refuses_words_that_are_no_command(rt: HostRuntime) -> Result<(), Fail> {
-    let cases = [
-        ([].as_slice(), 0),
-        (&["frob", "a.log"], 0),
-        (&["check", "a.log"], 0),
-        (&["--help"], 0),
-        (&["", "a.log"], 0),
-        (&["run"], 1),
-        (&["run", ""], 1),
-        (&["run", "-x"], 1),
-        (&["run", "-x", "a"], 1),
-        (&["run", "a", "b"], 2),
-        (&["run", "a", "b", "c"], 2),
-    ];
-    for (words, word) in cases {
-        // The words are judged before the script and the log.
-        let played = play(rt.alloc(), words, b"frob\n", b"HMASTER", NONE)?;
-        let text = format!(in rt.alloc(); "hmaster: usage: word {word}\n")?;
-        assert_eq!(rt;
-            played.status,
-            RunStatus::Usage(word),
-            "the words {words:?}"
-        );
-        assert_eq!(rt; played.text.as_slice(), text.as_bytes());
-        assert_eq!(rt; played.disk.bytes(), b"HMASTER".as_slice());
-    }
-    let played = play(rt.alloc(), &RUN, b"frob\n", b"HMASTER", NONE)?;
-    assert_eq!(rt; played.status, RunStatus::BadScript(FROB));
     Ok(())
 }

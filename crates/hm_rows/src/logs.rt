@@ -1,40 +1,10 @@
 //! What a run leaves in its log, and what it takes for a journal.
-use crate::play::{NONE, RUN, play, says};
 use hm_log::Log;
+use hm_play::{ADDS, CHECKS, NEW, NONE, RUN, SHOP, START, SUBMIT, gated, play, says};
 use hm_top::RunStatus;
 use std::alloc::{AllocError, Global};
 use std::process::Abort;
 use std::test::Fail;
-
-/// The journal of an empty script.
-pub const NEW: &[u8] =
-    b"HMASTERJ\x01+\x19\x01\0\0\0\x12\0\x01\x02\0\x01\x01\0\0\x02\xff\0\0\x02\x02\0\x03\x01\0\0\x04\xff\0\0\x03\x07\0\x05\x01\0\0\x06\x02\0\x01\x07\x03\0\x02\x08\x04\0\0\t\x05\0\x01\n\x06\x01\0\x0b\xff\x01\0\x04\x03\0\x0c\x01\0\0\r\x02\x01\0\x0e\xff\x01\0\x05\x04\0\x0c\x01\0\0\t\x02\0\x01\n\x03\x01\0\x0b\xff\x01\0\x06\x04\0\x0f\x01\0\0\x10\x02\0\x01\x11\x03\x01\0\x12\xff\x01\0\x07\x02\0\x0c\x01\0\0\x13\xff\0\0\x08\x06\0\x14\x01\0\0\x15\x02\0\x03\x07\x03\0\x02\x16\x04\0\x01\x17\x05\x01\0\x18\xff\x01\0\t\x06\0\x19\x01\0\0\x1a\x02\0\x03\x07\x03\0\x02\x1b\x04\0\x01\x1c\x05\x01\0\x18\xff\x01\0\n\x06\0\x1f\x01\x01\0 \x02\x01\0!\0\x01\0\"\x04\x01\0#\0\x01\0$\x03\0\0\x0b\x02\0%\x01\x01\0&\x01\x01\0\x14\x01\0\x1d\xff\0\x01\x15\x01\0\x1e\xff\x01\0\x17\x02\0'\x01\x01\0)\xff\x01\0\x18\x02\0(\x01\x01\0)\xff\x01\0\x19\x02\0*\x01\x01\0)\xff\x01\0\x1a\x02\0+\x01\0\0,\xff\0\0\x1b\x02\0-\x01\x01\0)\xff\x01\0-";
-
-/// The journal of `namespace 1:1 shop`.
-pub const SHOP: &[u8] =
-    b"HMASTERJ\x01+\x19\x01\0\0\0\x12\0\x01\x02\0\x01\x01\0\0\x02\xff\0\0\x02\x02\0\x03\x01\0\0\x04\xff\0\0\x03\x07\0\x05\x01\0\0\x06\x02\0\x01\x07\x03\0\x02\x08\x04\0\0\t\x05\0\x01\n\x06\x01\0\x0b\xff\x01\0\x04\x03\0\x0c\x01\0\0\r\x02\x01\0\x0e\xff\x01\0\x05\x04\0\x0c\x01\0\0\t\x02\0\x01\n\x03\x01\0\x0b\xff\x01\0\x06\x04\0\x0f\x01\0\0\x10\x02\0\x01\x11\x03\x01\0\x12\xff\x01\0\x07\x02\0\x0c\x01\0\0\x13\xff\0\0\x08\x06\0\x14\x01\0\0\x15\x02\0\x03\x07\x03\0\x02\x16\x04\0\x01\x17\x05\x01\0\x18\xff\x01\0\t\x06\0\x19\x01\0\0\x1a\x02\0\x03\x07\x03\0\x02\x1b\x04\0\x01\x1c\x05\x01\0\x18\xff\x01\0\n\x06\0\x1f\x01\x01\0 \x02\x01\0!\0\x01\0\"\x04\x01\0#\0\x01\0$\x03\0\0\x0b\x02\0%\x01\x01\0&\x01\x01\0\x14\x01\0\x1d\xff\0\x01\x15\x01\0\x1e\xff\x01\0\x17\x02\0'\x01\x01\0)\xff\x01\0\x18\x02\0(\x01\x01\0)\xff\x01\0\x19\x02\0*\x01\x01\0)\xff\x01\0\x1a\x02\0+\x01\0\0,\xff\0\0\x1b\x02\0-\x01\x01\0)\xff\x01\0+\x18\0\0\0\x01\x01\0\0\0\0\0\0\0\x01\0\0\0\0\0\0\0\x01\x04\0shop-";
-
-/// The entries of a settled journal of `namespace 1:1 shop`: its start, the submission, and two steps.
-pub const START: &[u8] =
-    b"\0\x12\0\x01\x02\0\x01\x01\0\0\x02\xff\0\0\x02\x02\0\x03\x01\0\0\x04\xff\0\0\x03\x07\0\x05\x01\0\0\x06\x02\0\x01\x07\x03\0\x02\x08\x04\0\0\t\x05\0\x01\n\x06\x01\0\x0b\xff\x01\0\x04\x03\0\x0c\x01\0\0\r\x02\x01\0\x0e\xff\x01\0\x05\x04\0\x0c\x01\0\0\t\x02\0\x01\n\x03\x01\0\x0b\xff\x01\0\x06\x04\0\x0f\x01\0\0\x10\x02\0\x01\x11\x03\x01\0\x12\xff\x01\0\x07\x02\0\x0c\x01\0\0\x13\xff\0\0\x08\x06\0\x14\x01\0\0\x15\x02\0\x03\x07\x03\0\x02\x16\x04\0\x01\x17\x05\x01\0\x18\xff\x01\0\t\x06\0\x19\x01\0\0\x1a\x02\0\x03\x07\x03\0\x02\x1b\x04\0\x01\x1c\x05\x01\0\x18\xff\x01\0\n\x06\0\x1f\x01\x01\0 \x02\x01\0!\0\x01\0\"\x04\x01\0#\0\x01\0$\x03\0\0\x0b\x02\0%\x01\x01\0&\x01\x01\0\x14\x01\0\x1d\xff\0\x01\x15\x01\0\x1e\xff\x01\0\x17\x02\0'\x01\x01\0)\xff\x01\0\x18\x02\0(\x01\x01\0)\xff\x01\0\x19\x02\0*\x01\x01\0)\xff\x01\0\x1a\x02\0+\x01\0\0,\xff\0\0\x1b\x02\0-\x01\x01\0)\xff\x01\0";
-
-pub const SUBMIT: &[u8] = b"\x01\x01\0\0\0\0\0\0\0\x01\0\0\0\0\0\0\0\x01\x04\0shop";
-
-pub const CHECKS: &[u8] = b"\x02\x01\0\0\0\0\0\0\0\0\0\x01\0\0\0\0\0\0\0\0";
-
-pub const ADDS: &[u8] = b"\x02\x01\0\0\0\0\0\0\0\0\x03\0\x01\0\0\x04\0shop\0\x01\0\0\0\0\0\0\0";
-
-/// The bytes of a log of these frames, of which so many have an open gate.
-pub fn gated(alloc: Global, frames: &[&[u8]], open: usize) -> Result<Vec<u8>, AllocError> {
-    let mut log = b"HMASTERJ\x01".to_vec(alloc)?;
-    for (place, frame) in frames.iter().enumerate() {
-        log.push(if place < open { b'+' } else { b'-' })?;
-        log.extend_from_slice(&(frame.len() as u64).to_le_bytes()[..4])?;
-        log.extend_from_slice(frame)?;
-    }
-    log.push(b'-')?;
-    Ok(log)
-}
 
 // A log of these frames.
 fn log_of(alloc: Global, frames: &[&[u8]]) -> Result<Vec<u8>, AllocError> {
@@ -91,8 +61,8 @@ fn run_answers_and_the_next_run_knows(rt: HostRuntime) -> Result<(), Fail> {
         ),
     ];
     for (script, text, again, next) in cases {
-        let log = says(&rt, script.as_bytes(), b"", RunStatus::Done, text)?;
-        says(&rt, again.as_bytes(), &log, RunStatus::Done, next)?;
+        let log = says(rt.alloc(), script.as_bytes(), b"", RunStatus::Done, text)?;
+        says(rt.alloc(), again.as_bytes(), &log, RunStatus::Done, next)?;
     }
     Ok(())
 }
@@ -115,7 +85,7 @@ fn run_leaves_these_bytes(rt: HostRuntime) -> Result<(), Fail> {
     let closed = gated(rt.alloc(), &[START, SUBMIT], 1)?;
     for (script, text, left) in cases {
         for log in [b"".as_slice(), b"HMASTERJ\x01-", NEW, &torn, &closed] {
-            let bytes = says(&rt, script.as_bytes(), log, RunStatus::Done, text)?;
+            let bytes = says(rt.alloc(), script.as_bytes(), log, RunStatus::Done, text)?;
             assert_eq!(rt;
                 bytes.as_slice(),
                 left,

@@ -1,9 +1,9 @@
 //! The rules of a journal, one by one: the lowest that an entry breaks is named, of all kinds of entries. What is expected was asked of
 //! an independent implementation.
-use crate::journal::judges;
-use crate::logs::{CHECKS, START, SUBMIT, gated};
-use hm_journal::JournalWhy;
-use std::alloc::{AllocError, AllocGlobal, Global};
+use hm_journal::{Journal, JournalWhy};
+use hm_play::{ADDS, CHECKS, DONE, NEW, SHOP, START, SUBMIT, disk, gated, sheets_of_tables};
+use std::alloc::{AllocError, Global};
+use std::process::Abort;
 use std::test::Fail;
 
 // A table that is made up to its enabling, behind the start.
@@ -50,9 +50,7 @@ const DROPS_DEFAULT: &[u8] = b"\x01\x01\0\0\0\0\0\0\0\x01\0\0\0\0\0\0\0\x02\x07\
 
 const SUBMIT_AGAIN: &[u8] = b"\x01\x01\0\0\0\0\0\0\0\x02\0\0\0\0\0\0\0\x01\x04\0shop";
 
-// Steps: done at once; the first of the second procedure, and it done at once; with a server picked.
-const DONE: &[u8] = b"\x02\x01\0\0\0\0\0\0\0\0\x03\0\0\0\0\0\0\0\0\0";
-
+// Steps: the first of the second procedure, and it done at once; with a server picked.
 const CHECKS_SECOND: &[u8] = b"\x02\x02\0\0\0\0\0\0\0\0\0\x01\0\0\0\0\0\0\0\0";
 
 const DONE_SECOND: &[u8] = b"\x02\x02\0\0\0\0\0\0\0\0\x03\0\0\0\0\0\0\0\0\0";
@@ -76,6 +74,38 @@ const ABORT_1: &[u8] = b"\x07\x01\0\0\0\0\0\0\0";
 const ABORT_2: &[u8] = b"\x07\x02\0\0\0\0\0\0\0";
 
 const ABORT_3: &[u8] = b"\x07\x03\0\0\0\0\0\0\0";
+
+// Compares what checking this log answers, which leaves the disk's bytes.
+fn judges(
+    rt: &(impl Abort + AllocGlobal),
+    log: &[u8],
+    answer: Result<u64, JournalWhy>,
+) -> Result<(), AllocError> {
+    let sheets = sheets_of_tables(rt.alloc())?;
+    let mut disk = disk(rt.alloc(), log, &[])?;
+    let judged = Journal::check(rt.alloc(), &mut disk, sheets.as_slice());
+    assert_eq!(rt; judged, answer, "{log:?}");
+    assert_eq!(rt; disk.bytes(), log);
+    Ok(())
+}
+
+#[test]
+fn check_judges_as_open_does(rt: HostRuntime) -> Result<(), Fail> {
+    let done_at_once = b"\x02\x01\0\0\0\0\0\0\0\0\x03\0\0\0\0\0\0\0\0\0".as_slice();
+    let illegal = gated(rt.alloc(), &[START, SUBMIT, done_at_once], 3)?;
+    let settled = gated(rt.alloc(), &[START, SUBMIT, CHECKS, ADDS], 4)?;
+    let cases = [
+        (b"".as_slice(), Ok(0)),
+        (NEW, Ok(1)),
+        (SHOP, Ok(2)),
+        (&settled, Ok(4)),
+        (&illegal, Err(JournalWhy::Illegal { number: 2, rule: 8 })),
+    ];
+    for (log, answer) in cases {
+        judges(&rt, log, answer)?;
+    }
+    Ok(())
+}
 
 // A journal behind its start, the entries behind that, and the rule that the last of these breaks.
 type Case = (&'static [&'static [u8]], &'static [&'static [u8]], u8);

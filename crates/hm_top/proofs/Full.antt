@@ -10,6 +10,7 @@ use Rattle.hm_names.specs.Server.{Server}
 use Rattle.hm_script.specs.declared.command.Command.TheVariants as command_is
 use Rattle.hm_world.specs.Scene.{GoesOn, Scene}
 use Rattle.hm_commands.specs.Commands.{Comes, ComesAt, MayAdd}
+use Rattle.hm_commands.specs.Hands.{sheets_used}
 use Rattle.hm_commands.specs.Scenes.{halt_at, kept_at}
 use Rattle.hm_commands.specs.declared.answer.Answer.{Answer}
 use Rattle.hm_commands.specs.declared.answer.Answer.TheVariants as answer_is
@@ -17,6 +18,8 @@ use Rattle.hm_commands.proofs.Growth.{Grows, IsPassed, comes_grows}
 use Rattle.hm_top.specs.Answering.{Remains}
 use Rattle.hm_top.specs.Opening.{Downs, PassesBy}
 use Rattle.hm_top.specs.declared.status.RunStatus.TheVariants.{JournalFull}
+use Rattle.hm_top.specs.Session.{EndedBy, Session}
+use Rattle.hm_top.specs.Standing.{begun}
 use Rattle.hm_top.specs.Transcript.{Transcript}
 use Rattle.hm_top.proofs.Openings.{down_keeps, expire_comes}
 
@@ -66,3 +69,12 @@ remains_full hard bytes (server ∷ left) answered rest start marks answers mid 
     let here : mid ≡ start = (subst (λ (l : List Command). Transcript l start marks answers mid) halts.0 t).2 in
     comes_full hard (command_is.Expire server) mid (Some (answer_is.Halted (halt_is.JournalFull bytes))) new (subst (IsFull hard) (sym here) was)
     (expire_comes server mid (Some (answer_is.Halted (halt_is.JournalFull bytes))) new (subst GoesOn (sym here) going) halts.1.1)
+
+-- a session that ended full had an entry that would have passed the hard mark
+pub ended_full : (session : Session) (bytes : ℕ) → EndedBy session (JournalFull bytes) (Some (halt_is.JournalFull bytes)) → IsPassed session.limits.hard bytes
+ended_full session bytes ended =
+    let opened = ended.0 in
+    let its = opened.answering in
+    let first = begun session.limits (sheets_used session.hands) opened.old in
+    let start = downs_full session.limits.hard its.passed first its.lines its.start refl (going_full session.limits.hard first refl refl) its.downs in
+    (remains_full session.limits.hard bytes its.left its.answered its.rest its.start session.marks its.answers its.mid opened.new start.1 start.0 its.transcript its.remains).1 bytes ended.1

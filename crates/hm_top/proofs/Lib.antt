@@ -2,9 +2,15 @@ pub mod Pieces
 pub mod Stores
 pub mod Offered
 pub mod Sessions
+pub mod Lines
 pub mod Openings
 pub mod Full
 pub mod Outcomes
 pub mod Complete
 pub mod Scripts
+pub mod Refusals
+pub mod Checks
+pub mod Generates
 pub mod Runs
+pub mod Makes
+pub mod Grants

@@ -36,7 +36,11 @@ use Rattle.hm_top.specs.Faith.{KeepsFaith}
 use Rattle.hm_top.specs.Got.{Got, GotAnswers, IsLast, IsPartOf, IsShort}
 use Rattle.hm_top.specs.Ports.{DiskUse, SinkUse}
 use Rattle.hm_top.specs.Left.{IsLeft, IsNotOpened, IsSpared, StopsLeave}
-use Rattle.hm_top.specs.Run.{EndsBy, Run, WordsFit, before_line, session_of}
+use Rattle.hm_top.specs.declared.words.Form.{Form}
+use Rattle.hm_top.specs.declared.words.Form.TheVariants as form_is
+use Rattle.hm_top.specs.Checking.{EndsCheck}
+use Rattle.hm_top.specs.Generating.{EndsGen}
+use Rattle.hm_top.specs.Run.{AskFor, EndsAs, EndsBy, EndsRun, IsRead, Run, before_line, session_of}
 use Rattle.hm_top.specs.Session.{AreAnswered, EndedBy, IsSilent, Outcome, Session, WasOpened}
 use Rattle.hm_top.specs.Standing.{begun}
 use Rattle.hm_top.specs.Status.{last_line}
@@ -93,7 +97,7 @@ module _ (session : Session) (given : List Command → Type 0) (said : RunStatus
   abbrev pub other : Session
   other = record session { given = given; said = said; out = out }
 
-  answered_map : (commands : List Command) (old : List Entry) (new : Scene) → AreAnswered session status commands old new → AreAnswered other status commands old new
+  pub answered_map : (commands : List Command) (old : List Entry) (new : Scene) → AreAnswered session status commands old new → AreAnswered other status commands old new
   answered_map commands old new a = record {
     passed = a.passed;
     left = a.left;
@@ -111,11 +115,12 @@ module _ (session : Session) (given : List Command → Type 0) (said : RunStatus
     said_are = g (opening_lines (begun session.limits (sheets_used session.hands) old) a.lines ++ a.answers) a.said_are;
   }
 
-  abbrev opened_map : WasOpened session status → WasOpened other status
+  abbrev pub opened_map : WasOpened session status → WasOpened other status
   opened_map o = record {
     commands = o.commands;
     given_are = f o.commands o.given_are;
     old = o.old;
+    taken = o.taken;
     new = o.new;
     answering = answered_map o.commands o.old o.new o.answering;
     left = o.left;
@@ -147,29 +152,59 @@ module _ (session : Session) (given : List Command → Type 0) (said : RunStatus
   outcome_map Memory g later o = memory_map g o
   outcome_map status g later o = absurd o
 
-module _ (run : Run) (said : SinkUse → RunStatus → List Answer → Type 0) where
-  -- words that fit, and a script
-  pub ends_fit : WordsFit run → (status : RunStatus) → Outcome (session_of run said) status → EndsBy run said status
-  ends_fit fit (Usage word) o = absurd o
-  ends_fit fit (BadScript bad) o = absurd o
-  ends_fit fit ReadFault o = absurd o
-  ends_fit fit Memory o = (fit, inr o)
-  ends_fit fit status o = (fit, o)
+-- the outcome of a script that was read
+pub run_ends : (run : Run) (said : SinkUse → RunStatus → List Answer → Type 0) (status : RunStatus) → Outcome (session_of run said) status → EndsRun run said status
+run_ends run said (BadScript bad) o = absurd o
+run_ends run said ReadFault o = absurd o
+run_ends run said Memory o = inr o
+run_ends run said status o = o
+
+-- how each form ended, said of another sink
+module _ (run : Run) (said said' : SinkUse → RunStatus → List Answer → Type 0) (out : SinkUse) (later : run.out.failed → out.failed) where
+  -- what was said under this status is said of the other
+  abbrev pub Maps : RunStatus → Type 0
+  Maps status = (answers : List Answer) → said run.out status answers → said' out status answers
+
+  abbrev its' : Run
+  its' = record run { out = out }
+
+  run_map : (status : RunStatus) → Maps status → EndsRun run said status → EndsRun its' said' status
+  run_map (BadScript bad) g e = (e.0, (e.1.0, e.1.1, g [] e.1.2))
+  run_map ReadFault g e = (e.0, (e.1.0, e.1.1, g [] e.1.2))
+  run_map Memory g (inl idle) = inl (idle.0, idle.1, g [] idle.2)
+  run_map Memory g (inr o) = inr (outcome_map (session_of run said) (IsRead its') (said' out) out (λ cs c. c) Memory g later o)
+  run_map status g e = outcome_map (session_of run said) (IsRead its') (said' out) out (λ cs c. c) status g later e
+
+  check_map : (status : RunStatus) → Maps status → EndsCheck run.out run.disk (sheets_used run.hands) (said run.out) status → EndsCheck out run.disk (sheets_used run.hands) (said' out) status
+  check_map Done g (read, (n, has, (line, text, said_is))) = (read, (n, has, (line, text, g (line ∷ []) said_is)))
+  check_map LogFault g (read, (failed, said_is)) = (read, (failed, g [] said_is))
+  check_map (LogRefused why) g (read, (cause, said_is)) = (read, (cause, g [] said_is))
+  check_map WriteFault g (read, (failed, (n, has, (line, text, said_is)))) = (read, (later failed, (n, has, (line, text, g (line ∷ []) said_is))))
+  check_map Memory g (read, said_is) = (read, g [] said_is)
+  check_map status g e = absurd e.1
+
+  gen_map : (seed count : ℕ) (status : RunStatus) → Maps status → EndsGen run.limits run.disk run.hands run.marks seed count run.out (said run.out) status
+      → EndsGen run.limits run.disk run.hands run.marks seed count out (said' out) status
+  gen_map seed count Done g (made, (line, text, said_is)) = (made, (line, text, g (line ∷ []) said_is))
+  gen_map seed count WriteFault g (failed, (made, (line, text, said_is))) = (later failed, (made, (line, text, g (line ∷ []) said_is)))
+  gen_map seed count (LogRefused why) g (said_is, rest) = (g [] said_is, rest)
+  gen_map seed count Memory g (said_is, rest) = (g [] said_is, rest)
+  gen_map seed count status g (said_is, rest) = (g [] said_is, rest)
+
+  form_map : (form : Form) (status : RunStatus) → Maps status → EndsAs run said form status → EndsAs its' said' form status
+  form_map form_is.Run status g e = run_map status g e
+  form_map form_is.Check status g (untouched, none, e) = (untouched, none, check_map status g e)
+  form_map (form_is.Gen seed count) status g (untouched, e) = (untouched, gen_map seed count status g e)
 
   -- the end of a run, said of another sink
-  pub ends_map : (said' : SinkUse → RunStatus → List Answer → Type 0) (out : SinkUse) (status : RunStatus) → ((answers : List Answer) → said run.out status answers → said' out status answers)
-      → (Outcome (session_of run said) status → Outcome (session_of (record run { out = out }) said') status) → EndsBy run said status → EndsBy (record run { out = out }) said' status
-  ends_map said' out (Usage word) g f e = (e.0, e.1, (e.2.0, e.2.1, g [] e.2.2))
-  ends_map said' out (BadScript bad) g f e = (e.0, e.1, (e.2.0, e.2.1, g [] e.2.2))
-  ends_map said' out ReadFault g f e = (e.0, e.1, (e.2.0, e.2.1, g [] e.2.2))
-  ends_map said' out Memory g f (fit, inl idle) = (fit, inl (idle.0, idle.1, g [] idle.2))
-  ends_map said' out Memory g f (fit, inr o) = (fit, inr (f o))
-  ends_map said' out status g f e = (e.0, f e.1)
+  pub ends_map : (status : RunStatus) → Maps status → EndsBy run said status → EndsBy its' said' status
+  ends_map (Usage word) g e = (e.0, e.1, (e.2.0, e.2.1, g [] e.2.2))
+  ends_map status g (form, asked, e) = (form, asked, form_map form status g e)
 
-module _ (commands : List Command) (limits : Limits) (out : SinkUse) (disk : DiskUse) (hands : HandsUse) (marks : List ℕ) where
+module _ (takes : List Entry → Type 0) (commands : List Command) (limits : Limits) (out : SinkUse) (disk : DiskUse) (hands : HandsUse) (marks : List ℕ) where
   -- these commands, answered before the last line
   abbrev pub spoken : Session
-  spoken = record { given = λ read. read ≡ commands; said = before_line out; limits = limits; out = out; disk = disk; hands = hands; marks = marks }
+  spoken = record { takes = takes; given = λ read. read ≡ commands; said = before_line out; limits = limits; out = out; disk = disk; hands = hands; marks = marks }
 
   -- what was left of a journal that was opened
   pub left_of : (old : List Entry) (new : Scene) → (disk.tells → IsOnDisk (sheets_used hands) disk.before old) → IsLegal (back (whole new)) → (disk.tells → AllStored disk.stops.after (kept_at new))
@@ -190,18 +225,19 @@ module _ (commands : List Command) (limits : Limits) (out : SinkUse) (disk : Dis
       }
 
   -- the outcome of beginning, and of answering the commands
-  module _ (old : List Entry) (new : Scene) (left : IsLeft disk hands old new) where
+  module _ (old : List Entry) (taken : takes old) (new : Scene) (left : IsLeft disk hands old new) where
     abbrev first : Scene
     first = begun limits (sheets_used hands) old
 
     -- under a status that its end has, or one behind which as much remains
-    abbrev was_opened : (status : RunStatus) (ended : Result (Unit {0}) EarlyEnd) → ((answers : List Answer) → GotAnswers out.before out.after (ended_status ended None) answers → GotAnswers out.before out.after status answers)
+    abbrev pub was_opened : (status : RunStatus) (ended : Result (Unit {0}) EarlyEnd) → ((answers : List Answer) → GotAnswers out.before out.after (ended_status ended None) answers → GotAnswers out.before out.after status answers)
         → ((servers : List Server) (answered rest : List Command) (at left : Scene) → Remains (ended_status ended None) servers answered rest at left → Remains status servers answered rest at left)
         → IsAnswering out.tells out.before out.after ended commands first marks new → WasOpened spoken status
     was_opened status ended f r a = record {
       commands = commands;
       given_are = refl;
       old = old;
+      taken = taken;
       new = new;
       answering = record {
         passed = a.passed;
@@ -256,3 +292,10 @@ module _ (commands : List Command) (limits : Limits) (out : SinkUse) (disk : Dis
     -- the outcome where there was no room for the executor or for the marks
     pub outcome_full : (old : List Entry) → IsLeft disk hands old (begun limits (sheets_used hands) old) → Outcome spoken Memory
     outcome_full old left = inr (inl (none, none_said, (commands, refl), (old, left)))
+
+-- how it ended, by what its words ask for
+pub ends_form : (run : Run) (said : SinkUse → RunStatus → List Answer → Type 0) (form : Form) (status : RunStatus) → AskFor run form → EndsAs run said form status → EndsBy run said status
+ends_form run said form_is.Run (Usage word) asked e = absurd e
+ends_form run said form_is.Check (Usage word) asked e = absurd e.2.1
+ends_form run said (form_is.Gen seed count) (Usage word) asked e = absurd e.1.1
+ends_form run said form status asked e = (form, asked, e)

@@ -6,6 +6,8 @@ use Rattle.hm_journal.specs.declared.why.JournalWhy.{JournalWhy}
 use Rattle.hm_journal.specs.declared.why.JournalWhy.TheVariants as journal_why_is
 use Rattle.hm_top.specs.declared.status.EarlyEnd.{EarlyEnd}
 use Rattle.hm_top.specs.declared.status.EarlyEnd.TheVariants as early_is
+use Rattle.hm_top.specs.declared.talking.Stop.{Stop}
+use Rattle.hm_top.specs.declared.talking.Stop.TheVariants as stop_is
 use Rattle.hm_top.specs.declared.status.LogWhy.{LogWhy}
 use Rattle.hm_top.specs.declared.status.LogWhy.TheVariants as log_why_is
 use Rattle.hm_top.specs.declared.status.RunStatus.{RunStatus}
@@ -47,3 +49,8 @@ early_status early_is.Memory = Memory
 abbrev pub ended_status : Result (Unit {0}) EarlyEnd → Option Halt → RunStatus
 ended_status (Ok done) halted = halted_status halted
 ended_status (Err end) halted = early_status end
+
+-- the status of a run that was stopped so
+abbrev pub stop_status : Stop → RunStatus
+stop_status stop_is.NoRoom = Memory
+stop_status (stop_is.Early end) = early_status end

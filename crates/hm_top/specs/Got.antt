@@ -33,3 +33,7 @@ Got rose old new Done answers = new ≡ old ++ text_of answers
 Got rose old new WriteFault answers = IsShort old new answers
 Got rose old new Memory answers = new ≡ old ++ text_of answers
 Got rose old new status answers = IsLast rose (old ++ text_of answers) new (last_line status)
+
+-- one line was said under a status, of this text
+abbrev pub SaysLine : (RunStatus → List Answer → Type 0) → RunStatus → List ℕ → Type 0
+SaysLine said status text = (line : Answer) × (answer_text line ≡ text) × said status (line ∷ [])

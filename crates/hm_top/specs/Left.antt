@@ -1,13 +1,14 @@
 -- What a run left of the disk that it was handed.
-use Rattle.std.specs.Prelude.{◌≡◌, ◌⊎◌, ◌+◌, ◌-◌, ◌*◌, ℕ, List, ◌++◌, length, take, Some}
+use Rattle.std.specs.Prelude.{◌≡◌, ◌≢◌, ◌⊎◌, ◌+◌, ◌-◌, ◌*◌, ℕ, List, ◌++◌, length, take, Some}
 use Rattle.hm_data.specs.declared.entry.Entry.{Entry}
 use Rattle.hm_model.specs.Journal.{back}
 use Rattle.hm_hall.specs.declared.fault.Halt.TheVariants as halt_is
 use Rattle.hm_log.specs.Opening.{IsMaking}
 use Rattle.hm_journal.specs.Since.{IsFront}
 use Rattle.hm_journal.specs.Stored.{AllStored, IsOnDisk, IsOpening, SameFrames, Spares}
-use Rattle.hm_journal.specs.Verdict.{Refuses}
+use Rattle.hm_journal.specs.Verdict.{IsUnjudged, Refuses}
 use Rattle.hm_journal.specs.declared.why.JournalWhy.{JournalWhy}
+use Rattle.hm_journal.specs.declared.why.JournalWhy.TheVariants as why_is
 use Rattle.hm_top.specs.declared.status.LogWhy.{LogWhy}
 use Rattle.hm_top.specs.declared.status.RunStatus.{RunStatus}
 use Rattle.hm_top.specs.declared.status.RunStatus.TheVariants.{LogRefused}
@@ -46,6 +47,14 @@ module _ (disk : DiskUse) (hands : HandsUse) where
   abbrev pub IsNotOpened : JournalWhy → Type 0
   IsNotOpened why = disk.called 3 × (disk.tells → Refuses (sheets_used hands) disk.before why × SameFrames disk.before disk.after disk.stops.after × StopsInOpening)
 
-  -- a journal that the disk holds isn't refused
-  abbrev pub AcceptsJournal : RunStatus → Type 0
-  AcceptsJournal status = disk.tells → (journal : List Entry) → IsOnDisk (sheets_used hands) disk.before journal → (why : LogWhy) → status ≡ LogRefused why → ⊥
+  -- a journal that the disk holds, and that is taken, isn't refused
+  abbrev pub AcceptsJournal : (List Entry → Type 0) → RunStatus → Type 0
+  AcceptsJournal takes status =
+      disk.tells → (journal : List Entry) → IsOnDisk (sheets_used hands) disk.before journal → takes journal → (why : LogWhy) → status ≡ LogRefused why → ⊥
+
+  -- the log couldn't be opened, for this reason
+  pub record FailedToOpen (why : JournalWhy) : Type 0 where
+    pub spared : IsSpared
+    pub judged : why ≢ why_is.Fault → IsNotOpened why
+    pub failed : why ≡ why_is.Fault → disk.failed
+    pub unjudged : disk.tells → (journal : List Entry) → IsOnDisk (sheets_used hands) disk.before journal → IsUnjudged why

@@ -6,10 +6,14 @@ pub mod Status
 pub mod Ending
 pub mod Got
 pub mod Opening
+pub mod Grants
 pub mod Answering
 pub mod Faith
 pub mod Ports
 pub mod View
 pub mod Left
 pub mod Session
+pub mod Talking
+pub mod Checking
+pub mod Generating
 pub mod Run

@@ -6,6 +6,7 @@ use Rattle.hm_ports.specs.declared.sink.Sink as Sink
 use Rattle.hm_disk.specs.Called.{IsCalled}
 use Rattle.hm_disk.specs.Disk.{LeavesOnly, LeavesThen}
 use Rattle.hm_disk.specs.declared.disk.Disk as Disk
+use Rattle.hm_log.specs.Opening.{OnlyReads}
 
 -- a source: its bytes before and after, that a read failed, and that it is as handed in
 pub record SourceUse : Type 1 where
@@ -60,7 +61,8 @@ stop_use disk old new =
       leave_then = LeavesThen disk.moment disk.left_since old new;
     }
 
--- a disk: its bytes before and after, its stops, that it counted so many changes at most, that a call failed, and that it is as handed in
+-- a disk: its bytes before and after, its stops, that it counted so many changes at most, that a call failed, that it was only read, and
+-- that it is as handed in
 pub record DiskUse : Type 1 where
   pub tells : Type 0
   pub before : List ℕ
@@ -68,6 +70,7 @@ pub record DiskUse : Type 1 where
   pub stops : StopUse
   pub called : ℕ → Type 0
   pub failed : Type 0
+  pub only_read : Type 0
   pub untouched : Type 0
 
 -- what a call did with a disk
@@ -80,5 +83,6 @@ disk_use disk old new =
       stops = stop_use disk old new;
       called = λ most. IsCalled disk most old new;
       failed = Rose (disk.faults old) (disk.faults new);
+      only_read = OnlyReads disk old new;
       untouched = new ≡ old;
     }

@@ -23,8 +23,10 @@ use Rattle.hm_top.specs.Standing.{begun}
 use Rattle.hm_top.specs.Opening.{Downs, opening_lines}
 use Rattle.hm_top.specs.Transcript.{Transcript}
 
--- commands answered over the ports: which they are, what the sink has of answers under a status, and the marks
+-- commands answered over the ports: over which journals and which commands they are, what the sink has of answers under a status, and
+-- the marks
 pub record Session : Type 1 where
+  pub takes : List Entry → Type 0
   pub given : List Command → Type 0
   pub said : RunStatus → List Answer → Type 0
   pub limits : Limits
@@ -34,7 +36,7 @@ pub record Session : Type 1 where
   pub marks : List ℕ
 
 module _ (session : Session) where
-  open session use {given, said, limits, out, disk, hands, marks}
+  open session use {takes, given, said, limits, out, disk, hands, marks}
 
   -- the servers that are live were held to be dead, and these commands were answered in turn, but for what remains under this status
   pub record AreAnswered (status : RunStatus) (commands : List Command) (old : List Entry) (new : Scene) : Type 0 where
@@ -58,6 +60,7 @@ module _ (session : Session) where
     pub commands : List Command
     pub given_are : given commands
     pub old : List Entry
+    pub taken : takes old
     pub new : Scene
     pub answering : AreAnswered status commands old new
     pub left : IsLeft disk hands old new

@@ -1,27 +1,27 @@
 //! A run, from its words to its last line.
-ghost use Rattle.std.specs.Prelude.{◌≡◌, ◌⊎◌, ◌≤◌, List, ℕ, [], length, map, string_bytes, IfOk, IfErr, OnOk, All};
+ghost use Rattle.std.specs.Prelude.{◌≡◌, ◌⊎◌, ◌≤◌, List, ℕ, [], length, map, string_bytes, IfOk, IfErr, OnOk, Ok, All};
 ghost use Rattle.hm_ports.specs.Faults.{Rose};
 ghost use Rattle.hm_script.specs.declared.bad.Bad.{Bad as BadValue};
 ghost use Rattle.hm_commands.specs.Hands.{HandsAgree, RunBy, hands_use};
 ghost use Rattle.hm_commands.specs.Offered.{IsOffered};
+ghost use Rattle.hm_top.specs.declared.words.Form.{Form as FormValue};
 ghost use Rattle.hm_top.specs.Left.{AcceptsJournal};
-ghost use Rattle.hm_top.specs.Ending.{early_status, halted_status, unopened_status};
 ghost use Rattle.hm_top.specs.Ports.{disk_use, sink_use, source_use};
 ghost use Rattle.hm_sheet.specs.Registry.{IsRegistry, sheets_of};
-ghost use Rattle.hm_top.specs.Run.{EndsUnfinished, KeepsTo, before_line};
+ghost use Rattle.hm_top.specs.Run.{EndsRun, EndsUnfinished, KeepsTo, before_line, taken_by};
 ghost use Rattle.hm_top.specs.Script.{IsBad, IsScript};
 ghost use Rattle.hm_top.specs.Session.{Outcome};
+ghost use Rattle.hm_top.specs.Words.{form_of as form_of_words};
 
-use crate::answering::answer_all;
+use crate::checking::check;
+use crate::generating::generate_over;
 use crate::last_line::finish;
-use crate::opening::begin;
-use crate::status::{EarlyEnd, LogWhy, RunStatus};
-use crate::store::Store;
-use crate::words::misfit;
+use crate::status::{RunStatus, status_of, status_of_halt};
+use crate::talking::{answer_over, open_for};
+use crate::words::{Form, form_of};
 use hm_commands::Offered;
 use hm_disk::Disk;
-use hm_hall::Halt;
-use hm_journal::{JournalWhy, Limits};
+use hm_journal::Limits;
 use hm_ports::{ReadWhy, Sink, Source, read_all};
 use hm_script::{Bad, Command, Why, parse_for};
 use hm_sheet::{Handler, Registry};
@@ -83,44 +83,6 @@ fn read_script<S: Source>(alloc: Global, script: &mut S) -> Result<Vec<Command>,
     }
 }
 
-fn status_of(why: JournalWhy) -> RunStatus
-    ensures { result ≡ unopened_status why }
-{
-    match why {
-        JournalWhy::Fault => RunStatus::LogFault,
-        JournalWhy::NotALog(at) => RunStatus::LogRefused(LogWhy::NotALog(at)),
-        JournalWhy::BadFrame(at) => RunStatus::LogRefused(LogWhy::BadFrame(at)),
-        JournalWhy::BadEntry { number, at } => {
-            RunStatus::LogRefused(LogWhy::BadEntry { number, at })
-        }
-        JournalWhy::Illegal { number, rule } => {
-            RunStatus::LogRefused(LogWhy::Illegal { number, rule })
-        }
-        JournalWhy::SheetsDiffer(kind) => RunStatus::LogRefused(LogWhy::SheetsDiffer(kind)),
-        JournalWhy::Memory => RunStatus::Memory,
-    }
-}
-
-fn status_of_halt(halted: Option<Halt>) -> RunStatus
-    ensures { result ≡ halted_status halted }
-{
-    match halted {
-        None => RunStatus::Done,
-        Some(Halt::LogFault) => RunStatus::LogFault,
-        Some(Halt::JournalFull(bytes)) => RunStatus::JournalFull(bytes),
-    }
-}
-
-fn status_of_end(end: EarlyEnd) -> RunStatus
-    ensures { result ≡ early_status end }
-{
-    match end {
-        EarlyEnd::Halted(why) => status_of_halt(Some(why)),
-        EarlyEnd::WriteFault => RunStatus::WriteFault,
-        EarlyEnd::Memory => RunStatus::Memory,
-    }
-}
-
 // Opens the log, begins a run over it, and answers the commands.
 fn converse<D: Disk, K: Sink>(
     alloc: Global,
@@ -137,6 +99,7 @@ fn converse<D: Disk, K: Sink>(
     requires offered { All IsOffered commands.items }
     requires hard { 65551 ≤ limits.hard }
     ensures outcome { Outcome (record {
+      takes = λ old. Unit {0};
       given = λ read. read ≡ commands.items;
       said = before_line (sink_use K.Sink out.old out.new);
       limits = limits;
@@ -145,37 +108,57 @@ fn converse<D: Disk, K: Sink>(
       hands = hands_use ⟦<dyn Handler as Handler>⟧ hands.old.items hands.new.items;
       marks = marks.new.items;
     }) result.0 }
-    ensures accepts { AcceptsJournal (disk_use D.Disk disk result.1) (hands_use ⟦<dyn Handler as Handler>⟧ hands.old.items hands.new.items) result.0 }
+    ensures accepts { AcceptsJournal (disk_use D.Disk disk result.1) (hands_use ⟦<dyn Handler as Handler>⟧ hands.old.items hands.new.items) (λ journal. Unit {0}) result.0 }
     ensures later { K.faults out.old ≤ K.faults out.new }
     ensures run_by { RunBy (hands_use ⟦<dyn Handler as Handler>⟧ hands.old.items hands.new.items) 0 }
 {
-    let sheets = hands[0].sheets();
-    let store = match Store::open(alloc, disk, sheets.as_slice(), limits) {
+    let store = match open_for(alloc, disk, hands, limits) {
         Ok(store) => store,
         Err((disk, why)) => return (status_of(why), disk),
     };
-    let cluster = match store.into_cluster(alloc) {
-        Ok(cluster) => cluster,
-        Err(disk) => return (RunStatus::Memory, disk),
-    };
-    let Ok(()) = marks.reserve(commands.len()) else {
-        return (RunStatus::Memory, cluster.into_disk());
-    };
-    let begun = match begin(alloc, cluster, out) {
-        Ok(begun) => begun,
-        Err((disk, end)) => return (status_of_end(end), disk),
-    };
-    match answer_all(alloc, begun, hands, commands, out, marks) {
-        Ok(cluster) => {
-            let halted = cluster.halted();
-            (status_of_halt(halted), cluster.into_disk())
-        }
-        Err((disk, end)) => (status_of_end(end), disk),
+    match answer_over(alloc, store, commands, out, hands, marks) {
+        Ok(cluster) => (status_of_halt(cluster.halted()), cluster.into_disk()),
+        Err((disk, stop)) => (stop.status(), disk),
+    }
+}
+
+// Reads the script, and answers its commands.
+fn answer_script<S: Source, K: Sink, D: Disk>(
+    alloc: Global,
+    script: &mut S,
+    out: &mut K,
+    disk: D,
+    hands: &mut Vec<Registry>,
+    limits: Limits,
+    marks: &mut Vec<u64>,
+) -> (RunStatus, D)
+    requires fresh { marks.old.items ≡ [] }
+    requires agree { HandsAgree (map (sheets_of ⟦<dyn Handler as Handler>⟧) hands.old.items) }
+    requires each { All (IsRegistry ⟦<dyn Handler as Handler>⟧) hands.old.items }
+    requires hard { 65551 ≤ limits.hard }
+    ensures ends { (words : List (List ℕ)) → EndsRun (record {
+      words = words;
+      limits = limits;
+      script = source_use S.Source script.old script.new;
+      out = sink_use K.Sink out.old out.new;
+      disk = disk_use D.Disk disk result.1;
+      hands = hands_use ⟦<dyn Handler as Handler>⟧ hands.old.items hands.new.items;
+      marks = marks.new.items;
+    }) before_line result.0 }
+    ensures accepts { AcceptsJournal (disk_use D.Disk disk result.1) (hands_use ⟦<dyn Handler as Handler>⟧ hands.old.items hands.new.items) (λ journal. Unit {0}) result.0 }
+    ensures later { K.faults out.old ≤ K.faults out.new }
+    ensures run_by { RunBy (hands_use ⟦<dyn Handler as Handler>⟧ hands.old.items hands.new.items) 0 }
+{
+    match read_script(alloc, script) {
+        Ok(commands) => converse(alloc, commands, out, disk, hands, limits, marks),
+        Err(ScriptEnd::Bad(bad)) => (RunStatus::BadScript(bad), disk),
+        Err(ScriptEnd::ReadFault) => (RunStatus::ReadFault, disk),
+        Err(ScriptEnd::Memory) => (RunStatus::Memory, disk),
     }
 }
 
 // All of a run but its last line.
-fn answer_script<S: Source, K: Sink, D: Disk>(
+fn answer_words<S: Source, K: Sink, D: Disk>(
     alloc: Global,
     words: &[String],
     script: &mut S,
@@ -198,18 +181,22 @@ fn answer_script<S: Source, K: Sink, D: Disk>(
       hands = hands_use ⟦<dyn Handler as Handler>⟧ hands.old.items hands.new.items;
       marks = marks.new.items;
     }) result.0 }
-    ensures accepts { AcceptsJournal (disk_use D.Disk disk result.1) (hands_use ⟦<dyn Handler as Handler>⟧ hands.old.items hands.new.items) result.0 }
+    ensures accepts { (form : FormValue) → form_of_words (map string_bytes words.now) ≡ Ok form
+        → AcceptsJournal (disk_use D.Disk disk result.1) (hands_use ⟦<dyn Handler as Handler>⟧ hands.old.items hands.new.items) (taken_by form) result.0 }
     ensures later { K.faults out.old ≤ K.faults out.new }
     ensures run_by { RunBy (hands_use ⟦<dyn Handler as Handler>⟧ hands.old.items hands.new.items) 0 }
 {
-    if let Some(word) = misfit(words) {
-        return (RunStatus::Usage(word), disk);
-    }
-    match read_script(alloc, script) {
-        Ok(commands) => converse(alloc, commands, out, disk, hands, limits, marks),
-        Err(ScriptEnd::Bad(bad)) => (RunStatus::BadScript(bad), disk),
-        Err(ScriptEnd::ReadFault) => (RunStatus::ReadFault, disk),
-        Err(ScriptEnd::Memory) => (RunStatus::Memory, disk),
+    match form_of(words) {
+        Ok(Form::Run) => answer_script(alloc, script, out, disk, hands, limits, marks),
+        Ok(Form::Check) => {
+            let mut disk = disk;
+            let status = check(alloc, out, &mut disk, hands);
+            (status, disk)
+        }
+        Ok(Form::Gen { seed, count }) => {
+            generate_over(alloc, seed, count, out, disk, hands, limits, marks)
+        }
+        Err(word) => (RunStatus::Usage(word), disk),
     }
 }
 
@@ -265,7 +252,7 @@ pub fn run_within<S: Source, K: Sink, D: Disk>(
 {
     let mut hands = hands;
     let mut marks = Vec::new(alloc);
-    let (status, disk) = answer_script(
+    let (status, disk) = answer_words(
         alloc, words, script, out, disk, &mut hands, limits, &mut marks,
     );
     finish(out, status);

@@ -9,7 +9,7 @@ ghost use Rattle.hm_commands.specs.Answer.{answer_text};
 ghost use Rattle.hm_commands.specs.Pieces.{piece_text};
 
 use Piece::{Bytes, Number, Server, Text};
-use hm_commands::{Answer, Piece};
+use hm_commands::{Answer, Piece, append_all};
 use hm_names::ServerName;
 use hm_ports::{Failed, Sink, write_all};
 use itoa::Buffer;
@@ -74,37 +74,12 @@ pub(crate) fn put_all<K: Sink>(out: &mut K, pieces: &[Piece<'_>]) -> Result<(), 
     Ok(())
 }
 
-// Appends the name of a server to a text.
-fn append_server(text: &mut Vec<u8>, server: &ServerName) -> Result<(), AllocError>
-    ensures { OnOk result (text.new.items ≡ text.old.items ++ server_text server.now) }
-{
-    text.extend_from_slice(server.host.as_bytes())?;
-    text.extend_from_slice(b",")?;
-    text.extend_from_slice(Buffer::new().format(server.port).as_bytes())?;
-    text.extend_from_slice(b",")?;
-    text.extend_from_slice(Buffer::new().format(server.start).as_bytes())
-}
-
-// Appends a piece to a text.
-fn append(text: &mut Vec<u8>, piece: &Piece<'_>) -> Result<(), AllocError>
-    ensures { OnOk result (text.new.items ≡ text.old.items ++ piece_text piece.now) }
-{
-    match piece {
-        Text(part) => text.extend_from_slice(part.as_bytes()),
-        Bytes(bytes) => text.extend_from_slice(bytes),
-        Number(number) => text.extend_from_slice(Buffer::new().format(*number).as_bytes()),
-        Server(server) => append_server(text, server),
-    }
-}
-
 /// The pieces as one text.
 pub(crate) fn joined(alloc: Global, pieces: &[Piece<'_>]) -> Result<Vec<u8>, AllocError>
     ensures { IfOk result (λ text. text.items ≡ flat_map piece_text pieces.now) }
 {
     let mut text = Vec::new(alloc);
-    for piece in pieces {
-        append(&mut text, piece)?;
-    }
+    append_all(&mut text, pieces)?;
     Ok(text)
 }
 

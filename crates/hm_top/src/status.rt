@@ -1,7 +1,9 @@
 //! How a run ends, and the last line that says so.
 ghost use Rattle.std.specs.Prelude.{◌≡◌, Some};
+ghost use Rattle.hm_top.specs.Ending.{early_status, halted_status, unopened_status};
 
 use hm_hall::Halt;
+use hm_journal::JournalWhy;
 use hm_script::Bad;
 use std::fmt;
 use thiserror::Error;
@@ -114,5 +116,46 @@ impl fmt::Display for RunStatus {
             RunStatus::ReadFault => write!(f, "hmaster: read fault\n"),
             RunStatus::JournalFull(bytes) => write!(f, "hmaster: journal full: {bytes}\n"),
         }
+    }
+}
+
+/// How a run ends whose log couldn't be opened.
+pub(crate) fn status_of(why: JournalWhy) -> RunStatus
+    ensures { result ≡ unopened_status why }
+{
+    match why {
+        JournalWhy::Fault => RunStatus::LogFault,
+        JournalWhy::NotALog(at) => RunStatus::LogRefused(LogWhy::NotALog(at)),
+        JournalWhy::BadFrame(at) => RunStatus::LogRefused(LogWhy::BadFrame(at)),
+        JournalWhy::BadEntry { number, at } => {
+            RunStatus::LogRefused(LogWhy::BadEntry { number, at })
+        }
+        JournalWhy::Illegal { number, rule } => {
+            RunStatus::LogRefused(LogWhy::Illegal { number, rule })
+        }
+        JournalWhy::SheetsDiffer(kind) => RunStatus::LogRefused(LogWhy::SheetsDiffer(kind)),
+        JournalWhy::Memory => RunStatus::Memory,
+    }
+}
+
+/// How a run ends that was halted by this, or by nothing.
+pub(crate) fn status_of_halt(halted: Option<Halt>) -> RunStatus
+    ensures { result ≡ halted_status halted }
+{
+    match halted {
+        None => RunStatus::Done,
+        Some(Halt::LogFault) => RunStatus::LogFault,
+        Some(Halt::JournalFull(bytes)) => RunStatus::JournalFull(bytes),
+    }
+}
+
+/// How a run ends that ended early.
+pub(crate) fn status_of_end(end: EarlyEnd) -> RunStatus
+    ensures { result ≡ early_status end }
+{
+    match end {
+        EarlyEnd::Halted(why) => status_of_halt(Some(why)),
+        EarlyEnd::WriteFault => RunStatus::WriteFault,
+        EarlyEnd::Memory => RunStatus::Memory,
     }
 }

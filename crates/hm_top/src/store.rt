@@ -1,5 +1,5 @@
 //! A journal on a disk that was opened, before anything is done with it.
-ghost use Rattle.std.specs.Prelude.{◌≡◌, ◌≢◌, ◌⊎◌, ◌≤◌, [], List, length, IfOk, IfErr, MatchResult};
+ghost use Rattle.std.specs.Prelude.{◌≡◌, ◌≢◌, ◌⊎◌, ◌≤◌, [], List, None, length, IfOk, IfErr, MatchResult};
 ghost use Rattle.hm_ports.specs.Faults.{Rose};
 ghost use Rattle.hm_disk.specs.Called.{IsCalled};
 ghost use Rattle.hm_disk.specs.Disk.{LeavesOnly, LeavesThen};
@@ -40,6 +40,17 @@ impl<D: Disk> Model for Store<D> {
     ghost invariant = { λ s. IsStore s.state.entries s.journal.kept };
 }
 
+// Gives back the disk of a journal with which nothing was done.
+fn release<D: Disk>(state: State, journal: Journal<D>) -> D
+    requires same { journal.kept.entries ≡ state.entries }
+    requires going { journal.kept.halted ≡ None }
+    requires tailless { journal.kept.tail ≡ None }
+    ensures { IsLeftBy D.Disk journal.opened (new_scene journal.kept) result }
+{
+    let _legal = state.entries();
+    journal.into_disk()
+}
+
 impl<D: Disk> Store<D> {
     /// Opens a disk as a journal of these sheets. An error gives the disk back.
     pub fn open(
@@ -74,5 +85,20 @@ impl<D: Disk> Store<D> {
     {
         let Store { journal, state } = self;
         Cluster::new(alloc, state, journal)
+    }
+
+    /// The length of the journal.
+    pub(crate) fn entries(&self) -> u64
+        ensures { result ≡ length self.now.kept.entries }
+    {
+        self.state.entries()
+    }
+
+    /// Gives the disk back.
+    pub(crate) fn into_disk(self) -> D
+        ensures { IsLeftBy D.Disk self.opened (new_scene self.kept) result }
+    {
+        let Store { journal, state } = self;
+        release(state, journal)
     }
 }

@@ -1,5 +1,7 @@
 //! `hmaster run LOG` runs a script of commands, from standard input, over the log in the file LOG. It
-//! writes the answers to standard output, and its exit status says how the run ended.
+//! writes the answers to standard output, and its exit status says how the run ended. `hmaster check LOG`
+//! says how long the journal in a log is, and `hmaster gen SEED N LOG` makes a cluster of N regions by a
+//! script that it makes of a number.
 #![tactic(auto)]
 
 ghost use Rattle.std.specs.Prelude.{◌≡◌, map, string_bytes};
@@ -14,7 +16,7 @@ use hm_ports::{StdSink, StdSource, write_all};
 use hm_sheet::{Handler, Registry};
 use hm_split::SplitHands;
 use hm_tables::TableHands;
-use hm_top::{RunStatus, hands_agree, log_path, run};
+use hm_top::{RunStatus, form_of, hands_agree, log_path, run};
 use hm_transit::TransitHands;
 use std::alloc::{AllocError, Global};
 use std::process::ExitCode;
@@ -29,7 +31,7 @@ fn program_words(rt: &HostRuntime) -> Result<Vec<String>, AllocError> {
     }
 }
 
-// Runs the script on standard input over a disk, with a registry for each group of handlers. It runs nothing where they
+// Does what the words ask for over a disk, with the script on standard input and a registry for each group of handlers. It runs nothing where they
 // don't agree; those that `run_over` makes are all alike.
 fn run_with<D: Disk>(
     rt: &HostRuntime,
@@ -102,8 +104,8 @@ fn cannot_open(rt: &HostRuntime) -> RunStatus
     RunStatus::LogFault
 }
 
-// Opens the log that the words name, and runs over it. Words that are no command need no log: the
-// run answers them before it looks at a disk.
+// Opens the log that the words name, for reading alone where they ask for no more, and runs over it. Words that are no
+// command need no log: the run answers them before it looks at a disk.
 fn run_words(rt: &HostRuntime, words: &[String]) -> RunStatus
     ensures { Fits (misfit_of (map string_bytes words.now)) result }
 {
@@ -113,7 +115,11 @@ fn run_words(rt: &HostRuntime, words: &[String]) -> RunStatus
             Err(_) => RunStatus::Memory,
         };
     };
-    match FileDisk::writable(rt, path) {
+    let opened = match form_of(words) {
+        Ok(form) if form.only_reads() => FileDisk::read_only(rt, path),
+        _ => FileDisk::writable(rt, path),
+    };
+    match opened {
         Ok(disk) => run_over(rt, words, disk),
         Err(_) => cannot_open(rt),
     }

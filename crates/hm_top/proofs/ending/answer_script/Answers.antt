@@ -1,15 +1,15 @@
-use Rattle.std.proofs.Common.{map, string_bytes, refl, sym, ◌∙◌}
+use Rattle.std.proofs.Common.{refl}
 use Rattle.hm_top.specs.Ports.{source_use}
 use Rattle.hm_commands.proofs.Ran.{run_none}
 use Rattle.hm_top.proofs.Runs.{script_read}
 use Rattle.hm_top.proofs.ending.answer_script.Goals as goal
 
 pub returns-in-Ok-clause-ends : goal.returns-in-Ok-clause-ends
-returns-in-Ok-clause-ends g c =
+returns-in-Ok-clause-ends g c words =
     let read = c.in-Ok.ensures in
     script_read
     (record {
-      words = map string_bytes c.args.words.now;
+      words = words;
       limits = _;
       script = source_use g.S.Source c.args.script.now c.read_script.new.script;
       out = _;
@@ -17,10 +17,7 @@ returns-in-Ok-clause-ends g c =
       hands = _;
       marks = _;
     })
-    c.in-Ok.commands.items c.in-Ok.commands.items _ (sym c.misfit.ensures ∙ c.in_default.is) read.ok refl read.end c.converse.ensures.outcome
-
-pub returns-in-Some-clause-run_by : goal.returns-in-Some-clause-run_by
-returns-in-Some-clause-run_by g c = run_none _ _
+    c.in-Ok.commands.items _ read.ok read.end c.converse.ensures.outcome
 
 pub returns-in-Err-Bad-clause-run_by : goal.returns-in-Err-Bad-clause-run_by
 returns-in-Err-Bad-clause-run_by g c = run_none _ _

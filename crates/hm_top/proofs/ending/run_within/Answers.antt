@@ -4,7 +4,7 @@ use Rattle.hm_top.proofs.ending.run_within.Goals as goal
 
 pub returns : goal.returns
 returns g c =
-    let answered = c.answer_script-status in
+    let answered = c.answer_words-status in
     run_keeps g.K.Sink c.args.out.now answered.new.out c.finish.new.out
     (record {
       words = _;

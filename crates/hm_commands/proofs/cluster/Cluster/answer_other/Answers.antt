@@ -50,3 +50,6 @@ returns-in-Expire-clause-ran g c =
 pub returns-in-Refuse-clause-ran : goal.returns-in-Refuse-clause-ran
 returns-in-Refuse-clause-ran g c =
     other_ran _ (command_is.Refuse c.in-Refuse.server c.in-Refuse.count) tt (scene_in c.args.self.now) (Some c.arm.result) (scene_in c.arm.new.self) c.arm.ensures.comes (run_none _ _)
+
+pub returns-in-Balance-clause-ran : goal.returns-in-Balance-clause-ran
+returns-in-Balance-clause-ran g c = other_ran _ command_is.Balance tt (scene_in c.args.self.now) (result_ok c.balance.result) (scene_in c.balance.new.self) c.balance.ensures.comes (run_none _ _)

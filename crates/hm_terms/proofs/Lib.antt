@@ -1,0 +1,4 @@
+pub mod Once
+pub mod Serving
+pub mod Events
+pub mod Scenes
