@@ -40,6 +40,11 @@ def submissions(numbers):
     return "".join("namespace 7:%d n%d\n" % (number, number) for number in numbers).encode()
 
 
+def tables(numbers):
+    """A script that asks for a table of one region under each of these nonces."""
+    return "".join("create 7:%d t%d\n" % (number, number) for number in numbers).encode()
+
+
 def verdict(what, ratio, most):
     """Says how a ratio stands to its bound; the exit status of the bench."""
     print("%s is %.2f, at most %.1f is wanted" % (what, ratio, most))
