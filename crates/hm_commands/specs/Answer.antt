@@ -48,6 +48,7 @@ refusal_number (refusal_is.Child root) = Some root
 refusal_number (refusal_is.OldStart start) = Some start
 refusal_number why = None
 
+-- a number in decimals, where there is one
 abbrev number_text : Option ℕ → List ℕ
 number_text None = []
 number_text (Some number) = decimal number

@@ -11,7 +11,8 @@ use Rattle.hm_costs.proofs.MetDisabledTwo as two_disabled
 use Rattle.hm_costs.proofs.MetEnabledTwo as two_enabled
 use Rattle.hm_costs.proofs.MetCrashedTwo as two_crashed
 use Rattle.hm_costs.specs.Met.{CostsAreMet}
+use Rattle.hm_model.proofs.Played.{played_legal}
 
 pub costs_are_met_is : CostsAreMet
 costs_are_met_is =
-    ((deleted, deleted_played, 12, creates_namespace), ((deleted, deleted_played, 13, drops_namespace), ((created, created_played, 1, creates_table), ((deleted, deleted_played, 10, deletes_table), ((moved, moved_played, 9, enables_table), ((disabled, disabled_played, 6, disables_table), ((deleted, deleted_played, 9, modifies_table), ((merged, merged_played, 6, splits_region), ((merged, merged_played, 14, merges_regions), ((moved, moved_played, 12, moves_region), ((crashed, crashed_played, 6, crashes), ((undone, undone_played, 11, opens_again), ((undone, undone_played, 10, sweeps_layout), ((two_created.created, two_created.created_played, 1, two_created.creates_table), ((two_enabled.enabled, two_enabled.enabled_played, 13, two_enabled.enables_table), ((two_disabled.disabled, two_disabled.disabled_played, 8, two_disabled.disables_table), ((two_crashed.crashed, two_crashed.crashed_played, 8, two_crashed.crashes), tt)))))))))))))))))
+    ((deleted, played_legal deleted deleted_played, 12, creates_namespace), ((deleted, played_legal deleted deleted_played, 13, drops_namespace), ((created, played_legal created created_played, 1, creates_table), ((deleted, played_legal deleted deleted_played, 10, deletes_table), ((moved, played_legal moved moved_played, 9, enables_table), ((disabled, played_legal disabled disabled_played, 6, disables_table), ((deleted, played_legal deleted deleted_played, 9, modifies_table), ((merged, played_legal merged merged_played, 6, splits_region), ((merged, played_legal merged merged_played, 14, merges_regions), ((moved, played_legal moved moved_played, 12, moves_region), ((crashed, played_legal crashed crashed_played, 6, crashes), ((undone, played_legal undone undone_played, 11, opens_again), ((undone, played_legal undone undone_played, 10, sweeps_layout), ((two_created.created, played_legal two_created.created two_created.created_played, 1, two_created.creates_table), ((two_enabled.enabled, played_legal two_enabled.enabled two_enabled.enabled_played, 13, two_enabled.enables_table), ((two_disabled.disabled, played_legal two_disabled.disabled two_disabled.disabled_played, 8, two_disabled.disables_table), ((two_crashed.crashed, played_legal two_crashed.crashed two_crashed.crashed_played, 8, two_crashed.crashes), tt)))))))))))))))))

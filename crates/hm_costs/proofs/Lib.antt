@@ -1,4 +1,3 @@
-pub mod Sheets
 pub mod MetBegun
 pub mod MetCreated
 pub mod MetDisabled

@@ -16,8 +16,8 @@ use Rattle.hm_model.specs.Outs.{calls, gives, spawns}
 use Rattle.hm_model.specs.Requests.{StaysWithin, wrong_in}
 use Rattle.hm_model.specs.Tree.{Node, child_of, root_node}
 use Rattle.hm_model.proofs.ByHand.{edit, one, pid, table}
-use Rattle.hm_costs.specs.Met.{IsPlayed}
-use Rattle.hm_costs.proofs.Sheets.{sheets, sheets_valid}
+use Rattle.hm_model.proofs.Played.{IsPlayed}
+use Rattle.hm_model.proofs.AllSheets.{sheets, sheets_valid}
 
 -- the request
 abbrev pub creates : List (List ℕ) → Request

@@ -12,7 +12,8 @@ use Rattle.hm_model.specs.Journal.{Past}
 use Rattle.hm_model.specs.Outs.{calls, gives, places, spawns}
 use Rattle.hm_model.specs.Tree.{Node, child_of, root_node}
 use Rattle.hm_model.proofs.ByHand.{one, pid, region, table, two}
-use Rattle.hm_costs.specs.Met.{IsMet, IsPlayed}
+use Rattle.hm_costs.specs.Met.{IsMet}
+use Rattle.hm_model.proofs.Played.{IsPlayed}
 use Rattle.hm_costs.proofs.MetCreatedTwo.{created, created_played}
 
 abbrev pub node8 : Node

@@ -18,7 +18,8 @@ use Rattle.hm_model.specs.Tree.{Node, child_of, drawn}
 use Rattle.std.proofs.lemmas.Option.{same_Some}
 use Rattle.hm_model.proofs.ByHand.{edit, one, pid, region, table}
 use Rattle.hm_names.specs.declared.range.KeyRange.{KeyRange}
-use Rattle.hm_costs.specs.Met.{IsMet, IsPlayed}
+use Rattle.hm_costs.specs.Met.{IsMet}
+use Rattle.hm_model.proofs.Played.{IsPlayed}
 use Rattle.hm_costs.proofs.MetBegun.{begun, begun_played, node1 as begun_node, played1}
 
 abbrev pub node1 : Node

@@ -16,8 +16,9 @@ use Rattle.hm_model.specs.Tree.{Node, child_of, drawn, root_node}
 use Rattle.std.proofs.Common.{arith, subst, ◌+◌, ◌≤◌}
 use Rattle.std.proofs.lemmas.Option.{none-some, same_Some}
 use Rattle.hm_model.proofs.ByHand.{edit, pid, region, table}
-use Rattle.hm_costs.specs.Met.{IsMet, IsPlayed}
-use Rattle.hm_costs.proofs.Sheets.{whole}
+use Rattle.hm_costs.specs.Met.{IsMet}
+use Rattle.hm_model.proofs.Played.{IsPlayed}
+use Rattle.hm_model.proofs.AllSheets.{whole}
 use Rattle.hm_costs.proofs.MetDisabled.{disabled, disabled_played}
 
 abbrev pub node9 : Node

@@ -19,7 +19,8 @@ use Rattle.hm_model.specs.Tree.{Node, child_of, drawn, root_node}
 use Rattle.std.proofs.Common.{arith, subst, ◌+◌, ◌≤◌}
 use Rattle.std.proofs.lemmas.Option.{same_Some}
 use Rattle.hm_model.proofs.ByHand.{edit, one, pid, region, table}
-use Rattle.hm_costs.specs.Met.{IsMet, IsPlayed}
+use Rattle.hm_costs.specs.Met.{IsMet}
+use Rattle.hm_model.proofs.Played.{IsPlayed}
 use Rattle.hm_costs.proofs.MetCreated.{created, created_played}
 
 abbrev pub node6 : Node

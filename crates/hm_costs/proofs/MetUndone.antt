@@ -15,7 +15,8 @@ use Rattle.hm_model.specs.Outs.{calls, fails, gives, places, spawns}
 use Rattle.hm_model.specs.Tree.{Node, child_of, root_node}
 use Rattle.hm_model.specs.Undoing.{undo_out}
 use Rattle.hm_model.proofs.ByHand.{one, pid, region}
-use Rattle.hm_costs.specs.Met.{IsMet, IsPlayed}
+use Rattle.hm_costs.specs.Met.{IsMet}
+use Rattle.hm_model.proofs.Played.{IsPlayed}
 use Rattle.hm_costs.proofs.MetClosed.{laid, laid_played, node6, node9}
 
 abbrev pub node10 : Node

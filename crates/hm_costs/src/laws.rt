@@ -13,10 +13,9 @@ pub fn cost_bound()
     ensures { CostBound }
 {}
 
-/// Each kind of root costs just what a root of the kind takes in some journal: requests of each kind, with one region in a
-/// table and two that are split or merged, a crash of one region, and the transit and the sweep that an undo makes; and where
-/// regions are counted one by one, with two of them. Their entries meet each rule, whichever kinds the master runs, and one
-/// root at a time has a step and hasn't ended.
+/// Each kind of root costs just what a root of the kind takes in some legal journal: requests of each kind, with one region in
+/// a table and two that are split or merged, a crash of one region, and the transit and the sweep that an undo makes; and where
+/// regions are counted one by one, with two of them.
 pub fn costs_are_met()
     ensures { CostsAreMet }
 {}

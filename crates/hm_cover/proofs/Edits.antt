@@ -18,7 +18,7 @@ use Rattle.hm_model.specs.Phase.{or_else}
 use Rattle.hm_model.specs.Serial.{edits_in}
 use Rattle.hm_model.specs.declared.lock.Resource.TheVariants as resource_is
 use Rattle.std.specs.declared.result.Result.TheVariants.{Ok}
-use Rattle.hm_serial.specs.Theorem.{Tells}
+use Rattle.hm_model.specs.GoingBack.{Tells}
 use Rattle.hm_cover.proofs.Whole.{Whole, whole_same}
 
 -- the key is the table's or one of its regions'

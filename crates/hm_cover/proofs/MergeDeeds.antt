@@ -28,7 +28,7 @@ use Rattle.hm_model.specs.Keys.{same_table}
 use Rattle.hm_model.specs.Locks.{in_name_order, with_region, with_region_at}
 use Rattle.hm_model.specs.RowsSaid.{in_status, range_in}
 use Rattle.hm_model.specs.declared.part.Part.{Part}
-use Rattle.hm_serial.specs.Theorem.{Tells}
+use Rattle.hm_model.specs.GoingBack.{Tells}
 use Rattle.hm_cover.proofs.Chains.{PartsHaveKeys, by_start_holders, by_start_keys, chain_once, hull_has_key, part_holders}
 use Rattle.hm_cover.proofs.Edits.{AreApart, HasNot, IsOff, Reads, off_append, tells_apart, whole_off}
 use Rattle.hm_cover.proofs.Tally.{AllBelow, What, Row, Regions, counts, found, found-append, left, left-append, serves}

@@ -21,7 +21,7 @@ use Rattle.hm_model.specs.Checks.{can_split, key_inside, region_ready, regions_l
 use Rattle.hm_model.specs.Counts.{one_if}
 use Rattle.hm_model.specs.Keys.{same_table}
 use Rattle.hm_model.specs.RowsSaid.{in_status, range_in, table_state_in}
-use Rattle.hm_serial.specs.Theorem.{Tells}
+use Rattle.hm_model.specs.GoingBack.{Tells}
 use Rattle.hm_cover.proofs.Chains.{parts_once}
 use Rattle.hm_cover.proofs.Edits.{IsOff, neither, tells_apart, whole_off}
 use Rattle.hm_cover.proofs.Whole.{IsEven, Whole, whole_even}

@@ -22,7 +22,7 @@ use Rattle.hm_model.specs.Reads.{is_region_in}
 use Rattle.hm_model.specs.Pieces.{ranges_between}
 use Rattle.hm_model.specs.Requests.{rise}
 use Rattle.hm_model.specs.RowsSaid.{Rows, all_among}
-use Rattle.hm_serial.specs.Theorem.{Tells}
+use Rattle.hm_model.specs.GoingBack.{Tells}
 use Rattle.hm_cover.proofs.Chains.{HaveKeys, bounds_keys, bounds_once, holders}
 use Rattle.hm_cover.proofs.Edits.{IsOff, whole_off}
 use Rattle.hm_cover.proofs.Tally.{AllBelow, Row, Regions, found, left, serves, total}

@@ -18,7 +18,7 @@ use Rattle.hm_model.specs.Changes.{region_key}
 use Rattle.hm_model.specs.Counts.{count_below, one_if}
 use Rattle.hm_model.specs.Keys.{same_key, same_table}
 use Rattle.hm_model.specs.Undoing.{turned, turned_round}
-use Rattle.hm_serial.specs.Theorem.{Tells}
+use Rattle.hm_model.specs.GoingBack.{Tells}
 
 -- a live region with this range has the key
 abbrev pub if_live : Status → Bool → Bool

@@ -21,7 +21,7 @@ use Rattle.hm_model.specs.Changes.{region_key}
 use Rattle.hm_model.specs.Counts.{count_below, one_if}
 use Rattle.hm_model.specs.Keys.{same_key}
 use Rattle.hm_model.specs.Ranges.{IsBare, IsCovered, IsLiveWith, NoneOverlap}
-use Rattle.hm_serial.specs.Theorem.{Tells}
+use Rattle.hm_model.specs.GoingBack.{Tells}
 use Rattle.hm_cover.proofs.Chains.{HasKey}
 use Rattle.hm_cover.proofs.Tally.{Row, Regions, total, found, left, serves, AllBelow, id_below, total_edits, one_place, two_places}
 

@@ -63,6 +63,7 @@ abbrev pub entry_by : Turn → ℕ → StepIn → StepOut → Entry
 entry_by turn_is.Step p was out = entry_is.Step (record { 0 = p }) was.pick out
 entry_by (turn_is.Undo edits) p was out = entry_is.Undo was.pid was.row out
 
+-- the entry that an answer to what was handed out becomes
 abbrev pub entry_of : Taken → StepOut → Entry
 entry_of taken out = let was = taken.was in (let pid = taken.pid in entry_by was.turn pid.0 was out)
 

@@ -26,11 +26,11 @@ use hm_names::{Copied, Pid, Same, ServerName};
 use hm_state::State;
 use std::alloc::{AllocError, Global};
 
-// Whether an answer changes rows or places.
+// Whether an answer changes rows.
 fn alters(out: &StepOut) -> bool
     ensures { result ≡ changes out.now }
 {
-    !out.edits.as_slice().is_empty() || out.place.is_some()
+    !out.edits.as_slice().is_empty()
 }
 
 // The entry of a step, with a copy of its pick.

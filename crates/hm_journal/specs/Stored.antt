@@ -36,6 +36,7 @@ SameSheets one other = (kind : ℕ) → kind < 256 → sheet_for one kind ≡ sh
 abbrev pub IsJournalByKind : List Sheet → List Entry → Type 0
 IsJournalByKind sheets journal = (own : List Sheet) × SameSheets sheets own × IsJournal own journal
 
+-- bytes hold a journal of these sheets, compared kind by kind
 abbrev pub IsOnDiskByKind : List Sheet → List ℕ → List Entry → Type 0
 IsOnDiskByKind sheets bytes journal = HoldsFrames bytes (frames_of journal) × IsJournalByKind sheets journal
 

@@ -9,6 +9,7 @@ use Rattle.hm_model.specs.Catalog.{edited}
 use Rattle.hm_model.specs.Keys.{same_key}
 use Rattle.hm_model.specs.Reads.{covers}
 use Rattle.hm_model.proofs.KeyTests.{cases_key}
+pub use Rattle.hm_model.proofs.LeadsBack.{edited-append}
 
 -- a procedure's exclusive asks cover each edit
 abbrev pub Within : Args → List Edit → Type 0
@@ -25,10 +26,6 @@ within_others args (edit ∷ edits) within key off row = elim (cases_key key edi
 pub within_append : (args : Args) (xs ys : List Edit) → Within args xs → Within args ys → Within args (xs ++ ys)
 within_append args [] ys one two = two
 within_append args (x ∷ xs) ys one two = (one.0, within_append args xs ys one.1 two)
-
-pub edited-append : (xs ys : List Edit) (key : CatKey) (row : Option CatRow) → edited (xs ++ ys) key row ≡ edited ys key (edited xs key row)
-edited-append [] ys key row = refl
-edited-append (x ∷ xs) ys key row = edited-append xs ys key (cond (same_key key x.key) x.after row)
 
 -- edits that set the same keys to the same rows
 abbrev pub Alike : List Edit → List Edit → Type 0

@@ -12,9 +12,7 @@ use Rattle.hm_data.specs.declared.catalog.Edit.{Edit}
 use Rattle.hm_data.specs.declared.record.Phase.{Phase}
 use Rattle.hm_data.specs.declared.sheet.Row.{Row}
 use Rattle.hm_data.specs.declared.sheet.Sheet.{Sheet}
-use Rattle.hm_data.specs.declared.step.StepOut.{StepOut}
 use Rattle.hm_model.specs.Costs.{cost}
-use Rattle.hm_model.specs.Inputs.{answers}
 use Rattle.hm_model.specs.Journal.{Past}
 use Rattle.hm_model.specs.Phase.{phase}
 use Rattle.hm_model.specs.Picks.{pick_fits}
@@ -43,11 +41,6 @@ sheet kind rows = record { kind = kind; rows = rows }
 
 abbrev pub edit : CatKey → Option CatRow → Option CatRow → Edit
 edit key before after = record { key = key; before = before; after = after }
-
--- what the next step of a procedure answers, or what undoes one
-abbrev pub says : Past → ℕ → Option Server → Option StepOut
-says J p pick =
-    elim (node_of J p) as (λ n. Option StepOut) [ None ↦ None | Some node ↦ answers J p node pick ]
 
 -- the phase of a procedure
 abbrev pub phase_of : Past → ℕ → Option Phase

@@ -14,6 +14,9 @@ pub mod Ranges
 pub mod Nonces
 pub mod Counting
 pub mod ByHand
+pub mod AllSheets
+pub mod Freed
+pub mod Played
 pub mod PlainActs
 pub mod ExactRows
 pub mod CallSteps
@@ -38,3 +41,5 @@ pub mod Highs
 pub mod Kin
 pub mod Free
 pub mod Running
+mod GoingBack
+pub mod LeadsBack

@@ -33,6 +33,7 @@ abbrev pub begun : Server → Actor
 begun name = record { name = name; last = λ region. None; refusals = 0 }
 
 -- a region is held
+-- whether the last call that was served left a region held
 abbrev pub holds_if : Option Served → Bool
 holds_if None = false
 holds_if (Some served) = served.holds
@@ -58,6 +59,7 @@ opening actor region =
     then (record { told = told_is.FailedOpen; holds = holds actor region; refusals = actor.refusals - 1 })
     else (record { told = told_is.Opened; holds = true; refusals = actor.refusals })
 
+-- what a close does
 abbrev pub closing : Actor → Service
 closing actor = record { told = told_is.Closed; holds = false; refusals = actor.refusals }
 
@@ -84,6 +86,7 @@ serve_by Less actor id region service = (actor, None)
 serve_by Equal actor id region service = (actor, once_more actor id (actor.last region))
 serve_by Greater actor id region service = (behind actor id region service, Some (reported actor id service.told))
 
+-- what a server does at a call, by what is asked; a fence and layouts are not for it
 abbrev pub serve_verb : Actor → Pid → Verb → Actor × Option ReportMsg
 serve_verb actor id (verb_is.AssignRegion region) = serve_by (age (actor.last region) id) actor id region (opening actor region)
 serve_verb actor id (verb_is.CloseRegion region) = serve_by (age (actor.last region) id) actor id region (closing actor)
@@ -128,6 +131,7 @@ lay_in root there storage = record { answer = storage.answer; fenced = storage.f
 abbrev pub refuse_in : Storage → Storage
 refuse_in storage = record { answer = storage.answer; fenced = storage.fenced; laid = storage.laid; refusals = storage.refusals - 1 }
 
+-- the report of the storage
 abbrev pub stored : Pid → Told → ReportMsg
 stored id told = record { call = id; from = peer_is.Storage; told = told }
 
@@ -136,6 +140,7 @@ abbrev pub store_by : Option Told → Storage → Pid → Told → Storage → S
 store_by (Some before) storage id told after = (storage, Some (stored id before))
 store_by None storage id told after = (answered id told after, Some (stored id told))
 
+-- what the storage does at a call, by what is asked; opens and closes are not for it
 abbrev pub store_verb : Storage → Pid → Verb → Storage × Option ReportMsg
 store_verb storage id (verb_is.AssignRegion region) = (storage, None)
 store_verb storage id (verb_is.CloseRegion region) = (storage, None)

@@ -16,6 +16,7 @@ pub mod Inputs
 pub mod Nonces
 pub mod Serial
 pub mod Rules
+pub mod GoingBack
 pub mod Rest
 pub mod Counts
 pub mod Records

@@ -4,6 +4,7 @@ ghost use Rattle.hm_model.specs.Apart.{OthersStay};
 ghost use Rattle.hm_model.specs.Calls.{CallsAreOwn, CallsStay, ReportsFit};
 ghost use Rattle.hm_model.specs.Forest.{AllForest, AllRooted, NodesStay, RootsWait};
 ghost use Rattle.hm_model.specs.Forms.{StepsAreFormed, UndosAreFormed};
+ghost use Rattle.hm_model.specs.GoingBack.{AllIsUndone, EditsGoBack, UndosAreLast, UndosGoBack};
 ghost use Rattle.hm_model.specs.RowLaws.{KeysAreListed, RowsAreRead, RowsFit, RowsReadAlike};
 ghost use Rattle.hm_model.specs.Touched.{StepsEnd, StepsLetGo};
 ghost use Rattle.hm_model.specs.Waiting.{OpenChildrenTell, OpenChildrenChange, OpenUnderTell, OpenUnderChange};
@@ -88,4 +89,13 @@ pub fn rows_are_read()
 pub fn roots_are_told()
     ensures nonces { NoncesActOnceInAll }
     ensures tells { UnfinishedTells }
+{}
+
+/// The undos of a tree take back its steps from the latest on, each with its edits turned round, which lead back to what was
+/// there; a failed root that has ended has taken back all, and behind an undo no procedure of its tree makes a step.
+pub fn undos_go_back()
+    ensures order { UndosGoBack }
+    ensures all { AllIsUndone }
+    ensures last { UndosAreLast }
+    ensures edits { EditsGoBack }
 {}

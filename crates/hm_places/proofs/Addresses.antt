@@ -2,7 +2,7 @@
 use Rattle.std.proofs.Common.{nat_lt, ◌≡◌, ℕ, zero, suc, ◌<◌, ◌≤◌, List, [], ◌∷◌, max, slice_get, Some, true, false, ◌&&◌, ◌==◌, refl, inl, inr, arith, ap, sym, ◌∙◌}
 use Rattle.std.specs.Cmp.{IsTotalOrder}
 use Rattle.std.specs.Cmp.Lexicographic.{texts_ties}
-use Rattle.std.specs.Ordering.{is_eq, is_lt, ordering_then, ordering_reverse, nat_cmp, on, then_cmp}
+use Rattle.std.specs.Ordering.{is_eq, is_lt, ordering_then, ordering_reverse, nat_cmp}
 use Rattle.std.specs.declared.cmp.Ordering.{Ordering}
 use Rattle.std.specs.declared.cmp.Ordering.TheVariants.{Less, Equal, Greater}
 use Rattle.std.proofs.lemmas.Bool.{cases_Bool}
@@ -12,13 +12,10 @@ use Rattle.hm_names.specs.Order.{bytes_cmp, server_cmp}
 use Rattle.hm_names.specs.Server.{Server}
 use Rattle.hm_index.specs.Index.{IsRising, pairs_from, or_more}
 use Rattle.hm_model.specs.Fleet.{same_address}
-use Rattle.hm_places.specs.Servers.{greatest_start}
+use Rattle.hm_places.specs.Servers.{address_cmp, greatest_start}
 use Rattle.hm_places.specs.declared.standing.Standing.{Standing}
 use Rattle.hm_model.proofs.NameTies.{servers_total}
 use Rattle.hm_places.proofs.Sorted.{is_equal}
-
-abbrev pub address_cmp : Server → Server → Ordering
-address_cmp = then_cmp (on (λ s. s.host) bytes_cmp) (on (λ s. s.port) nat_cmp)
 
 pub addresses_total : IsTotalOrder address_cmp
 addresses_total = then_total (on_total (λ (s : Server). s.host) nat_list_cmp_total) (on_total (λ (s : Server). s.port) nat_cmp_total)
@@ -28,7 +25,7 @@ assoc Less p q = refl
 assoc Equal p q = refl
 assoc Greater p q = refl
 
-by_parts : (a b : Server) → server_cmp a b ≡ ordering_then (address_cmp a b) (nat_cmp a.start b.start)
+pub by_parts : (a b : Server) → server_cmp a b ≡ ordering_then (address_cmp a b) (nat_cmp a.start b.start)
 by_parts a b = assoc (bytes_cmp a.host b.host) (nat_cmp a.port b.port) (nat_cmp a.start b.start)
 
 port_ties : (m n : ℕ) → is_eq (nat_cmp m n) ≡ (m == n)
@@ -96,7 +93,7 @@ module _ (server : Server) where
       by Equal e = let on : is_eq (address_cmp server p) ≡ true = ap is_eq (tied_back addresses_total p server e) in let both : true ≡ false = sym on ∙ apart in cc
       by Greater e = addresses_total.antisymm server p ∙ ap ordering_reverse e
 
-  still_above : (p y : Server) → address_cmp server p ≡ Less → server_cmp p y ≡ Less → same_address server y ≡ false
+  pub still_above : (p y : Server) → address_cmp server p ≡ Less → server_cmp p y ≡ Less → same_address server y ≡ false
   still_above p y low less = address_ties server y ∙ by (address_cmp p y) refl
     where
       by : (o : Ordering) → address_cmp p y ≡ o → is_eq (address_cmp server y) ≡ false

@@ -13,7 +13,7 @@ use Rattle.hm_data.specs.declared.call.Told.{Told}
 use Rattle.hm_data.specs.declared.call.Told.TheVariants as told_is
 use Rattle.hm_data.specs.declared.entry.Entry.TheVariants as entry_is
 use Rattle.hm_index.specs.Index.{changed, find}
-use Rattle.hm_model.specs.Fleet.{came_up, fences_by, fences_if, has_newer, has_older_live, has_other_live, is_fenced, is_live, same_address, same_server, servers_of, with_server, with_server_at}
+use Rattle.hm_model.specs.Fleet.{came_up, fences_by, fences_if, has_live, has_newer, has_older_live, has_other_live, is_fenced, is_live, same_address, same_server, servers_of, with_server, with_server_at}
 use Rattle.hm_model.specs.Journal.{Past}
 use Rattle.hm_model.specs.Rules.{IsLegal}
 use Rattle.hm_model.specs.Tree.{Node, node_of}
@@ -22,7 +22,7 @@ use Rattle.hm_model.proofs.NameTies.{same_server-is, same_server-refl, server_cm
 use Rattle.hm_places.specs.declared.standing.Standing.{Standing}
 use Rattle.hm_places.specs.Chosen.{Rises, has}
 use Rattle.hm_places.specs.Laws.{AllStandingsTell, EntriesStand, FencedCameUp, fence_of, shown_fenced, standing_of, standings_of, with_fence}
-use Rattle.hm_places.specs.Servers.{has_newer_in, has_older_in, has_other_live_in, live_servers, fenced_if, fresh, is_live_in, live_if}
+use Rattle.hm_places.specs.Servers.{has_live_in, has_newer_in, has_older_in, has_other_live_in, live_servers, fenced_if, fresh, is_live_in, live_if}
 use Rattle.hm_places.proofs.ByKey.{IsSetAt, Joins, changed_by, find_by, placed_by, rises_join, rows_by}
 use Rattle.hm_places.proofs.NameOrder.{server_ties_back}
 
@@ -120,6 +120,13 @@ others_told J server =
     (λ s on. ap (λ b. b && not (same_server server s)) (sym on))
     (λ s off. ap (λ b. b && not (same_server server s)) off)
 
+any_told : (J : Past) → has_live_in (standings_of J) ≡ has_live J
+any_told J = by (servers_of J)
+  where
+    by : (servers : List Server) → has_live_in (rows_by (standing_of J) servers) ≡ list_any (is_live J) servers
+    by [] = refl
+    by (server ∷ servers) = ap (λ b. is_live J server || b) (by servers)
+
 pub standings_tell : AllStandingsTell
 standings_tell J legal = record {
   came = came_told J;
@@ -128,6 +135,7 @@ standings_tell J legal = record {
   newer = newer_told J;
   older = older_told J;
   others = others_told J;
+  any = any_told J;
 }
 
 -- a standing that is set for one server

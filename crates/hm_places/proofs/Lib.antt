@@ -13,3 +13,4 @@ mod ByKey
 mod Follows
 mod Fleet
 mod Newer
+mod There

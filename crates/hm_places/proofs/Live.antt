@@ -1,15 +1,14 @@
 -- The numbers of the live servers.
-use Rattle.std.proofs.Common.{◌≡◌, ℕ, zero, suc, ◌<◌, ◌≤◌, arith, get_or, drop, length, List, [], ◌∷◌, map, Option, Some, None, true, false, not, ◌&&◌, ◌||◌, slice_get, refl, inl, inr, ap, sym, ◌∙◌}
+use Rattle.std.proofs.Common.{◌≡◌, ℕ, arith, length, List, [], ◌∷◌, map, Option, Some, None, true, false, not, ◌&&◌, ◌||◌, ◌==◌, slice_get, refl, inl, inr, ap, sym, ◌∙◌}
 use Rattle.std.specs.List.{remove, filter_map, cons_option}
 use Rattle.std.specs.Ordering.{is_eq}
 use Rattle.std.specs.declared.cmp.Ordering.TheVariants.{Less}
-use Rattle.std.proofs.lemmas.Bool.{cases_Bool}
+use Rattle.std.proofs.lemmas.Bool.{cases_Bool, eq-eqb, ne_eqb}
 use Rattle.hm_names.specs.Order.{server_cmp}
 use Rattle.hm_names.specs.Server.{Server}
 use Rattle.hm_index.specs.Index.{IsRising, find, key_if}
-use Rattle.hm_model.specs.Fleet.{same_address}
 use Rattle.hm_places.specs.Chosen.{cmp_if, IsBelow, Rises, has, HasGap, HasAt}
-use Rattle.hm_places.specs.Servers.{first_there, live_if, is_live_in, live_servers, name_of, is_live_key, is_live_but, AreLive, AreLiveBut}
+use Rattle.hm_places.specs.Servers.{has_live_in, live_if, is_live_in, live_servers, name_of, is_live_key, is_live_but, AreLive, AreLiveBut}
 use Rattle.hm_places.specs.declared.standing.Standing.{Standing}
 use Rattle.hm_model.proofs.NameTies.{servers_total, server_cmp-is}
 use Rattle.hm_places.proofs.NameOrder.{total_if}
@@ -56,18 +55,41 @@ live_are came servers numbers live rising =
     unique server_cmp servers_total server_cmp-is (live_names came numbers) (live_servers servers) (named_rise (name_of came) numbers live.rises) (kept_rise server_cmp servers_total (λ (s : Standing). s.live) servers rising)
     (λ server. named_has (name_of came) numbers server ∙ live.are (Some server) ∙ test_live (find server_cmp servers server) ∙ sym (kept_has server_cmp servers_total (λ (s : Standing). s.live) servers rising server))
 
--- the first of an address is the first that was met
-pub met_first : (came : List (Server × Standing)) (server : Server) (row : Server × Standing) (numbers : List ℕ) (i : ℕ) → i < length numbers → slice_get came (get_or numbers i 0) ≡ Some row → same_address server row.0 ≡ true
-    → first_there (live_names came (drop i numbers)) server ≡ Some row.0
-met_first came server row [] i lt is on = absurd (omega arith)
-met_first came server row (n ∷ numbers) zero lt is on = rw (is, on) refl
-met_first came server row (n ∷ numbers) (suc i) lt is on = met_first came server row numbers i (omega arith) is on
+-- a number is of a server, so that where there is a number one is live
+named_one : (f : ℕ → Option Server) (n : ℕ) (ns : List ℕ) → has (cmp_if server_cmp) (map f (n ∷ ns)) None ≡ false → filter_map f (n ∷ ns) ≡ [] → ⊥
+named_one f n ns none = by (f n) none
+  where
+    by : (name : Option Server) → (is_eq (cmp_if server_cmp name None) || has (cmp_if server_cmp) (map f ns) None) ≡ false → cons_option name (filter_map f ns) ≡ [] → ⊥
+    by None none empty = cc
+    by (Some server) none empty = cc
 
-pub met_none : (came : List (Server × Standing)) (server : Server) (numbers : List ℕ) (i : ℕ) → length numbers ≤ i → first_there (live_names came (drop i numbers)) server ≡ None
-met_none came server [] zero le = refl
-met_none came server [] (suc i) le = refl
-met_none came server (n ∷ numbers) zero le = absurd (omega arith)
-met_none came server (n ∷ numbers) (suc i) le = met_none came server numbers i (omega arith)
+some_kept : (servers : List (Server × Standing)) → (live_servers servers ≡ [] → ⊥) → has_live_in servers ≡ true
+some_kept [] there = absurd (there refl)
+some_kept (row ∷ servers) there = elim (cases_Bool (let standing = row.1 in standing.live)) [
+  | inl on ↦ rw on refl
+  | inr off ↦ rw off (some_kept servers (rw off at there))
+]
+
+none_kept : (servers : List (Server × Standing)) → live_servers servers ≡ [] → has_live_in servers ≡ false
+none_kept [] empty = refl
+none_kept (row ∷ servers) empty = elim (cases_Bool (let standing = row.1 in standing.live)) [
+  | inl on ↦ (let e = rw on at empty in cc)
+  | inr off ↦ rw off (none_kept servers (rw off at empty))
+]
+
+-- one is live where there is a number
+pub any_number : (came servers : List (Server × Standing)) (numbers : List ℕ) → AreLive came servers numbers → IsRising server_cmp servers → (count : ℕ) → count ≡ length numbers → not (count == 0) ≡ has_live_in servers
+any_number came servers numbers live rising count counted = by numbers refl
+  where
+    are : live_names came numbers ≡ live_servers servers
+    are = live_are came servers numbers live rising
+
+    by : (ns : List ℕ) → numbers ≡ ns → not (count == 0) ≡ has_live_in servers
+    by [] is = ap not (eq-eqb count 0 (counted ∙ ap length is)) ∙ sym (none_kept servers (sym are ∙ ap (live_names came) is))
+    by (n ∷ ns) is =
+        let more : length numbers ≡ length (n ∷ ns) = ap length is in
+        ap not (ne_eqb count 0 (λ none. let e = counted ∙ more in omega (arith, none, e)))
+        ∙ sym (some_kept servers (λ gone. named_one (name_of came) n ns (ap (λ l. has (cmp_if server_cmp) (map (name_of came) l) None) (sym is) ∙ live.are None) (ap (live_names came) (sym is) ∙ are ∙ gone)))
 
 module _ (came servers : List (Server × Standing)) (numbers : List ℕ) (live : AreLive came servers numbers) where
   -- a server taken out

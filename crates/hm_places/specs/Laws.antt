@@ -12,14 +12,14 @@ use Rattle.hm_data.specs.declared.entry.Entry.{Entry}
 use Rattle.hm_data.specs.declared.entry.Entry.TheVariants as entry_is
 use Rattle.hm_data.specs.declared.place.Place.{Place}
 use Rattle.hm_index.specs.Index.{placed as placed_in}
-use Rattle.hm_model.specs.Fleet.{came_up, has_newer, has_older_live, has_other_live, is_fenced, is_live, servers_of}
+use Rattle.hm_model.specs.Fleet.{came_up, has_live, has_newer, has_older_live, has_other_live, is_fenced, is_live, servers_of}
 use Rattle.hm_model.specs.Journal.{Past}
 use Rattle.hm_model.specs.Places.{at_server, load, place_of, placed, region_if}
 use Rattle.hm_model.specs.Rules.{IsLegal}
 use Rattle.hm_model.specs.Tree.{Node, node_of}
 use Rattle.hm_places.specs.declared.standing.Standing.{Standing}
 use Rattle.hm_places.specs.Places.{load_in, place_in, regions_at}
-use Rattle.hm_places.specs.Servers.{came_up_in, fenced, fresh, has_newer_in, has_older_in, has_other_live_in, is_fenced_in, is_live_in, put_down}
+use Rattle.hm_places.specs.Servers.{came_up_in, fenced, fresh, has_live_in, has_newer_in, has_older_in, has_other_live_in, is_fenced_in, is_live_in, put_down}
 
 -- the regions that a journal gave a place, in name order, with their places
 abbrev pub places_of : Past → List (Region × Place)
@@ -106,8 +106,8 @@ abbrev pub EntriesStand : Type 0
 EntriesStand =
     (entry : Entry) (before : Past) → IsLegal (entry ∷ before) → stand_behind before entry (standings_of before) ≡ standings_of (entry ∷ before)
 
--- the servers of a legal journal tell who came up, is live, is fenced; whether a newer one of an address came up, an older one
--- or another one is live
+-- the servers of a legal journal tell who came up, is live, is fenced; whether a newer one of an address came up, an older one,
+-- another one or any is live
 pub record StandingsTell (J : Past) : Type 0 where
   pub came : (server : Server) → came_up_in (standings_of J) server ≡ came_up J server
   pub live : (server : Server) → is_live_in (standings_of J) server ≡ is_live J server
@@ -115,6 +115,7 @@ pub record StandingsTell (J : Past) : Type 0 where
   pub newer : (server : Server) → has_newer_in (standings_of J) server ≡ has_newer J server
   pub older : (server : Server) → has_older_in (standings_of J) server ≡ has_older_live J server
   pub others : (server : Server) → has_other_live_in (standings_of J) server ≡ has_other_live J server
+  pub any : has_live_in (standings_of J) ≡ has_live J
 
 abbrev pub AllStandingsTell : Type 0
 AllStandingsTell = (J : Past) → IsLegal J → StandingsTell J

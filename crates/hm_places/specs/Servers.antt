@@ -1,8 +1,9 @@
 -- The servers that ever came up, as callers see them.
 use Rattle.std.specs.Prelude.{◌≡◌, ℕ, ◌<◌, ◌≤◌, List, [], ◌∷◌, map, max, Option, Some, None, Bool, true, false, not, ◌&&◌, if◌then◌else◌, nat_lt, is_some, slice_get}
 use Rattle.std.specs.List.{filter, list_any}
-use Rattle.std.specs.Ordering.{is_eq}
-use Rattle.hm_names.specs.Order.{server_cmp}
+use Rattle.std.specs.Ordering.{is_eq, nat_cmp, on, then_cmp}
+use Rattle.std.specs.declared.cmp.Ordering.{Ordering}
+use Rattle.hm_names.specs.Order.{bytes_cmp, server_cmp}
 use Rattle.hm_names.specs.Server.{Server}
 use Rattle.hm_index.specs.Index.{IsRising, find, placed, changed, key_if}
 use Rattle.hm_model.specs.Fleet.{same_address, same_server}
@@ -42,6 +43,14 @@ is_fenced_in servers server = fenced_if (find server_cmp servers server)
 
 abbrev pub came_up_in : List (Server × Standing) → Server → Bool
 came_up_in servers server = is_some (find server_cmp servers server)
+
+-- one is live
+abbrev pub has_live_in : List (Server × Standing) → Bool
+has_live_in servers = list_any (λ row. row.1.live) servers
+
+-- by host, then by port
+abbrev pub address_cmp : Server → Server → Ordering
+address_cmp = then_cmp (on (λ s. s.host) bytes_cmp) (on (λ s. s.port) nat_cmp)
 
 -- the live ones, in name order
 abbrev pub live_servers : List (Server × Standing) → List Server
@@ -127,6 +136,7 @@ abbrev pub lower : (Server → ℕ) → Server → Option Server → Server
 lower number server None = server
 lower number server (Some other) = if nat_lt (number other) (number server) then other else server
 
+-- the server of the lowest number, the first of those that share it
 abbrev pub lowest : (Server → ℕ) → List Server → Option Server
 lowest number [] = None
 lowest number (server ∷ more) = Some (lower number server (lowest number more))

@@ -5,7 +5,7 @@ ghost use Rattle.hm_names.specs.Order.{server_cmp};
 ghost use Rattle.hm_names.specs.Server.{Server};
 ghost use Rattle.hm_index.specs.Index.{placed};
 ghost use Rattle.hm_places.specs.Places.{load_in};
-ghost use Rattle.hm_places.specs.Servers.{fresh, is_live_in, is_fenced_in, came_up_in, live_servers, greatest_start, has_newer_in, has_older_in, has_other_live_in, MayComeUp, CannotComeUp, CameUp, CannotGoDown, WentDown, put_down, first_there, fenced, without, or_else, lowest};
+ghost use Rattle.hm_places.specs.Servers.{fresh, is_live_in, is_fenced_in, came_up_in, live_servers, greatest_start, has_live_in, has_newer_in, has_older_in, has_other_live_in, MayComeUp, CannotComeUp, CameUp, CannotGoDown, WentDown, put_down, first_there, fenced, without, or_else, lowest};
 
 use crate::picking::lowest_of;
 use crate::places::Places;
@@ -241,6 +241,13 @@ impl Servers {
         ensures { result ≡ has_other_live_in self.now.servers server.now }
     {
         other_live(&self.rows, &self.live, server)
+    }
+
+    /// Whether any server is live.
+    pub fn any_live(&self) -> bool
+        ensures { result ≡ has_live_in self.now.servers }
+    {
+        !self.live.is_empty()
     }
 
     /// All servers that ever came up, in name order, and how they stand.

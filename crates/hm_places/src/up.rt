@@ -1,12 +1,14 @@
 //! The live servers: the numbers of their rows, in name order.
-ghost use Rattle.std.specs.Prelude.{◌≡◌, ◌≤◌, ◌<◌, Some, length, map, false, vec_len, vec_capacity, slice_get};
+ghost use Rattle.std.specs.Prelude.{◌≡◌, ◌≤◌, ◌<◌, Some, length, map, true, false, vec_len, vec_capacity, slice_get};
+ghost use Rattle.std.specs.List.{AllWithin};
 ghost use Rattle.std.specs.List.Sorted.{IsSearchInRange, IsBinarySearchResult};
 ghost use Rattle.std.specs.Option.{option_copied};
+ghost use Rattle.std.specs.Ordering.{is_lt};
 ghost use Rattle.hm_names.specs.Order.{server_cmp};
 ghost use Rattle.hm_index.specs.Index.{IsRising, key_if, pairs_from};
 ghost use Rattle.hm_model.specs.Fleet.{same_address, same_server};
 ghost use Rattle.hm_places.specs.Chosen.{cmp_if, HasGap};
-ghost use Rattle.hm_places.specs.Servers.{name_of, is_live_in, live_servers, first_there, greatest_start, has_newer_in, has_older_in, has_other_live_in, AreLive, AreLiveBut, AreServers};
+ghost use Rattle.hm_places.specs.Servers.{address_cmp, name_of, is_live_in, live_servers, first_there, greatest_start, has_newer_in, has_older_in, has_other_live_in, AreLive, AreLiveBut, AreServers};
 
 use crate::standing::Standing;
 use hm_index::Index;
@@ -64,6 +66,28 @@ pub(crate) fn spot_for(rows: &Rows, live: &[u32], server: &ServerName) -> usize
     }
 }
 
+// How the address of a row's server compares with that of another one. No row stands lowest.
+fn compare_address(row: Option<&(ServerName, Standing)>, server: &ServerName) -> Ordering
+    ensures { result ≡ cmp_if address_cmp (key_if (option_copied row.entry)) (Some server.now) }
+{
+    match row {
+        Some((name, _)) => {
+            let hosts = name.host.cmp(&server.host);
+            hosts.then(name.port.cmp(&server.port))
+        }
+        None => Ordering::Less,
+    }
+}
+
+// Where among those that are live the servers begin whose address isn't below that of one.
+fn address_from(rows: &Rows, live: &[u32], server: &ServerName) -> usize
+    requires { AreLive rows.now.came rows.now.pairs live.now }
+    ensures low { AllWithin (λ number. is_lt (cmp_if address_cmp (name_of rows.now.came number) (Some server.now)) ≡ true) live.now 0 result }
+    ensures high { AllWithin (λ number. is_lt (cmp_if address_cmp (name_of rows.now.came number) (Some server.now)) ≡ false) live.now result (length live.now) }
+{
+    live.partition_point(|number| compare_address(rows.pair(*number), server).is_lt())
+}
+
 // The live server at the address of one, if there is one.
 pub(crate) fn live_there<'a>(
     rows: &'a Rows,
@@ -74,14 +98,12 @@ pub(crate) fn live_there<'a>(
     requires rising { IsRising server_cmp rows.now.pairs }
     ensures { option_copied result ≡ first_there (live_servers rows.now.pairs) server.now }
 {
-    for number in live {
-        if let Some((other, _)) = rows.pair(*number)
-            && at_address(server, other)
-        {
-            return Some(other);
-        }
+    let number = live.get(address_from(rows, live, server))?;
+    match rows.pair(*number) {
+        Some((other, _)) if at_address(server, other) => Some(other),
+        Some(_) => None,
+        None => unreachable!(),
     }
-    None
 }
 
 // The greatest start code at the address of a server, from its own on, and 0 where there is none.

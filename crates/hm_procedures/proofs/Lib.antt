@@ -13,3 +13,4 @@ mod Rolled
 mod Readers
 mod Needs
 mod Tops
+mod Kids

@@ -1,9 +1,10 @@
 -- The procedures as callers see them.
-use Rattle.std.specs.Prelude.{ℕ, List, filter, map}
+use Rattle.std.specs.Prelude.{◌≡◌, ℕ, zero, suc, ◌+◌, ◌<◌, List, [], ◌∷◌, ◌++◌, Option, Some, None, filter, map, if◌then◌else◌}
 use Rattle.hm_names.specs.declared.pid.Pid.{Pid}
 use Rattle.hm_model.specs.Journal.{Past}
+use Rattle.hm_model.specs.Phase.{child_in}
 use Rattle.hm_model.specs.Pieces.{numbers_from}
-use Rattle.hm_model.specs.Tree.{is_root, made, pid_of}
+use Rattle.hm_model.specs.Tree.{Node, is_root, made, node_of, pid_of}
 
 -- the journal, back from its newest entry, for how many procedures more there is room, and how much memory there is
 pub record ProceduresView : Type 0 where
@@ -14,3 +15,23 @@ pub record ProceduresView : Type 0 where
 -- the roots, in the order of their numbers
 abbrev pub roots : Past → List Pid
 roots past = map pid_of (filter (is_root past) (numbers_from 1 (made past)))
+
+-- the children of a procedure among those below a number
+abbrev pub children_below : Past → ℕ → ℕ → List Pid
+children_below past p zero = []
+children_below past p (suc n) = children_below past p n ++ (if child_in p (node_of past n) then pid_of n ∷ [] else [])
+
+-- the children of a procedure, in the order of their numbers
+abbrev pub children : Past → ℕ → List Pid
+children past p = children_below past p (made past + 1)
+
+-- no procedure between two numbers has the root
+abbrev pub NoneBetween : Past → ℕ → ℕ → ℕ → Type 0
+NoneBetween past root low high = (q : ℕ) (node : Node) → low < q → q < high → node_of past q ≡ Some node → node.root ≡ root → ⊥
+
+-- the next procedure of the tree of one that is there
+abbrev pub IsBehind : Past → ℕ → Option Pid → Type 0
+IsBehind past p None = (node : Node) → node_of past p ≡ Some node → NoneBetween past node.root p (made past + 1)
+IsBehind past p (Some next) =
+    (node : Node) × (node_of past p ≡ Some node) × (other : Node) × (node_of past next.0 ≡ Some other) × (other.root ≡ node.root)
+    × (p < next.0) × NoneBetween past node.root p next.0

@@ -1,17 +1,17 @@
-ghost use Rattle.std.specs.Prelude.{◌≡◌, ◌≢◌, ◌+◌, ◌<◌, ◌≤◌, ◌^◌, ◌↔◌, [], ◌∷◌, length, IfOk, OnOk, None, is_some, IsTrue};
+ghost use Rattle.std.specs.Prelude.{◌≡◌, ◌≢◌, ◌+◌, ◌<◌, ◌≤◌, ◌^◌, ◌↔◌, [], ◌∷◌, ◌++◌, if◌then◌else◌, length, IfOk, OnOk, None, is_some, IsTrue};
 ghost use Rattle.std.specs.Option.{option_copied};
 ghost use Rattle.hm_model.specs.Answers.{last_answer, report_of};
 ghost use Rattle.hm_model.specs.Apart.{tree_of};
 ghost use Rattle.hm_model.specs.Inputs.{ends_of, made_at_step};
-ghost use Rattle.hm_model.specs.Phase.{ended};
+ghost use Rattle.hm_model.specs.Phase.{child_in, ended};
 ghost use Rattle.hm_model.specs.Records.{record_of, unfinished};
-ghost use Rattle.hm_model.specs.Reports.{verb_of};
+ghost use Rattle.hm_model.specs.Reports.{is_settled, verb_of};
 ghost use Rattle.hm_model.specs.Rest.{MayUndo};
 ghost use Rattle.hm_model.specs.Rules.{IsLegal};
-ghost use Rattle.hm_model.specs.Tree.{made};
+ghost use Rattle.hm_model.specs.Tree.{made, node_of};
 ghost use Rattle.hm_model.specs.Undo.{is_empty, stack};
 ghost use Rattle.hm_procedures.specs.Kept.{args_made, kept_of, made_in_step};
-ghost use Rattle.hm_procedures.specs.Procedures.{roots};
+ghost use Rattle.hm_procedures.specs.Procedures.{IsBehind, children, roots};
 
 use crate::book::Book;
 use crate::ends::ends_from;
@@ -21,6 +21,16 @@ use hm_data::{Args, Entry, Record, Told};
 use hm_names::{List, Pid};
 use std::alloc::{AllocError, Global};
 use std::marker::Model;
+
+// Adds a procedure to a list, where it belongs there.
+fn push_if(list: &mut Vec<Pid>, belongs: bool, pid: Pid) -> Result<(), AllocError>
+    ensures { OnOk result (list.new.items ≡ list.old.items ++ (if belongs then pid ∷ [] else [])) }
+{
+    if belongs {
+        list.push(pid)?;
+    }
+    Ok(())
+}
 
 /// The procedures of a journal as they stand. Contracts see the journal, back from its newest entry, and for how many
 /// procedures more there is room.
@@ -137,6 +147,13 @@ impl Procedures {
         }
     }
 
+    /// Whether its call, if it made one, is settled: it has a report, or the procedure has ended.
+    pub fn is_settled(&self, pid: Pid) -> bool
+        ensures { result ≡ is_settled self.now.past pid.0 }
+    {
+        self.report(pid).is_some() || self.has_ended(pid)
+    }
+
     /// Whether it is a failed root with its descendants ended and something left to undo.
     pub fn undoes(&self, pid: Pid) -> bool
         ensures { IsTrue result ↔ MayUndo self.now.past pid.0 }
@@ -151,17 +168,53 @@ impl Procedures {
     pub fn ends(&self, alloc: Global, pid: Pid) -> Result<List<(Pid, Told)>, AllocError>
         ensures { IfOk result (λ ends. ends ≡ ends_of self.now.past pid.0) }
     {
-        let (from, count) = self.children(pid);
+        let (from, count) = self.last_made(pid);
         ends_from(alloc, &self.book.kept, from, count)
     }
 
     // How many procedures had been made before the last step of a procedure, and how many that made.
-    fn children(&self, pid: Pid) -> (u64, u64)
+    fn last_made(&self, pid: Pid) -> (u64, u64)
         ensures { (result.0 ≡ made_at_step self.now.past pid.0) × (result.1 ≡ made_in_step self.now.past pid.0) }
     {
         match self.kept(pid) {
             Some(kept) => (kept.made_at_step, kept.made_in_step),
             None => (0, 0),
+        }
+    }
+
+    /// Its children, in the order of their numbers. Their tree is gone over, from the procedure on.
+    pub fn children(&self, alloc: Global, pid: Pid) -> Result<List<Pid>, AllocError>
+        ensures { IfOk result (λ list. list ≡ children self.now.past pid.0) }
+    {
+        let _legal = self.last_pid();
+        let mut children = Vec::new(alloc);
+        let mut at = self.behind(pid);
+        while let Some(other) = at {
+            let own = self.is_child(other, pid);
+            push_if(&mut children, own, other)?;
+            at = self.behind(other);
+        }
+        Ok(List::of(children))
+    }
+
+    // The next procedure of its tree.
+    fn behind(&self, pid: Pid) -> Option<Pid>
+        ensures { IsBehind self.now.past pid.0 result }
+    {
+        self.kept(pid)?;
+        self.book.trees.next(pid)
+    }
+
+    // Whether it is a child of another one.
+    fn is_child(&self, pid: Pid, parent: Pid) -> bool
+        ensures { result ≡ child_in parent.0 (node_of self.now.past pid.0) }
+    {
+        match self.find(pid) {
+            Some(record) => match record.parent {
+                Some(up) => up.0 == parent.0,
+                None => false,
+            },
+            None => false,
         }
     }
 

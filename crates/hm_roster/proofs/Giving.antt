@@ -7,6 +7,7 @@ use Rattle.hm_names.specs.Server.{Server}
 use Rattle.hm_data.specs.declared.answer.Answer.{Answer}
 use Rattle.hm_locks.specs.Book.{AreChanged, IsEnlisted, IsFree, Row, holding, row_of}
 use Rattle.hm_model.specs.Answers.{last_answer}
+use Rattle.hm_model.specs.Holding.{IsFree as IsClear}
 use Rattle.hm_model.specs.Journal.{Past}
 use Rattle.hm_model.specs.Locks.{IsIn}
 use Rattle.hm_model.specs.Picks.{has_pick}
@@ -101,8 +102,8 @@ none_given J n roster lists tied passes =
 
 -- who is given and can go on, but has no pick, is set aside
 pub held_aside : (J : Past) → IsLegal J → (n : Option Server → ℕ) (roster : Roster) (lists : List (List ℕ)) (p : ℕ) → IsTiedBut J n roster (owing p) → IsOpen J p → (IsIn p roster.claimed → ⊥)
-    → MayStep J p → (MayStepPicked J p → ⊥) → Joins roster.lists lists Held p → IsTied J n (record roster { lists = lists })
-held_aside J legal n roster lists p tied opens free may none joins = one_settles J n (record roster { lists = lists }) p (join_owes J n roster (owing p) lists Held p legal tied opens free (may, none) joins)
+    → MayStep J p → (MayStepPicked J p → ⊥) → IsClear J [] p → Joins roster.lists lists Held p → IsTied J n (record roster { lists = lists })
+held_aside J legal n roster lists p tied opens free may none alone joins = one_settles J n (record roster { lists = lists }) p (join_owes J n roster (owing p) lists Held p legal tied opens free (may, none, alone) joins)
 
 -- a list that isn't ready gains one: the ready stay
 unready : (queue : Queue) → is_ready queue ≡ false → (is_same queue Servers ≡ false) × (is_same queue Tables ≡ false)

@@ -158,7 +158,7 @@ impl Desk {
 
     /// Behind a step of a claimed procedure, whose children are enlisted: who has ended is enlisted no longer, and those who waited
     /// for it are ready; then its children, itself, its parent and its root, where they can go on; then those that were set aside for
-    /// want of a live server, where rows or places changed.
+    /// want of a live server, where rows changed.
     pub fn behind_step(&mut self, records: &Records, pid: Pid, low: u64, late: bool)
         requires { IsStepOf records.now.past pid low late self.old }
         ensures follows { Follows records.now.past self.new }
@@ -174,7 +174,7 @@ impl Desk {
 
     /// Behind an undo of a step in the tree of a claimed root, whose followers are enlisted: where the root has ended it is enlisted no
     /// longer, and those who waited for it are ready; then its followers and itself, where they can go on; then those that were set
-    /// aside for want of a live server, where rows or places changed.
+    /// aside for want of a live server, where rows changed.
     pub fn behind_undo(&mut self, records: &Records, root: Pid, low: u64, late: bool)
         requires { IsUndoOf records.now.past root low late self.old }
         ensures follows { Follows records.now.past self.new }

@@ -1,6 +1,19 @@
 //! Scripts that are refused, and at which fault.
-use hm_script::{Bad, Why, parse};
+use hm_script::{Bad, Command, Commands, Why, parse, parse_for};
 use std::test::Fail;
+
+// A program that has no command.
+struct Idle;
+
+impl Commands for Idle {
+    ghost use Rattle.std.specs.Prelude.{false};
+
+    ghost has = { λ said. false };
+
+    fn has(_command: &Command) -> bool {
+        false
+    }
+}
 
 #[test]
 fn parse_refuses_these(rt: HostRuntime) -> Result<(), Fail> {
@@ -66,6 +79,28 @@ fn parse_refuses_these(rt: HostRuntime) -> Result<(), Fail> {
             Err(bad) => assert_eq!(rt; bad.to_string(rt.alloc())?.as_str(), text),
         }
     }
+    Ok(())
+}
+
+#[test]
+fn parse_for_asks_for_commands_behind_the_grammar(rt: HostRuntime) -> Result<(), Fail> {
+    let cases = [
+        // The first command that the program doesn't have.
+        (b"settle".as_slice(), "line 1: Word 0"),
+        (b"\n#\n  workers 2\n settle", "line 3: Word 2"),
+        // A line that breaks the grammar counts more, wherever it stands.
+        (b"settle\nfrob", "line 2: Word 0"),
+        (b"settle\n\nstep", "line 3: Missing"),
+        (b"settle\nworkers 2", "line 2: Order"),
+        (b"servers\nsettle\nprocs json x", "line 3: Extra"),
+    ];
+    for (script, text) in cases {
+        match parse_for::<Idle>(rt.alloc(), script) {
+            Ok(_) => assert!(rt; false, "it is read"),
+            Err(bad) => assert_eq!(rt; bad.to_string(rt.alloc())?.as_str(), text),
+        }
+    }
+    assert!(rt; parse_for::<Idle>(rt.alloc(), b"\n# settle\n".as_slice()).is_ok());
     Ok(())
 }
 

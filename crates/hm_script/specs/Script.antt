@@ -33,19 +33,11 @@ read_lines has number first (line ∷ lines) =
     if is_skipped line then read_lines has (number + 1) first lines
     else before_others number (if_had has line (read_line first line)) (read_lines has (number + 1) false lines)
 
--- what a script says to such a program: the commands of its lines, or its first line that says none, and that line's
--- first fault
+-- what the lines of a script say to such a program: their commands, or the first line that says none, and that line's first
+-- fault
 unfoldable pub read_script : (Spelling → Bool) → List ℕ → Result (List Spelling) Bad
 read_script has bytes =
     if nat_lt 1048576 (length bytes) then Err (record { line = 0; why = TooLong }) else read_lines has 1 true (lines_of bytes)
-
--- to such a program the bytes are a script of these commands
-abbrev pub IsScriptTo : (Spelling → Bool) → List ℕ → List Command → Type 0
-IsScriptTo has bytes commands = read_script has bytes ≡ Ok (map spelling commands)
-
--- to such a program the bytes are no script, and this is their first fault
-abbrev pub IsFaultTo : (Spelling → Bool) → List ℕ → Bad → Type 0
-IsFaultTo has bytes bad = read_script has bytes ≡ Err bad
 
 -- each command
 abbrev pub every : Spelling → Bool
@@ -53,11 +45,29 @@ every said = true
 
 -- the bytes are a script of these commands
 abbrev pub IsScript : List ℕ → List Command → Type 0
-IsScript bytes commands = IsScriptTo every bytes commands
+IsScript bytes commands = read_script every bytes ≡ Ok (map spelling commands)
 
 -- the bytes are no script, and this is their first fault
 abbrev pub IsFaultOf : List ℕ → Bad → Type 0
-IsFaultOf bytes bad = IsFaultTo every bytes bad
+IsFaultOf bytes bad = read_script every bytes ≡ Err bad
+
+-- what a second reading says of what the first reads; a fault of the first comes before its own
+abbrev pub unless_bad : Result (List Spelling) Bad → Result (List Spelling) Bad → Result (List Spelling) Bad
+unless_bad (Ok said) second = second
+unless_bad (Err bad) second = Err bad
+
+-- what a script says to such a program: it has to be one before it is asked which of its commands the program has
+abbrev pub read_to : (Spelling → Bool) → List ℕ → Result (List Spelling) Bad
+read_to has bytes = unless_bad (read_script every bytes) (read_script has bytes)
+
+-- to such a program the bytes are a script of these commands
+abbrev pub IsScriptTo : (Spelling → Bool) → List ℕ → List Command → Type 0
+IsScriptTo has bytes commands = read_to has bytes ≡ Ok (map spelling commands)
+
+-- to such a program the bytes are no script, and this is their fault: the first of all, or else the first command that it
+-- doesn't have
+abbrev pub IsFaultTo : (Spelling → Bool) → List ℕ → Bad → Type 0
+IsFaultTo has bytes bad = read_to has bytes ≡ Err bad
 
 -- the line that says a command, with its newline
 abbrev pub line_text : Command → List ℕ

@@ -1,8 +1,7 @@
 //! A script read as commands.
-ghost use Rattle.std.specs.Prelude.{◌≡◌, ◌≤◌, ◌⊎◌, Bool, true, IfOk, IfErr, All, length, vec_len};
-ghost use Rattle.hm_script.specs.Faults.{IsAnswer};
-ghost use Rattle.hm_script.specs.Reading.{read_line as line_read};
-ghost use Rattle.hm_script.specs.Script.{IsFaultOf, IsFaultTo, IsScript, IsScriptTo, every, if_had};
+ghost use Rattle.std.specs.Prelude.{◌≡◌, ◌≤◌, ◌⊎◌, Bool, true, false, Option, Some, None, IfSome, IfOk, IfErr, All, length, vec_len};
+ghost use Rattle.hm_script.specs.Lines.{indent_of};
+ghost use Rattle.hm_script.specs.Script.{IsFaultOf, IsFaultTo, IsScript, IsScriptTo, every};
 ghost use Rattle.hm_script.specs.Spellings.{Spelling, spelling};
 
 use crate::bad::{Bad, Why};
@@ -35,16 +34,24 @@ impl Commands for Whole {
     }
 }
 
-// The command that a line says to a program, if the program has it.
-fn read_had<C: Commands>(alloc: Global, line: &[u8], first: bool) -> Result<Command, Why>
-    ensures { IsAnswer spelling result (if_had C.has line.now (line_read first line.now)) }
+// The first line whose command a program doesn't have: one before, or this line.
+fn first_lacked<C: Commands>(
+    before: Option<Bad>,
+    command: &Command,
+    text: &[u8],
+    line: u64,
+) -> Option<Bad>
+    ensures kept { IfSome before (λ bad. result ≡ Some bad) }
+    ensures had { before ≡ None → C.has (spelling command.now) ≡ true → result ≡ None }
+    ensures lacked { before ≡ None → C.has (spelling command.now) ≡ false → result ≡ Some (record { line = line; why = Why.Word (indent_of text.now) }) }
 {
-    let command = read_line(alloc, line, first)?;
-    if C::has(&command) {
-        Ok(command)
-    } else {
-        Err(Why::Word(indent(line) as u64))
+    if before.is_some() || C::has(command) {
+        return before;
     }
+    Some(Bad {
+        line,
+        why: Why::Word(indent(text) as u64),
+    })
 }
 
 /// The commands of a script, or its first line that says none and that line's first fault. Lines that
@@ -57,8 +64,8 @@ pub fn parse(alloc: Global, bytes: &[u8]) -> Result<Vec<Command>, Bad>
     parse_for::<Whole>(alloc, bytes)
 }
 
-/// The same for a program that may not have all commands. The line of a command that it doesn't have says none: its first
-/// word is wrong.
+/// The same for a program that may not have all commands. A script that is none is refused as by `parse`; one that has commands that
+/// the program doesn't have, at the first word of the first such line.
 pub fn parse_for<C: Commands>(alloc: Global, bytes: &[u8]) -> Result<Vec<Command>, Bad>
     ensures ok { IfOk result (λ commands. IsScriptTo C.has bytes.now commands.items) }
     ensures count { IfOk result (λ commands. vec_len commands ≤ length bytes.now) }
@@ -72,6 +79,7 @@ pub fn parse_for<C: Commands>(alloc: Global, bytes: &[u8]) -> Result<Vec<Command
         });
     }
     let mut commands: Vec<Command> = Vec::new(alloc);
+    let mut lacked = None;
     let mut rest = bytes;
     let mut line = 0u64;
     while !rest.is_empty() {
@@ -81,11 +89,11 @@ pub fn parse_for<C: Commands>(alloc: Global, bytes: &[u8]) -> Result<Vec<Command
         if skips(text) {
             continue;
         }
-        let first = commands.is_empty();
-        let command = match read_had::<C>(alloc, text, first) {
+        let command = match read_line(alloc, text, commands.is_empty()) {
             Ok(command) => command,
             Err(why) => return Err(Bad { line, why }),
         };
+        lacked = first_lacked::<C>(lacked, &command, text, line);
         if commands.push(command).is_err() {
             return Err(Bad {
                 line,
@@ -93,5 +101,8 @@ pub fn parse_for<C: Commands>(alloc: Global, bytes: &[u8]) -> Result<Vec<Command
             });
         }
     }
-    Ok(commands)
+    match lacked {
+        Some(bad) => Err(bad),
+        None => Ok(commands),
+    }
 }

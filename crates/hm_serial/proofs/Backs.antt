@@ -7,7 +7,7 @@ use Rattle.hm_data.specs.declared.catalog.Edit.{Edit}
 use Rattle.hm_model.specs.Catalog.{Catalog, edited}
 use Rattle.hm_model.specs.Undo.{Undoable, pushed}
 use Rattle.hm_model.specs.Undoing.{undo_edits}
-use Rattle.hm_serial.specs.Theorem.{Tells}
+use Rattle.hm_model.specs.GoingBack.{Tells}
 use Rattle.hm_serial.proofs.Local.{tells_back, tells_same, undo_leads_back}
 
 abbrev pub AllTell : List Undoable → Catalog → Type 0

@@ -43,7 +43,7 @@ use Rattle.hm_kinds.proofs.Editless.{no_adds, no_drops, none_act}
 use Rattle.hm_kinds.proofs.Covering.{in_reads, merge_within, same_table-itself, split_within}
 pub use Rattle.hm_kinds.proofs.Covering.{covers_from, table_region, add_within, remove_within}
 pub use Rattle.hm_kinds.proofs.Covering.{rows_table}
-use Rattle.hm_serial.specs.Theorem.{Tells}
+use Rattle.hm_model.specs.GoingBack.{Tells}
 
 -- regions that are added tell what stands there
 add_tells : (rows : Catalog) (table : TableName) (ranges : List KeyRange) (n : ℕ) (now : Catalog) → ((m : ℕ) → n ≤ m → m < n + length ranges → rows (region_key table m) ≡ now (region_key table m)) → Tells (add_ranges rows table n ranges) now

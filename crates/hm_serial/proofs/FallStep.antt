@@ -41,7 +41,7 @@ use Rattle.hm_serial.proofs.Frame.{AllWithin, cover_guards, push_back, push_with
 use Rattle.hm_serial.proofs.Apart.{Aside}
 use Rattle.hm_serial.proofs.Kinship.{NewKid, editless, is_bare, is_kid, is_lined, kid_fails, kid_quiet, kid_rows, lined_is, may_fail, near_step, new_kid, own_edits, step_clean, step_within}
 use Rattle.hm_serial.proofs.Local.{Within, within_others}
-use Rattle.hm_serial.specs.Theorem.{Tells}
+use Rattle.hm_model.specs.GoingBack.{Tells}
 use Rattle.hm_model.proofs.Tops.{TopHolds, TopIs}
 use Rattle.hm_serial.proofs.Standing.{Left, holds_left, live_child, quiet_tree, step_left, step_open, top_not_me}
 use Rattle.hm_serial.proofs.Fallen.{Falls, MayFall, Unwinds, may_on, root_of_node, some_cons}

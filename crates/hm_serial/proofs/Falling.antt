@@ -41,7 +41,7 @@ use Rattle.hm_serial.proofs.Editing.{IsEdit, edit_step, is_telling, rows_table}
 use Rattle.hm_model.proofs.Rows.{row_read}
 use Rattle.hm_kinds.proofs.Kids.{MadeBy, kids_act}
 use Rattle.hm_serial.proofs.Local.{Within}
-use Rattle.hm_serial.specs.Theorem.{Tells}
+use Rattle.hm_model.specs.GoingBack.{Tells}
 
 first_of : (n : ℕ) (b : Bool) (more : List (ℕ × Bool)) → first_broken ((n, b) ∷ more) ≡ None → (b ≡ true) × (first_broken more ≡ None)
 first_of n true more h = (refl, h)

@@ -12,7 +12,7 @@ use Rattle.hm_model.specs.Reads.{covers, guards, reads}
 use Rattle.hm_model.specs.Undoing.{undo_edits}
 use Rattle.hm_model.specs.Undo.{Undoable, pushed}
 use Rattle.hm_serial.proofs.Local.{Within, undo_leads_back, within_undo}
-use Rattle.hm_serial.specs.Theorem.{Tells}
+use Rattle.hm_model.specs.GoingBack.{Tells}
 
 -- the row of a key behind the undoing of steps, the latest first
 abbrev pub unwound : List Undoable → CatKey → Option CatRow → Option CatRow

@@ -19,7 +19,8 @@ use Rattle.hm_model.specs.Tree.{Node, node_of, root_of}
 use Rattle.hm_model.specs.Undo.{Undoable, stack}
 use Rattle.hm_model.proofs.Trees.{does_of, down_rooted, grown_all, step_of, still_there, submit_rooted}
 use Rattle.hm_model.proofs.UndoMakes.{IsUndoOf}
-use Rattle.hm_serial.specs.Theorem.{Tells, UndosTell}
+use Rattle.hm_model.specs.GoingBack.{Tells}
+use Rattle.hm_serial.specs.Theorem.{UndosTell}
 use Rattle.hm_serial.proofs.Backs.{AllTell}
 use Rattle.hm_serial.proofs.FallAll.{held_before, edits_are, falls_all, none_at, sick, stack_now, stack_off, step_aside, top, u, undo_aside, undo_back, undo_holds, undo_within}
 use Rattle.hm_serial.proofs.Apart.{step_top}

@@ -1,5 +1,5 @@
 -- What holds of the catalog of every legal journal.
-use Rattle.std.specs.Prelude.{◌≡◌, ◌≢◌, ℕ, List, [], ◌∷◌, Option, Some, None, true, false, if◌then◌else◌, ◌⊎◌, Ok}
+use Rattle.std.specs.Prelude.{◌≡◌, ◌≢◌, ℕ, List, [], ◌∷◌, Option, Some, None, true, false, ◌⊎◌, Ok}
 use Rattle.hm_names.specs.Server.{Server}
 use Rattle.hm_names.specs.declared.pid.Pid.{Pid}
 use Rattle.hm_data.specs.declared.answer.Answer.TheVariants as answer_is
@@ -9,11 +9,11 @@ use Rattle.hm_data.specs.declared.catalog.Edit.{Edit}
 use Rattle.hm_data.specs.declared.entry.Entry.{Entry}
 use Rattle.hm_data.specs.declared.entry.Entry.TheVariants as entry_is
 use Rattle.hm_data.specs.declared.step.StepOut.{StepOut}
+use Rattle.hm_model.specs.GoingBack.{Tells}
 use Rattle.hm_model.specs.Journal.{Past}
 use Rattle.hm_model.specs.Tree.{Node, node_of, root_of}
 use Rattle.hm_model.specs.Phase.{cause, root_ended}
-use Rattle.hm_model.specs.Catalog.{Catalog, cat, was, keys_of}
-use Rattle.hm_model.specs.Keys.{same_key}
+use Rattle.hm_model.specs.Catalog.{cat, was, keys_of}
 use Rattle.hm_model.specs.Reads.{covers, IsBusy}
 use Rattle.hm_model.specs.Records.{unfinished}
 use Rattle.hm_model.specs.Rules.{IsLegal}
@@ -70,12 +70,6 @@ FailureLeavesAll =
     → root_ended before r ≡ false → root_ended (entry ∷ before) r ≡ true → cause (entry ∷ before) r ≢ None
     → (key : CatKey) → TreeEdits (entry ∷ before) r key ⊎ (covers node.args key ≡ true)
     → cat (entry ∷ before) key ≡ was (entry ∷ before) r key
-
--- each edit tells what its key had
-abbrev pub Tells : List Edit → Catalog → Type 0
-Tells [] now = Unit {0}
-Tells (edit ∷ edits) now =
-    (edit.before ≡ now edit.key) × Tells edits (λ key. if same_key key edit.key then edit.after else now key)
 
 -- the edits of an undo tell the rows that they find
 abbrev pub UndosTell : Type 0

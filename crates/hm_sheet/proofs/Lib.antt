@@ -1,9 +1,6 @@
 pub mod Broken
 pub mod Copies
-pub mod Ordered
-pub mod InPieces
 pub mod OwnValid
 pub mod Places
 pub mod Sheets
-pub mod Turns
 pub mod Walks

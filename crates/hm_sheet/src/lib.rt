@@ -1,32 +1,17 @@
 //! Sheets: which are valid, what their rows answer, and the boxed objects that run them.
 #![tactic(auto)]
 
-mod acts;
 mod among;
-mod calls;
 mod check;
-mod checks;
-mod crashes;
 mod fault;
 mod handler;
 mod kinds;
 mod lines;
-mod lookup;
-mod merges;
-mod order;
-mod outs;
 mod own;
-mod pieces;
 mod plain;
-mod regions;
 mod registry;
 mod rules;
-mod splits;
-mod tables;
-mod transits;
-mod undo;
 mod valid;
-mod views;
 mod walk;
 
 pub use among::{answer, sheet_for};

@@ -5,75 +5,16 @@ ghost use Rattle.hm_model.specs.ActSorts.{is_check as checks, is_layout as layou
 ghost use Rattle.hm_model.specs.Answers.{no_row};
 ghost use Rattle.hm_model.specs.Validity.{is_among as among, is_none_or_marked as marked, follower as follows, ends_root as ends, row_rules, first_broken};
 
+use hm_acts::{NO_ROW, editing_kinds, is_check, is_edit};
 use hm_data::{Act, Row};
-
-/// The row that follows the last one.
-pub(crate) const NO_ROW: u8 = 255;
 
 // The most rows that a sheet may have.
 const MOST_ROWS: usize = 32;
-
-/// Acts that only test.
-pub(crate) fn is_check(act: Act) -> bool
-    ensures { result ≡ checks act }
-{
-    matches!(
-        act,
-        Act::CheckNamespaceFree
-            | Act::CheckNamespaceEmpty
-            | Act::CheckTableFree
-            | Act::CheckTableDisabled
-            | Act::CheckTableEnabled
-            | Act::CheckSplit
-            | Act::CheckMerge
-            | Act::CheckMove
-    )
-}
 
 fn is_layout(act: Act) -> bool
     ensures { result ≡ layouts act }
 {
     act == Act::Layout
-}
-
-static NAMESPACE_KINDS: [u8; 2] = [1, 2];
-
-static TABLE_KINDS: [u8; 5] = [3, 4, 5, 6, 7];
-
-static SPLIT_KINDS: [u8; 1] = [8];
-
-static MERGE_KINDS: [u8; 1] = [9];
-
-static ADD_KINDS: [u8; 1] = [20];
-
-static DROP_KINDS: [u8; 1] = [21];
-
-// The kinds whose root asks exclusively for all that the act edits; none for an act that edits nothing.
-fn editing_kinds(act: Act) -> &'static [u8]
-    ensures { result.now ≡ kinds act }
-{
-    match act {
-        Act::AddNamespace | Act::DropNamespace => &NAMESPACE_KINDS,
-        Act::AddTable
-        | Act::SetEnabling
-        | Act::SetEnabled
-        | Act::DropTable
-        | Act::SetDisabling
-        | Act::SetDisabled
-        | Act::SetVersion => &TABLE_KINDS,
-        Act::UpdateSplitMeta => &SPLIT_KINDS,
-        Act::UpdateMergeMeta => &MERGE_KINDS,
-        Act::AddRegionRows => &ADD_KINDS,
-        Act::DropRegionRows => &DROP_KINDS,
-        _ => &[],
-    }
-}
-
-/// Acts that edit the catalog.
-pub(crate) fn is_edit(act: Act) -> bool
-    ensures { result ≡ edits act }
-{
-    !editing_kinds(act).is_empty()
 }
 
 /// Whether a number is among these.

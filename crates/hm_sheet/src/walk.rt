@@ -5,7 +5,7 @@ ghost use Rattle.hm_sheet.specs.Lines.{line_of};
 ghost use Rattle.hm_model.specs.Answers.{no_row};
 
 use crate::lines::{Line, exact_rows, lines_of};
-use crate::rules::NO_ROW;
+use hm_acts::NO_ROW;
 use hm_data::{Row, Sheet};
 
 /// The row at a place.

@@ -229,7 +229,7 @@ join_owes J number_of roster debts lists queue p legal tied opens free may goes 
     | inl f ↦ tied.aside q f
     | inr f ↦ (
         let m : MayJoin J number_of p Held = subst (MayJoin J number_of p) (sym f.0) may in
-        inl (subst (λ n. LacksPick J n × IsCalm J n) (sym f.1) (lacks_pick J legal p m.0 m.1, go_calm J legal p (inl m.0)))
+        inl (subst (λ n. LacksPick J n × IsCalm J n) (sym f.1) (lacks_pick J legal p m.0 m.1 m.2, go_calm J legal p (inl m.0)))
         )
   ];
   must = λ q apart busy. elim (cases_eq q p) [

@@ -10,6 +10,7 @@ use Rattle.hm_data.specs.declared.record.Phase.{Phase}
 use Rattle.hm_data.specs.declared.record.Phase.TheVariants as phase_is
 use Rattle.hm_model.specs.Answers.{done_with, failing, is_stopped, last_answer}
 use Rattle.hm_model.specs.Forest.{IsWait}
+use Rattle.hm_model.specs.Holding.{IsFree}
 use Rattle.hm_model.specs.Inputs.{undoes}
 use Rattle.hm_model.specs.Journal.{Past}
 use Rattle.hm_model.specs.Phase.{all_stopped, cause, children_ended, ended, ended_node, in_tree, or_else, own_phase, phase, phase_table, rolled_back, root_ended, root_over, stopped_in}
@@ -24,6 +25,8 @@ use Rattle.hm_model.proofs.Grown.{not_stepped, stepped}
 use Rattle.hm_model.proofs.Forest.{forest_all, roots_wait, top_is, top_is_own}
 use Rattle.hm_model.proofs.Waiting.{under_tells}
 use Rattle.hm_model.proofs.Trees.{all_below_at, child_stopped, grown_all, is_there}
+use Rattle.hm_tied.proofs.Openings.{unopening}
+use Rattle.hm_tied.proofs.Picking.{lacking_row}
 use Rattle.hm_tied.specs.Tied.{CanGo, IsBusy, IsCalm, IsOpen, LacksPick}
 use Rattle.hm_model.proofs.Running.{Runs, ready_runs, run_last, run_none, run_open, top_or_below, undo_facts, undo_open}
 
@@ -88,5 +91,9 @@ go_calm J legal p (inl may) root = elim (find_below (made J + 1) (is_open_under 
             (λ same. true≢false (sym more.0 ∙ ap not (eq-eqb q p same))) (not-true (is_stopped (last_answer J q)) more.1)
 
 -- who may make a step, and not with a pick, needs one that isn't there
-pub lacks_pick : (J : Past) → IsLegal J → (p : ℕ) → MayStep J p → (MayStepPicked J p → ⊥) → LacksPick J p
-lacks_pick J legal p may none = (may.0, may.1, run_none J legal p may.0 may.1 (ready_runs J p may.0 may.2), elim (cases_Bool (has_pick J p may.0)) [ inl on ↦ absurd (none (may.0, may.1, may.2, on)) | inr off ↦ off ])
+pub lacks_pick : (J : Past) → IsLegal J → (p : ℕ) → MayStep J p → (MayStepPicked J p → ⊥) → IsFree J [] p → LacksPick J p
+lacks_pick J legal p may none free =
+    let undone = run_none J legal p may.0 may.1 (ready_runs J p may.0 may.2) in
+    let lacks : has_pick J p may.0 ≡ false = elim (cases_Bool (has_pick J p may.0)) [ inl on ↦ absurd (none (may.0, may.1, may.2, on)) | inr off ↦ off ] in
+    let row = lacking_row J p may.0 may.1 undone lacks in
+    (may.0, may.1, undone, lacks, unopening J legal p may.0 may.1 free row.0 row.1 row.2)

@@ -11,3 +11,4 @@ pub mod Undoing
 pub mod Uses
 pub mod Settled
 pub mod Ables
+pub mod Openings

@@ -8,12 +8,14 @@ use Rattle.hm_data.specs.declared.args.Args.{Args}
 use Rattle.hm_data.specs.declared.call.Told.{Told}
 use Rattle.hm_data.specs.declared.entry.Entry.{Entry}
 use Rattle.hm_data.specs.declared.entry.Entry.TheVariants as entry_is
+use Rattle.hm_data.specs.declared.place.RegionState.TheVariants as place_is
 use Rattle.hm_model.specs.Answers.{is_aborted, last_answer, report_of}
 use Rattle.hm_model.specs.Apart.{tree_of}
 use Rattle.hm_model.specs.Inputs.{fenced_if, undoes}
 use Rattle.hm_model.specs.Journal.{Past}
 use Rattle.hm_model.specs.Rest.{IsAnswered}
 use Rattle.hm_model.specs.Rules.{IsLegal}
+use Rattle.hm_model.specs.TransitActs.{is_state, told_place}
 use Rattle.hm_model.specs.Tree.{Node, made, node_of}
 use Rattle.hm_model.specs.Phase.{ended, phase}
 use Rattle.hm_model.specs.Whereabouts.{called_by, moved_by}
@@ -66,7 +68,7 @@ submit_owes nonce request J number_of roster rows legal tied enlists =
     calls = record { reports = λ q. refl; fenced = λ s e. e }
 
     sees : (q : ℕ) (args : Args) → SeesSame J after q args
-    sees q args = record { sheets = refl; last = refl; aborted = refl; rows = refl; place = place_same J after (λ region. refl) (moved_by args); fenced = λ s e. e; live = refl }
+    sees q args = record { sheets = refl; last = refl; aborted = refl; rows = refl; place = inl (place_same J after (λ region. refl) (moved_by args)); opening = λ off. ap (λ p. is_state place_is.Opening (told_place p)) (place_same J after (λ region. refl) (moved_by args)) ∙ off; fenced = λ s e. e; live = refl }
 
     lacks : (q : ℕ) → LacksPick J q → LacksPick after q ⊎ (false ≡ true)
     lacks q lack = inl (lacks_after (entry_is.Submit nonce request) J legal q lack (
@@ -137,7 +139,7 @@ abort_ties pid J number_of roster legal tied =
       | inl own ↦ absurd (unaborted pid J legal (subst (LacksPick J) own lack))
       | inr differs ↦ inl (lacks_after (entry_is.Abort pid) J legal q lack (
         lack.2,
-        record { sheets = refl; last = refl; aborted = cond-false (q == pid.0) true (is_aborted J q) (ne_eqb q pid.0 differs); rows = refl; place = place_same J after (λ region. refl) (let x = lack.0 in moved_by x.args); fenced = λ s e. e; live = refl },
+        record { sheets = refl; last = refl; aborted = cond-false (q == pid.0) true (is_aborted J q) (ne_eqb q pid.0 differs); rows = refl; place = inl (place_same J after (λ region. refl) (let x = lack.0 in moved_by x.args)); opening = λ off. ap (λ p. is_state place_is.Opening (told_place p)) (place_same J after (λ region. refl) (let x = lack.0 in moved_by x.args)) ∙ off; fenced = λ s e. e; live = refl },
       ))
     ]
 
@@ -174,7 +176,7 @@ module _ (call : Pid) (told : Told) (J : Past) (legal : IsLegal (entry_is.Report
   lacks : (q : ℕ) → LacksPick J q → LacksPick heard q ⊎ (false ≡ true)
   lacks q lack = inl (lacks_after (entry_is.Report call told) J legal q lack (
     lack.2,
-    record { sheets = refl; last = refl; aborted = refl; rows = refl; place = place_same J heard (λ region. refl) (let x = lack.0 in moved_by x.args); fenced = λ s e. or_right _ _ e; live = refl },
+    record { sheets = refl; last = refl; aborted = refl; rows = refl; place = inl (place_same J heard (λ region. refl) (let x = lack.0 in moved_by x.args)); opening = λ off. ap (λ p. is_state place_is.Opening (told_place p)) (place_same J heard (λ region. refl) (let x = lack.0 in moved_by x.args)) ∙ off; fenced = λ s e. or_right _ _ e; live = refl },
   ))
 
   pub heard_changes : (claimed : List ℕ) → Changes J heard claimed claimed (report_debts J heard call.0)

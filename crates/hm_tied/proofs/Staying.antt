@@ -80,7 +80,7 @@ module _ (entry : Entry) (J : Past) (legal : IsLegal (entry ∷ J)) (q : ℕ) (x
 pub lacks_after : (entry : Entry) (J : Past) → IsLegal (entry ∷ J) → (q : ℕ) (lacks : LacksPick J q) → (let x = lacks.0 in (undoes (entry ∷ J) q x ≡ false) × SeesSame J (entry ∷ J) q x.args) → LacksPick (entry ∷ J) q
 lacks_after entry J legal q lacks sees =
     let there = nodes_stay entry J legal q lacks.0 lacks.1 in
-    (lacks.0, there, sees.0, lacks_on J (entry ∷ J) q lacks.0 lacks.1 there lacks.2 sees.0 sees.1 lacks.3)
+    (lacks.0, there, sees.0, lacks_on J (entry ∷ J) q lacks.0 lacks.1 there lacks.2 sees.0 sees.1 lacks.3, (let same = sees.1 in same.opening lacks.4))
 
 -- an entry that leaves procedures and phases as they are, and calls
 pub going_same : (entry : Entry) (J : Past) → ((q : ℕ) → node_of (entry ∷ J) q ≡ node_of J q) → SameCalls J (entry ∷ J) → ((q : ℕ) (x : Node) → phase (entry ∷ J) q x ≡ phase J q x) → ((q : ℕ) (x : Node) → undoes (entry ∷ J) q x ≡ undoes J q x) → (q : ℕ) → CanGo (entry ∷ J) q → CanGo J q

@@ -1,5 +1,5 @@
 -- What a step leaves to do.
-use Rattle.std.proofs.Common.{Bool, List, None, Option, Some, [], ap, false, inl, inr, is_none, is_some, not, refl, subst, sym, true, ℕ, ◌&&◌, ◌==◌, ◌||◌, ◌∙◌, ◌∷◌, ◌≡◌, ◌≢◌, ◌⊎◌}
+use Rattle.std.proofs.Common.{Bool, List, None, Option, Some, [], ap, false, inl, inr, is_none, not, refl, subst, sym, true, ℕ, ◌==◌, ◌||◌, ◌∙◌, ◌∷◌, ◌≡◌, ◌≢◌, ◌⊎◌}
 use Rattle.std.proofs.lemmas.Bool.{cases_Bool, cases_eq, eq-eqb, eqb-true, or_cases, or_left, or_parts, or_right, true≢false}
 use Rattle.std.proofs.lemmas.Option.{none-some, same_Some}
 use Rattle.hm_names.specs.Server.{Server}
@@ -7,22 +7,21 @@ use Rattle.hm_names.specs.declared.pid.Pid.{Pid}
 use Rattle.hm_data.specs.declared.args.Args.{Args}
 use Rattle.hm_data.specs.declared.catalog.Edit.{Edit}
 use Rattle.hm_data.specs.declared.entry.Entry.TheVariants as entry_is
-use Rattle.hm_data.specs.declared.place.Place.{Place}
 use Rattle.hm_data.specs.declared.step.StepOut.{StepOut}
 use Rattle.hm_model.specs.Answers.{is_stopped, last_answer}
 use Rattle.hm_model.specs.Apart.{tree_of}
 use Rattle.hm_model.specs.Catalog.{cat, edited, keys_of, rows_at, with_keys}
+use Rattle.hm_model.specs.Fleet.{has_live}
 use Rattle.hm_model.specs.Inputs.{rows_read, undoes}
 use Rattle.hm_model.specs.Journal.{Past}
 use Rattle.hm_model.specs.Locks.{IsIn}
 use Rattle.hm_model.specs.Phase.{ended_node, is_parent, phase, root_ended}
-use Rattle.hm_model.specs.Places.{place_of, placed_by, region_if}
+use Rattle.hm_model.specs.Picks.{needs_server}
 use Rattle.hm_model.specs.Reads.{reads}
 use Rattle.hm_model.specs.Rest.{MayStep}
 use Rattle.hm_model.specs.Rules.{IsLegal}
 use Rattle.hm_model.specs.Touched.{IsTouched}
 use Rattle.hm_model.specs.Tree.{Node, is_root, is_root_in, is_top, node_of, root_in}
-use Rattle.hm_model.specs.Whereabouts.{moved_by}
 use Rattle.hm_model.proofs.Forest.{forest_all, rooted_all, top_is, top_is_own}
 use Rattle.hm_model.proofs.Grown.{nodes_stay, not_stepped, stepped}
 use Rattle.hm_model.proofs.Touched.{ends_by, let_go}
@@ -32,18 +31,14 @@ use Rattle.hm_tied.specs.Tied.{CanGo, IsCalm, IsOpen, LacksPick}
 use Rattle.hm_tied.specs.Entries.{StepOwes, alters, has_edits, is_new, step_debts, touched}
 use Rattle.hm_tied.proofs.Entering.{Changes, changed}
 use Rattle.hm_model.proofs.Running.{Runs, calm_stopped, ready_runs, run_last, run_open, run_root, top_or_below, unstepped_open}
-use Rattle.hm_tied.proofs.Picking.{SeesSame, place_same}
+use Rattle.hm_tied.proofs.Picking.{SeesSame}
+use Rattle.hm_tied.proofs.Openings.{place_stays}
 use Rattle.hm_tied.proofs.Staying.{below_none, lacks_after, same_calm, same_undoes}
 
 -- rows are read as before where nothing was edited
 pub rows_same : (J : Past) (edits : List Edit) (args : Args) → has_edits edits ≡ false → rows_at (reads args) (λ key. edited edits key (cat J key)) (with_keys edits (keys_of J)) ≡ rows_read J args
 rows_same J [] args none = refl
 rows_same J (edit ∷ edits) args none = absurd (true≢false none)
-
--- and the place is the one before where none is given
-pub unplaced : (given : Option Place) → is_some given ≡ false → given ≡ None
-unplaced None none = refl
-unplaced (Some place) none = absurd (true≢false none)
 
 module _ (pid : Pid) (pick : Option Server) (out : StepOut) (J : Past) (legal : IsLegal (entry_is.Step pid pick out ∷ J)) (me : Node) (is_me : node_of J pid.0 ≡ Some me) where
   abbrev after : Past
@@ -108,26 +103,28 @@ module _ (pid : Pid) (pick : Option Server) (out : StepOut) (J : Past) (legal : 
     | inl top ↦ same_undoes (entry_is.Step pid pick out) J legal q x is (other_tree q x is differs calm top) ∙ none
   ]
 
-  sees : (q : ℕ) → q ≢ pid.0 → (args : Args) → has_edits out.edits ≡ false → out.place ≡ None → SeesSame J after q args
-  sees q differs args editless placeless = record {
-    sheets = refl;
-    last = not_stepped pid pick out J q differs;
-    aborted = refl;
-    rows = rows_same J out.edits args editless;
-    place = place_same J after (λ region. ap (λ given. placed_by region (region_if (node_of J pid.0)) given (place_of J region)) placeless) (moved_by args);
-    fenced = λ s e. e;
-    live = refl;
-  }
+  sees : (q : ℕ) → q ≢ pid.0 → (lack : LacksPick J q) → has_edits out.edits ≡ false → (let x = lack.0 in SeesSame J after q x.args)
+  sees q differs lack editless =
+      let x = lack.0 in
+      let stays = place_stays pid pick out J legal x.args lack.4 (or_parts (not (needs_server J q x)) (has_live J) lack.3).1 in
+      record {
+        sheets = refl;
+        last = not_stepped pid pick out J q differs;
+        aborted = refl;
+        rows = rows_same J out.edits x.args editless;
+        place = stays.0;
+        opening = λ off. stays.1;
+        fenced = λ s e. e;
+        live = refl;
+      }
 
   lacks_still : (q : ℕ) → q ≢ pid.0 → (lack : LacksPick J q) → IsCalm J q → (LacksPick after q × IsCalm after q) ⊎ (alters out ≡ true)
   lacks_still q differs lack calm = elim (cases_Bool (alters out)) [
     | inl on ↦ inr on
-    | inr off ↦
-        let parts = or_parts (has_edits out.edits) (is_some out.place) off in
-        inl (
-          lacks_after (entry_is.Step pid pick out) J legal q lack (none_on q lack.0 lack.1 differs calm lack.2, sees q differs (let x = lack.0 in x.args) parts.0 (unplaced out.place parts.1)),
-          calm_on q lack.0 lack.1 differs calm,
-        )
+    | inr off ↦ inl (
+      lacks_after (entry_is.Step pid pick out) J legal q lack (none_on q lack.0 lack.1 differs calm lack.2, sees q differs lack off),
+      calm_on q lack.0 lack.1 differs calm,
+    )
   ]
 
   pub step_changes : (claimed left_claimed : List ℕ) → IsIn pid.0 claimed → Unclaims pid.0 claimed left_claimed → ((q : ℕ) → IsIn q claimed → IsCalm J q) → Changes J after claimed left_claimed (step_debts J pid.0 me out)

@@ -1,10 +1,11 @@
 -- What an undo leaves to do.
 use Rattle.std.proofs.Common.{List, None, Some, ap, cond, false, inl, inr, is_none, is_some, refl, subst, sym, true, ℕ, ◌==◌, ◌∙◌, ◌∷◌, ◌≡◌, ◌≢◌, ◌⊎◌}
-use Rattle.std.proofs.lemmas.Bool.{cases_Bool, cases_eq, eq-eqb, eqb-true, false≢true, or_left, or_parts, or_right, true≢false}
+use Rattle.std.proofs.lemmas.Bool.{cases_Bool, cases_eq, eq-eqb, eqb-true, false≢true, or_left, or_right, true≢false}
 use Rattle.std.proofs.lemmas.Option.{none-some, same_Some}
 use Rattle.hm_names.specs.declared.pid.Pid.{Pid}
 use Rattle.hm_data.specs.declared.args.Args.{Args}
 use Rattle.hm_data.specs.declared.entry.Entry.TheVariants as entry_is
+use Rattle.hm_data.specs.declared.place.RegionState.TheVariants as place_is
 use Rattle.hm_data.specs.declared.step.StepOut.{StepOut}
 use Rattle.hm_model.specs.Answers.{is_stopped, last_answer}
 use Rattle.hm_model.specs.Apart.{tree_of}
@@ -13,6 +14,7 @@ use Rattle.hm_model.specs.Journal.{Past}
 use Rattle.hm_model.specs.Locks.{IsIn}
 use Rattle.hm_model.specs.Phase.{all_stopped, cause, ended, ended_node, root_ended}
 use Rattle.hm_model.specs.Rules.{IsLegal, IsLatest}
+use Rattle.hm_model.specs.TransitActs.{is_state, told_place}
 use Rattle.hm_model.specs.Tree.{Node, is_root_in, is_top, node_of, root_of}
 use Rattle.hm_model.specs.Undo.{is_empty, stack}
 use Rattle.hm_model.specs.Whereabouts.{moved_by}
@@ -112,7 +114,8 @@ module _ (pid : Pid) (row : ℕ) (out : StepOut) (J : Past) (legal : IsLegal (en
     last = refl;
     aborted = refl;
     rows = rows_same J out.edits args editless;
-    place = place_same J after (λ region. refl) (moved_by args);
+    place = inl (place_same J after (λ region. refl) (moved_by args));
+    opening = λ off. ap (λ p. is_state place_is.Opening (told_place p)) (place_same J after (λ region. refl) (moved_by args)) ∙ off;
     fenced = λ s e. e;
     live = refl;
   }
@@ -121,7 +124,7 @@ module _ (pid : Pid) (row : ℕ) (out : StepOut) (J : Past) (legal : IsLegal (en
   lacks_still q differs lack calm = elim (cases_Bool (alters out)) [
     | inl on ↦ inr on
     | inr off ↦ inl (
-      lacks_after (entry_is.Undo pid row out) J legal q lack (none_on q lack.0 lack.1 differs lack.2, sees q (let x = lack.0 in x.args) (or_parts (has_edits out.edits) (is_some out.place) off).0),
+      lacks_after (entry_is.Undo pid row out) J legal q lack (none_on q lack.0 lack.1 differs lack.2, sees q (let x = lack.0 in x.args) off),
       calm_on q lack.0 lack.1 differs calm,
     )
   ]

@@ -8,9 +8,10 @@ use Rattle.hm_data.specs.declared.args.Args.{Args}
 use Rattle.hm_data.specs.declared.args.Args.TheVariants as args_are
 use Rattle.hm_data.specs.declared.call.Told.TheVariants as told_is
 use Rattle.hm_data.specs.declared.entry.Entry.TheVariants as entry_is
-use Rattle.hm_locks.specs.Book.{Row, above_in, new_row, row_of}
+use Rattle.hm_locks.specs.Book.{IsFree, Row, above_in, new_row, row_of}
 use Rattle.hm_locks.proofs.Ties.{free_is_free}
 use Rattle.hm_model.specs.Fleet.{fences_by, fences_if, is_fenced}
+use Rattle.hm_model.specs.Holding.{IsFree as IsClear}
 use Rattle.hm_model.specs.Inputs.{fenced_if}
 use Rattle.hm_model.specs.Journal.{Past}
 use Rattle.hm_model.specs.Locks.{asks}
@@ -26,7 +27,8 @@ use Rattle.hm_sched.specs.Queues.{StandsIn}
 use Rattle.hm_sched.specs.declared.queue.Queue.{Queue}
 use Rattle.hm_sched.specs.declared.queue.Queue.TheVariants.{Held, Servers, Suspended, Tables, Waits}
 use Rattle.hm_lists.specs.Chains.{IsIn as IsNode}
-use Rattle.hm_tied.specs.Tied.{IsOpen, IsOver, IsTied, Roster, called_in}
+use Rattle.hm_tied.specs.Calls.{owing}
+use Rattle.hm_tied.specs.Tied.{IsOpen, IsOver, IsTied, IsTiedBut, Roster, called_in}
 use Rattle.hm_tied.specs.Entries.{row_made}
 use Rattle.hm_tied.specs.Uses.{AncestorsAreTold, DebtsMayRise, EnlistingBegins, EnlistingEnds, EnlistingGoesOn, FencesOne, FreeTies, KnownAreMade, NoneClashTies, NumbersTie, OpeningOwes, ReadyAreEnlisted, RoomTies}
 use Rattle.hm_tied.proofs.Calls.{whole}
@@ -35,6 +37,12 @@ use Rattle.hm_tied.proofs.Rows.{enlisted_some, row_here, row_there}
 
 pub free_ties : FreeTies
 free_ties J number_of roster p tied opens = free_is_free J roster.claimed roster.rows p (whole J roster.claimed roster.rows tied.book) (tied.book.opened p opens)
+
+-- one that is owed alone, and that nobody who holds blocks, conflicts with none that has a step
+pub free_given : (J : Past) (number_of : Option Server → ℕ) (roster : Roster) (p : ℕ) → IsTiedBut J number_of roster (owing p) → IsOpen J p → IsFree roster.rows p → IsClear J [] p
+free_given J number_of roster p tied opens free q holds conflict =
+    (free_is_free J roster.claimed roster.rows p (whole J roster.claimed roster.rows tied.book) (tied.book.opened p opens)).0 free q
+    (holds.0, holds.1, elim holds.2 [ inl some ↦ inl some | inr among ↦ absurd among ]) conflict
 
 pub none_clash_ties : NoneClashTies
 none_clash_ties J number_of roster tied clear p q p_holds q_holds conflict =

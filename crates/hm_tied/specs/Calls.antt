@@ -1,9 +1,10 @@
 -- Who is ready in a tied state, and what each call of the scheduler and of the lock book leaves to do: laws.
-use Rattle.std.specs.Prelude.{◌≡◌, ◌≢◌, ℕ, List, ◌∷◌, Option, Some, None, Bool, true, false, not, ◌==◌, ◌&&◌, ◌↔◌, is_some}
+use Rattle.std.specs.Prelude.{◌≡◌, ◌≢◌, ℕ, List, [], ◌∷◌, Option, Some, None, Bool, true, false, not, ◌==◌, ◌&&◌, ◌↔◌, is_some}
 use Rattle.std.specs.Option.{option_map}
 use Rattle.hm_names.specs.Server.{Server}
 use Rattle.hm_locks.specs.Book.{AreChanged, Row, holding, row_of}
 use Rattle.hm_model.specs.Answers.{last_answer}
+use Rattle.hm_model.specs.Holding.{IsFree}
 use Rattle.hm_model.specs.Journal.{Past}
 use Rattle.hm_model.specs.Locks.{IsIn}
 use Rattle.hm_model.specs.Phase.{ended}
@@ -82,7 +83,7 @@ KeepOnOwes =
 abbrev pub MayJoin : Past → (Option Server → ℕ) → ℕ → Queue → Type 0
 MayJoin J number_of p Servers = Unit {0}
 MayJoin J number_of p Tables = Unit {0}
-MayJoin J number_of p Held = MayStep J p × (MayStepPicked J p → ⊥)
+MayJoin J number_of p Held = MayStep J p × (MayStepPicked J p → ⊥) × IsFree J [] p
 MayJoin J number_of p (Waits h) = ⊥
 MayJoin J number_of p (Suspended s) = (number_of (called_in (node_of J p)) ≡ s) × (CanGo J p → ⊥)
 

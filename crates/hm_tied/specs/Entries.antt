@@ -1,5 +1,5 @@
 -- What each kind of entry leaves to do: laws.
-use Rattle.std.specs.Prelude.{◌≡◌, ◌≢◌, ℕ, List, [], ◌∷◌, Option, Some, None, Bool, true, false, not, ◌==◌, ◌&&◌, ◌||◌, is_none, is_some}
+use Rattle.std.specs.Prelude.{◌≡◌, ◌≢◌, ℕ, List, [], ◌∷◌, Option, Some, None, Bool, true, false, not, ◌==◌, ◌&&◌, ◌||◌, is_none}
 use Rattle.hm_names.specs.Server.{Server}
 use Rattle.hm_names.specs.declared.nonce.Nonce.{Nonce}
 use Rattle.hm_names.specs.declared.pid.Pid.{Pid}
@@ -41,9 +41,10 @@ abbrev pub has_edits : List Edit → Bool
 has_edits [] = false
 has_edits (edit ∷ edits) = true
 
--- what was answered changes rows or places, so that a step may need no server to be picked any more
+-- what was answered changes rows, so that a step may need no server to be picked any more; a place that changes leaves none of those
+-- that were set aside without need of one
 abbrev pub alters : StepOut → Bool
-alters out = has_edits out.edits || is_some out.place
+alters out = has_edits out.edits
 
 -- a step: what it made is owed; it, its parent and its root may go on; it and its root may end
 abbrev pub step_debts : Past → ℕ → Node → StepOut → Debts

@@ -2,18 +2,21 @@
 use Rattle.std.specs.Prelude.{◌≡◌, ◌≢◌, ℕ, List, Option, Some, None, Bool, true, false, ◌⊎◌}
 use Rattle.hm_names.specs.Server.{Server}
 use Rattle.hm_data.specs.declared.answer.Answer.TheVariants as answer_is
+use Rattle.hm_data.specs.declared.args.Args.{Args}
+use Rattle.hm_data.specs.declared.place.RegionState.TheVariants as place_is
 use Rattle.hm_locks.specs.Book.{IsBlockedBy, IsEnlisted, Row, is_holding, row_of}
 use Rattle.hm_locks.specs.Laws.{IsRowOf}
 use Rattle.hm_model.specs.Answers.{last_answer}
 use Rattle.hm_model.specs.Holding.{HoldsWith}
-use Rattle.hm_model.specs.Inputs.{undoes}
+use Rattle.hm_model.specs.Inputs.{place_if, undoes}
 use Rattle.hm_model.specs.Journal.{Past}
 use Rattle.hm_model.specs.Locks.{IsIn}
 use Rattle.hm_model.specs.Phase.{all_stopped, ended}
 use Rattle.hm_model.specs.Picks.{has_pick}
 use Rattle.hm_model.specs.Rest.{MayStep, MayUndo}
 use Rattle.hm_model.specs.Tree.{Node, is_root, node_of}
-use Rattle.hm_model.specs.Whereabouts.{called_by}
+use Rattle.hm_model.specs.TransitActs.{is_state, told_place}
+use Rattle.hm_model.specs.Whereabouts.{called_by, moved_by}
 use Rattle.hm_sched.specs.declared.queue.Queue.{Queue}
 use Rattle.hm_sched.specs.declared.queue.Queue.TheVariants.{Held, Suspended, Waits}
 use Rattle.hm_sched.specs.Queues.{Stands, StandsIn}
@@ -38,10 +41,15 @@ IsBusy before p = CanGo before p ⊎ Awaits before p
 abbrev pub IsCalm : Past → ℕ → Type 0
 IsCalm before p = is_root before p ≡ true → all_stopped before p ≡ true
 
--- nothing of it is to be undone, and its next step needs a server to be picked, while none is live
+-- the region of a transit is being opened
+abbrev pub is_opening : Past → Args → Bool
+is_opening before args = is_state place_is.Opening (told_place (place_if before (moved_by args)))
+
+-- nothing of it is to be undone, and its next step needs a server to be picked, while none is live; nor is its region being opened
 abbrev pub LacksPick : Past → ℕ → Type 0
 LacksPick before p =
     (node : Node) × (node_of before p ≡ Some node) × (undoes before p node ≡ false) × (has_pick before p node ≡ false)
+    × (is_opening before node.args ≡ false)
 
 -- the server that a procedure, if there is one, calls; none where it calls the storage
 abbrev pub called_in : Option Node → Option Server

@@ -57,7 +57,7 @@ pub fn ends_owe()
 {}
 
 /// Behind a step its children, its procedure, the parent and the root are looked at, and those that wait for a server where rows
-/// or places changed.
+/// changed.
 pub fn steps_owe()
     ensures { StepOwes }
 {}

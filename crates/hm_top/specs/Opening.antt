@@ -17,7 +17,7 @@ use Rattle.hm_top.specs.declared.status.EarlyEnd.TheVariants as early_is
 use Rattle.hm_top.specs.Got.{IsPartOf}
 use Rattle.hm_top.specs.Transcript.{text_of}
 
--- a server that is live is held to be dead, which its line says, and no row is served twice
+-- a server that is live is held to be dead, which its line says, and no region is held twice
 pub record GoesDown (server : Server) (old : Scene) (lines : List Answer) (new : Scene) : Type 0 where
   pub live : is_live (past_in old) server ≡ true
   pub pid : ℕ

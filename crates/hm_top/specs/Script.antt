@@ -9,6 +9,6 @@ use Rattle.hm_commands.specs.Offered.{is_offered}
 abbrev pub IsScript : List ℕ → List Command → Type 0
 IsScript bytes commands = IsScriptTo is_offered bytes commands
 
--- why bytes are no script: the first fault of the first line that has one
+-- why bytes are no script: the first fault of the first line that has one, or else the first command that isn't offered
 abbrev pub IsBad : List ℕ → Bad → Type 0
 IsBad bytes bad = IsFaultTo is_offered bytes bad

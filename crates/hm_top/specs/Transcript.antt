@@ -14,7 +14,7 @@ use Rattle.hm_commands.specs.declared.answer.Answer.{Answer}
 abbrev pub text_of : List Answer → List ℕ
 text_of answers = flat_map answer_text answers
 
--- one command answered, what was recorded for it, and the length of the journal then as its mark; and no row is served twice
+-- one command answered, what was recorded for it, and the length of the journal then as its mark; and no region is held twice
 pub record Exchange (command : Command) (old mid : Scene) (marks later : List ℕ) (answers rest : List Answer) : Type 0 where
   pub answer : Answer
   pub fits : Answers command old answer mid

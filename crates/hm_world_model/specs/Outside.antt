@@ -61,6 +61,7 @@ deliver_by o call (peer_is.Server server) =
 deliver_by o call peer_is.Storage =
     record o { storage = (store o.storage call).0; reports = with_report o.reports (answer_by o call peer_is.Storage) }
 
+-- a call reached the one who is called
 abbrev pub delivered : Outside → Call → Outside
 delivered o call = deliver_by o call call.peer
 
@@ -81,6 +82,7 @@ died o server = record o { actors = set_actor o.actors server None }
 abbrev pub refusing : ℕ → Actor → Actor
 refusing count actor = record actor { refusals = count }
 
+-- a peer is to refuse so many
 abbrev pub armed : Outside → Peer → ℕ → Outside
 armed o (peer_is.Server server) count =
     record o { actors = set_actor o.actors server (option_map (refusing count) (o.actors server)) }

@@ -11,19 +11,19 @@ use Rattle.hm_procedures.proofs.procedures.Procedures.ends.Goals as goal
 pub ends_from-requires : goal.ends_from-requires
 ends_from-requires c =
     let most = (run_all c.self.inside.past.entries c.self.invariant.legal c.args.pid.0).most in
-    let at = c.children-from.ensures.0 ∙ ap (λ (v : ProceduresView). made_at_step v.past c.args.pid.0) (sym c.self.view_is) in
-    let in_it = c.children-from.ensures.1 ∙ ap (λ (v : ProceduresView). made_in_step v.past c.args.pid.0) (sym c.self.view_is) in
+    let at = c.last_made-from.ensures.0 ∙ ap (λ (v : ProceduresView). made_at_step v.past c.args.pid.0) (sym c.self.view_is) in
+    let in_it = c.last_made-from.ensures.1 ∙ ap (λ (v : ProceduresView). made_in_step v.past c.args.pid.0) (sym c.self.view_is) in
     let long = ap length c.deref.ensures.value in
     omega (arith, most, at, in_it, long, c.self.invariant.count)
 
 pub returns : goal.returns
 returns c =
     let J : Past = c.self.inside.past.entries in
-    let at = c.children-from.ensures.0 ∙ ap (λ (v : ProceduresView). made_at_step v.past c.args.pid.0) (sym c.self.view_is) in
-    let in_it = c.children-from.ensures.1 ∙ ap (λ (v : ProceduresView). made_in_step v.past c.args.pid.0) (sym c.self.view_is) in
-    let are : ends_in c.deref.result.now c.children-from.result.0 c.children-from.result.1 ≡ ends_of c.args.self.now.past c.args.pid.0 =
-    ap (λ l. ends_in l c.children-from.result.0 c.children-from.result.1) c.deref.ensures.value
-    ∙ ap (λ n. ends_in c.self.inside.book.kept.items n c.children-from.result.1) at
+    let at = c.last_made-from.ensures.0 ∙ ap (λ (v : ProceduresView). made_at_step v.past c.args.pid.0) (sym c.self.view_is) in
+    let in_it = c.last_made-from.ensures.1 ∙ ap (λ (v : ProceduresView). made_in_step v.past c.args.pid.0) (sym c.self.view_is) in
+    let are : ends_in c.deref.result.now c.last_made-from.result.0 c.last_made-from.result.1 ≡ ends_of c.args.self.now.past c.args.pid.0 =
+    ap (λ l. ends_in l c.last_made-from.result.0 c.last_made-from.result.1) c.deref.ensures.value
+    ∙ ap (λ n. ends_in c.self.inside.book.kept.items n c.last_made-from.result.1) at
     ∙ ap (ends_in c.self.inside.book.kept.items (made_at_step J c.args.pid.0)) in_it
     ∙ ends_are J c.self.invariant.legal c.args.pid.0 c.self.inside.book.kept.items c.self.invariant.kept_are
     ∙ ap (λ (v : ProceduresView). ends_of v.past c.args.pid.0) c.self.view_is in

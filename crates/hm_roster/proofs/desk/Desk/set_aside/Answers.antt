@@ -5,8 +5,9 @@ use Rattle.hm_model.specs.Tree.{made}
 use Rattle.hm_sched.specs.Queues.{ready_count}
 use Rattle.hm_sched.specs.declared.queue.Queue.TheVariants.{Held, Suspended}
 use Rattle.hm_tied.proofs.Settled.{one_settles}
+use Rattle.hm_tied.proofs.Uses.{free_given}
 use Rattle.hm_tied.specs.Calls.{owing}
-use Rattle.hm_roster.specs.Roster.{claims_on, number_on, roster_of}
+use Rattle.hm_roster.specs.Roster.{claims_on, number_on, roster_of, roster_with}
 use Rattle.hm_roster.proofs.Desks.{below_still}
 use Rattle.hm_roster.proofs.Giving.{held_aside, ready_stays}
 use Rattle.hm_roster.proofs.Lacking.{lacks}
@@ -22,7 +23,7 @@ returns-then-can_go-clause-follows g c =
     record {
       tied =
           held_aside J c.can_go.ensures.legal (number_on c.give_back.new.self) (roster_of c.give_back.new.self) c.hold.new.self.lists c.args.pid.0 c.give_back.ensures.owes given.opened
-          (λ mine. given.unclaimed (subst (λ (l : List ℕ). IsIn c.args.pid.0 l) (ap (λ v. v.items) same.claimed) mine)) may.0 may.1 c.hold.ensures.joins;
+          (λ mine. given.unclaimed (subst (λ (l : List ℕ). IsIn c.args.pid.0 l) (ap (λ v. v.items) same.claimed) mine)) may.0 may.1 (free_given J (number_on c.args.self.now) (roster_with c.args.self.now given.was) c.args.pid.0 given.tied given.opened given.alone) c.hold.ensures.joins;
       room = subst (λ (k : ℕ). made J < k) (sym (c.hold.ensures.room.pids ∙ same.pids)) given.room;
       below = λ server. subst (λ (k : ℕ). number_on c.give_back.new.self server < k) (sym c.hold.ensures.room.servers) (below_still c.args.self.now c.give_back.new.self same given.below server);
     }

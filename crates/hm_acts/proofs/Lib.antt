@@ -1,0 +1,3 @@
+pub mod InPieces
+pub mod Ordered
+pub mod Turns

@@ -1,0 +1,355 @@
+// The acts on the regions of tables.
+ghost use Rattle.std.specs.Prelude.{◌≡◌, ◌≤◌, ◌<◌, ◌^◌, ◌++◌, List as PlainList, [], ◌∷◌, IfOk, IfSome, length, option_copied};
+ghost use Rattle.std.specs.List.{AllByRecursion, cons_option};
+ghost use Rattle.std.specs.Option.{option_map};
+ghost use Rattle.hm_names.specs.Region.{Region};
+ghost use Rattle.hm_model.specs.Catalog.{row_at as row_of};
+ghost use Rattle.hm_model.specs.Changes.{live_row as live_of, region_key, add_ranges as adds_ranges, remove_regions as removes};
+ghost use Rattle.hm_model.specs.Evaluation.{named_ids};
+ghost use Rattle.hm_model.specs.Pieces.{ranges_between as between, transits as transits_of};
+ghost use Rattle.hm_model.specs.RegionActs.{regions_for, add_regions as adds, open_regions as opens, close_regions as closes, drop_regions as drops, open_new as opens_new, add_region_rows as adds_rows, drop_region_rows as drops_rows};
+ghost use Rattle.hm_model.specs.RowsSaid.{regions_among as among, keep_region};
+ghost use Rattle.hm_model.specs.Views.{bounds_of as bounds_in, first_id_of as first_id, regions_in};
+ghost use Rattle.hm_acts.specs.Runs.{row_counts};
+
+use crate::checks::{is_live, status_in};
+use crate::lookup::{same_table, set_row};
+use crate::order::ids_of as ids_in;
+use crate::outs::{edits_rows, goes_on, spawns};
+use crate::pieces::{adding, dropping, key_copies, transits, transits_from};
+use crate::views::{first_id_of, ids_of, table_of};
+use hm_data::{Args, CatKey, CatRow, Child, Edit, Goal, Request, Status, StepOut};
+use hm_names::{Copied, KeyRange, List, NameFault, RegionName, RowKey, TableName};
+use std::alloc::{AllocError, Global};
+
+// The key that stands for the open end.
+fn open_end(alloc: Global) -> Result<RowKey, AllocError>
+    ensures { IfOk result (λ key. key ≡ []) }
+{
+    match RowKey::of(alloc, &[]) {
+        Ok(key) => Ok(key),
+        Err(NameFault::Memory) => Err(AllocError),
+        Err(_) => unreachable!(),
+    }
+}
+
+// The bounds of a table's regions that is split at keys.
+fn bounds_at(alloc: Global, keys: &[RowKey]) -> Result<Vec<RowKey>, AllocError>
+    ensures { IfOk result (λ v. v.items ≡ [] ∷ keys.now ++ [] ∷ []) }
+{
+    let mut bounds = Vec::new(alloc);
+    bounds.push(open_end(alloc)?)?;
+    for key in keys {
+        bounds.push(key.copy(alloc)?)?;
+    }
+    bounds.push(open_end(alloc)?)?;
+    Ok(bounds)
+}
+
+// The bounds of the regions that a procedure adds: one more than there are regions.
+fn bounds_of(alloc: Global, args: &Args) -> Result<Option<Vec<RowKey>>, AllocError>
+    ensures { IfOk result (λ bounds. option_map (λ v. v.items) bounds ≡ bounds_in args.now) }
+{
+    match args {
+        Args::Root {
+            request: Request::CreateTable { table: _, keys },
+            first: _,
+        } => Ok(Some(bounds_at(alloc, keys.as_slice())?)),
+        Args::AddRegions {
+            table: _,
+            first: _,
+            bounds,
+        } => Ok(Some(key_copies(alloc, bounds.as_slice())?)),
+        _ => Ok(None),
+    }
+}
+
+// How many bounds those are.
+fn count_of_bounds(args: &Args) -> Option<usize>
+    ensures count { result ≡ option_map length (bounds_in args.now) }
+    ensures few { IfSome result (λ count. count < 2 ^ 63) }
+{
+    match args {
+        Args::Root {
+            request: Request::CreateTable { table: _, keys },
+            first: _,
+        } => Some(keys.as_slice().len() + 2),
+        Args::AddRegions {
+            table: _,
+            first: _,
+            bounds,
+        } => Some(bounds.as_slice().len()),
+        _ => None,
+    }
+}
+
+/// Has the regions of the new table added.
+pub(crate) fn add_regions(alloc: Global, next: u8, args: &Args) -> Result<StepOut, AllocError>
+    requires { first_id args.now < 2 ^ 32 }
+    ensures { IfOk result (λ out. out ≡ adds next args.now) }
+{
+    let Some(table) = table_of(args) else {
+        return Ok(goes_on(alloc, next));
+    };
+    let Some(bounds) = bounds_of(alloc, args)? else {
+        return Ok(goes_on(alloc, next));
+    };
+    let children = adding(alloc, table, first_id_of(args), &bounds)?;
+    Ok(spawns(alloc, next, children))
+}
+
+// The row counts among those of live regions, or among all.
+fn counts(only_live: bool, row: &CatRow) -> bool
+    ensures { result ≡ row_counts only_live row.now }
+{
+    !only_live || is_live(status_in(Some(row)))
+}
+
+// The region of a row of the table that counts.
+fn region_in<'a>(
+    table: &TableName,
+    only_live: bool,
+    key: &'a CatKey,
+    row: &CatRow,
+) -> Option<&'a RegionName>
+    ensures { (more : PlainList Region)
+        → keep_region table.now (row_counts only_live) key.now row.now more ≡ cons_option (option_copied result) more }
+{
+    match key {
+        CatKey::Region(region) if same_table(table, &region.table) && counts(only_live, row) => {
+            Some(region)
+        }
+        _ => None,
+    }
+}
+
+// The regions of a table among rows: the live ones, or all.
+fn regions_among(
+    alloc: Global,
+    table: &TableName,
+    only_live: bool,
+    rows: &[(CatKey, CatRow)],
+) -> Result<Vec<RegionName>, AllocError>
+    ensures { IfOk result (λ v. v.items ≡ among table.now (row_counts only_live) rows.now) }
+{
+    let mut regions = Vec::new(alloc);
+    for (key, row) in rows {
+        if let Some(region) = region_in(table, only_live, key, row) {
+            regions.push(region.copy(alloc)?)?;
+        }
+    }
+    Ok(regions)
+}
+
+// Transits of the regions that were drawn for a new table, else of the live ones of the table.
+fn transits_for(
+    alloc: Global,
+    goal: Goal,
+    table: &TableName,
+    args: &Args,
+    rows: &[(CatKey, CatRow)],
+) -> Result<Vec<Child>, AllocError>
+    requires { first_id args.now < 2 ^ 32 }
+    ensures { IfOk result (λ v. v.items ≡ transits_of goal (regions_for table.now (first_id args.now) (bounds_in args.now) rows.now)) }
+{
+    match count_of_bounds(args) {
+        Some(count) => {
+            transits_from(
+                alloc,
+                goal,
+                table,
+                first_id_of(args),
+                count.saturating_sub(1),
+            )
+        }
+        None => transits(alloc, goal, &regions_among(alloc, table, true, rows)?),
+    }
+}
+
+/// Has the regions of the table assigned.
+pub(crate) fn open_regions(
+    alloc: Global,
+    next: u8,
+    args: &Args,
+    rows: &[(CatKey, CatRow)],
+) -> Result<StepOut, AllocError>
+    requires { first_id args.now < 2 ^ 32 }
+    ensures { IfOk result (λ out. out ≡ opens next args.now rows.now) }
+{
+    let Some(table) = table_of(args) else {
+        return Ok(goes_on(alloc, next));
+    };
+    let children = transits_for(alloc, Goal::Assign, table, args, rows)?;
+    Ok(spawns(alloc, next, children))
+}
+
+/// Has the regions of the table unassigned.
+pub(crate) fn close_regions(
+    alloc: Global,
+    next: u8,
+    args: &Args,
+    rows: &[(CatKey, CatRow)],
+) -> Result<StepOut, AllocError>
+    requires { first_id args.now < 2 ^ 32 }
+    ensures { IfOk result (λ out. out ≡ closes next args.now rows.now) }
+{
+    let Some(table) = table_of(args) else {
+        return Ok(goes_on(alloc, next));
+    };
+    let children = transits_for(alloc, Goal::Unassign, table, args, rows)?;
+    Ok(spawns(alloc, next, children))
+}
+
+/// Has all regions of the table removed.
+pub(crate) fn drop_regions(
+    alloc: Global,
+    next: u8,
+    args: &Args,
+    rows: &[(CatKey, CatRow)],
+) -> Result<StepOut, AllocError>
+    ensures { IfOk result (λ out. out ≡ drops next args.now rows.now) }
+{
+    let Some(table) = table_of(args) else {
+        return Ok(goes_on(alloc, next));
+    };
+    let regions = regions_among(alloc, table, false, rows)?;
+    let ids = ids_in(alloc, &regions)?;
+    let children = dropping(alloc, table, &ids)?;
+    Ok(spawns(alloc, next, children))
+}
+
+/// Has new regions assigned, so many from the first id on.
+pub(crate) fn open_new(
+    alloc: Global,
+    count: usize,
+    next: u8,
+    args: &Args,
+) -> Result<StepOut, AllocError>
+    requires few { count < 2 ^ 32 }
+    requires first { first_id args.now < 2 ^ 32 }
+    ensures { IfOk result (λ out. out ≡ opens_new count next args.now) }
+{
+    let Some(table) = table_of(args) else {
+        return Ok(goes_on(alloc, next));
+    };
+    let children = transits_from(alloc, Goal::Assign, table, first_id_of(args), count)?;
+    Ok(spawns(alloc, next, children))
+}
+
+/// A live region as a row.
+pub(crate) fn live_row(range: KeyRange, parents: Vec<u64>) -> CatRow
+    ensures { result ≡ live_of range parents.items }
+{
+    CatRow::Region {
+        range,
+        status: Status::Live,
+        parents: List::of(parents),
+    }
+}
+
+/// The key of the region of a table with an id.
+pub(crate) fn key_of_region(alloc: Global, table: &TableName, id: u64) -> Result<CatKey, AllocError>
+    requires { 1 ≤ id }
+    ensures { IfOk result (λ key. key ≡ region_key table.now id) }
+{
+    let table = table.copy(alloc)?;
+    Ok(CatKey::Region(RegionName { table, id }))
+}
+
+// The ranges from a bound to the next, from the first bound on.
+fn ranges_between(alloc: Global, bounds: &[RowKey]) -> Result<Vec<KeyRange>, AllocError>
+    ensures { IfOk result (λ v. v.items ≡ between bounds.now) }
+{
+    let mut ranges = Vec::new(alloc);
+    if let [first, rest @ ..] = bounds {
+        let mut before = first;
+        for bound in rest {
+            ranges.push(KeyRange {
+                start: before.copy(alloc)?,
+                end: bound.copy(alloc)?,
+            })?;
+            before = bound;
+        }
+    }
+    Ok(ranges)
+}
+
+// Live regions of these ranges are added, with consecutive ids from the first.
+fn add_ranges(
+    alloc: Global,
+    rows: &[(CatKey, CatRow)],
+    table: &TableName,
+    first: u64,
+    ranges: &[KeyRange],
+) -> Result<Vec<Edit>, AllocError>
+    requires drawn { 1 ≤ first }
+    requires low { first < 2 ^ 32 }
+    ensures { IfOk result (λ v. v.items ≡ adds_ranges (row_of rows.now) table.now first ranges.now) }
+{
+    let mut edits = Vec::new(alloc);
+    let mut id = first;
+    for range in ranges {
+        let key = key_of_region(alloc, table, id)?;
+        let row = live_row(range.copy(alloc)?, Vec::new(alloc));
+        edits.push(set_row(alloc, rows, key, Some(row))?)?;
+        id += 1;
+    }
+    Ok(edits)
+}
+
+/// Adds regions as live, without parents.
+pub(crate) fn add_region_rows(
+    alloc: Global,
+    next: u8,
+    args: &Args,
+    rows: &[(CatKey, CatRow)],
+) -> Result<StepOut, AllocError>
+    requires ids { AllByRecursion (λ id. 1 ≤ id) (named_ids args.now) }
+    requires first { first_id args.now < 2 ^ 32 }
+    ensures { IfOk result (λ out. out ≡ adds_rows next args.now rows.now) }
+{
+    let Some(table) = table_of(args) else {
+        return Ok(goes_on(alloc, next));
+    };
+    let Some(bounds) = bounds_of(alloc, args)? else {
+        return Ok(goes_on(alloc, next));
+    };
+    let ranges = ranges_between(alloc, &bounds)?;
+    let edits = add_ranges(alloc, rows, table, first_id_of(args), &ranges)?;
+    Ok(edits_rows(alloc, next, edits))
+}
+
+// The regions of a table with these ids are removed.
+fn remove_regions(
+    alloc: Global,
+    rows: &[(CatKey, CatRow)],
+    table: &TableName,
+    ids: &[u64],
+) -> Result<Vec<Edit>, AllocError>
+    requires { AllByRecursion (λ id. 1 ≤ id) ids.now }
+    ensures { IfOk result (λ v. v.items ≡ removes (row_of rows.now) (regions_in table.now ids.now)) }
+{
+    let mut edits = Vec::new(alloc);
+    for id in ids {
+        let key = key_of_region(alloc, table, *id)?;
+        edits.push(set_row(alloc, rows, key, None)?)?;
+    }
+    Ok(edits)
+}
+
+/// Removes regions.
+pub(crate) fn drop_region_rows(
+    alloc: Global,
+    next: u8,
+    args: &Args,
+    rows: &[(CatKey, CatRow)],
+) -> Result<StepOut, AllocError>
+    requires { AllByRecursion (λ id. 1 ≤ id) (named_ids args.now) }
+    ensures { IfOk result (λ out. out ≡ drops_rows next args.now rows.now) }
+{
+    let Some(table) = table_of(args) else {
+        return Ok(goes_on(alloc, next));
+    };
+    let edits = remove_regions(alloc, rows, table, ids_of(args))?;
+    Ok(edits_rows(alloc, next, edits))
+}
