@@ -310,7 +310,14 @@ fn run_with_a_fault_at_each_call(rt: HostRuntime) -> Result<(), Fail> {
 // A table that is begun, aborted, and taken back.
 const ABORTS: &[u8] = b"create 1:1 t\nstep 2\nabort 1\nsettle\nprocs\n";
 
-// A run of it in which this call of the disk fails has this text; and what a stop leaves then settles.
+// Whether a run said that it opened a journal of so many entries, or of one more.
+fn has_opened(alloc: Global, text: &[u8], entries: u64) -> Result<bool, AllocError> {
+    let said = format!(in alloc; "opened at {entries}\n")?;
+    let more = format!(in alloc; "opened at {}\n", entries.saturating_add(1))?;
+    Ok(text.starts_with(said.as_bytes()) || text.starts_with(more.as_bytes()))
+}
+
+// A run of it in which this call of the disk fails has this text; and what a stop leaves then is opened with all that was answered, and settles.
 fn is_halted(rt: &(impl Abort + AllocGlobal), call: u64, text: &str) -> Result<(), AllocError> {
     let fails = Fails {
         disk: &[call],
@@ -319,10 +326,15 @@ fn is_halted(rt: &(impl Abort + AllocGlobal), call: u64, text: &str) -> Result<(
     let played = play(rt.alloc(), &RUN, ABORTS, b"", fails)?;
     assert_eq!(rt; played.status, RunStatus::LogFault, "call {call}");
     assert_eq!(rt; played.text.as_slice(), text.as_bytes(), "call {call}");
-    for choice in [Choice::Synced, Choice::AsRead] {
+    let answered = played.marks.last().copied().unwrap_or(1);
+    for choice in [Choice::Synced, Choice::AsRead, Choice::Fill(b'+')] {
         let left = stopped(rt.alloc(), ABORTS, b"", call, choice)?;
         let next = play(rt.alloc(), &RUN, b"settle\n", &left, NONE)?;
         assert_eq!(rt; next.status, RunStatus::Done, "call {call}, {choice:?}");
+        assert!(rt;
+            has_opened(rt.alloc(), &next.text, answered)?,
+            "call {call}, {choice:?}"
+        );
     }
     Ok(())
 }
