@@ -40,9 +40,10 @@ def submissions(numbers):
     return "".join("namespace 7:%d n%d\n" % (number, number) for number in numbers).encode()
 
 
-def tables(numbers):
-    """A script that asks for a table of one region under each of these nonces."""
-    return "".join("create 7:%d t%d\n" % (number, number) for number in numbers).encode()
+def tables(numbers, regions=1):
+    """A script that asks for a table of so many regions under each of these nonces."""
+    keys = "".join(" k%02d" % number for number in range(1, regions))
+    return "".join("create 7:%d t%d%s\n" % (number, number, keys) for number in numbers).encode()
 
 
 def verdict(what, ratio, most):

@@ -1,5 +1,5 @@
 -- Regions in name order.
-use Rattle.std.proofs.Common.{◌≡◌, ◌≤◌, ℕ, zero, suc, ◌+◌, List, [], ◌∷◌, length, drop, refl, ap, ◌∙◌, arith}
+use Rattle.std.proofs.Common.{◌≡◌, ℕ, zero, suc, ◌+◌, List, ◌∷◌, refl, ap, ◌∙◌, arith}
 use Rattle.std.specs.Ordering.{nat_cmp, ordering_then}
 use Rattle.std.specs.declared.cmp.Ordering.{Ordering}
 use Rattle.std.specs.declared.cmp.Ordering.TheVariants.{Less}
@@ -12,14 +12,6 @@ use Rattle.hm_names.specs.declared.table.TableName.{TableName}
 use Rattle.hm_model.specs.Locks.{in_name_order, with_region, with_region_at}
 use Rattle.hm_model.specs.Pieces.{numbers_from}
 use Rattle.hm_model.specs.Views.{regions_in}
-
--- the last alone stands in order
-pub last_ordered : (regions : List Region) (k : ℕ) → length regions ≤ k + 1 → in_name_order (drop k regions) ≡ drop k regions
-last_ordered [] zero le = refl
-last_ordered [] (suc k) le = refl
-last_ordered (region ∷ []) zero le = refl
-last_ordered (region ∷ next ∷ more) zero le = absurd (omega (arith, le))
-last_ordered (region ∷ more) (suc k) le = last_ordered more k (omega (arith, le))
 
 lower : (n : ℕ) → nat_cmp n (n + 1) ≡ Less
 lower n = grind (arith, nat_tests)

@@ -1,16 +1,16 @@
--- The order of names.
-use Rattle.std.specs.Prelude.{Bool, true, false}
-use Rattle.std.specs.declared.cmp.Ordering.{Ordering}
-use Rattle.std.specs.declared.cmp.Ordering.TheVariants.{Less, Equal, Greater}
-use Rattle.hm_names.specs.Order.{region_cmp}
-use Rattle.hm_names.specs.Region.{Region}
+-- The order of keys.
+use Rattle.std.specs.Prelude.{Bool, true, [], ◌∷◌, ◌&&◌}
+use Rattle.std.specs.Ordering.{is_lt}
+use Rattle.hm_data.specs.Keys.{key_cmp}
+use Rattle.hm_data.specs.declared.catalog.CatKey.{CatKey}
+use Rattle.hm_model.specs.RowsSaid.{Rows}
 
--- less or equal
-abbrev pub not_greater : Ordering → Bool
-not_greater Less = true
-not_greater Equal = true
-not_greater Greater = false
+-- each key is below the next, from one on
+abbrev pub keys_rise_from : CatKey → Rows → Bool
+keys_rise_from key [] = true
+keys_rise_from key ((next, row) ∷ more) = is_lt (key_cmp key next) && keys_rise_from next more
 
--- the first region doesn't stand behind the other in name order
-abbrev pub is_before : Region → Region → Bool
-is_before region other = not_greater (region_cmp region other)
+-- each key is below the next
+abbrev pub keys_rise : Rows → Bool
+keys_rise [] = true
+keys_rise ((key, row) ∷ more) = keys_rise_from key more

@@ -10,6 +10,7 @@ use crate::calls::{
     call_assign, call_close, call_fence, call_layout, call_sweep, settle_call, settle_layout,
 };
 use crate::crashes::{fence, reassign};
+use crate::lookup::Rows;
 use crate::merges::{check_merge, update_merge_meta};
 use crate::namespaces::{
     add_namespace, check_free_namespace, check_namespace_empty, drop_namespace,
@@ -58,7 +59,7 @@ fn edit(alloc: Global, act: Act, next: u8, at: &StepIn) -> Result<StepOut, Alloc
     ensures { IfOk result (λ out. out ≡ act_answer act next at.now) }
 {
     let args = &at.args;
-    let rows = at.rows.as_slice();
+    let rows = &Rows::of(at.rows.as_slice());
     match act {
         Act::AddNamespace => add_namespace(alloc, next, args, rows),
         Act::DropNamespace => drop_namespace(alloc, next, args, rows),

@@ -1,15 +1,22 @@
 // The rows that a step reads, and the edits that it makes of them.
-ghost use Rattle.std.specs.Prelude.{◌≡◌, IfOk, option_copied};
+ghost use Rattle.std.specs.Prelude.{◌≡◌, true, IfOk, option_copied};
+ghost use Rattle.std.specs.List.Sorted.{IsBinarySearchResult, IsSearchInRange};
+ghost use Rattle.std.specs.Ordering.{is_lt};
+ghost use Rattle.hm_data.specs.Keys.{key_cmp};
 ghost use Rattle.hm_data.specs.declared.catalog.CatKey.TheVariants as key_is;
 ghost use Rattle.hm_model.specs.Catalog.{row_at as row_of, set_to};
 ghost use Rattle.hm_model.specs.Changes.{changed};
 ghost use Rattle.hm_model.specs.Keys.{same_key as same, same_table as same_tables, same_region as same_regions};
 ghost use Rattle.hm_model.specs.NamespaceActs.{has_table as tabled};
 ghost use Rattle.hm_model.specs.RowsSaid.{is_table_in as within, in_state as put_in, in_version as versioned};
+ghost use Rattle.hm_acts.specs.Order.{keys_rise, keys_rise_from};
 
+use hm_data::laws::keys_order_by_name;
 use hm_data::{CatKey, CatRow, Edit, TableState};
 use hm_names::{Copied, Ns, RegionName, TableName};
 use std::alloc::{AllocError, Global};
+use std::cmp::Ordering;
+use std::marker::Model;
 
 /// Whether two names are of one table.
 pub(crate) fn same_table(a: &TableName, b: &TableName) -> bool
@@ -90,14 +97,108 @@ pub(crate) fn region_row<'a>(
     None
 }
 
-// The row of a key among rows.
-fn row_at<'a>(rows: &'a [(CatKey, CatRow)], key: &CatKey) -> Option<&'a CatRow>
-    ensures { option_copied result ≡ row_of rows.now key.now }
+// The key is below the next.
+fn is_below(key: &CatKey, next: &CatKey) -> bool
+    ensures { result ≡ is_lt (key_cmp key.now next.now) }
+{
+    keys_order_by_name();
+    matches!(key.cmp(next), Ordering::Less)
+}
+
+// Each key is below the next, from one on.
+fn rise_from(first: &CatKey, rows: &[(CatKey, CatRow)]) -> bool
+    ensures { result ≡ keys_rise_from first.now rows.now }
+{
+    let mut before = first;
+    for (key, _) in rows {
+        if !is_below(before, key) {
+            return false;
+        }
+        before = key;
+    }
+    true
+}
+
+fn are_in_order(rows: &[(CatKey, CatRow)]) -> bool
+    ensures { result ≡ keys_rise rows.now }
+{
+    match rows {
+        [(first, _), rest @ ..] => rise_from(first, rest),
+        [] => true,
+    }
+}
+
+// How a key compares with that of a region.
+fn compare(key: &CatKey, region: &RegionName) -> Ordering
+    ensures { result ≡ key_cmp key.now (key_is.Region region.now) }
 {
     match key {
-        CatKey::Ns(ns) => namespace_row(rows, ns),
-        CatKey::Table(table) => table_row(rows, table),
-        CatKey::Region(region) => region_row(rows, region),
+        CatKey::Region(other) => other.cmp(region),
+        _ => Ordering::Less,
+    }
+}
+
+// The row of a region among rows in the order of their keys.
+fn seek<'a>(rows: &'a [(CatKey, CatRow)], region: &RegionName) -> Option<&'a CatRow>
+    requires { keys_rise rows.now ≡ true }
+    ensures { option_copied result ≡ row_of rows.now (key_is.Region region.now) }
+{
+    match rows.binary_search_by(|row| compare(&row.0, region)) {
+        Ok(place) => Some(&rows[place].1),
+        Err(_) => None,
+    }
+}
+
+/// The rows that a step reads, of which many are looked up. Contracts see their list.
+#[derive(Drop)]
+pub(crate) struct Rows<'a> {
+    rows: &'a [(CatKey, CatRow)],
+    // Whether each key is below the next.
+    in_order: bool,
+}
+
+impl<'a> Model for Rows<'a> {
+    ghost use Rattle.std.specs.Prelude.{◌≡◌};
+    ghost use Rattle.hm_model.specs.RowsSaid.{Rows as RowsOf};
+    ghost use Rattle.hm_acts.specs.Order.{keys_rise};
+
+    ghost Value = { RowsOf };
+
+    ghost view = { λ s. s.rows.now };
+
+    ghost invariant = { λ s. s.in_order ≡ keys_rise s.rows.now };
+}
+
+impl<'a> Rows<'a> {
+    pub(crate) fn of(rows: &'a [(CatKey, CatRow)]) -> Rows<'a>
+        ensures { result ≡ rows.now }
+    {
+        Rows {
+            rows,
+            in_order: are_in_order(rows),
+        }
+    }
+
+    /// The row of a region.
+    pub(crate) fn region(&self, region: &RegionName) -> Option<&'a CatRow>
+        ensures { option_copied result ≡ row_of self.now (key_is.Region region.now) }
+    {
+        if self.in_order {
+            seek(self.rows, region)
+        } else {
+            region_row(self.rows, region)
+        }
+    }
+
+    // The row of a key.
+    fn at(&self, key: &CatKey) -> Option<&'a CatRow>
+        ensures { option_copied result ≡ row_of self.now key.now }
+    {
+        match key {
+            CatKey::Ns(ns) => namespace_row(self.rows, ns),
+            CatKey::Table(table) => table_row(self.rows, table),
+            CatKey::Region(region) => self.region(region),
+        }
     }
 }
 
@@ -146,12 +247,12 @@ pub(crate) fn has_table(ns: &Ns, rows: &[(CatKey, CatRow)]) -> bool
 /// A copy of the row of a key among rows.
 pub(crate) fn row_copy(
     alloc: Global,
-    rows: &[(CatKey, CatRow)],
+    rows: &Rows<'_>,
     key: &CatKey,
 ) -> Result<Option<CatRow>, AllocError>
     ensures { IfOk result (λ row. row ≡ row_of rows.now key.now) }
 {
-    match row_at(rows, key) {
+    match rows.at(key) {
         None => Ok(None),
         Some(row) => Ok(Some(row.copy(alloc)?)),
     }
@@ -160,7 +261,7 @@ pub(crate) fn row_copy(
 /// The row of the key set, as a step tells it: with the row that was there.
 pub(crate) fn set_row(
     alloc: Global,
-    rows: &[(CatKey, CatRow)],
+    rows: &Rows<'_>,
     key: CatKey,
     after: Option<CatRow>,
 ) -> Result<Edit, AllocError>
@@ -191,7 +292,7 @@ fn in_version(row: CatRow, version: u64) -> CatRow
 /// A table set to a state, with its version.
 pub(crate) fn set_state(
     alloc: Global,
-    rows: &[(CatKey, CatRow)],
+    rows: &Rows<'_>,
     table: &TableName,
     state: TableState,
 ) -> Result<Edit, AllocError>
@@ -208,7 +309,7 @@ pub(crate) fn set_state(
 /// A table given a version, in its state.
 pub(crate) fn set_version(
     alloc: Global,
-    rows: &[(CatKey, CatRow)],
+    rows: &Rows<'_>,
     table: &TableName,
     version: u64,
 ) -> Result<Edit, AllocError>

@@ -1,19 +1,18 @@
 // The acts of merges.
-ghost use Rattle.std.specs.Prelude.{◌≡◌, ◌≤◌, ◌++◌, ◌&&◌, ◌==◌, not, IfOk, OnOk, length, insert, map, is_none};
+ghost use Rattle.std.specs.Prelude.{◌≡◌, ◌≤◌, ◌++◌, ◌&&◌, ◌==◌, not, IfOk, OnOk, length, map, is_none};
 ghost use Rattle.std.specs.List.{AllByRecursion, list_any};
 ghost use Rattle.std.specs.Str.{bytes_eq};
 ghost use Rattle.hm_data.specs.declared.catalog.CatKey.TheVariants as key_is;
 ghost use Rattle.hm_model.specs.Catalog.{row_at as row_of};
 ghost use Rattle.hm_model.specs.Changes.{mark_merged as marks, add_merged as adds_merged, merge_edits as merging};
-ghost use Rattle.hm_model.specs.Checks.{regions_live as all_live, rows_of, parts_of as parts_in, by_start as started, with_part, is_chain as chained, are_adjacent as adjacent, hull as hull_of};
+ghost use Rattle.hm_model.specs.Checks.{regions_live as all_live, rows_of, parts_of as parts_in, by_start as started, is_chain as chained, are_adjacent as adjacent, hull as hull_of};
 ghost use Rattle.hm_model.specs.Evaluation.{named_ids};
 ghost use Rattle.hm_model.specs.Kinds.{table_of_first};
 ghost use Rattle.hm_model.specs.RegionActs.{merge_cause as cause_of_merge, check_merge as checks_merge, update_merge_meta as updates_merge};
 ghost use Rattle.hm_model.specs.RowsSaid.{status_in as status_in_row, is_live_status as live, range_in as range_of};
-ghost use Rattle.hm_acts.specs.Runs.{onto_parts};
 
 use crate::checks::{is_live, status_in, table_enabled};
-use crate::lookup::{region_row, table_row};
+use crate::lookup::{Rows, table_row};
 use crate::order::in_name_order;
 use crate::outs::{checked, edits_rows};
 use crate::regions::key_of_region;
@@ -25,14 +24,14 @@ use hm_names::{Copied, KeyRange, RegionName};
 use std::alloc::{AllocError, Global};
 
 // The status of a region among rows.
-fn status_of(rows: &[(CatKey, CatRow)], region: &RegionName) -> Option<Status>
+fn status_of(rows: &Rows<'_>, region: &RegionName) -> Option<Status>
     ensures { result ≡ status_in_row (row_of rows.now (key_is.Region region.now)) }
 {
-    status_in(region_row(rows, region))
+    status_in(rows.region(region))
 }
 
 // A region isn't among rows.
-fn is_one_missing(rows: &[(CatKey, CatRow)], regions: &[RegionName]) -> bool
+fn is_one_missing(rows: &Rows<'_>, regions: &[RegionName]) -> bool
     ensures { result
         ≡ list_any (λ row. is_none (status_in_row row)) (rows_of (row_of rows.now) regions.now) }
 {
@@ -45,7 +44,7 @@ fn is_one_missing(rows: &[(CatKey, CatRow)], regions: &[RegionName]) -> bool
 }
 
 // A region among rows isn't live.
-fn is_one_dead(rows: &[(CatKey, CatRow)], regions: &[RegionName]) -> bool
+fn is_one_dead(rows: &Rows<'_>, regions: &[RegionName]) -> bool
     ensures { result
         ≡ list_any (λ row. not (live (status_in_row row))) (rows_of (row_of rows.now) regions.now) }
 {
@@ -58,7 +57,7 @@ fn is_one_dead(rows: &[(CatKey, CatRow)], regions: &[RegionName]) -> bool
 }
 
 // Each of some regions is there, and each is live.
-fn regions_live(rows: &[(CatKey, CatRow)], regions: &[RegionName]) -> Option<Cause>
+fn regions_live(rows: &Rows<'_>, regions: &[RegionName]) -> Option<Cause>
     ensures { result ≡ all_live (rows_of (row_of rows.now) regions.now) }
 {
     if is_one_missing(rows, regions) {
@@ -70,63 +69,33 @@ fn regions_live(rows: &[(CatKey, CatRow)], regions: &[RegionName]) -> Option<Cau
     }
 }
 
-// Where a part goes among parts by their start keys.
-fn place_for(parts: &[Part], part: &Part) -> usize
-    ensures within { result ≤ length parts.now }
-    ensures place { insert parts.now result part.now ≡ with_part part.now parts.now }
+// The ranges of regions among rows, where they are known.
+fn parts_of(alloc: Global, rows: &Rows<'_>, regions: &[RegionName]) -> Result<Vec<Part>, AllocError>
+    ensures { IfOk result (λ v. v.items ≡ parts_in (row_of rows.now) regions.now) }
 {
-    for (place, other) in parts.iter().enumerate() {
-        if part.range.start <= other.range.start {
-            return place;
-        }
-    }
-    parts.len()
-}
-
-fn insert_part(parts: &mut Vec<Part>, part: Part) -> Result<(), AllocError>
-    ensures { OnOk result (parts.new.items ≡ with_part part parts.old.items) }
-{
-    let place = place_for(parts, &part);
-    parts.insert(place, part)?;
-    Ok(())
-}
-
-// One region more among parts by their start keys, where its range is known.
-fn insert_region(
-    alloc: Global,
-    rows: &[(CatKey, CatRow)],
-    region: &RegionName,
-    parts: &mut Vec<Part>,
-) -> Result<(), AllocError>
-    ensures { OnOk result (parts.new.items
-        ≡ onto_parts region.now.id (range_of (row_of rows.now (key_is.Region region.now))) parts.old.items) }
-{
-    if let Some(range) = range_in(region_row(rows, region)) {
-        let range = range.copy(alloc)?;
-        insert_part(
-            parts,
-            Part {
+    let mut parts = Vec::new(alloc);
+    for region in regions {
+        if let Some(range) = range_in(rows.region(region)) {
+            let range = range.copy(alloc)?;
+            parts.push(Part {
                 id: region.id,
                 range,
-            },
-        )?;
+            })?;
+        }
     }
-    Ok(())
+    Ok(parts)
 }
 
 // The ranges of regions among rows, by their start keys.
 fn parts_by_start(
     alloc: Global,
-    rows: &[(CatKey, CatRow)],
+    rows: &Rows<'_>,
     regions: &[RegionName],
 ) -> Result<Vec<Part>, AllocError>
     ensures { IfOk result (λ v. v.items ≡ started (parts_in (row_of rows.now) regions.now)) }
 {
-    let mut parts = Vec::new(alloc);
-    let count = regions.len();
-    for done in 0..count {
-        insert_region(alloc, rows, &regions[count - 1 - done], &mut parts)?;
-    }
+    let mut parts = parts_of(alloc, rows, regions)?;
+    parts.sort_by(|part, other| part.range.start.cmp(&other.range.start))?;
     Ok(parts)
 }
 
@@ -174,10 +143,11 @@ fn merge_cause(
     if let Some(cause) = table_enabled(table_row(rows, &first.table)) {
         return Ok(Some(cause));
     }
-    if let Some(cause) = regions_live(rows, regions) {
+    let rows = Rows::of(rows);
+    if let Some(cause) = regions_live(&rows, regions) {
         return Ok(Some(cause));
     }
-    let parts = parts_by_start(alloc, rows, regions)?;
+    let parts = parts_by_start(alloc, &rows, regions)?;
     Ok(are_adjacent(&parts))
 }
 
@@ -222,7 +192,7 @@ fn ids_of(alloc: Global, parts: &[Part]) -> Result<Vec<u64>, AllocError>
 // Adds the region that others become.
 fn push_merged(
     alloc: Global,
-    rows: &[(CatKey, CatRow)],
+    rows: &Rows<'_>,
     first: u64,
     regions: &[RegionName],
     edits: &mut Vec<Edit>,
@@ -246,7 +216,7 @@ fn push_merged(
 // Regions marked as merged.
 fn mark_merged(
     alloc: Global,
-    rows: &[(CatKey, CatRow)],
+    rows: &Rows<'_>,
     regions: &[RegionName],
 ) -> Result<Vec<Edit>, AllocError>
     ensures { IfOk result (λ v. v.items ≡ marks (row_of rows.now) regions.now) }
@@ -261,7 +231,7 @@ fn mark_merged(
 // Regions are merged: each is marked, in name order, and one is added.
 fn merge_edits(
     alloc: Global,
-    rows: &[(CatKey, CatRow)],
+    rows: &Rows<'_>,
     regions: &[RegionName],
     first: u64,
 ) -> Result<Vec<Edit>, AllocError>
@@ -279,7 +249,7 @@ pub(crate) fn update_merge_meta(
     alloc: Global,
     next: u8,
     args: &Args,
-    rows: &[(CatKey, CatRow)],
+    rows: &Rows<'_>,
 ) -> Result<StepOut, AllocError>
     requires { AllByRecursion (λ id. 1 ≤ id) (named_ids args.now) }
     ensures { IfOk result (λ out. out ≡ updates_merge next args.now rows.now) }

@@ -3,7 +3,7 @@ ghost use Rattle.std.specs.Prelude.{◌≡◌, IfOk};
 ghost use Rattle.hm_model.specs.NamespaceActs.{check_free_namespace as check_free, add_namespace as add_ns, check_namespace_empty as check_empty, drop_namespace as drop_ns};
 
 use crate::checks::{namespace_empty, namespace_free};
-use crate::lookup::{has_table, namespace_key, namespace_row, set_row};
+use crate::lookup::{Rows, has_table, namespace_key, namespace_row, set_row};
 use crate::outs::{checked, edits_row, goes_on};
 use crate::views::namespace_of;
 use hm_data::{Args, CatKey, CatRow, StepOut};
@@ -30,7 +30,7 @@ pub(crate) fn add_namespace(
     alloc: Global,
     next: u8,
     args: &Args,
-    rows: &[(CatKey, CatRow)],
+    rows: &Rows<'_>,
 ) -> Result<StepOut, AllocError>
     ensures { IfOk result (λ out. out ≡ add_ns next args.now rows.now) }
 {
@@ -63,7 +63,7 @@ pub(crate) fn drop_namespace(
     alloc: Global,
     next: u8,
     args: &Args,
-    rows: &[(CatKey, CatRow)],
+    rows: &Rows<'_>,
 ) -> Result<StepOut, AllocError>
     ensures { IfOk result (λ out. out ≡ drop_ns next args.now rows.now) }
 {

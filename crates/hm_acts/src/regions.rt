@@ -13,7 +13,7 @@ ghost use Rattle.hm_model.specs.Views.{bounds_of as bounds_in, first_id_of as fi
 ghost use Rattle.hm_acts.specs.Runs.{row_counts};
 
 use crate::checks::{is_live, status_in};
-use crate::lookup::{same_table, set_row};
+use crate::lookup::{Rows, same_table, set_row};
 use crate::order::ids_of as ids_in;
 use crate::outs::{edits_rows, goes_on, spawns};
 use crate::pieces::{adding, dropping, key_copies, transits, transits_from};
@@ -277,7 +277,7 @@ fn ranges_between(alloc: Global, bounds: &[RowKey]) -> Result<Vec<KeyRange>, All
 // Live regions of these ranges are added, with consecutive ids from the first.
 fn add_ranges(
     alloc: Global,
-    rows: &[(CatKey, CatRow)],
+    rows: &Rows<'_>,
     table: &TableName,
     first: u64,
     ranges: &[KeyRange],
@@ -302,7 +302,7 @@ pub(crate) fn add_region_rows(
     alloc: Global,
     next: u8,
     args: &Args,
-    rows: &[(CatKey, CatRow)],
+    rows: &Rows<'_>,
 ) -> Result<StepOut, AllocError>
     requires ids { AllByRecursion (λ id. 1 ≤ id) (named_ids args.now) }
     requires first { first_id args.now < 2 ^ 32 }
@@ -322,7 +322,7 @@ pub(crate) fn add_region_rows(
 // The regions of a table with these ids are removed.
 fn remove_regions(
     alloc: Global,
-    rows: &[(CatKey, CatRow)],
+    rows: &Rows<'_>,
     table: &TableName,
     ids: &[u64],
 ) -> Result<Vec<Edit>, AllocError>
@@ -342,7 +342,7 @@ pub(crate) fn drop_region_rows(
     alloc: Global,
     next: u8,
     args: &Args,
-    rows: &[(CatKey, CatRow)],
+    rows: &Rows<'_>,
 ) -> Result<StepOut, AllocError>
     requires { AllByRecursion (λ id. 1 ≤ id) (named_ids args.now) }
     ensures { IfOk result (λ out. out ≡ drops_rows next args.now rows.now) }

@@ -11,7 +11,7 @@ ghost use Rattle.hm_model.specs.RowsSaid.{in_status as put_in, range_in as range
 ghost use Rattle.hm_model.specs.Views.{first_id_of as first_id};
 
 use crate::checks::region_ready;
-use crate::lookup::{region_key, region_row, row_copy, set_row, table_row};
+use crate::lookup::{Rows, region_key, region_row, row_copy, set_row, table_row};
 use crate::outs::{checked, edits_rows, ends_with, goes_on, spawns};
 use crate::pieces::transits;
 use crate::regions::{key_of_region, live_row};
@@ -116,7 +116,7 @@ fn in_status(row: CatRow, status: Status) -> CatRow
 /// A region marked as split or merged.
 pub(crate) fn mark(
     alloc: Global,
-    rows: &[(CatKey, CatRow)],
+    rows: &Rows<'_>,
     region: &RegionName,
     status: Status,
 ) -> Result<Edit, AllocError>
@@ -134,7 +134,7 @@ pub(crate) fn mark(
 /// A live region that came from others.
 pub(crate) fn add_region(
     alloc: Global,
-    rows: &[(CatKey, CatRow)],
+    rows: &Rows<'_>,
     key: CatKey,
     range: KeyRange,
     parents: Vec<u64>,
@@ -165,7 +165,7 @@ fn range_of_keys(alloc: Global, start: &RowKey, end: &RowKey) -> Result<KeyRange
 // A daughter of a region is added.
 fn add_daughter(
     alloc: Global,
-    rows: &[(CatKey, CatRow)],
+    rows: &Rows<'_>,
     region: &RegionName,
     id: u64,
     range: KeyRange,
@@ -196,7 +196,7 @@ fn three_edits(
 // A region of this range is split at a key: it is marked, and two live ones are added.
 fn split_range(
     alloc: Global,
-    rows: &[(CatKey, CatRow)],
+    rows: &Rows<'_>,
     region: &RegionName,
     key: &RowKey,
     first: u64,
@@ -217,7 +217,7 @@ fn split_range(
 // A region is split at a key, with the first id that was drawn.
 fn split_edits(
     alloc: Global,
-    rows: &[(CatKey, CatRow)],
+    rows: &Rows<'_>,
     region: &RegionName,
     key: &RowKey,
     first: u64,
@@ -226,7 +226,7 @@ fn split_edits(
     requires low { first < 2 ^ 32 }
     ensures { IfOk result (λ v. v.items ≡ splitting (row_of rows.now) region.now key.now first) }
 {
-    match range_in(region_row(rows, region)) {
+    match range_in(rows.region(region)) {
         None => Ok(Vec::new(alloc)),
         Some(range) => split_range(alloc, rows, region, key, first, range),
     }
@@ -237,7 +237,7 @@ pub(crate) fn update_split_meta(
     alloc: Global,
     next: u8,
     args: &Args,
-    rows: &[(CatKey, CatRow)],
+    rows: &Rows<'_>,
 ) -> Result<StepOut, AllocError>
     requires ids { AllByRecursion (λ id. 1 ≤ id) (named_ids args.now) }
     requires first { first_id args.now < 2 ^ 32 }

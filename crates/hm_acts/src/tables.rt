@@ -4,7 +4,7 @@ ghost use Rattle.hm_model.specs.NamespaceActs.{check_table_free as check_no_tabl
 
 use crate::checks::{table_disabled, table_enabled, table_free};
 use crate::lookup;
-use crate::lookup::{namespace_row, set_row, table_key, table_row};
+use crate::lookup::{Rows, namespace_row, set_row, table_key, table_row};
 use crate::outs::{checked, edits_row, goes_on, spawns_one};
 use crate::views::{table_of, version_of};
 use hm_data::{Args, CatKey, CatRow, StepOut, TableState};
@@ -32,7 +32,7 @@ pub(crate) fn add_table(
     alloc: Global,
     next: u8,
     args: &Args,
-    rows: &[(CatKey, CatRow)],
+    rows: &Rows<'_>,
 ) -> Result<StepOut, AllocError>
     ensures { IfOk result (λ out. out ≡ add next args.now rows.now) }
 {
@@ -61,7 +61,7 @@ pub(crate) fn set_state(
     state: TableState,
     next: u8,
     args: &Args,
-    rows: &[(CatKey, CatRow)],
+    rows: &Rows<'_>,
 ) -> Result<StepOut, AllocError>
     ensures { IfOk result (λ out. out ≡ put_in state next args.now rows.now) }
 {
@@ -93,7 +93,7 @@ pub(crate) fn drop_table(
     alloc: Global,
     next: u8,
     args: &Args,
-    rows: &[(CatKey, CatRow)],
+    rows: &Rows<'_>,
 ) -> Result<StepOut, AllocError>
     ensures { IfOk result (λ out. out ≡ drop next args.now rows.now) }
 {
@@ -126,7 +126,7 @@ pub(crate) fn set_version(
     alloc: Global,
     next: u8,
     args: &Args,
-    rows: &[(CatKey, CatRow)],
+    rows: &Rows<'_>,
 ) -> Result<StepOut, AllocError>
     ensures { IfOk result (λ out. out ≡ put_version next args.now rows.now) }
 {

@@ -1,5 +1,5 @@
 //! The rows of the catalog.
-ghost use Rattle.std.specs.Prelude.{◌≡◌, ◌+◌, ◌^◌, ◌≤◌, ◌<◌, [], length, Ok, IfOk, OnOk, IfSome};
+ghost use Rattle.std.specs.Prelude.{◌≡◌, ◌+◌, ◌^◌, ◌≤◌, ◌<◌, [], length, slice_get, Ok, IfOk, OnOk, IfSome};
 ghost use Rattle.std.specs.Option.{option_copied, option_map};
 ghost use Rattle.hm_data.specs.declared.catalog.CatKey.TheVariants as Key_is;
 ghost use Rattle.hm_names.specs.Names.{read_ns};
@@ -96,6 +96,13 @@ impl Catalog {
         ensures { result ≡ self.now.rows }
     {
         Rows::new(self.pairs.view().iter())
+    }
+
+    /// The row that stands at a number in key order, counted from 0. It goes there from the front.
+    pub fn row(&self, number: usize) -> Option<(&CatKey, &CatRow)>
+        ensures { option_map (λ row. (row.0.now, row.1.now)) result ≡ slice_get self.now.rows number }
+    {
+        self.rows().nth(number)
     }
 
     /// The regions of a table that have a row, in name order.

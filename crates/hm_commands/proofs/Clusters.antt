@@ -26,6 +26,8 @@ use Rattle.hm_hall.specs.declared.fault.Halt.{Halt}
 use Rattle.hm_hall.specs.declared.fault.HallFault.{HallFault}
 use Rattle.hm_hall.specs.declared.fault.HallFault.TheVariants as fault_is
 use Rattle.hm_hall.specs.declared.fault.RecordFault.TheVariants as record_is
+use Rattle.hm_hall.specs.declared.hall.Task.{Task}
+use Rattle.hm_hall.specs.declared.hall.Task.TheVariants as task_is
 use Rattle.hm_hall.specs.declared.taken.Taken.{Taken}
 use Rattle.hm_model.specs.Evaluation.{answer_of}
 use Rattle.hm_model.specs.Journal.{Past}
@@ -42,8 +44,6 @@ use Rattle.hm_exec.specs.Submitting.{AnswersAbort}
 use Rattle.hm_world.specs.Carrying.{CanCarry, Carries, OnlyExec}
 use Rattle.hm_world.specs.Scene.{GoesOn, Scene, past_in}
 use Rattle.hm_world.specs.Taking.{Gives, IsStill, Returns, Takes}
-use Rattle.hm_world.specs.declared.task.Task.{Task}
-use Rattle.hm_world.specs.declared.task.Task.TheVariants as task_is
 use Rattle.hm_commands.specs.Hands.{HandsUse, Ran, RunBy, one_step, steps_in}
 use Rattle.hm_commands.specs.RowNames.{act_at, act_by, act_of_row}
 use Rattle.hm_commands.specs.Scenes.{IsOnly, IsUnrecorded, claimed_at, journal_at, kept_at}

@@ -70,10 +70,10 @@ pub record Grows (P : Entry → Type 0) (old new : Recording) : Type 0 where
   pub hard : new.hard ≡ old.hard
   pub full : (bytes : ℕ) → old.halted ≡ None → new.halted ≡ Some (halt_is.JournalFull bytes) → IsPassed old.hard bytes
 
-all_none : (P : Entry → Type 0) → All P []
+pub all_none : (P : Entry → Type 0) → All P []
 all_none P = All-nil P
 
-all_one : (P : Entry → Type 0) (entry : Entry) → P entry → All P (entry ∷ [])
+pub all_one : (P : Entry → Type 0) (entry : Entry) → P entry → All P (entry ∷ [])
 all_one P entry p = All-cons P entry [] p (All-nil P)
 
 no_fault : (bytes : ℕ) → Some halt_is.LogFault ≡ Some (halt_is.JournalFull bytes) → ⊥
@@ -189,7 +189,7 @@ grows_as : (P Q : Entry → Type 0) → ((entry : Entry) → P entry → Q entry
 grows_as P Q f old new g = record { added = g.added; each = λ k d lt. f (get_or g.added k d) (g.each k d lt); grown = g.grown; soft = g.soft; hard = g.hard; full = g.full }
 
 -- where a submission is told as a new procedure nothing was halted
-told_going : (nonce : Nonce) (request : Request) (old new : Moment) (halted : Option Halt) (pid : ℕ) (result : Result Accepted Refused) → AnswersSubmit old nonce request result new → Some (answer_is.Pid pid) ≡ told_submit halted result
+pub told_going : (nonce : Nonce) (request : Request) (old new : Moment) (halted : Option Halt) (pid : ℕ) (result : Result Accepted Refused) → AnswersSubmit old nonce request result new → Some (answer_is.Pid pid) ≡ told_submit halted result
     → old.kept.halted ≡ None → new.kept.halted ≡ None
 told_going nonce request old new halted pid (Ok accepted) (inl a) told going = recorded_going old.kept new.kept (entry_is.Submit nonce request) a.3.2.0 a.3.2.1
 told_going nonce request old new halted pid (Ok accepted) (inr a) told going = ap (λ (m : Moment). m.kept.halted) a.3 ∙ going
@@ -288,7 +288,7 @@ work_by : (turn : Turn) (p : ℕ) (was : StepIn) (out : StepOut) → IsWork (ent
 work_by turn_is.Step p was out = tt
 work_by (turn_is.Undo edits) p was out = tt
 
-is_work : (taken : Taken) (out : StepOut) → IsWork (entry_of taken out)
+pub is_work : (taken : Taken) (out : StepOut) → IsWork (entry_of taken out)
 is_work taken out = work_by taken.was.turn taken.pid.0 taken.was out
 
 -- a report
@@ -418,7 +418,7 @@ module _ (old new : Scene) where
       grows_as (λ entry. entry ≡ entry_is.Submit no_nonce request) IsMove (λ entry is. (move.region, move.to, is)) (kept_at before) (kept_at after)
       (submit_grows no_nonce request before.exec after.exec s.0 s.1)
 
-  recorded_grow : (moved : List (Move × ℕ)) (before after : Scene) → AreRecorded moved before after
+  pub recorded_grow : (moved : List (Move × ℕ)) (before after : Scene) → AreRecorded moved before after
       → Grows IsMove (kept_at before) (kept_at after) × ((kept_at before).halted ≡ None → (kept_at after).halted ≡ None)
   recorded_grow [] before after same = (scene_grows IsMove before after same, λ going. ap halt_at same ∙ going)
   recorded_grow (one ∷ moved) before after (mid, first, rest) =

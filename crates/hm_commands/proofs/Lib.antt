@@ -3,6 +3,8 @@ pub mod Registries
 pub mod Ran
 pub mod Claims
 pub mod Growth
+pub mod Failing
+pub mod Adding
 pub mod Serving
 pub mod Working
 pub mod Clusters

@@ -15,6 +15,8 @@ use Rattle.hm_entry.specs.Spelling.{entry as spelling}
 use Rattle.hm_hall.specs.Recording.{Recording, Records, bytes_of}
 use Rattle.hm_hall.specs.declared.fault.HallFault.{HallFault}
 use Rattle.hm_hall.specs.declared.fault.HallFault.TheVariants as fault_is
+use Rattle.hm_hall.specs.declared.hall.Task.{Task}
+use Rattle.hm_hall.specs.declared.hall.Task.TheVariants as task_is
 use Rattle.hm_hall.specs.declared.taken.Taken.{Taken}
 use Rattle.hm_model.specs.Counts.{one_if}
 use Rattle.hm_model.specs.Journal.{Past, back}
@@ -31,8 +33,6 @@ use Rattle.hm_world_model.proofs.Raising.{carrying_stays}
 use Rattle.hm_world.specs.Carrying.{CanCarry, Carries, CarriesBy, IsNearer}
 use Rattle.hm_world.specs.Scene.{GoesOn, Scene, halted_by, past_in, world_of}
 use Rattle.hm_world.specs.Taking.{IsStill, Takes}
-use Rattle.hm_world.specs.declared.task.Task.{Task}
-use Rattle.hm_world.specs.declared.task.Task.TheVariants as task_is
 use Rattle.hm_commands.specs.Commands.{IsWork}
 use Rattle.hm_commands.specs.Scenes.{claimed_at, halt_at, kept_at}
 use Rattle.hm_commands.specs.Tasks.{IsDone, LacksMemory, Steps, Tasks, Works, left_to_do}

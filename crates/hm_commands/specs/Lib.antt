@@ -9,6 +9,7 @@ pub mod Submissions
 pub mod Balancing
 pub mod Offered
 pub mod Commands
+pub mod Additions
 pub mod View
 pub mod Live
 pub mod Census

@@ -4,6 +4,7 @@ use Rattle.hm_data.specs.declared.step.StepOut.{StepOut}
 use Rattle.hm_hall.specs.Recording.{bytes_of}
 use Rattle.hm_hall.specs.declared.fault.Halt.{Halt}
 use Rattle.hm_hall.specs.declared.fault.HallFault.{HallFault}
+use Rattle.hm_hall.specs.declared.hall.Task.TheVariants as task_is
 use Rattle.hm_hall.specs.declared.taken.Given.TheVariants as given_is
 use Rattle.hm_hall.specs.declared.taken.Taken.{Taken}
 use Rattle.hm_model.specs.Evaluation.{answer_of}
@@ -13,7 +14,6 @@ use Rattle.hm_world_model.specs.Measure.{left_to_carry}
 use Rattle.hm_world.specs.Carrying.{Carries}
 use Rattle.hm_world.specs.Scene.{GoesOn, Scene, past_in, world_of}
 use Rattle.hm_world.specs.Taking.{Gives, IsStill, Returns, Takes}
-use Rattle.hm_world.specs.declared.task.Task.TheVariants as task_is
 use Rattle.hm_commands.specs.Scenes.{claimed_at, journal_at, kept_at}
 use Rattle.hm_commands.specs.Telling.{halt_of_fault}
 use Rattle.hm_commands.specs.declared.tasks.Worked.{Worked}

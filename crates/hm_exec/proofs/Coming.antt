@@ -11,7 +11,7 @@ use Rattle.hm_data.specs.declared.entry.Entry.TheVariants as entry_is
 use Rattle.hm_entry.specs.Spelling.{number}
 use Rattle.hm_entry.specs.Spelling.{entry as spelling, server as server_spelled}
 use Rattle.hm_exec.specs.Adding.{Adds}
-use Rattle.hm_hall.specs.Recording.{Accepts, Passes, bytes_of, halt_of}
+use Rattle.hm_hall.specs.Recording.{Accepts, Passes, halt_of}
 use Rattle.hm_hall.specs.declared.fault.HallFault.{HallFault}
 use Rattle.hm_hall.specs.declared.fault.HallFault.TheVariants as fault_is
 use Rattle.hm_model.specs.Fleet.{has_older_live, is_live, same_address}

@@ -1,8 +1,6 @@
 -- Whether an answer is fresh.
-use Rattle.std.proofs.Common.{◌≡◌, ◌≢◌, ◌↔◌, ◌⊎◌, ℕ, List, Bool, true, false, IsTrue, Option, None, Some, if◌then◌else◌, inl, inr, refl, ap, sym, subst, ◌∙◌}
+use Rattle.std.proofs.Common.{◌≡◌, ◌≢◌, ◌↔◌, ℕ, List, Bool, true, false, IsTrue, Option, None, Some, if◌then◌else◌, inl, inr, refl, ap, sym, subst, ◌∙◌}
 use Rattle.std.proofs.lemmas.Bool.{true≢false}
-use Rattle.hm_names.specs.Server.{Server}
-use Rattle.hm_names.specs.declared.pid.Pid.{Pid}
 use Rattle.hm_data.specs.declared.step.StepIn.{StepIn}
 use Rattle.hm_data.specs.declared.entry.Entry.{Entry}
 use Rattle.hm_hall.specs.Recording.{Recording, entries_of, halt_of}

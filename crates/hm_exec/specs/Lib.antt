@@ -5,3 +5,6 @@ pub mod Submitting
 pub mod Claiming
 pub mod Hearing
 pub mod Fleet
+pub mod Opening
+pub mod Looks
+pub mod Sparing

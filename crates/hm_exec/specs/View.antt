@@ -2,6 +2,7 @@
 use Rattle.std.specs.Prelude.{◌≡◌, ℕ, List}
 use Rattle.hm_data.specs.declared.entry.Entry.{Entry}
 use Rattle.hm_hall.specs.Recording.{Recording, entries_of}
+use Rattle.hm_locks.specs.Book.{Row}
 use Rattle.hm_model.specs.Journal.{Past, back}
 use Rattle.hm_model.specs.Locks.{IsIn}
 use Rattle.hm_roster.specs.Roster.{Follows, claims_on}
@@ -9,10 +10,13 @@ use Rattle.hm_roster.specs.declared.desk.Desk.{Desk}
 use Rattle.hm_tied.specs.Tied.{CanGo}
 use Rattle.hm_exec.specs.Moment.{Moment}
 
--- an executor: its recorder, and who is claimed
+-- an executor: its recorder, who is claimed, who stands where, who is enlisted, and how much memory it has for these
 pub record ExecView (R : Type 0) : Type 0 where
   pub recorder : R
   pub claimed : List ℕ
+  pub lists : List (List ℕ)
+  pub rows : List Row
+  pub room : ℕ
 
 -- what its recorder keeps, and who is claimed
 abbrev pub moment_of : {R : Type 0} → (R → Recording) → ExecView R → Moment
@@ -22,10 +26,14 @@ moment_of kept exec = record { kept = kept exec.recorder; claimed = exec.claimed
 abbrev pub AreAble : Past → Desk → Type 0
 AreAble J desk = (q : ℕ) → IsIn q (claims_on desk) → CanGo J q
 
--- an executor but for its recorder: the entries of its journal, and who is claimed
+-- an executor but for its recorder: the entries of its journal, who is claimed, who stands where, who is enlisted, and how much memory
+-- it has for these
 pub record CoreView : Type 0 where
   pub entries : List Entry
   pub claimed : List ℕ
+  pub lists : List (List ℕ)
+  pub rows : List Row
+  pub room : ℕ
 
 -- the desk follows the entries, and whoever is claimed can go on
 pub record IsCore (entries : List Entry) (desk : Desk) : Type 0 where

@@ -4,6 +4,7 @@ ghost use Rattle.hm_ports.specs.Faults.{Rose};
 ghost use Rattle.hm_data.specs.declared.entry.Entry.TheVariants as entry_is;
 ghost use Rattle.hm_exec.specs.Moment.{FaultsAt, IsAdded, IsGoing, past_of};
 ghost use Rattle.hm_exec.specs.Submitting.{AnswersAbort};
+ghost use Rattle.hm_exec.specs.Sparing.{SparesAbort};
 ghost use Rattle.hm_exec.specs.View.{moment_of};
 ghost use Rattle.hm_model.specs.Rules.{Allowed};
 
@@ -41,6 +42,7 @@ impl<R: Recorder> Exec<R> {
         ensures fault { IsErrOf result (AbortRefused.Fault HallFault.LogFault) → Rose (R.faults self.old.recorder) (R.faults self.new.recorder) }
         ensures later { R.faults self.old.recorder ≤ R.faults self.new.recorder }
         ensures opened { R.opened self.new.recorder ≡ R.opened self.old.recorder }
+        ensures spared { SparesAbort result → self.new.recorder ≡ self.old.recorder }
     {
         if let Some(why) = self.recorder.halted() {
             return Err(AbortRefused::Fault(HallFault::Halted(why)));

@@ -1,6 +1,8 @@
 //! Claims.
 ghost use Rattle.std.specs.Prelude.{◌≡◌, ◌⊎◌, IfOk, OnOk};
 ghost use Rattle.hm_exec.specs.Claiming.{AnswersClaim, IsHandedOut, PutsBack};
+ghost use Rattle.hm_exec.specs.Looks.{LooksToClaim};
+ghost use Rattle.hm_exec.specs.Moment.{past_of};
 ghost use Rattle.hm_exec.specs.View.{moment_of};
 ghost use Rattle.hm_model.specs.Journal.{back};
 ghost use Rattle.hm_model.specs.Locks.{IsIn};
@@ -39,6 +41,7 @@ fn hand_over(desk: &mut Desk, state: &State, alloc: Global, pid: Pid) -> Result<
     requires go { MayStepPicked (back state.now.entries) pid.0 ⊎ MayUndo (back state.now.entries) pid.0 }
     ensures given { IsGiven (back state.now.entries) desk.new pid.0 }
     ensures claimed { claims_on desk.new ≡ claims_on desk.old }
+    ensures sched { desk.new.sched ≡ desk.old.sched }
     ensures room { OnOk result (HasClaimRoom desk.new) }
     ensures pid { IfOk result (λ taken. taken.pid ≡ pid) }
     ensures handed { IfOk result (IsHandedOut (back state.now.entries)) }
@@ -49,7 +52,8 @@ fn hand_over(desk: &mut Desk, state: &State, alloc: Global, pid: Pid) -> Result<
 
 impl<R: Recorder> Exec<R> {
     /// Claims the first procedure that is available, servers' before others, and hands out what the next call of its handler
-    /// sees. None exactly where none is; memory runs out only where one is.
+    /// sees. None exactly where none is; memory runs out only where one is. It looks at those in front of the one that it claims, and
+    /// at each once.
     pub fn claim<L: Ledger>(
         &mut self,
         alloc: Global,
@@ -57,6 +61,7 @@ impl<R: Recorder> Exec<R> {
     ) -> Result<Option<Taken>, HallFault>
         ensures answers { AnswersClaim (moment_of R.kept self.old) result (moment_of R.kept self.new) }
         ensures recorder { self.new.recorder ≡ self.old.recorder }
+        ensures steps { LooksToClaim (past_of (moment_of R.kept self.old)) self.old.rows self.old.lists result self.new.lists steps.old steps.new }
     {
         if let Some(why) = self.recorder.halted() {
             return Err(HallFault::Halted(why));
@@ -76,11 +81,12 @@ impl<R: Recorder> Exec<R> {
         }
     }
 
-    /// A claim is given up. Nothing is recorded.
+    /// A claim is given up. Nothing is recorded, and it takes no memory.
     pub fn put_back(&mut self, taken: Taken)
         requires { IsIn taken.pid.0 self.old.claimed }
         ensures back { PutsBack (moment_of R.kept self.old) taken (moment_of R.kept self.new) }
         ensures recorder { self.new.recorder ≡ self.old.recorder }
+        ensures room { self.new.room ≡ self.old.room }
     {
         let Taken { pid, was } = taken;
         drop(was);

@@ -7,6 +7,7 @@ ghost use Rattle.hm_data.specs.declared.step.StepIn.{StepIn as StepInValue};
 ghost use Rattle.hm_data.specs.declared.step.Turn.TheVariants as turn_is;
 ghost use Rattle.hm_exec.specs.Claiming.{AnswersCommit, Commits, GivesUp, IsFresh, IsNow, RefusesCommit};
 ghost use Rattle.hm_exec.specs.Moment.{IsGoing, past_of};
+ghost use Rattle.hm_exec.specs.Sparing.{SparesAt, SparesCommit};
 ghost use Rattle.hm_exec.specs.View.{moment_of};
 ghost use Rattle.hm_model.specs.Evaluation.{answer_of};
 ghost use Rattle.hm_model.specs.Journal.{back};
@@ -177,6 +178,8 @@ impl<R: Recorder> Exec<R> {
         ensures fault { IsErrOf result HallFault.LogFault → Rose (R.faults self.old.recorder) (R.faults self.new.recorder) }
         ensures later { R.faults self.old.recorder ≤ R.faults self.new.recorder }
         ensures opened { R.opened self.new.recorder ≡ R.opened self.old.recorder }
+        ensures spared_stale { IfOk result (λ answered. (now : StepInValue) → answered ≡ Answered.Stale now → self.new.recorder ≡ self.old.recorder) }
+        ensures spared_fault { IfErr result (λ fault. SparesAt fault → self.new.recorder ≡ self.old.recorder) }
     {
         if let Some(why) = self.recorder.halted() {
             return Err(HallFault::Halted(why));
@@ -204,6 +207,7 @@ impl<R: Recorder> Exec<R> {
         ensures fault { IfErr result (λ e. e.1 ≡ HallFault.LogFault → Rose (R.faults self.old.recorder) (R.faults self.new.recorder)) }
         ensures later { R.faults self.old.recorder ≤ R.faults self.new.recorder }
         ensures opened { R.opened self.new.recorder ≡ R.opened self.old.recorder }
+        ensures spared { SparesCommit result → self.new.recorder ≡ self.old.recorder }
     {
         match self.answer(alloc, &taken, out) {
             Ok(Answered::Kept(number)) => {

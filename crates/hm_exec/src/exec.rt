@@ -1,11 +1,14 @@
 //! The executor.
 ghost use Rattle.std.specs.Prelude.{◌≡◌, ℕ, [], IfErr, IfOk, None, length};
 ghost use Rattle.hm_exec.specs.Moment.{past_of};
+ghost use Rattle.hm_exec.specs.Opening.{AreInOrder};
 ghost use Rattle.hm_exec.specs.View.{moment_of};
 ghost use Rattle.hm_hall.specs.Recording.{entries_of, halt_of};
 ghost use Rattle.hm_model.specs.Holding.{NoneClash};
+ghost use Rattle.hm_model.specs.Journal.{back};
 ghost use Rattle.hm_model.specs.Locks.{IsIn};
-ghost use Rattle.hm_tied.specs.Tied.{CanGo};
+ghost use Rattle.hm_sched.specs.Queues.{IsReady};
+ghost use Rattle.hm_tied.specs.Tied.{CanGo, IsOpen};
 
 use hm_hall::Recorder;
 use hm_names::Pid;
@@ -14,7 +17,8 @@ use hm_state::State;
 use std::alloc::{AllocError, Global};
 use std::marker::Model;
 
-/// A journal with its recorder, the state that it is in, and who is claimed. Contracts see the recorder, and who is claimed.
+/// A journal with its recorder, the state that it is in, and who is claimed. Contracts see the recorder, who is claimed,
+/// who stands in which list, who is enlisted, and how much memory there is for these.
 pub struct Exec<R: Recorder> {
     pub(crate) state: State,
     pub(crate) recorder: R,
@@ -23,11 +27,12 @@ pub struct Exec<R: Recorder> {
 
 impl<R: Recorder> Model for Exec<R> {
     ghost use Rattle.hm_exec.specs.View.{ExecView, IsExec};
-    ghost use Rattle.hm_roster.specs.Roster.{claims_on};
+    ghost use Rattle.hm_roster.specs.Desk.{room_on};
+    ghost use Rattle.hm_roster.specs.Roster.{claims_on, lists_on, rows_on};
 
     ghost Value = { ExecView R };
 
-    ghost view = { λ e. record { recorder = e.recorder; claimed = claims_on e.desk } };
+    ghost view = { λ e. record { recorder = e.recorder; claimed = claims_on e.desk; lists = lists_on e.desk; rows = rows_on e.desk; room = room_on e.desk } };
 
     ghost invariant = { λ e. IsExec (R.kept e.recorder) e.state.entries e.desk };
 }
@@ -40,6 +45,8 @@ impl<R: Recorder> Exec<R> {
         requires going { halt_of (R.kept recorder) ≡ None }
         ensures recorder { IfOk result (λ exec. exec.recorder ≡ recorder) }
         ensures claimed { IfOk result (λ exec. exec.claimed ≡ []) }
+        ensures order { IfOk result (λ exec. AreInOrder (back state.entries) exec.lists) }
+        ensures ready { IfOk result (λ exec. (q : ℕ) → IsOpen (back state.entries) q → IsReady exec.lists q) }
         ensures back { IfErr result (λ e. e.0 ≡ recorder) }
     {
         match Desk::open(alloc, state.records()) {

@@ -4,6 +4,7 @@ ghost use Rattle.hm_ports.specs.Faults.{Rose};
 ghost use Rattle.hm_data.specs.declared.entry.Entry.TheVariants as entry_is;
 ghost use Rattle.hm_exec.specs.Fleet.{AnswersDown, AnswersUp, BringsUp, CanUp, CannotDown, CannotUp, IsOlder, FaultsCopying, FaultsFirst, PutsDown};
 ghost use Rattle.hm_exec.specs.Moment.{FaultsAt, IsAdded, IsGoing, past_of};
+ghost use Rattle.hm_exec.specs.Sparing.{SparesDown, SparesUp};
 ghost use Rattle.hm_exec.specs.View.{moment_of};
 ghost use Rattle.hm_hall.specs.Recording.{Accepts};
 ghost use Rattle.hm_model.specs.Fleet.{has_older_live as older_lives, is_live as lives};
@@ -219,6 +220,7 @@ impl<R: Recorder> Exec<R> {
         ensures fault { IsErrOf result (UpWhy.Fault HallFault.LogFault) → Rose (R.faults self.old.recorder) (R.faults self.new.recorder) }
         ensures later { R.faults self.old.recorder ≤ R.faults self.new.recorder }
         ensures opened { R.opened self.new.recorder ≡ R.opened self.old.recorder }
+        ensures spared { SparesUp result → self.new.recorder ≡ self.old.recorder }
     {
         if let Some(why) = self.recorder.halted() {
             return Err(UpWhy::Fault(HallFault::Halted(why)));
@@ -238,6 +240,7 @@ impl<R: Recorder> Exec<R> {
         ensures fault { IsErrOf result (DownWhy.Fault HallFault.LogFault) → Rose (R.faults self.old.recorder) (R.faults self.new.recorder) }
         ensures later { R.faults self.old.recorder ≤ R.faults self.new.recorder }
         ensures opened { R.opened self.new.recorder ≡ R.opened self.old.recorder }
+        ensures spared { SparesDown result → self.new.recorder ≡ self.old.recorder }
     {
         if let Some(why) = self.recorder.halted() {
             return Err(DownWhy::Fault(HallFault::Halted(why)));

@@ -2,6 +2,7 @@
 ghost use Rattle.std.specs.Prelude.{◌≡◌, ◌≤◌, IsErrOf};
 ghost use Rattle.hm_ports.specs.Faults.{Rose};
 ghost use Rattle.hm_exec.specs.Hearing.{AnswersReport};
+ghost use Rattle.hm_exec.specs.Sparing.{SparesReport};
 ghost use Rattle.hm_exec.specs.View.{moment_of};
 
 use crate::adding::add;
@@ -20,6 +21,7 @@ impl<R: Recorder> Exec<R> {
         ensures fault { IsErrOf result HallFault.LogFault → Rose (R.faults self.old.recorder) (R.faults self.new.recorder) }
         ensures later { R.faults self.old.recorder ≤ R.faults self.new.recorder }
         ensures opened { R.opened self.new.recorder ≡ R.opened self.old.recorder }
+        ensures spared { SparesReport result → self.new.recorder ≡ self.old.recorder }
     {
         entries_fit_frames();
         let _legal = self.state.entries();
@@ -47,6 +49,7 @@ impl<R: Recorder> Exec<R> {
         ensures fault { IsErrOf result HallFault.LogFault → Rose (R.faults self.old.recorder) (R.faults self.new.recorder) }
         ensures later { R.faults self.old.recorder ≤ R.faults self.new.recorder }
         ensures opened { R.opened self.new.recorder ≡ R.opened self.old.recorder }
+        ensures spared { SparesReport result → self.new.recorder ≡ self.old.recorder }
     {
         let heard = self.hear(alloc, &message);
         drop(message);

@@ -8,7 +8,8 @@ use hm_roster::Desk;
 use hm_state::State;
 use std::marker::Model;
 
-/// An executor but for its recorder. Contracts see the entries of its journal, and who is claimed.
+/// An executor but for its recorder. Contracts see the entries of its journal, who is claimed, who stands in which list, who is
+/// enlisted, and how much memory there is for these.
 pub struct ExecCore {
     state: State,
     desk: Desk,
@@ -16,11 +17,12 @@ pub struct ExecCore {
 
 impl Model for ExecCore {
     ghost use Rattle.hm_exec.specs.View.{CoreView, IsCore};
-    ghost use Rattle.hm_roster.specs.Roster.{claims_on};
+    ghost use Rattle.hm_roster.specs.Desk.{room_on};
+    ghost use Rattle.hm_roster.specs.Roster.{claims_on, lists_on, rows_on};
 
     ghost Value = { CoreView };
 
-    ghost view = { λ c. record { entries = c.state.entries; claimed = claims_on c.desk } };
+    ghost view = { λ c. record { entries = c.state.entries; claimed = claims_on c.desk; lists = lists_on c.desk; rows = rows_on c.desk; room = room_on c.desk } };
 
     ghost invariant = { λ c. IsCore c.state.entries c.desk };
 }
@@ -31,6 +33,9 @@ impl<R: Recorder> Exec<R> {
         ensures recorder { result.1 ≡ self.recorder }
         ensures entries { result.0.entries ≡ entries_of (R.kept self.recorder) }
         ensures claimed { result.0.claimed ≡ self.claimed }
+        ensures lists { result.0.lists ≡ self.lists }
+        ensures rows { result.0.rows ≡ self.rows }
+        ensures room { result.0.room ≡ self.room }
     {
         let Exec {
             state,
@@ -45,6 +50,9 @@ impl<R: Recorder> Exec<R> {
         requires { entries_of (R.kept recorder) ≡ core.entries }
         ensures recorder { result.recorder ≡ recorder }
         ensures claimed { result.claimed ≡ core.claimed }
+        ensures lists { result.lists ≡ core.lists }
+        ensures rows { result.rows ≡ core.rows }
+        ensures room { result.room ≡ core.room }
     {
         let ExecCore { state, desk } = core;
         Exec {

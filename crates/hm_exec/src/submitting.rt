@@ -4,6 +4,7 @@ ghost use Rattle.hm_ports.specs.Faults.{Rose};
 ghost use Rattle.hm_data.specs.declared.entry.Entry.TheVariants as entry_is;
 ghost use Rattle.hm_exec.specs.Moment.{past_of};
 ghost use Rattle.hm_exec.specs.Submitting.{AnswersSubmit, IsWelcome, RefusesToSubmit, Submits, refused_by};
+ghost use Rattle.hm_exec.specs.Sparing.{SparesSubmit};
 ghost use Rattle.hm_exec.specs.View.{moment_of};
 ghost use Rattle.hm_model.specs.Rules.{Allowed};
 
@@ -87,6 +88,7 @@ impl<R: Recorder> Exec<R> {
         ensures fault { IsErrOf result Refused.LogFault → Rose (R.faults self.old.recorder) (R.faults self.new.recorder) }
         ensures later { R.faults self.old.recorder ≤ R.faults self.new.recorder }
         ensures opened { R.opened self.new.recorder ≡ R.opened self.old.recorder }
+        ensures spared { SparesSubmit result → self.new.recorder ≡ self.old.recorder }
     {
         match self.judge(&nonce, &request) {
             Err(why) => Err(why),

@@ -10,7 +10,7 @@ pub record Chair (I T : Type 0) : Type 0 where
   pub view : View I T
 
 -- a seat remembers how many items it has seen, has the slot in hand only inside, and has a part
-pub record IsSound {I T S : Type 0} (seen : ℕ) (me : View I T × List (ℕ × Option S)) : Type 0 where
+pub record IsFaithful {I T S : Type 0} (seen : ℕ) (me : View I T × List (ℕ × Option S)) : Type 0 where
   pub counted : seen ≡ length me.0.front
   pub handed : me.1 ≡ hand me.0
   pub unspent : 0 < me.0.parts

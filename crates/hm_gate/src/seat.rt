@@ -1,6 +1,6 @@
 //! What a thread enters the gate with.
 ghost use Rattle.std.specs.Prelude.{◌≡◌, length};
-ghost use Rattle.hm_gate.specs.Chair.{IsSound};
+ghost use Rattle.hm_gate.specs.Chair.{IsFaithful};
 
 use crate::kept::Kept;
 use crate::view::View;
@@ -17,13 +17,13 @@ pub struct SeatOf<V, I, T> {
 }
 
 impl<V, I, T> Model for SeatOf<V, I, T> {
-    ghost use Rattle.hm_gate.specs.Chair.{Chair, IsSound};
+    ghost use Rattle.hm_gate.specs.Chair.{Chair, IsFaithful};
 
     ghost Value = { Chair I T };
 
     ghost view = { λ s. record { gate = s.place.table_id; view = s.place.me.0 } };
 
-    ghost invariant = { λ s. IsSound s.seen s.place.me };
+    ghost invariant = { λ s. IsFaithful s.seen s.place.me };
 }
 
 /// The value, while a seat is inside, and as it was entered.
@@ -38,7 +38,7 @@ pub type Seat<V> = SeatOf<V, <V as Kept>::Item, <V as Kept>::Terms>;
 
 impl<V, I, T> SeatOf<V, I, T> {
     pub(crate) fn of(place: Place<Option<V>, View<I, T>>, seen: u64) -> SeatOf<V, I, T>
-        requires { IsSound seen place.me }
+        requires { IsFaithful seen place.me }
         ensures gate { result.gate ≡ place.table_id }
         ensures view { result.view ≡ place.me.0 }
     {

@@ -1,2 +1,3 @@
 pub mod Recording
 pub mod Faults
+pub mod Hall

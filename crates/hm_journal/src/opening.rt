@@ -3,7 +3,7 @@ ghost use Rattle.std.specs.Prelude.{◌≡◌, ◌≢◌, ◌⊎◌, ◌<◌, �
 ghost use Rattle.hm_ports.specs.Faults.{Rose};
 ghost use Rattle.hm_disk.specs.Called.{IsCalled};
 ghost use Rattle.hm_disk.specs.Disk.{LeavesOnly, Only, LeavesThen};
-ghost use Rattle.hm_log.specs.Format.{HoldsFrames, Reads, size_with};
+ghost use Rattle.hm_log.specs.Format.{HoldsFrames, IsClean, Reads, size_with};
 ghost use Rattle.hm_log.specs.Opening.{IsMaking, OnlyReads, Reopens};
 ghost use Rattle.hm_data.specs.declared.entry.Entry.{Entry as EntryValue};
 ghost use Rattle.hm_data.specs.declared.sheet.Sheet.{Sheet as SheetValue};
@@ -160,6 +160,7 @@ fn open_log<D: Disk>(alloc: Global, disk: D) -> Result<(Log<D>, Frames), (D, Jou
         → (c : List ℕ) → D.image e.0 c → Reads c frames) }
     ensures any_moment { D.tells → IfErr result (λ e. LeavesOnly D.moment D.left_since disk e.0 (λ c. D.image disk c ⊎ Reopens (D.seen disk) c)) }
     ensures called { MatchResult result (λ r. IsCalled D.Disk 1 disk r.0.disk) (λ e. IsCalled D.Disk 1 disk e.0) }
+    ensures clean { D.tells → IsClean (D.seen disk) → IfOk result (λ r. IsCalled D.Disk 0 disk r.0.disk) }
 {
     match Log::open(alloc, disk) {
         Ok(opened) => Ok(opened),
@@ -265,6 +266,7 @@ impl<D: Disk> Journal<D> {
 
         // The disk's counts and its setting.
         ensures called { MatchResult result (λ r. IsCalled D.Disk 1 disk r.0.opened.disk) (λ e. IsCalled D.Disk 3 disk e.0) }
+        ensures clean { D.tells → IsClean (D.seen disk) → IfOk result (λ r. IsCalled D.Disk 0 disk r.0.opened.disk) }
     {
         match open_log(alloc, disk) {
             Ok((log, frames)) => of_frames(alloc, log, frames, sheets, limits),

@@ -1,7 +1,6 @@
 -- Whether some server is live.
-use Rattle.std.proofs.Common.{Bor, ◌≡◌, List, [], ◌∷◌, map, Bool, true, false, is_some, Option, Some, None, ℕ, refl, ◌∙◌}
+use Rattle.std.proofs.Common.{◌≡◌, List, [], ◌∷◌, map, Bool, true, false, is_some, Option, ℕ, refl, ◌∙◌}
 use Rattle.std.specs.List.{list_any}
-use Rattle.std.specs.Option.{option_copied}
 use Rattle.hm_names.specs.Server.{Server}
 use Rattle.hm_model.specs.Fleet.{has_live, is_live, servers_of}
 use Rattle.hm_model.specs.Journal.{Past}
@@ -31,11 +30,6 @@ one_more J server more false e rest = rw e rest
 live_there : (J : Past) (servers : List Server) → is_there (live_servers (map (λ server. (server, standing_of J server)) servers)) ≡ list_any (is_live J) servers
 live_there J [] = refl
 live_there J (server ∷ more) = one_more J server more (is_live J server) refl (live_there J more)
-
--- whether there is one is seen without the reference
-pub copied : {X : Type 0} (o : Option (Bor X)) → is_some (option_copied o) ≡ is_some o
-copied None = refl
-copied (Some r) = refl
 
 pub some_live : (J : Past) (load : Server → ℕ) (avoid : Option Server) → is_some (lowest load (or_else (without avoid (live_servers (standings_of J))) (live_servers (standings_of J)))) ≡ has_live J
 some_live J load avoid = picked load avoid (live_servers (standings_of J)) ∙ live_there J (servers_of J)

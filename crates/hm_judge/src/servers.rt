@@ -42,7 +42,7 @@ pub(crate) fn has_other_live(records: &Records, server: &ServerName) -> bool
 pub(crate) fn has_live(records: &Records) -> bool
     ensures { result ≡ some_live records.now.past }
 {
-    standings(records).pick(records.places(), None).is_some()
+    standings(records).any_live()
 }
 
 /// Whether the server is live.

@@ -4,9 +4,11 @@ use Rattle.std.proofs.lemmas.List.{drop_at, append-nil, get_or-append-add, get_o
 use Rattle.std.proofs.lemmas.List.Elements.{All-append}
 use Rattle.std.proofs.lemmas.Bool.{cases_lt}
 use Rattle.std.specs.Prelude.{All, min}
-use Rattle.hm_log.specs.Format.{header, laid, spelled, size_of, IsFrame, NoFrame, IsEnd, BeginsWith, IsBadFrame, IsNotALog, ReadsTo}
+use Rattle.hm_log.specs.Format.{header, laid, spelled, size_of, IsFrame, NoFrame, IsEnd, BeginsWith, IsBadFrame, IsNotALog, IsClean, ReadsTo}
 use Rattle.hm_log.specs.Pieces.{EndsAt, StandsTo, IsShut, IsFound}
+use Rattle.hm_log.proofs.Ends.{one_list, read_reads}
 use Rattle.hm_log.proofs.Spelling.{spelled-push}
+use Rattle.hm_log.proofs.Stages.{length_whole, whole_reads}
 
 -- frames behind frames
 pub spelled-append : (xs ys : List (List ℕ)) → spelled (xs ++ ys) ≡ spelled xs ++ spelled ys
@@ -136,3 +138,12 @@ held bytes frames gate size (long, inr some) ne = some.1
 pub no_foreign : (bytes : List ℕ) (at size : ℕ) → EndsAt [] at size → size ≡ length bytes → StandsTo bytes at [] → (place : ℕ) → IsNotALog bytes place → ⊥
 no_foreign bytes at size ends long stands place (inl short) = let few = short.1 in omega (arith, few, long, ends.within, ends.at)
 no_foreign bytes at size ends long stands place (inr differs) = differs.3 (ap (λ (l : List ℕ). get_or l place 0) stands ∙ get_or_append_left header (drop at bytes) 0 place differs.1)
+
+-- a clean log ends behind the closed gate that was found
+pub clean_size : (bytes : List ℕ) (frames : List (List ℕ)) (gate size : ℕ) → IsFound bytes frames gate size → IsClean bytes → size ≡ gate + 1
+clean_size bytes frames gate size (long, inl none) (at, own, whole) = absurd (let all = length_whole at own bytes whole in let zero = none.0 in omega (arith, long, zero, all))
+clean_size bytes frames gate size (long, inr some) (at, own, whole) =
+    let to = some.1 in
+    let same : own ≡ frames = one_list bytes own frames (whole_reads at own bytes whole) (read_reads bytes gate frames to) in
+    let place : at ≡ gate = whole.place ∙ ap (λ (fs : List (List ℕ)). length (header ++ spelled fs)) same ∙ sym to.place in
+    omega (arith, long, place, length_whole at own bytes whole)

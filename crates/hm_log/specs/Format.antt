@@ -90,6 +90,10 @@ pub record IsWhole (bytes : List ℕ) (at : ℕ) (frames : List (List ℕ)) : Ty
   pub place : at ≡ length (header ++ spelled frames)
   pub each : All IsFrame frames
 
+-- the bytes are a log, and nothing stands behind it
+abbrev pub IsClean : List ℕ → Type 0
+IsClean bytes = (at : ℕ) × (frames : List (List ℕ)) × IsWhole bytes at frames
+
 -- it reads as these frames, and the closed gate is at this place
 pub record ReadsTo (bytes : List ℕ) (at : ℕ) (frames : List (List ℕ)) : Type 0 where
   pub gate : ℕ

@@ -3,7 +3,7 @@ ghost use Rattle.std.specs.Prelude.{◌≡◌, ◌≢◌, ◌⊎◌, ◌+◌, �
 ghost use Rattle.hm_ports.specs.Faults.{Rose};
 ghost use Rattle.hm_disk.specs.Called.{IsCalled};
 ghost use Rattle.hm_disk.specs.Disk.{Only, RisesBy, LeavesOnly, LeavesThen};
-ghost use Rattle.hm_log.specs.Format.{laid, log_of, size_with, IsFrame, IsWhole, Reads, HoldsFrames, BeforeOrAfter, IsNotALog, IsBadFrame};
+ghost use Rattle.hm_log.specs.Format.{laid, log_of, size_with, IsFrame, IsWhole, Reads, HoldsFrames, BeforeOrAfter, IsClean, IsNotALog, IsBadFrame};
 ghost use Rattle.hm_log.specs.Opening.{IsMaking, Reopens, IsUntouched, OnlyReads};
 ghost use Rattle.hm_log.specs.declared.why.OpenWhy.TheVariants.{Fault, NotALog, BadFrame, Memory};
 
@@ -46,7 +46,8 @@ impl<D: Disk> Model for Log<D> {
 
 impl<D: Disk> Log<D> {
     /// Opens the log on a disk, and gives the frames that it held. It begins with a sync, and cuts what
-    /// stands behind the frames. A disk of size 0 becomes a log with no frame.
+    /// stands behind the frames. A disk of size 0 becomes a log with no frame. A log with nothing behind
+    /// its frames isn't changed.
     ///
     /// `NotALog` and `BadFrame` say that the disk holds no log, and where. `Fault` says that the disk
     /// failed. An error gives the disk back.
@@ -90,6 +91,9 @@ impl<D: Disk> Log<D> {
         ensures called { MatchResult result
             (λ r. IsCalled D.Disk 1 disk r.0.disk)
             (λ e. IsCalled D.Disk 1 disk e.0) }
+        ensures clean { D.tells → IsClean (D.seen disk) → MatchResult result
+            (λ r. IsCalled D.Disk 0 disk r.0.disk)
+            (λ e. IsCalled D.Disk 0 disk e.0) }
     {
         let mut disk = disk;
         match prepare(alloc, &mut disk) {

@@ -3,7 +3,7 @@ ghost use Rattle.std.specs.Prelude.{◌≡◌, ◌≢◌, ◌⊎◌, ◌+◌, �
 ghost use Rattle.hm_ports.specs.Faults.{Rose};
 ghost use Rattle.hm_disk.specs.Called.{IsCalled};
 ghost use Rattle.hm_disk.specs.Disk.{Only, LeavesOnly, LeavesThen};
-ghost use Rattle.hm_log.specs.Format.{log_of, size_with, IsFrame, Reads, HoldsFrames, IsWhole, IsNotALog, IsBadFrame};
+ghost use Rattle.hm_log.specs.Format.{log_of, size_with, IsFrame, Reads, HoldsFrames, IsWhole, IsClean, IsNotALog, IsBadFrame};
 ghost use Rattle.hm_log.specs.Opening.{IsMaking, Reopens, IsUntouched};
 ghost use Rattle.hm_log.specs.declared.why.OpenWhy.TheVariants.{Fault, NotALog, BadFrame, Memory};
 
@@ -53,6 +53,7 @@ pub(crate) fn prepare<D: Disk>(alloc: Global, disk: &mut D) -> Result<Ready, Ope
     ensures memory { D.tells → (place : ℕ) →
         IsErrOf result Memory → IsNotALog (D.seen disk.old) place → ⊥ }
     ensures called { IsCalled D.Disk 1 disk.old disk.new }
+    ensures clean { D.tells → IsClean (D.seen disk.old) → IsCalled D.Disk 0 disk.old disk.new }
 {
     let Found { frames, gate, size } = load(alloc, disk)?;
     let buffer = Vec::with_capacity(alloc, 65_541)?;

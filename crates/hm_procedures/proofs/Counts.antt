@@ -13,7 +13,7 @@ use Rattle.hm_model.proofs.Counting.{count_less, count_same}
 use Rattle.hm_procedures.proofs.Blank.{IsBlank}
 
 -- more numbers that all pass the test, or none of them
-count_more : (m n : ℕ) (test : ℕ → Bool) (b : Bool) → ((q : ℕ) → n ≤ q → q < n + m → test q ≡ b) → count_below test (n + m) ≡ count_below test n + (if b then m else 0)
+pub count_more : (m n : ℕ) (test : ℕ → Bool) (b : Bool) → ((q : ℕ) → n ≤ q → q < n + m → test q ≡ b) → count_below test (n + m) ≡ count_below test n + (if b then m else 0)
 count_more zero n test b each = let e : n + 0 ≡ n = omega arith in ap (count_below test) e ∙ none b
   where
     none : (b : Bool) → count_below test n ≡ count_below test n + (if b then 0 else 0)

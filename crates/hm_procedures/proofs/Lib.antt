@@ -4,6 +4,7 @@ mod Blank
 mod Facts
 mod Shown
 mod Counts
+mod Below
 mod Runs
 mod InTrees
 mod Enters
@@ -11,6 +12,7 @@ mod Steps
 mod Members
 mod Rolled
 mod Readers
+mod Called
 mod Needs
 mod Tops
 mod Kids

@@ -1,8 +1,9 @@
 -- The procedures as callers see them.
-use Rattle.std.specs.Prelude.{◌≡◌, ℕ, zero, suc, ◌+◌, ◌<◌, List, [], ◌∷◌, ◌++◌, Option, Some, None, filter, map, if◌then◌else◌}
+use Rattle.std.specs.Prelude.{◌≡◌, ℕ, zero, suc, ◌+◌, ◌<◌, List, [], ◌∷◌, ◌++◌, Bool, not, ◌&&◌, Option, Some, None, is_some, filter, map, if◌then◌else◌}
 use Rattle.hm_names.specs.declared.pid.Pid.{Pid}
+use Rattle.hm_model.specs.Counts.{count_below}
 use Rattle.hm_model.specs.Journal.{Past}
-use Rattle.hm_model.specs.Phase.{child_in}
+use Rattle.hm_model.specs.Phase.{child_in, ended}
 use Rattle.hm_model.specs.Pieces.{numbers_from}
 use Rattle.hm_model.specs.Tree.{Node, is_root, made, node_of, pid_of}
 
@@ -24,6 +25,14 @@ children_below past p (suc n) = children_below past p n ++ (if child_in p (node_
 -- the children of a procedure, in the order of their numbers
 abbrev pub children : Past → ℕ → List Pid
 children past p = children_below past p (made past + 1)
+
+-- it is there, and hasn't ended
+abbrev pub is_unfinished : Past → ℕ → Bool
+is_unfinished past q = is_some (node_of past q) && not (ended past q)
+
+-- how many procedures haven't ended, roots and descendants
+abbrev pub unfinished_procedures : Past → ℕ
+unfinished_procedures past = count_below (is_unfinished past) (made past + 1)
 
 -- no procedure between two numbers has the root
 abbrev pub NoneBetween : Past → ℕ → ℕ → ℕ → Type 0

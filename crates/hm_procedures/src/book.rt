@@ -20,8 +20,8 @@ use hm_data::{Args, Entry, StepOut, Told};
 use hm_names::{List, Pid, ServerName};
 use std::alloc::{AllocError, Global};
 
-// One less, where a root has ended.
-fn less_if(count: u64, over: bool) -> u64
+// One less, where one has ended.
+pub(crate) fn less_if(count: u64, over: bool) -> u64
     requires { one_if over ≤ count }
     ensures { result + one_if over ≡ count }
 {

@@ -3,6 +3,7 @@
 #![tactic(auto)]
 
 mod book;
+mod calls;
 mod changes;
 mod ends;
 mod journal;

@@ -5,19 +5,23 @@ ghost use Rattle.hm_model.specs.Apart.{tree_of};
 ghost use Rattle.hm_model.specs.Inputs.{ends_of, made_at_step};
 ghost use Rattle.hm_model.specs.Phase.{child_in, ended};
 ghost use Rattle.hm_model.specs.Records.{record_of, unfinished};
-ghost use Rattle.hm_model.specs.Reports.{is_settled, verb_of};
+ghost use Rattle.hm_model.specs.Reports.{call_of, is_settled, verb_of};
 ghost use Rattle.hm_model.specs.Rest.{MayUndo};
 ghost use Rattle.hm_model.specs.Rules.{IsLegal};
 ghost use Rattle.hm_model.specs.Tree.{made, node_of};
 ghost use Rattle.hm_model.specs.Undo.{is_empty, stack};
+ghost use Rattle.hm_model.specs.Waiting.{children_made, ends_one};
+ghost use Rattle.hm_procedures.specs.Below.{is_below};
 ghost use Rattle.hm_procedures.specs.Kept.{args_made, kept_of, made_in_step};
-ghost use Rattle.hm_procedures.specs.Procedures.{IsBehind, children, roots};
+ghost use Rattle.hm_procedures.specs.Procedures.{IsBehind, children, roots, unfinished_procedures};
 
-use crate::book::Book;
+use crate::book::{Book, less_if};
+use crate::calls::call_with;
 use crate::ends::ends_from;
 use crate::journal::Journal;
-use crate::kept::{Tracked, kept_at};
-use hm_data::{Args, Entry, Record, Told};
+use crate::kept::{Tracked, is_stop, kept_at};
+use hm_data::{Args, Call, Entry, Record, Told};
+use hm_model::laws::calls_are_own;
 use hm_names::{List, Pid};
 use std::alloc::{AllocError, Global};
 use std::marker::Model;
@@ -38,9 +42,13 @@ fn push_if(list: &mut Vec<Pid>, belongs: bool, pid: Pid) -> Result<(), AllocErro
 pub struct Procedures {
     past: Journal,
     book: Book,
+    // How many descendants haven't ended.
+    below: u64,
 }
 
 impl Model for Procedures {
+    ghost use Rattle.std.specs.Prelude.{◌≡◌};
+    ghost use Rattle.hm_procedures.specs.Below.{open_below};
     ghost use Rattle.hm_procedures.specs.Book.{IsBook, room_of, spare_of};
     ghost use Rattle.hm_procedures.specs.Procedures.{ProceduresView};
 
@@ -48,7 +56,7 @@ impl Model for Procedures {
 
     ghost view = { λ s. record { past = s.past.entries; spare = spare_of s.book; room = room_of s.book } };
 
-    ghost invariant = { λ s. IsBook s.past.entries s.book };
+    ghost invariant = { λ s. IsBook s.past.entries s.book × (s.below ≡ open_below s.past.entries) };
 }
 
 impl Procedures {
@@ -59,6 +67,7 @@ impl Procedures {
         Ok(Procedures {
             past: Journal::new(),
             book: Book::new(alloc),
+            below: 0,
         })
     }
 
@@ -147,6 +156,20 @@ impl Procedures {
         }
     }
 
+    /// The call that it made, with its number as the id.
+    pub fn call(&self, alloc: Global, pid: Pid) -> Result<Option<Call>, AllocError>
+        ensures { IfOk result (λ call. call ≡ call_of self.now.past pid.0) }
+    {
+        calls_are_own();
+        let Some(kept) = self.kept(pid) else {
+            return Ok(None);
+        };
+        if !kept.has_called {
+            return Ok(None);
+        }
+        call_with(alloc, pid, &kept.shown.args)
+    }
+
     /// Whether its call, if it made one, is settled: it has a report, or the procedure has ended.
     pub fn is_settled(&self, pid: Pid) -> bool
         ensures { result ≡ is_settled self.now.past pid.0 }
@@ -225,6 +248,48 @@ impl Procedures {
         self.book.unfinished
     }
 
+    /// How many procedures haven't ended, roots and descendants.
+    pub fn unfinished_procedures(&self) -> u64
+        ensures { result ≡ unfinished_procedures self.now.past }
+    {
+        self.book.unfinished + self.below
+    }
+
+    // Whether it is there, and a descendant.
+    fn is_below(&self, pid: Pid) -> bool
+        ensures { result ≡ is_below (node_of self.now.past pid.0) }
+    {
+        match self.find(pid) {
+            Some(record) => record.parent.is_some(),
+            None => false,
+        }
+    }
+
+    // How many descendants an entry makes.
+    fn made_below(&self, entry: &Entry, made: &List<Args>) -> u64
+        requires { made.now ≡ args_made self.now.past entry.now }
+        ensures { result ≡ children_made entry.now }
+    {
+        match entry {
+            Entry::Step {
+                pid: _,
+                pick: _,
+                out: _,
+            } => made.as_slice().len() as u64,
+            _ => 0,
+        }
+    }
+
+    // Whether an entry ends a descendant.
+    fn ends_descendant(&self, entry: &Entry) -> bool
+        ensures { result ≡ ends_one (λ q. is_below (node_of self.now.past q)) entry.now }
+    {
+        match entry {
+            Entry::Step { pid, pick: _, out } => self.is_below(*pid) && is_stop(&out.answer),
+            _ => false,
+        }
+    }
+
     /// Makes room for so many procedures more.
     pub fn reserve(&mut self, _alloc: Global, count: u64) -> Result<(), AllocError>
         ensures past { self.new.past ≡ self.old.past }
@@ -245,7 +310,10 @@ impl Procedures {
         ensures spare { self.old.spare ≤ self.new.spare + length made }
         ensures room { self.new.room ≡ self.old.room }
     {
+        let more = self.made_below(entry, &made);
+        let ends = self.ends_descendant(entry);
         self.book.enter(&self.past, entry, made, nothing_left);
         self.past = self.past.then(entry);
+        self.below = less_if(self.below + more, ends);
     }
 }

@@ -28,7 +28,7 @@ use Rattle.hm_model.proofs.PlainActs.{is_high, quiet_low}
 use Rattle.hm_model.proofs.Trees.{grown_all as trees_all, node_new, step_of}
 use Rattle.hm_model.proofs.UndoMakes.{undo_quiet}
 use Rattle.hm_procedures.specs.Kept.{args_made}
-use Rattle.hm_records.specs.Book.{AreRows, AreRowsWith, draft_of, drafts_of, has_first, or_drafted, or_taken, row_at, row_in, stepper_of, unless_ended}
+use Rattle.hm_records.specs.Book.{AreRows, AreRowsWith, draft_of, drafts_of, has_first, or_drafted, or_taken, row_at, book_row, stepper_of, unless_ended}
 use Rattle.hm_records.proofs.Enlisted.{ends_by, row_still, row_was_over, unstepped_open}
 use Rattle.hm_records.proofs.Trees.{none_answers, stepper_open, stepper_there}
 
@@ -83,61 +83,61 @@ made_fits (entry_is.Abort pid) J legal k args is = absurd (none-some args is)
 
 -- a node that is new has the row of its draft
 drafts_row : (p : ℕ) (above : List ℕ) (args : Args) (root first : ℕ) → has_first args ≡ true
-    → row_in false false p (Some (record { above = above; root = root; args = args; first = first })) ≡ Some (drafted p (draft_of above args))
+    → book_row false false p (Some (record { above = above; root = root; args = args; first = first })) ≡ Some (drafted p (draft_of above args))
 drafts_row p above args root first fits = ap (λ (l : List Ask). Some (let row : Row = record { pid = p; above = above; asks = l; holds = false } in row)) (sym (ap (λ b. if b then asks args else []) fits))
 
 -- a root that is made, or none where it is another's number
 one_row : (J : Past) (p : ℕ) → made J < p → (args : Args) (first : ℕ) → has_first args ≡ true → (o : Option Node)
     → (p ≡ made J + 1 → o ≡ Some (root_node p args first)) → (p ≢ made J + 1 → o ≡ None)
-    → row_in false false p o ≡ option_map (drafted p) (slice_get (draft_of [] args ∷ []) (p - made J - 1))
+    → book_row false false p o ≡ option_map (drafted p) (slice_get (draft_of [] args ∷ []) (p - made J - 1))
 one_row J p behind args first fits o own other = elim (cases_eq p (made J + 1)) [
   | inl here ↦
       (let zeroth : p - made J - 1 ≡ 0 = omega (arith, here) in
-      ap (row_in false false p) (own here) ∙ drafts_row p [] args p first fits ∙ sym (ap (λ k. option_map (drafted p) (slice_get (draft_of [] args ∷ []) k)) zeroth))
+      ap (book_row false false p) (own here) ∙ drafts_row p [] args p first fits ∙ sym (ap (λ k. option_map (drafted p) (slice_get (draft_of [] args ∷ []) k)) zeroth))
   | inr there ↦
-      ap (row_in false false p) (other there) ∙ sym (ap (option_map (drafted p)) (get_behind (draft_of [] args) (p - made J - 1) (omega (arith, behind, there))))
+      ap (book_row false false p) (other there) ∙ sym (ap (option_map (drafted p)) (get_behind (draft_of [] args) (p - made J - 1) (omega (arith, behind, there))))
 ]
 
 -- children and followers
 many_rows : (p : ℕ) (above : List ℕ) (root : ℕ) (first : ℕ) (made : List Args) (k : ℕ) → ((args : Args) → slice_get made k ≡ Some args → has_first args ≡ true)
-    → row_in false false p (option_map (λ (args : Args). let node : Node = record { above = above; root = root; args = args; first = first } in node) (slice_get made k))
+    → book_row false false p (option_map (λ (args : Args). let node : Node = record { above = above; root = root; args = args; first = first } in node) (slice_get made k))
     ≡ option_map (drafted p) (slice_get (map (draft_of above) made) k)
 many_rows p above root first made k fits = by (slice_get made k) refl ∙ sym (ap (option_map (drafted p)) (get_map (draft_of above) made k))
   where
     by : (o : Option Args) → slice_get made k ≡ o
-        → row_in false false p (option_map (λ (args : Args). let node : Node = record { above = above; root = root; args = args; first = first } in node) (slice_get made k))
+        → book_row false false p (option_map (λ (args : Args). let node : Node = record { above = above; root = root; args = args; first = first } in node) (slice_get made k))
         ≡ option_map (drafted p) (option_map (draft_of above) (slice_get made k))
-    by None is = ap (λ o. row_in false false p (option_map (λ (args : Args). let node : Node = record { above = above; root = root; args = args; first = first } in node) o)) is ∙ sym (ap (λ o. option_map (drafted p) (option_map (draft_of above) o)) is)
+    by None is = ap (λ o. book_row false false p (option_map (λ (args : Args). let node : Node = record { above = above; root = root; args = args; first = first } in node) o)) is ∙ sym (ap (λ o. option_map (drafted p) (option_map (draft_of above) o)) is)
     by (Some args) is =
-        ap (λ o. row_in false false p (option_map (λ (args : Args). let node : Node = record { above = above; root = root; args = args; first = first } in node) o)) is
+        ap (λ o. book_row false false p (option_map (λ (args : Args). let node : Node = record { above = above; root = root; args = args; first = first } in node) o)) is
         ∙ drafts_row p above args root first (fits args is)
         ∙ sym (ap (λ o. option_map (drafted p) (option_map (draft_of above) o)) is)
 
 -- what the row of a procedure that goes on tells of its ancestors
 above_is : (J : Past) (p : ℕ) (x : Node) → node_of J p ≡ Some x → ended J p ≡ false → above_in (row_at J p) ≡ x.above
 above_is J p x is goes =
-    ap (λ o. above_in (row_in (ended J p) (is_some (last_answer J p)) p o)) is ∙ ap (λ b. above_in (row_in b (is_some (last_answer J p)) p (Some x))) goes
+    ap (λ o. above_in (book_row (ended J p) (is_some (last_answer J p)) p o)) is ∙ ap (λ b. above_in (book_row b (is_some (last_answer J p)) p (Some x))) goes
 
 -- the procedures that an entry makes have the rows of its drafts
 fresh_row : (entry : Entry) (J : Past) → IsLegal (entry ∷ J) → (p : ℕ) → made J < p
-    → row_in false false p (node_of (entry ∷ J) p) ≡ option_map (drafted p) (slice_get (drafts_of J entry) (p - made J - 1))
-fresh_row (entry_is.Start sheets) J legal p behind = ap (row_in false false p) ((grown_all J legal.0).numbered p behind)
+    → book_row false false p (node_of (entry ∷ J) p) ≡ option_map (drafted p) (slice_get (drafts_of J entry) (p - made J - 1))
+fresh_row (entry_is.Start sheets) J legal p behind = ap (book_row false false p) ((grown_all J legal.0).numbered p behind)
 fresh_row (entry_is.Submit nonce request) J legal p behind =
     one_row J p behind (args_are.Root request (first_of J (table_of_request request))) (first_of J (table_of_request request)) (first_fits J legal.0 (table_of_request request))
     (node_of (entry_is.Submit nonce request ∷ J) p) (submit_new nonce request J p) (λ e. submit_old nonce request J p e ∙ (grown_all J legal.0).numbered p behind)
 fresh_row (entry_is.Step pid pick out) J legal p behind =
     let me = stepper_there pid pick out J legal in
     let entry = entry_is.Step pid pick out in
-    ap (row_in false false p) (step_new pid pick out J p behind ∙ ap (λ up. children_of pid.0 up (slice_get (args_in out.children) (p - made J - 1))) me.1)
+    ap (book_row false false p) (step_new pid pick out J p behind ∙ ap (λ up. children_of pid.0 up (slice_get (args_in out.children) (p - made J - 1))) me.1)
     ∙ many_rows p (pid.0 ∷ me.0.above) me.0.root me.0.first (args_in out.children) (p - made J - 1) (made_fits entry J legal (p - made J - 1))
     ∙ sym (ap (λ (l : List ℕ). option_map (drafted p) (slice_get (map (draft_of (pid.0 ∷ l)) (args_in out.children)) (p - made J - 1))) (above_is J pid.0 me.0 me.1 (stepper_open pid pick out J legal)))
 fresh_row (entry_is.Undo pid row out) J legal p behind =
-    ap (row_in false false p) (undo_new pid row out J p behind) ∙ many_rows p [] p 1 (args_in out.followers) (p - made J - 1) (made_fits (entry_is.Undo pid row out) J legal (p - made J - 1))
-fresh_row (entry_is.Report call told) J legal p behind = ap (row_in false false p) ((grown_all J legal.0).numbered p behind)
-fresh_row (entry_is.Up server) J legal p behind = ap (row_in false false p) ((grown_all J legal.0).numbered p behind)
+    ap (book_row false false p) (undo_new pid row out J p behind) ∙ many_rows p [] p 1 (args_in out.followers) (p - made J - 1) (made_fits (entry_is.Undo pid row out) J legal (p - made J - 1))
+fresh_row (entry_is.Report call told) J legal p behind = ap (book_row false false p) ((grown_all J legal.0).numbered p behind)
+fresh_row (entry_is.Up server) J legal p behind = ap (book_row false false p) ((grown_all J legal.0).numbered p behind)
 fresh_row (entry_is.Down server) J legal p behind =
     one_row J p behind (args_are.Crash server) 1 refl (node_of (entry_is.Down server ∷ J) p) (down_new server J p) (λ e. down_old server J p e ∙ (grown_all J legal.0).numbered p behind)
-fresh_row (entry_is.Abort pid) J legal p behind = ap (row_in false false p) ((grown_all J legal.0).numbered p behind)
+fresh_row (entry_is.Abort pid) J legal p behind = ap (book_row false false p) ((grown_all J legal.0).numbered p behind)
 
 module _ (entry : Entry) (J : Past) (legal : IsLegal (entry ∷ J)) (p : ℕ) where
   abbrev after : Past
@@ -158,7 +158,7 @@ module _ (entry : Entry) (J : Past) (legal : IsLegal (entry ∷ J)) (p : ℕ) wh
     new_row =
         cond-true (nat_lt (made J) p) (option_map (drafted p) (slice_get (drafts_of J entry) (p - made J - 1))) (or_taken (stepper_of entry) p (row_at J p)) (lt-ltb (made J) p behind)
         ∙ sym (fresh_row entry J legal p behind)
-        ∙ sym (ap (λ b. row_in b (is_some (last_answer after p)) p (node_of after p)) new_open ∙ ap (λ o. row_in false (is_some o) p (node_of after p)) unstepped)
+        ∙ sym (ap (λ b. book_row b (is_some (last_answer after p)) p (node_of after p)) new_open ∙ ap (λ o. book_row false (is_some o) p (node_of after p)) unstepped)
 
   old_row : p ≤ made J → between ≡ or_taken (stepper_of entry) p (row_at J p)
   old_row within = cond-false (nat_lt (made J) p) (option_map (drafted p) (slice_get (drafts_of J entry) (p - made J - 1))) (or_taken (stepper_of entry) p (row_at J p)) (le-ltb (made J) p within)

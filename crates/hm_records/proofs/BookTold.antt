@@ -23,36 +23,36 @@ use Rattle.hm_model.specs.Phase.{ended}
 use Rattle.hm_model.specs.Rules.{IsLegal}
 use Rattle.hm_model.specs.Tree.{Node, node_of}
 use Rattle.hm_model.proofs.Free.{step_free}
-use Rattle.hm_records.specs.Book.{AreRows, ListOpen, above_made, has_first, or_taken, row_in, stepper_of}
+use Rattle.hm_records.specs.Book.{AreRows, ListOpen, above_made, has_first, or_taken, book_row, stepper_of}
 use Rattle.hm_records.proofs.Trees.{stepper_open, stepper_there}
 
 -- a row says of whom it is
-said : (past : Past) (p : ℕ) (row : Row) (ended stepped : Bool) (o : Option Node) → node_of past p ≡ o → row_in ended stepped p o ≡ Some row → IsRowOf past row
+said : (past : Past) (p : ℕ) (row : Row) (ended stepped : Bool) (o : Option Node) → node_of past p ≡ o → book_row ended stepped p o ≡ Some row → IsRowOf past row
 said past p row ended stepped None is e = absurd (none-some row e)
 said past p row true stepped (Some x) is e = absurd (none-some row e)
 said past p row false stepped (Some x) is e =
     subst (IsRowOf past) (same_Some (let own : Row = record { pid = p; above = x.above; asks = asks x.args; holds = stepped } in own) row e) (x, is, refl, refl)
 
 -- who holds
-holds_by : (p : ℕ) (e : Bool) (last : Option Answer) (o : Option Node) → is_holding (row_in e (is_some last) p o) ≡ true → (o ≢ None) × (e ≡ false) × (last ≢ None)
+holds_by : (p : ℕ) (e : Bool) (last : Option Answer) (o : Option Node) → is_holding (book_row e (is_some last) p o) ≡ true → (o ≢ None) × (e ≡ false) × (last ≢ None)
 holds_by p e last None h = absurd (false≢true h)
 holds_by p true last (Some x) h = absurd (false≢true h)
 holds_by p false None (Some x) h = absurd (false≢true h)
 holds_by p false (Some answer) (Some x) h = ((λ none. none-some x (sym none)), refl, (λ none. none-some answer (sym none)))
 
-held_by : (p : ℕ) (e : Bool) (last : Option Answer) (o : Option Node) → o ≢ None → e ≡ false → last ≢ None → is_holding (row_in e (is_some last) p o) ≡ true
+held_by : (p : ℕ) (e : Bool) (last : Option Answer) (o : Option Node) → o ≢ None → e ≡ false → last ≢ None → is_holding (book_row e (is_some last) p o) ≡ true
 held_by p e last None some goes stepped = absurd (some refl)
 held_by p true last (Some x) some goes stepped = absurd (true≢false goes)
 held_by p false None (Some x) some goes stepped = absurd (stepped refl)
 held_by p false (Some answer) (Some x) some goes stepped = refl
 
 -- who is enlisted
-listed_by : (p : ℕ) (e stepped : Bool) (o : Option Node) → IsSome (row_in e stepped p o) → (o ≢ None) × (e ≡ false)
+listed_by : (p : ℕ) (e stepped : Bool) (o : Option Node) → IsSome (book_row e stepped p o) → (o ≢ None) × (e ≡ false)
 listed_by p e stepped None h = absurd (false≢true h)
 listed_by p true stepped (Some x) h = absurd (false≢true h)
 listed_by p false stepped (Some x) h = ((λ none. none-some x (sym none)), refl)
 
-lists_by : (p : ℕ) (e stepped : Bool) (o : Option Node) → o ≢ None → e ≡ false → IsSome (row_in e stepped p o)
+lists_by : (p : ℕ) (e stepped : Bool) (o : Option Node) → o ≢ None → e ≡ false → IsSome (book_row e stepped p o)
 lists_by p e stepped None some goes = absurd (some refl)
 lists_by p true stepped (Some x) some goes = absurd (true≢false goes)
 lists_by p false stepped (Some x) some goes = refl

@@ -16,7 +16,7 @@ use Rattle.hm_model.specs.Rules.{IsLegal}
 use Rattle.hm_model.specs.Tree.{Node, is_root_in, is_top, made, node_of}
 use Rattle.hm_model.proofs.Grown.{grown_all, nodes_stay}
 use Rattle.hm_model.proofs.Tops.{caused_begun}
-use Rattle.hm_records.specs.Book.{or_taken, row_at, row_in, stepper_of, unless_ended}
+use Rattle.hm_records.specs.Book.{or_taken, row_at, book_row, stepper_of, unless_ended}
 use Rattle.hm_records.proofs.Forgotten.{ends_below}
 use Rattle.hm_records.proofs.Trees.{below_ended, none_answers, none_open, not_over, stays_ended, there_or_not}
 
@@ -88,13 +88,13 @@ ends_by entry J legal p apart other goes = elim (cases_Bool (ended (entry ∷ J)
         true≢false (sym over ∙ below_ended (entry ∷ J) p x.0 (nodes_stay entry J legal p x.0 x.1) below ∙ ap is_stopped (last_stays entry J p other) ∙ sym (below_ended J p x.0 x.1 below) ∙ goes)
 
 -- rows of those who aren't there
-row_out : (ended stepped : Bool) (p : ℕ) (o : Option Node) → o ≡ None → row_in ended stepped p o ≡ None
-row_out ended stepped p o e = ap (row_in ended stepped p) e
+row_out : (ended stepped : Bool) (p : ℕ) (o : Option Node) → o ≡ None → book_row ended stepped p o ≡ None
+row_out ended stepped p o e = ap (book_row ended stepped p) e
 
 -- or have ended
-row_over : (ended stepped : Bool) (p : ℕ) (o : Option Node) → ended ≡ true → row_in ended stepped p o ≡ None
+row_over : (ended stepped : Bool) (p : ℕ) (o : Option Node) → ended ≡ true → book_row ended stepped p o ≡ None
 row_over ended stepped p None e = refl
-row_over ended stepped p (Some x) e = ap (λ b. row_in b stepped p (Some x)) e
+row_over ended stepped p (Some x) e = ap (λ b. book_row b stepped p (Some x)) e
 
 taken_none : (s : Option Pid) (p : ℕ) (row : Option Row) → row ≡ None → or_taken s p row ≡ None
 taken_none s p row e = ap (or_taken s p) e ∙ by s
@@ -124,27 +124,27 @@ module _ (entry : Entry) (J : Past) (legal : IsLegal (entry ∷ J)) (p : ℕ) wh
   -- the row of one that was there, and goes on
   row_on : (x : Node) → node_of J p ≡ Some x → ended after p ≡ false → row_at after p ≡ or_taken (stepper_of entry) p (row_at J p)
   row_on x is goes =
-      ap (row_in (ended after p) (is_some (last_answer after p)) p) (nodes_stay entry J legal p x is)
-      ∙ ap (λ b. row_in b (is_some (last_answer after p)) p (Some x)) goes
+      ap (book_row (ended after p) (is_some (last_answer after p)) p) (nodes_stay entry J legal p x is)
+      ∙ ap (λ b. book_row b (is_some (last_answer after p)) p (Some x)) goes
       ∙ by (steps_or_not entry p)
       ∙ ap (or_taken (stepper_of entry) p) (sym was)
     where
-      was : row_at J p ≡ row_in false (is_some (last_answer J p)) p (Some x)
-      was = ap (row_in (ended J p) (is_some (last_answer J p)) p) is ∙ ap (λ b. row_in b (is_some (last_answer J p)) p (Some x)) (was_open goes)
+      was : row_at J p ≡ book_row false (is_some (last_answer J p)) p (Some x)
+      was = ap (book_row (ended J p) (is_some (last_answer J p)) p) is ∙ ap (λ b. book_row b (is_some (last_answer J p)) p (Some x)) (was_open goes)
 
       other : ((pid : Pid) → stepper_of entry ≡ Some pid → pid.0 ≢ p) → (s : Option Pid) → stepper_of entry ≡ s → (row : Option Row) → row ≡ or_taken s p row
       other differs None e row = refl
       other differs (Some pid) e row = sym (cond-false (pid.0 == p) (option_map (holding true) row) row (ne_eqb pid.0 p (differs pid e)))
 
       by : ((pid : Pid) × (stepper_of entry ≡ Some pid) × (pid.0 ≡ p)) ⊎ ((pid : Pid) → stepper_of entry ≡ Some pid → pid.0 ≢ p)
-          → row_in false (is_some (last_answer after p)) p (Some x) ≡ or_taken (stepper_of entry) p (row_in false (is_some (last_answer J p)) p (Some x))
+          → book_row false (is_some (last_answer after p)) p (Some x) ≡ or_taken (stepper_of entry) p (book_row false (is_some (last_answer J p)) p (Some x))
       by (inl own) =
-          ap (λ b. row_in false b p (Some x)) (last_comes entry J p own.0 own.1 own.2)
-          ∙ sym (ap (λ b. if b then option_map (holding true) (row_in false (is_some (last_answer J p)) p (Some x)) else row_in false (is_some (last_answer J p)) p (Some x)) (eq-eqb own.0.0 p own.2))
-          ∙ sym (ap (λ s. or_taken s p (row_in false (is_some (last_answer J p)) p (Some x))) own.1)
+          ap (λ b. book_row false b p (Some x)) (last_comes entry J p own.0 own.1 own.2)
+          ∙ sym (ap (λ b. if b then option_map (holding true) (book_row false (is_some (last_answer J p)) p (Some x)) else book_row false (is_some (last_answer J p)) p (Some x)) (eq-eqb own.0.0 p own.2))
+          ∙ sym (ap (λ s. or_taken s p (book_row false (is_some (last_answer J p)) p (Some x))) own.1)
       by (inr differs) =
-          ap (λ o. row_in false (is_some o) p (Some x)) (last_stays entry J p differs)
-          ∙ other differs (stepper_of entry) refl (row_in false (is_some (last_answer J p)) p (Some x))
+          ap (λ o. book_row false (is_some o) p (Some x)) (last_stays entry J p differs)
+          ∙ other differs (stepper_of entry) refl (book_row false (is_some (last_answer J p)) p (Some x))
 
   -- the row of one that was made before
   pub row_still : p ≤ made J → row_at after p ≡ unless_ended (ended after p) (or_taken (stepper_of entry) p (row_at J p))

@@ -17,14 +17,14 @@ use Rattle.hm_model.specs.Tree.{Node, made, node_of}
 use Rattle.hm_procedures.specs.Kept.{args_made}
 
 -- the row of a procedure, by whether it has ended and whether it has a step
-abbrev pub row_in : Bool → Bool → ℕ → Option Node → Option Row
-row_in ended stepped p None = None
-row_in true stepped p (Some node) = None
-row_in false stepped p (Some node) = Some (record { pid = p; above = node.above; asks = asks node.args; holds = stepped })
+abbrev pub book_row : Bool → Bool → ℕ → Option Node → Option Row
+book_row ended stepped p None = None
+book_row true stepped p (Some node) = None
+book_row false stepped p (Some node) = Some (record { pid = p; above = node.above; asks = asks node.args; holds = stepped })
 
 -- the row of a procedure: it is there until the procedure ends, and holds from its first step on
 abbrev pub row_at : Past → ℕ → Option Row
-row_at past p = row_in (ended past p) (is_some (last_answer past p)) p (node_of past p)
+row_at past p = book_row (ended past p) (is_some (last_answer past p)) p (node_of past p)
 
 -- the rows are those of the procedures
 abbrev pub AreRows : Past → List Row → Type 0

@@ -1,7 +1,7 @@
 //! The rows of the catalog.
 ghost use Rattle.std.specs.Prelude.{◌≡◌, ◌+◌, ◌≤◌, ◌∷◌, length, IfOk};
 ghost use Rattle.hm_catalog.specs.Rows.{rows_in, with_edits, with_row};
-ghost use Rattle.hm_records.specs.Parts.{edits_of as edits_in};
+ghost use Rattle.hm_records.specs.Parts.{edits_of as told_edits};
 
 use hm_catalog::Catalog;
 use hm_catalog::laws::edits_lead;
@@ -12,7 +12,7 @@ use std::alloc::{AllocError, Global};
 
 // The edits of an entry.
 pub(crate) fn edits_of(alloc: Global, entry: &Entry) -> Result<List<Edit>, AllocError>
-    ensures { IfOk result (λ edits. edits ≡ edits_in entry.now) }
+    ensures { IfOk result (λ edits. edits ≡ told_edits entry.now) }
 {
     match entry {
         Entry::Step {
@@ -54,7 +54,7 @@ fn set_all(catalog: &mut Catalog, edits: List<Edit>)
 // Takes in the edits of an entry.
 pub(crate) fn set_rows(catalog: &mut Catalog, past: &Procedures, entry: &Entry, edits: List<Edit>)
     requires rows { catalog.old.rows ≡ rows_in past.now.past }
-    requires edits { edits ≡ edits_in entry.now }
+    requires edits { edits ≡ told_edits entry.now }
     requires room { length edits ≤ catalog.old.spare }
     ensures rows { catalog.new.rows ≡ rows_in (entry.now ∷ past.now.past) }
     ensures spare { catalog.old.spare ≤ catalog.new.spare + length edits }

@@ -1,6 +1,6 @@
 -- Who can't go on and waits for the answer to its call is shown as awaiting.
-use Rattle.std.proofs.Common.{◌≡◌, ◌≢◌, ◌↔◌, ◌+◌, ◌==◌, ◌&&◌, ◌∷◌, ℕ, [], List, Bool, true, false, not, is_some, if◌then◌else◌, IsTrue, Option, Some, None, refl, inl, inr, ap, sym, ◌∙◌, subst}
-use Rattle.std.proofs.lemmas.Bool.{and_parts, cases_Bool, cond-false, cond-true, eq-eqb, eqb-true, false≢true, not-true, true≢false}
+use Rattle.std.proofs.Common.{◌≡◌, ◌≢◌, ◌↔◌, ◌+◌, ◌==◌, ◌&&◌, ℕ, Bool, true, false, not, is_some, IsTrue, Option, Some, None, refl, inl, inr, ap, sym, ◌∙◌, subst}
+use Rattle.std.proofs.lemmas.Bool.{and_parts, cases_Bool, cond-true, eq-eqb, eqb-true, false≢true, not-true, true≢false}
 use Rattle.std.proofs.lemmas.Option.{none-some, same_Some}
 use Rattle.hm_data.specs.declared.answer.Answer.{Answer}
 use Rattle.hm_data.specs.declared.answer.Answer.TheVariants as answer_is
@@ -9,7 +9,6 @@ use Rattle.hm_data.specs.declared.record.Phase.TheVariants as phase_is
 use Rattle.hm_data.specs.declared.record.Record.{Record}
 use Rattle.hm_model.specs.Answers.{done_with, is_stopped, last_answer}
 use Rattle.hm_model.specs.Forest.{IsWait}
-use Rattle.hm_model.specs.Inputs.{undoes}
 use Rattle.hm_model.specs.Journal.{Past}
 use Rattle.hm_model.specs.Phase.{all_stopped, cause, children_ended, ended, ended_node, in_tree, own_phase, phase, phase_table, rolled_back, root_ended, root_over}
 use Rattle.hm_model.specs.Records.{record_of}

@@ -1,23 +1,19 @@
 -- Desks that gave a procedure, set one aside, or had a claim put back.
-use Rattle.std.proofs.Common.{◌≡◌, ◌≢◌, ◌<◌, ◌≤◌, ℕ, List, Option, Some, None, Bool, true, false, refl, inl, inr, ap, sym, ◌∙◌, subst, arith}
+use Rattle.std.proofs.Common.{◌≡◌, ◌<◌, ℕ, List, Option, Some, true, refl, ap, sym, subst, arith}
 use Rattle.std.specs.Option.{option_map}
-use Rattle.std.proofs.lemmas.Bool.{true≢false}
 use Rattle.hm_names.specs.Server.{Server}
 use Rattle.hm_locks.specs.Book.{AreChanged, IsEnlisted, Row, holding, row_of}
 use Rattle.hm_model.specs.Journal.{Past}
 use Rattle.hm_model.specs.Locks.{IsIn}
 use Rattle.hm_model.specs.Rules.{IsLegal}
 use Rattle.hm_model.specs.Tree.{made}
-use Rattle.hm_sched.specs.Effects.{Joins, Passes}
-use Rattle.hm_sched.specs.Queues.{ready_list}
-use Rattle.hm_tied.specs.Calls.{Unclaims, owing, without}
-use Rattle.hm_tied.specs.Tied.{Debts, IsTied, IsTiedBut, Roster, no_debts}
-use Rattle.hm_tied.proofs.Settled.{one_settles}
-use Rattle.hm_tied.proofs.Uses.{known_made, ready_enlisted}
-use Rattle.hm_roster.specs.Roster.{Follows, HasLists, IsGiven, IsSameBut, claims_on, lists_on, number_in, number_on, pids_on, roster_of, roster_with, rows_on, servers_on}
+use Rattle.hm_sched.specs.Effects.{Passes}
+use Rattle.hm_tied.specs.Calls.{owing}
+use Rattle.hm_tied.specs.Tied.{Debts, IsTied, IsTiedBut, no_debts}
+use Rattle.hm_tied.proofs.Uses.{known_made}
+use Rattle.hm_roster.specs.Roster.{Follows, HasLists, IsGiven, IsSameBut, claims_on, lists_on, number_in, number_on, pids_on, roster_of, rows_on, servers_on}
 use Rattle.hm_roster.specs.declared.desk.Desk.{Desk}
 use Rattle.hm_roster.proofs.Giving.{given_free, given_open, given_tied}
-use Rattle.hm_roster.proofs.Placing.{readied}
 
 -- what is said of claims and numbers is said of the same ones
 pub carried : (J : Past) (desk new : Desk) (lists : List (List ℕ)) (rows : List Row) (debts : Debts) → IsSameBut desk new

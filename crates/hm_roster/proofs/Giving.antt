@@ -1,29 +1,28 @@
 -- A procedure that the scheduler gave, and claims that are given up.
-use Rattle.std.proofs.Common.{◌≡◌, ◌≢◌, ◌↔◌, ◌<◌, ◌+◌, ℕ, List, ◌∷◌, [], length, Option, Some, None, Bool, true, false, not, is_some, IsTrue, IsSome, if◌then◌else◌, ◌==◌, refl, inl, inr, ap, sym, ◌∙◌, subst, arith}
+use Rattle.std.proofs.Common.{◌≡◌, ◌≢◌, ◌↔◌, ◌+◌, ℕ, List, [], length, Option, Some, None, Bool, true, false, is_some, IsTrue, IsSome, ◌==◌, refl, inl, inr, ap, sym, ◌∙◌, subst, arith}
 use Rattle.std.specs.Option.{option_map}
 use Rattle.std.proofs.lemmas.Bool.{cases_eq, cond-false, cond-true, eq-eqb, false≢true, ne_eqb, true≢false}
-use Rattle.std.proofs.lemmas.Option.{none-some, same_Some}
+use Rattle.std.proofs.lemmas.Option.{none-some}
 use Rattle.hm_names.specs.Server.{Server}
 use Rattle.hm_data.specs.declared.answer.Answer.{Answer}
-use Rattle.hm_locks.specs.Book.{AreChanged, IsEnlisted, IsFree, Row, holding, row_of}
+use Rattle.hm_locks.specs.Book.{AreChanged, IsEnlisted, Row, holding, row_of}
 use Rattle.hm_model.specs.Answers.{last_answer}
 use Rattle.hm_model.specs.Holding.{IsFree as IsClear}
 use Rattle.hm_model.specs.Journal.{Past}
 use Rattle.hm_model.specs.Locks.{IsIn}
 use Rattle.hm_model.specs.Picks.{has_pick}
-use Rattle.hm_model.specs.Rest.{IsAvailable, MayStep, MayStepPicked, MayUndo}
+use Rattle.hm_model.specs.Rest.{IsAvailable, MayStep, MayStepPicked}
 use Rattle.hm_model.specs.Rules.{IsLegal}
-use Rattle.hm_model.specs.Tree.{Node, made, node_of}
+use Rattle.hm_model.specs.Tree.{Node, node_of}
 use Rattle.hm_sched.specs.Effects.{Joins, Passes, Wakes}
-use Rattle.hm_sched.specs.Queues.{IsReady, IsWith, StandsNowhere, is_ready, is_same, members, ready_count}
+use Rattle.hm_sched.specs.Queues.{IsWith, StandsNowhere, is_ready, is_same, members, ready_count}
 use Rattle.hm_sched.specs.declared.queue.Queue.{Queue}
 use Rattle.hm_sched.specs.declared.queue.Queue.TheVariants.{Held, Servers, Suspended, Tables, Waits}
-use Rattle.hm_tied.specs.Calls.{Unclaims, owing, without}
-use Rattle.hm_tied.specs.Tied.{CanGo, Debts, IsOpen, IsTied, IsTiedBut, Roster, no_debts}
-use Rattle.hm_tied.proofs.Calls.{exact, give_back_ties, give_up_owes, join_owes, keep_on_owes, next_owes}
-use Rattle.hm_tied.proofs.Going.{go_open}
+use Rattle.hm_tied.specs.Calls.{Unclaims, owing}
+use Rattle.hm_tied.specs.Tied.{CanGo, IsOpen, IsTied, IsTiedBut, Roster}
+use Rattle.hm_tied.proofs.Calls.{exact, give_up_owes, join_owes, keep_on_owes, next_owes}
 use Rattle.hm_tied.proofs.Settled.{one_settles}
-use Rattle.hm_tied.proofs.Uses.{free_ties, known_made}
+use Rattle.hm_tied.proofs.Uses.{free_ties}
 
 -- a row set twice is set by the second
 pub set_twice : (was rows new : List Row) (p : ℕ) (one two : Bool) → AreChanged was p (option_map (holding one) (row_of was p)) rows → AreChanged rows p (option_map (holding two) (row_of rows p)) new
@@ -106,7 +105,7 @@ pub held_aside : (J : Past) → IsLegal J → (n : Option Server → ℕ) (roste
 held_aside J legal n roster lists p tied opens free may none alone joins = one_settles J n (record roster { lists = lists }) p (join_owes J n roster (owing p) lists Held p legal tied opens free (may, none, alone) joins)
 
 -- a list that isn't ready gains one: the ready stay
-unready : (queue : Queue) → is_ready queue ≡ false → (is_same queue Servers ≡ false) × (is_same queue Tables ≡ false)
+pub unready : (queue : Queue) → is_ready queue ≡ false → (is_same queue Servers ≡ false) × (is_same queue Tables ≡ false)
 unready Servers e = absurd (true≢false e)
 unready Tables e = absurd (true≢false e)
 unready Held e = (refl, refl)

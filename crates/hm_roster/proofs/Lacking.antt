@@ -1,5 +1,5 @@
 -- Who can go on, and has no pick, may make a step for which there is none.
-use Rattle.std.proofs.Common.{◌≡◌, ℕ, Some, true, false, not, ◌||◌, inl, inr, ap, sym, ◌∙◌}
+use Rattle.std.proofs.Common.{◌≡◌, ℕ, Some, false, not, ◌||◌, inl, inr, ap, sym, ◌∙◌}
 use Rattle.std.proofs.lemmas.Bool.{true≢false}
 use Rattle.hm_model.specs.Fleet.{has_live}
 use Rattle.hm_model.specs.Journal.{Past}

@@ -19,3 +19,4 @@ mod Numbered
 mod Opened
 mod Ordered
 mod Readied
+mod Looking

@@ -23,6 +23,11 @@ use Rattle.hm_roster.specs.declared.desk.Desk.{Desk}
 abbrev pub HasClaimRoom : Desk → Type 0
 HasClaimRoom desk = let claimed = desk.claimed in vec_len claimed < vec_capacity claimed
 
+-- how much memory a desk has
+abbrev pub room_on : Desk → ℕ
+room_on desk =
+    let claimed = desk.claimed in (let sched = desk.sched in (let book = desk.book in (let numbers = desk.numbers in vec_capacity claimed + sched.room + book.room + numbers.room)))
+
 -- one is claimed too
 abbrev pub IsClaimedToo : ℕ → List ℕ → List ℕ → Type 0
 IsClaimedToo p old new = (q : ℕ) → IsIn q new ↔ ((q ≡ p) ⊎ IsIn q old)

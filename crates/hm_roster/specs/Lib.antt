@@ -2,3 +2,4 @@ pub mod Roster
 pub mod Behind
 pub mod Desk
 pub mod Opening
+pub mod Looks

@@ -1,5 +1,5 @@
 //! The claims.
-ghost use Rattle.std.specs.Prelude.{◌≡◌, ◌↔◌, IfNone, IfSome, IsTrue, Some, slice_get};
+ghost use Rattle.std.specs.Prelude.{◌≡◌, ◌↔◌, IfNone, IfSome, IsTrue, Some, slice_get, vec_capacity};
 ghost use Rattle.hm_model.specs.Locks.{IsIn};
 ghost use Rattle.hm_tied.specs.Calls.{Unclaims};
 
@@ -30,7 +30,8 @@ pub(crate) fn is_claimed(claimed: &[u64], pid: u64) -> bool
 
 /// A claim ends.
 pub(crate) fn unclaim(claimed: &mut Vec<u64>, pid: u64)
-    ensures { Unclaims pid claimed.old.items claimed.new.items }
+    ensures capacity { vec_capacity claimed.new ≡ vec_capacity claimed.old }
+    ensures less { Unclaims pid claimed.old.items claimed.new.items }
 {
     while let Some(place) = place_of(claimed, pid) {
         let _pid = claimed.remove(place);

@@ -1,10 +1,14 @@
 //! Who comes next.
-ghost use Rattle.std.specs.Prelude.{◌≡◌, ℕ, IfNone, IfSome, Some, false};
+ghost use Rattle.std.specs.Prelude.{◌≡◌, ◌+◌, ◌≤◌, ℕ, IfNone, IfSome, Some, false};
+ghost use Rattle.hm_locks.specs.Book.{asks_in, row_of};
 ghost use Rattle.hm_model.specs.Rest.{IsAvailable};
 ghost use Rattle.hm_model.specs.Picks.{has_pick as picks};
 ghost use Rattle.hm_model.specs.Tree.{Node, node_of};
+ghost use Rattle.hm_roster.specs.Looks.{Looks, ready_in};
 ghost use Rattle.hm_roster.specs.Roster.{Follows, IsGiven, IsSameBut, Owes};
-ghost use Rattle.hm_sched.specs.Queues.{ready_count};
+ghost use Rattle.hm_sched.specs.Moves.{pid_in};
+ghost use Rattle.hm_sched.specs.Queues.{StandsIn, ready_count};
+ghost use Rattle.hm_sched.specs.declared.queue.Queue.TheVariants.{Waits};
 ghost use Rattle.hm_tied.specs.Calls.{owing};
 ghost use Rattle.hm_tied.specs.Tied.{CanGo};
 
@@ -23,6 +27,7 @@ impl Desk {
         ensures owes { Owes records.now.past self.new (owing pid.0) }
         ensures same { IsSameBut self.old self.new }
         ensures lists { self.new.sched.lists ≡ self.old.sched.lists }
+        ensures asks { (q : ℕ) → asks_in (row_of self.new.book.rows q) ≡ asks_in (row_of self.old.book.rows q) }
     {
         if !records.procedures().has_step(pid) {
             self.book.give_up(pid);
@@ -36,6 +41,10 @@ impl Desk {
         ensures follows { Follows records.now.past self.new }
         ensures same { IsSameBut self.old self.new }
         ensures ready { ready_count self.new.sched.lists ≡ ready_count self.old.sched.lists }
+        ensures same_ready { ready_in self.new.sched.lists ≡ ready_in self.old.sched.lists }
+        ensures waits { (h q : ℕ) → StandsIn self.old.sched.lists (Waits h) q → StandsIn self.new.sched.lists (Waits h) q }
+        ensures asks { (q : ℕ) → asks_in (row_of self.new.book.rows q) ≡ asks_in (row_of self.old.book.rows q) }
+        ensures steps { steps.new ≤ steps.old + 1 }
     {
         self.give_back(records, pid);
         if can_go(records, pid) {
@@ -55,6 +64,7 @@ impl Desk {
         ensures follows { IfNone result (Follows records.now.past self.new) }
         ensures none { IfNone result ((q : ℕ) → IsAvailable records.now.past self.old.claimed.items self.old.claimed.items q → ⊥) }
         ensures same { IsSameBut self.old self.new }
+        ensures looks { Looks records.now.past self.old.book.rows self.old.sched.lists self.new.sched.lists (pid_in result) steps.old steps.new }
     {
         let _legal = records.procedures();
         while let Some(pid) = self.sched.next(&mut self.book, steps) {

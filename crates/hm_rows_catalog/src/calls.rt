@@ -7,18 +7,20 @@ use hm_names::{Ns, TableName};
 use std::alloc::{AllocError, Global};
 use std::test::Fail;
 
-// The regions of a catalog, each with its range and its status.
+// The regions of a catalog by the numbers of their rows, each with its range and its status.
 fn regions(alloc: Global, catalog: &Catalog) -> Result<String, AllocError> {
     let mut text = String::new(alloc);
-    for (key, row) in catalog.rows() {
-        if let (
-            CatKey::Region(region),
-            CatRow::Region {
-                range,
-                status,
-                parents: _,
-            },
-        ) = (key, row)
+    for number in 0..catalog.len() {
+        if let Some(
+            (
+                CatKey::Region(region),
+                CatRow::Region {
+                    range,
+                    status,
+                    parents: _,
+                },
+            ),
+        ) = catalog.row(number)
         {
             let start = &range.start;
             let end = &range.end;

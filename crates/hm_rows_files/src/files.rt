@@ -11,7 +11,7 @@ use std::{env, fs, process};
 const LOG: [(usize, usize); 5] = [(1, 1), (20, 65_536), (3, 7), (17, 65_535), (1, 65_536)];
 
 // A path for this process in the system's folder for passing files.
-fn path_of(rt: &HostRuntime, name: &str) -> Result<PathBuf, Fail> {
+pub(crate) fn path_of(rt: &HostRuntime, name: &str) -> Result<PathBuf, Fail> {
     let own = format!(in rt.alloc(); "hm-rows-files-{}-{name}", process::id(rt.process()))?;
     Ok(env::temp_dir(rt)?.join(rt.alloc(), own.as_str())?)
 }
@@ -123,7 +123,7 @@ fn a_file_is_opened_for_writing_once(rt: HostRuntime) -> Result<(), Fail> {
 }
 
 // Whether it opens neither to be written nor to be read.
-fn is_refused(rt: &HostRuntime, path: &str) -> bool {
+pub(crate) fn is_refused(rt: &HostRuntime, path: &str) -> bool {
     FileDisk::writable(rt, path).is_err() && FileDisk::read_only(rt, path).is_err()
 }
 

@@ -5,3 +5,5 @@
 mod cuts;
 #[cfg(test)]
 mod files;
+#[cfg(test)]
+mod things;

@@ -5,3 +5,5 @@
 mod calls;
 #[cfg(test)]
 mod fleets;
+#[cfg(test)]
+mod repeats;

@@ -2,4 +2,10 @@
 #![tactic(auto)]
 
 #[cfg(test)]
+mod journal;
+#[cfg(test)]
+mod readers;
+#[cfg(test)]
+mod rules;
+#[cfg(test)]
 mod state;

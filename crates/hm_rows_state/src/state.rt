@@ -1,16 +1,9 @@
 //! The state of a journal, by its own calls.
-ghost use Rattle.std.specs.Prelude.{IfOk};
-ghost use Rattle.hm_model.specs.Rules.{AreSheets};
-
-use hm_crash::CrashHands;
-use hm_data::{Answer, Entry, Request, Sheet, StepOut, Told};
+use crate::journal::{add, sheets};
+use hm_data::{Answer, Entry, Request, StepOut, Told};
 use hm_judge::NotAllowed;
-use hm_names::{Copied, List, Nonce, Ns, Pid};
-use hm_sheet::{Handler, Registry};
-use hm_split::SplitHands;
+use hm_names::{List, Nonce, Ns, Pid};
 use hm_state::State;
-use hm_tables::TableHands;
-use hm_transit::TransitHands;
 use std::alloc::{AllocError, AllocGlobal, Global};
 use std::process::Abort;
 use std::test::Fail;
@@ -40,21 +33,6 @@ const CASES: [(Option<Answer>, Option<NotAllowed>, Seen); 5] = [
     ),
     (Some(Answer::More(1)), None, STEPPED),
 ];
-
-// The sheets with which a journal begins.
-fn sheets(alloc: Global) -> Result<List<Sheet>, AllocError>
-    ensures valid { IfOk result AreSheets }
-{
-    let tables = Box::new(alloc, TableHands::new(alloc)?)?;
-    let splits = Box::new(alloc, SplitHands::new(alloc)?)?;
-    let transits = Box::new(alloc, TransitHands::new(alloc)?)?;
-    let crashes = Box::new(alloc, CrashHands::new(alloc)?)?;
-    let handlers: [Box<dyn Handler>; 4] = [tables, splits, transits, crashes];
-    let Ok(registry) = Registry::new(alloc, Vec::from_array(alloc, handlers)?) else {
-        return Err(AllocError);
-    };
-    registry.sheets().copy(alloc)
-}
 
 // The submission of a namespace.
 fn submission(alloc: Global) -> Result<Entry, AllocError> {
@@ -91,16 +69,6 @@ fn entry_of(alloc: Global, answer: Option<Answer>) -> Result<Entry, AllocError> 
         Some(answer) => Ok(step(alloc, answer)),
         None => submission(alloc),
     }
-}
-
-// Adds an entry, if the rules allow it.
-fn add(alloc: Global, state: &mut State, entry: &Entry) -> Result<Option<NotAllowed>, AllocError> {
-    if let Err(why) = state.allowed(alloc, entry) {
-        return Ok(Some(why));
-    }
-    let ready = state.prepare(alloc, entry)?;
-    state.apply(ready);
-    Ok(None)
 }
 
 // Adds what a case says.

@@ -1,5 +1,5 @@
 -- The state of a journal, and what it tells.
-use Rattle.std.specs.Prelude.{◌≡◌, ℕ, ◌<◌, List, length}
+use Rattle.std.specs.Prelude.{◌≡◌, ℕ, ◌^◌, ◌<◌, List, length}
 use Rattle.hm_data.specs.declared.entry.Entry.{Entry}
 use Rattle.hm_model.specs.Journal.{Past, back}
 use Rattle.hm_model.specs.Rules.{IsLegal}
@@ -10,8 +10,10 @@ pub record StateView : Type 0 where
   pub spare : ℕ
   pub room : ℕ
 
--- the entries are a legal journal that has begun, and what is kept beside them is of that
-pub record IsState (entries : List Entry) (past : Past) : Type 0 where
+-- the entries are a legal journal that has begun, what is kept is of that, and they are counted
+pub record IsState (entries : List Entry) (past : Past) (count : ℕ) : Type 0 where
   pub past_is : past ≡ back entries
   pub legal : IsLegal past
-  pub begun : 0 < length entries
+  pub begun : 0 < count
+  pub counted : count ≡ length entries
+  pub small : count < 2 ^ 63

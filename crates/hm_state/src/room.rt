@@ -1,5 +1,5 @@
-//! What was made beside a value, and a vector in which there is room.
-ghost use Rattle.std.specs.Prelude.{◌≡◌, ◌+◌, ◌<◌, ◌++◌, ◌∷◌, [], vec_len, vec_capacity, Ok, IfOk};
+//! What was made beside a value, and what can be counted.
+ghost use Rattle.std.specs.Prelude.{◌≡◌, ◌-◌, ◌^◌, ◌≤◌, ◌<◌, Ok, IfOk, OnOk};
 
 use std::alloc::AllocError;
 
@@ -13,12 +13,16 @@ pub(crate) fn beside<T: Drop, U: Drop>(
     Ok((made?, value))
 }
 
-// Adds an item at the end, in room that was made for it.
-pub(crate) fn put<T: Drop>(items: &mut Vec<T>, item: T)
-    requires { vec_len items.old < vec_capacity items.old }
-    ensures items { items.new.items ≡ items.old.items ++ item ∷ [] }
-    ensures len { vec_len items.new ≡ vec_len items.old + 1 }
-    ensures capacity { vec_capacity items.new ≡ vec_capacity items.old }
+// How many entries there may be, at most.
+const MOST: u64 = 0x7FFF_FFFF_FFFF_FFFF;
+
+// Whether so many more can be counted.
+pub(crate) fn can_count(count: u64, more: u64) -> Result<(), AllocError>
+    requires { count < 2 ^ 63 }
+    ensures { OnOk result (more ≤ 2 ^ 63 - 1 - count) }
 {
-    items.push_reserved(item);
+    if MOST - count < more {
+        return Err(AllocError);
+    }
+    Ok(())
 }

@@ -5,6 +5,7 @@ ghost use Rattle.hm_model.specs.Evaluation.{CanRun};
 ghost use Rattle.hm_model.specs.Journal.{back};
 ghost use Rattle.hm_model.specs.Nonces.{by_nonce};
 ghost use Rattle.hm_model.specs.Records.{record_of, unfinished};
+ghost use Rattle.hm_model.specs.Reports.{call_of, is_settled};
 ghost use Rattle.hm_model.specs.Rules.{Allowed, AreSheets, IsLegal};
 ghost use Rattle.hm_model.specs.Sheets.{sheets_of};
 ghost use Rattle.hm_model.specs.Tree.{drawn, made, node_of, pid_of};
@@ -12,15 +13,16 @@ ghost use Rattle.hm_catalog.specs.Rows.{rows_in};
 ghost use Rattle.hm_judge.specs.Inputs.{CanEvaluate, IsInput};
 ghost use Rattle.hm_judge.specs.Judge.{IsWhy};
 ghost use Rattle.hm_places.specs.Laws.{places_of, standings_of};
+ghost use Rattle.hm_procedures.specs.Procedures.{children, unfinished_procedures};
 ghost use Rattle.hm_records.specs.Parts.{AreParts, size_of};
-ghost use Rattle.hm_records.specs.Records.{is_open};
+ghost use Rattle.hm_records.specs.Records.{AreForgotten, is_open};
 ghost use Rattle.hm_undo.specs.Laws.{Tells};
 
 use crate::ready::Ready;
-use crate::room::{beside, put};
+use crate::room::{beside, can_count};
 use crate::sheets::valid_sheets;
 use hm_catalog::Catalog;
-use hm_data::{Entry, Record, Sheet, StepIn};
+use hm_data::{Call, Entry, Record, Sheet, StepIn};
 use hm_judge::NotAllowed;
 use hm_names::{Copied, List, Nonce, Pid, ServerName, TableName};
 use hm_places::{Places, Servers};
@@ -31,23 +33,32 @@ use hm_undo::Stack;
 use std::alloc::{AllocError, Global};
 use std::marker::Model;
 
-/// The entries of a legal journal that has begun, and what they say. Contracts see the entries, and for how much more there
-/// is room.
+/// What the entries of a legal journal say that has begun. Contracts see the entries, and for how much more there is room.
 #[derive(Drop)]
 pub struct State {
-    entries: Vec<Entry>,
     records: Records,
+    // How many entries there are. What they say is kept, and not they.
+    count: u64,
 }
 
 impl Model for State {
-    ghost use Rattle.std.specs.Prelude.{◌-◌, ◌+◌, min, vec_len, vec_capacity};
+    ghost use Rattle.std.specs.Prelude.{◌-◌, ◌^◌, min, reverse};
     ghost use Rattle.hm_state.specs.State.{IsState, StateView};
 
     ghost Value = { StateView };
 
-    ghost view = { λ s. record { entries = s.entries.items; spare = min (vec_capacity s.entries - vec_len s.entries) s.records.spare; room = vec_capacity s.entries + s.records.room } };
+    ghost view = { λ s. record { entries = reverse s.records.past; spare = min s.records.spare (2 ^ 63 - 1 - s.count); room = s.records.room } };
 
-    ghost invariant = { λ s. IsState s.entries.items s.records.past };
+    ghost invariant = { λ s. IsState (reverse s.records.past) s.records.past s.count };
+}
+
+// What a journal says whose one entry is its start.
+fn begin(alloc: Global, entry: Entry, sheets: Vec<Valid>) -> Result<Records, AllocError>
+    requires starts { entry ≡ Entry.Start sheets.items }
+    requires sheets { AreSheets sheets.items }
+    ensures { IfOk result (λ records. records.past ≡ entry ∷ []) }
+{
+    Records::start(alloc, &entry, sheets)
 }
 
 impl State {
@@ -57,11 +68,8 @@ impl State {
         ensures { IfOk result (λ s. s.entries ≡ Entry.Start sheets ∷ []) }
     {
         let valid = valid_sheets(alloc, sheets.as_slice())?;
-        let entry = Entry::Start { sheets };
-        let records = Records::start(alloc, &entry, valid)?;
-        let mut entries = Vec::new(alloc);
-        entries.push(entry)?;
-        Ok(State { entries, records })
+        let records = begin(alloc, Entry::Start { sheets }, valid)?;
+        Ok(State { records, count: 1 })
     }
 
     /// How many entries there are.
@@ -71,7 +79,7 @@ impl State {
         ensures begun { 0 < result }
         ensures small { result < 2 ^ 63 }
     {
-        self.entries.len() as u64
+        self.count
     }
 
     /// What the entries say.
@@ -95,9 +103,10 @@ impl State {
         self.records.catalog()
     }
 
-    /// The steps that may be undone, of each root that hasn't ended.
+    /// The steps that may be undone, of each root that hasn't ended. Of one that has, none is left.
     pub fn stack(&self) -> &Stack
-        ensures { Tells (is_open (back self.now.entries)) (back self.now.entries) result.now.stacks }
+        ensures forgotten { AreForgotten (back self.now.entries) result.now.stacks }
+        ensures tells { Tells (is_open (back self.now.entries)) (back self.now.entries) result.now.stacks }
     {
         self.records.stack()
     }
@@ -138,6 +147,27 @@ impl State {
         self.procedures().find(pid)
     }
 
+    /// The children of a procedure, in the order of their numbers. Their tree is gone over, from the procedure on.
+    pub fn children(&self, alloc: Global, pid: Pid) -> Result<List<Pid>, AllocError>
+        ensures { IfOk result (λ list. list ≡ children (back self.now.entries) pid.0) }
+    {
+        self.procedures().children(alloc, pid)
+    }
+
+    /// The call that a procedure made, with its number as the id.
+    pub fn call(&self, alloc: Global, pid: Pid) -> Result<Option<Call>, AllocError>
+        ensures { IfOk result (λ call. call ≡ call_of (back self.now.entries) pid.0) }
+    {
+        self.procedures().call(alloc, pid)
+    }
+
+    /// Whether the call of a procedure, if it made one, is settled: it has a report, or the procedure has ended.
+    pub fn is_settled(&self, pid: Pid) -> bool
+        ensures { result ≡ is_settled (back self.now.entries) pid.0 }
+    {
+        self.procedures().is_settled(pid)
+    }
+
     /// The procedure that was made under a nonce; none under one whose number is 0.
     pub fn by_nonce(&self, nonce: &Nonce) -> Option<Pid>
         ensures { result ≡ option_map pid_of (by_nonce (back self.now.entries) nonce.now) }
@@ -157,6 +187,13 @@ impl State {
         ensures { result ≡ unfinished (back self.now.entries) }
     {
         self.procedures().unfinished()
+    }
+
+    /// How many procedures haven't ended, roots and descendants.
+    pub fn unfinished_procedures(&self) -> u64
+        ensures { result ≡ unfinished_procedures (back self.now.entries) }
+    {
+        self.procedures().unfinished_procedures()
     }
 
     /// Whether an entry may follow these.
@@ -219,7 +256,7 @@ impl State {
         let Some(parts) = self.records.prepare(alloc, entry)? else {
             unreachable!()
         };
-        let (_, parts) = beside(self.entries.reserve(parts.size() as usize), parts)?;
+        let (_, parts) = beside(can_count(self.count, parts.size()), parts)?;
         Ok(parts)
     }
 
@@ -238,6 +275,6 @@ impl State {
             parts,
         } = ready;
         self.records.enter(&entry, parts);
-        put(&mut self.entries, entry);
+        self.count += 1;
     }
 }

@@ -2,3 +2,5 @@ pub mod Once
 pub mod Serving
 pub mod Events
 pub mod Scenes
+pub mod Moves
+pub mod Travelling

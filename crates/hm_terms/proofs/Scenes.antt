@@ -22,6 +22,7 @@ use Rattle.hm_hall.specs.Recording.{Recording}
 use Rattle.hm_hall.specs.declared.fault.Halt.{Halt}
 use Rattle.hm_hall.specs.declared.fault.HallFault.{HallFault}
 use Rattle.hm_hall.specs.declared.fault.HallFault.TheVariants as fault_is
+use Rattle.hm_hall.specs.declared.hall.Task.TheVariants as task_is
 use Rattle.hm_hall.specs.declared.taken.Given.TheVariants as given_is
 use Rattle.hm_hall.specs.declared.taken.Taken.{Taken}
 use Rattle.hm_model.specs.Journal.{Past, back}
@@ -43,7 +44,6 @@ use Rattle.hm_world.specs.Acts.{Arms, Dies, Repeats, Starts}
 use Rattle.hm_world.specs.Carrying.{Carries, CarriesBy, OnlyExec}
 use Rattle.hm_world.specs.Scene.{Scene, past_in}
 use Rattle.hm_world.specs.Taking.{Gives, Returns, Takes}
-use Rattle.hm_world.specs.declared.task.Task.TheVariants as task_is
 use Rattle.hm_commands.specs.Balancing.{no_nonce}
 use Rattle.hm_commands.specs.Commands.{Comes, ComesAt, ComesOther, OtherMayAdd, Settles, WorksFor, asked}
 use Rattle.hm_commands.specs.Scenes.{halt_at, journal_at, kept_at, new_scene}

@@ -14,3 +14,4 @@ pub mod Generates
 pub mod Runs
 pub mod Makes
 pub mod Grants
+pub mod Repeats

@@ -1,6 +1,5 @@
 -- How making a cluster over a log that was opened ends.
 use Rattle.std.proofs.Common.{◌≡◌, ◌<◌, ◌≤◌, ℕ, List, [], length, Ok, refl, sym, ap, ◌∙◌, subst, arith}
-use Rattle.hm_disk.specs.Called.{IsCalled}
 use Rattle.hm_disk.specs.declared.disk.Disk as Disk
 use Rattle.hm_data.specs.declared.entry.Entry.{Entry}
 use Rattle.hm_data.specs.declared.sheet.Sheet.{Sheet}
@@ -28,7 +27,7 @@ use Rattle.hm_top.specs.Left.{FailedToOpen, IsLeft}
 use Rattle.hm_top.specs.Ports.{DiskUse, SinkUse, disk_use}
 use Rattle.hm_top.specs.Run.{before_line}
 use Rattle.hm_top.specs.Standing.{fresh}
-use Rattle.hm_top.specs.Talking.{IsOpened, StopsBy}
+use Rattle.hm_top.specs.Talking.{IsCalledToOpen, IsOpened, StopsBy}
 use Rattle.hm_top.specs.View.{StoreView}
 use Rattle.hm_top.proofs.Generates.{gen_refused, gen_stopped, gen_unopened, made_opened, made_outcome, told_of}
 use Rattle.hm_top.proofs.Runs.{equally_long, left_opened, opened_fresh, opened_same, talked_all, talked_on, talked_stopped, talked_unopened}
@@ -50,7 +49,7 @@ module _ {D Setting : Type 0} (d : Disk.Ghosts D Setting) (limits : Limits) (dis
       (talked_unopened d IsFresh commands limits nowhere disk new hands marks (unopened_status why) why refl failed none (λ told. absurd told))))
 
   -- It was opened.
-  module _ (was : StoreView D) (opens : IsOpened d (sheets_used hands) limits disk was) (called : IsCalled d 1 disk was.opened.disk) where
+  module _ (was : StoreView D) (opens : IsOpened d (sheets_used hands) limits disk was) (called : IsCalledToOpen d disk was.opened.disk) where
     -- its journal isn't fresh
     pub made_refused : (out.tells → out.after ≡ out.before) → IsLeftBy d was.opened (new_scene was.kept) new → RunBy hands 0 → (entries : ℕ) → entries ≡ length was.kept.entries → 1 < entries → marks ≡ []
         → ends (LogRefused (log_why_is.NotEmpty entries))

@@ -5,6 +5,7 @@ use Rattle.hm_data.specs.declared.entry.Entry.TheVariants as entry_is
 use Rattle.hm_data.specs.declared.sheet.Sheet.{Sheet}
 use Rattle.hm_hall.specs.declared.fault.Halt.{Halt}
 use Rattle.hm_hall.specs.declared.fault.Halt.TheVariants as halt_is
+use Rattle.hm_log.specs.Format.{IsClean}
 use Rattle.hm_journal.specs.Stored.{AllStored, IsOnDisk, opened}
 use Rattle.hm_journal.specs.declared.limits.Limits.{Limits}
 use Rattle.hm_journal.specs.declared.why.JournalWhy.{JournalWhy}
@@ -208,8 +209,9 @@ module _ (takes : List Entry → Type 0) (commands : List Command) (limits : Lim
 
   -- what was left of a journal that was opened
   pub left_of : (old : List Entry) (new : Scene) → (disk.tells → IsOnDisk (sheets_used hands) disk.before old) → IsLegal (back (whole new)) → (disk.tells → AllStored disk.stops.after (kept_at new))
-      → (disk.tells → StopsLeave disk hands old new) → disk.called (1 + 2 * (length (whole new) - length old)) → (halt_at new ≡ Some halt_is.LogFault → disk.failed) → Ran hands (opened (sheets_used hands) old) (journal_at new) → IsLeft disk hands old new
-  left_of old new held legal holds stops called cause ran =
+      → (disk.tells → StopsLeave disk hands old new) → disk.called (1 + 2 * (length (whole new) - length old)) → (disk.tells → IsClean disk.before → disk.called (2 * (length (whole new) - length old)))
+      → (halt_at new ≡ Some halt_is.LogFault → disk.failed) → Ran hands (opened (sheets_used hands) old) (journal_at new) → IsLeft disk hands old new
+  left_of old new held legal holds stops called clean cause ran =
       let first = opened_grows (sheets_used hands) old in
       let steps : steps_in ran.0 ≡ steps_in (first.0 ++ ran.0) = let all = steps_more first.0 ran.0 in let none = first.2 in omega arith in
       record {
@@ -220,6 +222,7 @@ module _ (takes : List Entry → Type 0) (commands : List Command) (limits : Lim
         holds = holds;
         stops = stops;
         called = called;
+        clean = clean;
         ran = subst (λ n. SumRisesBy n hands.runs_before hands.runs_after) steps ran.2.rises;
         cause = cause;
       }

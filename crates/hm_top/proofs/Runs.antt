@@ -1,5 +1,5 @@
 -- How a run ends, from the ends of its commands.
-use Rattle.std.proofs.Common.{◌≡◌, ◌≢◌, ◌⊎◌, ◌<◌, ◌≤◌, ◌+◌, ◌-◌, ◌*◌, ℕ, List, [], ◌++◌, ◌∷◌, length, append-nil, append_assoc, Option, Some, None, Result, Ok, Err, IfErr, MatchResult, refl, sym, ap, ◌∙◌, subst, arith}
+use Rattle.std.proofs.Common.{◌≡◌, ◌≢◌, ◌⊎◌, ◌<◌, ◌≤◌, ◌+◌, ◌-◌, ◌*◌, ℕ, List, [], ◌++◌, ◌∷◌, length, append-nil, append_assoc, Option, Some, None, Result, Ok, Err, IfErr, IfOk, MatchResult, refl, sym, ap, ◌∙◌, subst, arith}
 use Rattle.std.proofs.lemmas.List.{length-map}
 use Rattle.hm_ports.specs.Faults.{Rose}
 use Rattle.hm_ports.specs.declared.sink.Sink as Sink
@@ -7,7 +7,7 @@ use Rattle.hm_disk.specs.Called.{IsCalled}
 use Rattle.hm_disk.specs.Disk.{LeavesOnly, LeavesThen}
 use Rattle.hm_disk.specs.declared.disk.Disk as Disk
 use Rattle.hm_disk.proofs.Moments.{then_weaker, then_stays}
-use Rattle.hm_log.specs.Format.{Reads}
+use Rattle.hm_log.specs.Format.{IsClean, Reads}
 use Rattle.hm_log.specs.Opening.{IsMaking}
 use Rattle.hm_log.proofs.Exact.{opens_once}
 use Rattle.hm_data.specs.declared.entry.Entry.{Entry}
@@ -37,7 +37,7 @@ use Rattle.hm_top.specs.Got.{IsLast}
 use Rattle.hm_top.specs.declared.talking.Stop.{Stop}
 use Rattle.hm_top.specs.declared.talking.Stop.TheVariants as stop_is
 use Rattle.hm_top.specs.Left.{FailedToOpen, IsLeft}
-use Rattle.hm_top.specs.Talking.{IsOpened, StopsBy, early}
+use Rattle.hm_top.specs.Talking.{IsCalledToOpen, IsOpened, StopsBy, early}
 use Rattle.hm_top.specs.Ports.{SinkUse, disk_use, sink_use}
 use Rattle.hm_top.specs.Run.{Accepts, Ends, EndsRun, EndsUnfinished, IsRead, KeepsTo, Run, before_line, behind_line}
 use Rattle.hm_top.specs.Script.{IsScript}
@@ -57,8 +57,8 @@ pub rose_late : (old mid new : ℕ) → old ≤ mid → Rose mid new → Rose ol
 rose_late old mid new later rose = omega arith
 
 -- one call after another
-called_on : {D Setting : Type 0} (d : Disk.Ghosts D Setting) (m n : ℕ) (a b c : D) → IsCalled d m a b → IsCalled d n b c → IsCalled d (m + n) a c
-called_on d m n a b c first then =
+called_on : {D Setting : Type 0} (d : Disk.Ghosts D Setting) (m n most : ℕ) (a b c : D) → m + n ≤ most → IsCalled d m a b → IsCalled d n b c → IsCalled d most a c
+called_on d m n most a b c sum first then =
     let f0 = first.fault in
     let f1 = then.fault in
     let l0 = first.later in
@@ -99,7 +99,7 @@ module _ {D Setting : Type 0} (d : Disk.Ghosts D Setting) (takes : List Entry �
   its = Outcome (spoken takes commands limits out (disk_use d disk new) hands marks)
 
   -- what is left of a world that was opened, whose run stands so
-  pub left_opened : (was : StoreView D) (at : Scene) (opens : IsOpened d (sheets_used hands) limits disk was) → IsCalled d 1 disk was.opened.disk → IsLeftBy d was.opened at new → Ran hands was.kept.entries (journal_at at)
+  pub left_opened : (was : StoreView D) (at : Scene) (opens : IsOpened d (sheets_used hands) limits disk was) → IsCalledToOpen d disk was.opened.disk → IsLeftBy d was.opened at new → Ran hands was.kept.entries (journal_at at)
       → IsLeft (disk_use d disk new) hands opens.0 at
   left_opened was at opens first_called leaves ran =
       let own = sheets_used hands in
@@ -108,13 +108,15 @@ module _ {D Setting : Type 0} (d : Disk.Ghosts D Setting) (takes : List Entry �
       let first = opened_grows own old in
       let grown : (more : List Entry) × (journal_at at ≡ old ++ more) = (first.0 ++ ran.0, ran.1 ∙ ap (λ l. l ++ ran.0) (begins ∙ first.1) ∙ append_assoc old first.0 ran.0) in
       let rose : halt_at at ≡ Some halt_is.LogFault → Rose (d.faults disk) (d.faults new) = λ halted_is.
-      rose_late (d.faults disk) (d.faults was.opened.disk) (d.faults new) first_called.fault (leaves.since.failed halted_is) in
+      rose_late (d.faults disk) (d.faults was.opened.disk) (d.faults new) first_called.once.fault (leaves.since.failed halted_is) in
+      let more = 2 * (length (whole at) - length old) in
+      let called : IsCalled d more was.opened.disk new = subst (λ n. IsCalled d (2 * (length (whole at) - n)) was.opened.disk new) opens.3 leaves.since.called in
       left_of takes commands limits out (disk_use d disk new) hands marks old at (λ told. (opens.4 told).0) leaves.legal leaves.stored (stops_leave d own limits disk was at new opens grown leaves.since.leaves)
-      (called_on d 1 (2 * (length (whole at) - length old)) disk was.opened.disk new first_called
-      (subst (λ n. IsCalled d (2 * (length (whole at) - n)) was.opened.disk new) opens.3 leaves.since.called)) rose (subst (λ journal. Ran hands journal (journal_at at)) begins ran)
+      (called_on d 1 more (1 + more) disk was.opened.disk new (omega arith) first_called.once called)
+      (λ told clean. called_on d 0 more more disk was.opened.disk new (omega arith) (first_called.clean told clean) called) rose (subst (λ journal. Ran hands journal (journal_at at)) begins ran)
 
   -- A log was opened as a journal that is taken, and this was left of it.
-  module _ (was : StoreView D) (at : Scene) (opens : IsOpened d (sheets_used hands) limits disk was) (taken : takes opens.0) (first_called : IsCalled d 1 disk was.opened.disk)
+  module _ (was : StoreView D) (at : Scene) (opens : IsOpened d (sheets_used hands) limits disk was) (taken : takes opens.0) (first_called : IsCalledToOpen d disk was.opened.disk)
       (leaves : IsLeftBy d was.opened at new) (ran : Ran hands was.kept.entries (journal_at at)) where
     -- where commands were answered, from where it began
     begun_at : (ended : Result (Unit {0}) EarlyEnd) → IsAnswering out.tells out.before out.after ended commands (new_scene was.kept) marks at
@@ -145,6 +147,12 @@ module _ {D Setting : Type 0} (d : Disk.Ghosts D Setting) (takes : List Entry �
   -- the outcome of an opening that failed
   pub talked_unopened : (status : RunStatus) (why : JournalWhy) → status ≡ unopened_status why → FailedToOpen (disk_use d disk new) hands why → marks ≡ [] → (out.tells → out.after ≡ out.before) → its status
   talked_unopened status why ends failed none quiet = subst its (sym ends) (outcome_unopened takes commands limits out (disk_use d disk new) hands marks none quiet why failed.failed failed.spared failed.judged)
+
+-- what an opening did to the disk of a log that was opened
+pub called_to_open : {D Setting : Type 0} (d : Disk.Ghosts D Setting) (disk : D) (r : Result (StoreView D) (D × JournalWhy)) → MatchResult r (λ store. IsCalled d 1 disk store.opened.disk) (λ e. IsCalled d 3 disk e.0)
+    → (d.tells → IsClean (d.seen disk) → IfOk r (λ store. IsCalled d 0 disk store.opened.disk)) → IfOk r (λ store. IsCalledToOpen d disk store.opened.disk)
+called_to_open d disk (Ok store) called clean = record { once = called; clean = clean }
+called_to_open d disk (Err e) called clean = tt
 
 -- why a log couldn't be opened, said of the sheets that are used
 pub failed_to_open : {D Setting : Type 0} (d : Disk.Ghosts D Setting) (disk : D) (hands : HandsUse) (sheets : List Sheet) → sheets_used hands ≡ sheets → (r : Result (StoreView D) (D × JournalWhy))

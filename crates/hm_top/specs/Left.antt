@@ -3,6 +3,7 @@ use Rattle.std.specs.Prelude.{◌≡◌, ◌≢◌, ◌⊎◌, ◌+◌, ◌-◌,
 use Rattle.hm_data.specs.declared.entry.Entry.{Entry}
 use Rattle.hm_model.specs.Journal.{back}
 use Rattle.hm_hall.specs.declared.fault.Halt.TheVariants as halt_is
+use Rattle.hm_log.specs.Format.{IsClean}
 use Rattle.hm_log.specs.Opening.{IsMaking}
 use Rattle.hm_journal.specs.Since.{IsFront}
 use Rattle.hm_journal.specs.Stored.{AllStored, IsOnDisk, IsOpening, SameFrames, Spares}
@@ -32,6 +33,7 @@ module _ (disk : DiskUse) (hands : HandsUse) where
     pub holds : disk.tells → AllStored disk.stops.after (kept_at new)
     pub stops : disk.tells → StopsLeave old new
     pub called : disk.called (1 + 2 * (length (whole new) - length old))
+    pub clean : disk.tells → IsClean disk.before → disk.called (2 * (length (whole new) - length old))
     pub ran : SumRisesBy (steps_in added) hands.runs_before hands.runs_after
     pub cause : halt_at new ≡ Some halt_is.LogFault → disk.failed
 

@@ -7,6 +7,7 @@ pub mod Ending
 pub mod Got
 pub mod Opening
 pub mod Grants
+pub mod Repeats
 pub mod Answering
 pub mod Faith
 pub mod Ports

@@ -11,6 +11,7 @@ ghost use Rattle.hm_commands.specs.Hands.{sheets_used};
 ghost use Rattle.hm_top.specs.declared.words.Form.{Form};
 ghost use Rattle.hm_top.specs.declared.words.Form.TheVariants as form_is;
 ghost use Rattle.hm_top.specs.Grants.{RunsRefuseAsGranted};
+ghost use Rattle.hm_top.specs.Repeats.{RunsRepeatTwice};
 ghost use Rattle.hm_top.specs.Run.{EachRun, KeepsTo, RanOut, taken_by};
 ghost use Rattle.hm_top.specs.Script.{IsBad, IsScript};
 ghost use Rattle.hm_top.specs.Words.{form_of, misfit_of};
@@ -42,4 +43,10 @@ pub fn each_status_has_a_cause<S: Source, K: Sink, D: Disk>()
 /// whatever was lost or repeated, and whoever died in between.
 pub fn refusals_are_granted()
     ensures { RunsRefuseAsGranted }
+{}
+
+/// Each line `repeated M` of a run has M at least twice the reports that the run has recorded by then: each was made of a call that
+/// was sent, and both are sent again.
+pub fn repeats_count_twice_the_reports()
+    ensures { RunsRepeatTwice }
 {}

@@ -3,7 +3,7 @@ ghost use Rattle.std.specs.Prelude.{◌≡◌, ◌≢◌, ◌⊎◌, ◌≤◌, 
 ghost use Rattle.hm_ports.specs.Faults.{Rose};
 ghost use Rattle.hm_disk.specs.Called.{IsCalled};
 ghost use Rattle.hm_disk.specs.Disk.{LeavesOnly, LeavesThen};
-ghost use Rattle.hm_log.specs.Format.{Reads};
+ghost use Rattle.hm_log.specs.Format.{IsClean, Reads};
 ghost use Rattle.hm_log.specs.Opening.{IsMaking};
 ghost use Rattle.hm_data.specs.declared.entry.Entry.{Entry as EntryValue};
 ghost use Rattle.hm_model.specs.Journal.{back};
@@ -72,6 +72,7 @@ impl<D: Disk> Store<D> {
         ensures spared { D.tells → IfErr result (λ e. Spares sheets.now (D.seen disk) (D.image disk) (D.seen e.0) (D.image e.0)) }
         ensures any_moment { D.tells → IfErr result (λ e. LeavesOnly D.moment D.left_since disk e.0 (IsOpening sheets.now (D.seen disk) (D.image disk))) }
         ensures called { MatchResult result (λ store. IsCalled D.Disk 1 disk store.opened.disk) (λ e. IsCalled D.Disk 3 disk e.0) }
+        ensures clean { D.tells → IsClean (D.seen disk) → IfOk result (λ store. IsCalled D.Disk 0 disk store.opened.disk) }
     {
         let (journal, state) = Journal::open(alloc, disk, sheets, limits)?;
         Ok(Store { journal, state })

@@ -1,7 +1,6 @@
 //! Opens a log and answers commands over it.
 ghost use Rattle.std.specs.Prelude.{◌≡◌, ◌≤◌, [], length, map, Some, None, IfOk, IfErr, Ok, All};
 ghost use Rattle.hm_ports.specs.Faults.{Rose};
-ghost use Rattle.hm_disk.specs.Called.{IsCalled};
 ghost use Rattle.hm_sheet.specs.Registry.{IsRegistry, sheets_of};
 ghost use Rattle.hm_world.specs.Scene.{Scene as SceneValue};
 ghost use Rattle.hm_commands.specs.Hands.{HandsAgree, Ran, Serve, hands_use, sheets_used};
@@ -12,7 +11,7 @@ ghost use Rattle.hm_top.specs.Answering.{IsAnswering};
 ghost use Rattle.hm_top.specs.Ending.{stop_status};
 ghost use Rattle.hm_top.specs.Left.{FailedToOpen};
 ghost use Rattle.hm_top.specs.Ports.{disk_use};
-ghost use Rattle.hm_top.specs.Talking.{IsOpened, StopsBy};
+ghost use Rattle.hm_top.specs.Talking.{IsCalledToOpen, IsOpened, StopsBy};
 
 use crate::answering::answer_all;
 use crate::opening::begin;
@@ -57,7 +56,7 @@ pub(crate) fn open_for<D: Disk>(
     requires each { All (IsRegistry ⟦<dyn Handler as Handler>⟧) hands.now.items }
     requires hard { 65551 ≤ limits.hard }
     ensures opened { IfOk result (λ store. IsOpened D.Disk (sheets_used (hands_use ⟦<dyn Handler as Handler>⟧ hands.now.items hands.now.items)) limits disk store) }
-    ensures called { IfOk result (λ store. IsCalled D.Disk 1 disk store.opened.disk) }
+    ensures called { IfOk result (λ store. IsCalledToOpen D.Disk disk store.opened.disk) }
     ensures serve { IfOk result (λ store. Serve (map (sheets_of ⟦<dyn Handler as Handler>⟧) hands.now.items) store.kept.entries) }
     ensures failed { IfErr result (λ e. FailedToOpen (disk_use D.Disk disk e.0) (hands_use ⟦<dyn Handler as Handler>⟧ hands.now.items hands.now.items) e.1) }
 {

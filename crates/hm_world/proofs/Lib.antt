@@ -12,3 +12,4 @@ mod Given
 mod Laws
 mod Nearer
 mod Storages
+mod Halls

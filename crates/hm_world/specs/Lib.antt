@@ -6,3 +6,4 @@ pub mod Carrying
 pub mod Taking
 pub mod Acts
 pub mod Shown
+pub mod Hall

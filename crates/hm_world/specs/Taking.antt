@@ -2,10 +2,10 @@
 use Rattle.std.specs.Prelude.{◌≡◌, ◌≢◌, ℕ, [], Result, Ok, Err, Some, None}
 use Rattle.hm_data.specs.declared.step.StepOut.{StepOut}
 use Rattle.hm_hall.specs.declared.fault.HallFault.{HallFault}
+use Rattle.hm_hall.specs.declared.hall.Task.{Task}
+use Rattle.hm_hall.specs.declared.hall.Task.TheVariants as task_is
 use Rattle.hm_hall.specs.declared.taken.Given.{Given}
 use Rattle.hm_hall.specs.declared.taken.Taken.{Taken}
-use Rattle.hm_world.specs.declared.task.Task.{Task}
-use Rattle.hm_world.specs.declared.task.Task.TheVariants as task_is
 use Rattle.hm_exec.specs.Claiming.{AnswersClaim, AnswersCommit, PutsBack}
 use Rattle.hm_world.specs.Carrying.{CanCarry, OnlyExec}
 use Rattle.hm_world.specs.Scene.{NoneIsDue, Scene}

@@ -5,12 +5,12 @@
 mod acting;
 mod carrying;
 mod due;
+mod hall;
 mod numbers;
 mod opening;
 mod shown;
 mod taking;
-mod task;
 mod world;
 
-pub use task::Task;
+pub use hm_hall::Task;
 pub use world::World;

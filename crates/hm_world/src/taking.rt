@@ -9,10 +9,9 @@ ghost use Rattle.hm_world.specs.Carrying.{CanCarry};
 ghost use Rattle.hm_world.specs.Scene.{GoesOn, past_in, scene_of};
 ghost use Rattle.hm_world.specs.Taking.{Gives, IsStill, Returns, Takes};
 
-use crate::task::Task;
 use crate::world::World;
 use hm_data::StepOut;
-use hm_hall::{Given, HallFault, Recorder, Taken};
+use hm_hall::{Given, HallFault, Recorder, Taken, Task};
 use hm_lists::Steps;
 use std::alloc::Global;
 use std::sync::ledger::Ledger;

@@ -1,4 +1,4 @@
-use Rattle.std.proofs.Common.{◌↔◌, IsTrue, None, Option, if◌then◌else◌, subst, sym, ◌∙◌}
+use Rattle.std.proofs.Common.{◌↔◌, IsTrue, Option, subst, sym, ◌∙◌}
 use Rattle.std.proofs.lemmas.Bool.{true≢false}
 use Rattle.hm_names.specs.Server.{Server}
 use Rattle.hm_judge.specs.Inputs.{IsInput}

@@ -5,7 +5,7 @@ use Rattle.hm_disk.specs.Disk.{written, Torn, CutOrWhole}
 use Rattle.hm_log.specs.Format.{Reads, IsWhole}
 use Rattle.hm_log.specs.declared.why.OpenWhy.TheVariants.{Memory}
 use Rattle.hm_log.proofs.Ends.{read_reads, cut_whole}
-use Rattle.hm_log.proofs.Further.{blank, held}
+use Rattle.hm_log.proofs.Further.{blank, clean_size, held}
 use Rattle.hm_log.proofs.Opening.{new_log, whole_new, empty, alike, making, then, then_cut, then_made}
 use Rattle.hm_log.proofs.Stages.{whole_reads}
 use Rattle.hm_log.proofs.Ways.{on_err}
@@ -74,3 +74,17 @@ returns-in_err-write_through-clause-any_moment g c tells =
     let none = blank _ _ _ _ (c.in_ok-frames.ensures.found tells) c.if-size-eq0.true in
     on_err _ (then d.moment d.left_since c.args.disk.now c.load.new.disk c.write_through.new.disk (d.image c.args.disk.now) file (λ f. Torn 0 10 seen f)
     (λ f torn. inr (making file seen none.0 c.load.ensures.only_reads.untouched.reads f torn)) c.load.ensures.only_reads.leaves c.write_through.ensures.any_moment)
+
+pub returns-then-size-eq0-clause-clean : goal.returns-then-size-eq0-clause-clean
+returns-then-size-eq0-clause-clean g c tells clean =
+    absurd (let all = clean_size _ _ _ _ (c.in_ok-frames.ensures.found tells) clean in let zero = c.if-size-eq0.true in omega (arith, all, zero))
+
+pub returns-in_err-write_through-clause-clean : goal.returns-in_err-write_through-clause-clean
+returns-in_err-write_through-clause-clean g c tells clean =
+    absurd (let all = clean_size _ _ _ _ (c.in_ok-frames.ensures.found tells) clean in let zero = c.if-size-eq0.true in omega (arith, all, zero))
+
+pub returns-clause-clean : goal.returns-clause-clean
+returns-clause-clean g c tells clean = absurd (c.if-size-gate.false (clean_size _ _ _ _ (c.in_ok-frames.ensures.found tells) clean))
+
+pub returns-in_err-trim-clause-clean : goal.returns-in_err-trim-clause-clean
+returns-in_err-trim-clause-clean g c tells clean = absurd (c.if-size-gate.false (clean_size _ _ _ _ (c.in_ok-frames.ensures.found tells) clean))

@@ -57,3 +57,11 @@ returns-in-Halted-clause-early g c =
       ((c.requires.live, comes, halted_is c.args.server old new c.in-Halted.why c.requires.going comes), λ told. refl),
       subst (λ (opened : OpenedAt _). IsLeftBy g.D.Disk opened new c.into_disk-in-Halted.result) c.in-Ok.ensures.opened c.into_disk-in-Halted.ensures.left,
     )
+
+pub returns-in-Err-clause-early : goal.returns-in-Err-clause-early
+returns-in-Err-clause-early g c =
+    let new = scene_in c.expire.new.self in (
+      new,
+      ((c.requires.live, inl c.in-Err.ensures.comes), λ told. refl),
+      subst (λ (opened : OpenedAt _). IsLeftBy g.D.Disk opened new c.into_disk.result) c.in-Err.ensures.opened c.into_disk.ensures.left,
+    )

@@ -8,7 +8,7 @@ use Rattle.hm_commands.proofs.Registries.{agree_own, all_first, first_is, used_a
 use Rattle.hm_top.specs.Talking.{IsOpened}
 use Rattle.hm_top.specs.View.{StoreView}
 use Rattle.hm_top.proofs.Openings.{ok_so}
-use Rattle.hm_top.proofs.Runs.{failed_to_open}
+use Rattle.hm_top.proofs.Runs.{called_to_open, failed_to_open}
 use Rattle.hm_top.proofs.talking.open_for.Goals as goal
 
 pub returns-clause-opened : goal.returns-clause-opened
@@ -16,6 +16,9 @@ returns-clause-opened g c =
     let f = λ (r : _). flat_map (λ h. (goal.Handler-dyn g (h.vtable, h.value)).sheets_are h.value) r.handlers.items in
     let listed = used_are f (λ (r : _). r.whole) c.args.hands.now.items c.requires.agree c.requires.each c.index.result.now c.index.ensures c.as_slice.result.now (c.as_slice.ensures ∙ c.sheets-sheets.ensures) in
     ok_so c.open.result (λ (store : StoreView _) (found : IsOpened g.D.Disk c.as_slice.result.now c.args.limits c.args.disk store). subst (λ s. IsOpened g.D.Disk s c.args.limits c.args.disk store) (sym listed) found) c.open.ensures.journal
+
+pub returns-clause-called : goal.returns-clause-called
+returns-clause-called g c = called_to_open g.D.Disk c.args.disk c.open.result c.open.ensures.called c.open.ensures.clean
 
 pub returns-clause-serve : goal.returns-clause-serve
 returns-clause-serve g c =

@@ -3,9 +3,9 @@ use Rattle.std.specs.Prelude.{IfOk, OnErr}
 use Rattle.hm_data.specs.declared.entry.Entry.{Entry}
 use Rattle.hm_journal.specs.View.{JournalView}
 use Rattle.hm_world_model.specs.Safe.{IsKept}
+use Rattle.hm_hall.specs.declared.hall.Task.{Task}
 use Rattle.hm_world.specs.Scene.{WorldView, world_of}
 use Rattle.hm_world.specs.Taking.{Takes}
-use Rattle.hm_world.specs.declared.task.Task.{Task}
 use Rattle.hm_commands.specs.Scenes.{journal_at}
 use Rattle.hm_commands.specs.Tasks.{LacksMemory, RunsTo, Works, left_to_do}
 use Rattle.hm_commands.specs.View.{scene_in}

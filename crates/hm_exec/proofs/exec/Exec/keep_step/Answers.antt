@@ -1,4 +1,4 @@
-use Rattle.std.proofs.Common.{◌+◌, All, Err, List, Ok, ap, subst, sym, ◌∙◌}
+use Rattle.std.proofs.Common.{◌+◌, All, Err, List, Ok, ap, subst, sym}
 use Rattle.std.proofs.lemmas.Result.{err_from_is_err_and}
 use Rattle.hm_data.specs.declared.entry.Entry.{Entry}
 use Rattle.hm_data.specs.declared.entry.Entry.TheVariants as entry_is

@@ -1,15 +1,12 @@
-use Rattle.std.proofs.Common.{◌+◌, All, List, Ok, ap, subst, sym, ◌∙◌}
+use Rattle.std.proofs.Common.{◌+◌, All, List, ap, subst, sym, ◌∙◌}
 use Rattle.std.proofs.lemmas.Result.{err_from_is_err_and}
 use Rattle.hm_data.specs.declared.entry.Entry.{Entry}
 use Rattle.hm_data.specs.declared.entry.Entry.TheVariants as entry_is
 use Rattle.hm_entry.specs.Fits.{EntryFits}
-use Rattle.hm_hall.specs.Recording.{CanBeRecorded, Records}
-use Rattle.hm_model.specs.Journal.{Past, back}
+use Rattle.hm_model.specs.Journal.{Past}
 use Rattle.hm_model.specs.Locks.{IsIn}
-use Rattle.hm_model.specs.Rules.{Allowed}
-use Rattle.hm_roster.specs.Desk.{parent_made}
 use Rattle.hm_roster.specs.Behind.{IsUndoOf}
-use Rattle.hm_roster.specs.Roster.{Follows, IsEnlistedFor, claims_on}
+use Rattle.hm_roster.specs.Roster.{Follows, claims_on}
 use Rattle.hm_tied.specs.Calls.{Unclaims}
 use Rattle.hm_exec.specs.Claiming.{Commits, RefusesCommit}
 use Rattle.hm_exec.specs.View.{ExecView, moment_of}

@@ -105,3 +105,9 @@ returns-in-Ok-clause-called g c =
 
 pub returns-in-Err-clause-called : goal.returns-in-Err-clause-called
 returns-in-Err-clause-called g c = called_more g.D.Disk 1 3 c.args.disk c.in-Err.refused.0 (omega arith) c.in-Err.ensures.called
+
+pub returns-in-Ok-clause-clean : goal.returns-in-Ok-clause-clean
+returns-in-Ok-clause-clean g c tells clean =
+    IfOk-weaker c.of_frames.result _ _
+    (λ r journal. subst (λ e. IsCalled g.D.Disk 0 c.args.disk e) (sym (ap (λ (o : Opened _). o.disk) journal.4)) (c.in-Ok.ensures.clean tells clean))
+    c.of_frames.ensures.journal

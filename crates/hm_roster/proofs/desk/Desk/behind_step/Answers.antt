@@ -7,7 +7,7 @@ use Rattle.hm_roster.proofs.desk.Desk.behind_step.Goals as goal
 pub look_at_uncounted-requires-clause-entered : goal.look_at_uncounted-requires-clause-entered
 look_at_uncounted-requires-clause-entered c =
     let behind = c.requires.behind in
-    let enters = step_enters c.args.records.now.past c.procedures-legal.ensures.legal c.args.pid c.args.low c.args.late c.args.self.now c.unclaim.new.claimed.items c.requires c.unclaim.ensures in
+    let enters = step_enters c.args.records.now.past c.procedures-legal.ensures.legal c.args.pid c.args.low c.args.late c.args.self.now c.unclaim.new.claimed.items c.requires c.unclaim.ensures.less in
     record {
       before = behind.before;
       entry = entry_is.Step c.args.pid c.requires.pick c.requires.out;
@@ -21,4 +21,4 @@ look_at_uncounted-requires-clause-entered c =
     }
 
 pub returns-clause-claimed : goal.returns-clause-claimed
-returns-clause-claimed c = subst (λ (l : List ℕ). Unclaims c.args.pid.0 c.args.self.now.claimed.items l) (ap (λ v. v.items) (sym c.look_at_uncounted.ensures.same.claimed)) c.unclaim.ensures
+returns-clause-claimed c = subst (λ (l : List ℕ). Unclaims c.args.pid.0 c.args.self.now.claimed.items l) (ap (λ v. v.items) (sym c.look_at_uncounted.ensures.same.claimed)) c.unclaim.ensures.less

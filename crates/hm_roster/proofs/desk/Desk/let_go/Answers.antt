@@ -1,4 +1,4 @@
-use Rattle.std.proofs.Common.{◌≢◌, ◌↔◌, IsTrue, None, inl, inr, subst, ◌∙◌}
+use Rattle.std.proofs.Common.{◌≢◌, ◌↔◌, IsTrue, None, arith, inl, inr, subst, ◌∙◌}
 use Rattle.hm_model.specs.Answers.{last_answer}
 use Rattle.hm_sched.specs.declared.queue.Queue.TheVariants.{Waits}
 use Rattle.hm_roster.specs.Roster.{number_on, roster_of}
@@ -34,3 +34,8 @@ pub freed-requires : goal.freed-requires
 freed-requires g c =
     enlisted_known c.args.records.now.past c.procedures.ensures.legal c.args.self.now c.requires.follows c.args.pid.0
     (claimed_enlisted c.args.records.now.past (number_on c.args.self.now) (roster_of c.args.self.now) c.args.pid.0 c.requires.follows.tied c.requires.mine)
+
+pub returns-then-not-has_step-clause-room : goal.returns-then-not-has_step-clause-room
+returns-then-not-has_step-clause-room g c =
+    let book = c.give_up.ensures.room in
+    let sched = c.freed.ensures.room.room in omega (arith, book, sched)

@@ -1,4 +1,4 @@
-use Rattle.std.proofs.Common.{◌≡◌, false, sym, true, ◌∙◌}
+use Rattle.std.proofs.Common.{sym, ◌∙◌}
 use Rattle.std.proofs.lemmas.Bool.{true≢false}
 use Rattle.hm_roster.specs.Roster.{number_on, roster_of}
 use Rattle.hm_roster.proofs.Placing.{idle, readied, suspended}

@@ -1,4 +1,4 @@
-use Rattle.std.proofs.Common.{◌<◌, ℕ, List, refl, ap, subst, sym, ◌∙◌}
+use Rattle.std.proofs.Common.{◌<◌, ℕ, List, arith, refl, ap, subst, sym, ◌∙◌}
 use Rattle.hm_model.specs.Tree.{made}
 use Rattle.hm_tied.specs.Calls.{Unclaims, owing}
 use Rattle.hm_tied.proofs.Settled.{one_settles}
@@ -18,7 +18,7 @@ pub returns-clause-follows : goal.returns-clause-follows
 returns-clause-follows c =
     let J = c.args.records.now.past in
     let same = c.let_go_uncounted.ensures.same in
-    let fewer = subst (λ (l : List ℕ). Unclaims c.args.pid.0 l c.unclaim.new.claimed.items) (ap (λ v. v.items) same.claimed) c.unclaim.ensures in
+    let fewer = subst (λ (l : List ℕ). Unclaims c.args.pid.0 l c.unclaim.new.claimed.items) (ap (λ v. v.items) same.claimed) c.unclaim.ensures.less in
     record {
       tied =
           one_settles J (number_on c.let_go_uncounted.new.self) (record { claimed = c.unclaim.new.claimed.items; lists = c.ready.new.self.lists; rows = c.let_go_uncounted.new.self.book.rows }) c.args.pid.0
@@ -30,4 +30,10 @@ returns-clause-follows c =
     }
 
 pub returns-clause-claimed : goal.returns-clause-claimed
-returns-clause-claimed c = subst (λ (l : List ℕ). Unclaims c.args.pid.0 l c.unclaim.new.claimed.items) (ap (λ v. v.items) c.let_go_uncounted.ensures.same.claimed) c.unclaim.ensures
+returns-clause-claimed c = subst (λ (l : List ℕ). Unclaims c.args.pid.0 l c.unclaim.new.claimed.items) (ap (λ v. v.items) c.let_go_uncounted.ensures.same.claimed) c.unclaim.ensures.less
+
+pub returns-clause-room : goal.returns-clause-room
+returns-clause-room c =
+    let let_go = c.let_go_uncounted.ensures.room in
+    let claims = c.unclaim.ensures.capacity in
+    let sched = c.ready.ensures.room in omega (arith, let_go, claims, sched)

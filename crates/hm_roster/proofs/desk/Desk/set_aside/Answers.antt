@@ -1,16 +1,18 @@
-use Rattle.std.proofs.Common.{◌≡◌, ◌<◌, List, ℕ, false, refl, ap, subst, sym, true, ◌∙◌}
+use Rattle.std.proofs.Common.{◌<◌, List, ℕ, refl, ap, subst, sym, ◌∙◌}
 use Rattle.std.proofs.lemmas.Bool.{true≢false}
 use Rattle.hm_model.specs.Locks.{IsIn}
 use Rattle.hm_model.specs.Tree.{made}
-use Rattle.hm_sched.specs.Queues.{ready_count}
-use Rattle.hm_sched.specs.declared.queue.Queue.TheVariants.{Held, Suspended}
+use Rattle.hm_sched.specs.Queues.{StandsIn, ready_count}
+use Rattle.hm_sched.specs.declared.queue.Queue.TheVariants.{Held, Suspended, Waits}
 use Rattle.hm_tied.proofs.Settled.{one_settles}
 use Rattle.hm_tied.proofs.Uses.{free_given}
 use Rattle.hm_tied.specs.Calls.{owing}
-use Rattle.hm_roster.specs.Roster.{claims_on, number_on, roster_of, roster_with}
+use Rattle.hm_roster.specs.Looks.{ready_in}
+use Rattle.hm_roster.specs.Roster.{number_on, roster_of, roster_with}
 use Rattle.hm_roster.proofs.Desks.{below_still}
 use Rattle.hm_roster.proofs.Giving.{held_aside, ready_stays}
 use Rattle.hm_roster.proofs.Lacking.{lacks}
+use Rattle.hm_roster.proofs.Looking.{held_off, ready_same, suspended_off, waits_stay}
 use Rattle.hm_roster.proofs.Placing.{idle, suspended}
 use Rattle.hm_roster.proofs.desk.Desk.set_aside.Goals as goal
 
@@ -63,3 +65,19 @@ returns-else-awaits-clause-follows g c =
       room = subst (λ (k : ℕ). made J < k) (sym same.pids) given.room;
       below = below_still c.args.self.now c.give_back.new.self same given.below;
     }
+
+pub returns-then-can_go-clause-same_ready : goal.returns-then-can_go-clause-same_ready
+returns-then-can_go-clause-same_ready g c = ready_same c.give_back.new.self.sched.lists c.hold.new.self.lists Held _ refl c.hold.ensures.list ∙ ap ready_in c.give_back.ensures.lists
+
+pub returns-then-awaits-clause-same_ready : goal.returns-then-awaits-clause-same_ready
+returns-then-awaits-clause-same_ready g c =
+    ready_same c.give_back.new.self.sched.lists c.suspend.new.self.lists (Suspended c.number_called-server.result) _ refl c.suspend.ensures.list ∙ ap ready_in c.give_back.ensures.lists
+
+pub returns-then-can_go-clause-waits : goal.returns-then-can_go-clause-waits
+returns-then-can_go-clause-waits g c h q is =
+    waits_stay c.give_back.new.self.sched.lists c.hold.new.self.lists Held _ held_off c.hold.ensures.list h q (subst (λ (l : List (List ℕ)). StandsIn l (Waits h) q) (sym c.give_back.ensures.lists) is)
+
+pub returns-then-awaits-clause-waits : goal.returns-then-awaits-clause-waits
+returns-then-awaits-clause-waits g c h q is =
+    waits_stay c.give_back.new.self.sched.lists c.suspend.new.self.lists (Suspended c.number_called-server.result) _ (suspended_off c.number_called-server.result) c.suspend.ensures.list h q
+    (subst (λ (l : List (List ℕ)). StandsIn l (Waits h) q) (sym c.give_back.ensures.lists) is)

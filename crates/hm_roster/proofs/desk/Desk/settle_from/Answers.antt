@@ -1,4 +1,4 @@
-use Rattle.std.proofs.Common.{◌≡◌, ℕ, arith, refl, subst, ◌∙◌}
+use Rattle.std.proofs.Common.{ℕ, arith, refl, subst, ◌∙◌}
 use Rattle.hm_roster.specs.Roster.{Owes, number_on, roster_of, settled_from}
 use Rattle.hm_roster.proofs.Ranging.{begins, goes_on, same_on}
 use Rattle.hm_roster.proofs.desk.Desk.settle_from.Goals as goal

@@ -1,11 +1,11 @@
 use Rattle.std.proofs.Common.{None, Ok, Option, refl, subst, sym}
+use Rattle.hm_hall.specs.declared.hall.Task.TheVariants as task_is
 use Rattle.hm_hall.specs.declared.taken.Taken.{Taken}
 use Rattle.hm_exec.specs.Claiming.{AnswersClaim}
 use Rattle.hm_exec.specs.Moment.{Moment}
 use Rattle.hm_exec.specs.View.{moment_of}
 use Rattle.hm_world.specs.Scene.{WorldView, scene_of, scene_with}
 use Rattle.hm_world.specs.Taking.{Takes}
-use Rattle.hm_world.specs.declared.task.Task.TheVariants as task_is
 use Rattle.hm_world.proofs.world.World.take.Goals as goal
 
 pub without_claim-requires : goal.without_claim-requires
