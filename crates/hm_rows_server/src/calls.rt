@@ -16,9 +16,9 @@ pub enum Ask {
     Sweep,
 }
 
-pub const T1: &[u8] = b"t,1";
+pub const LOWER: &[u8] = b"t,1";
 
-const T2: &[u8] = b"t,2";
+const UPPER: &[u8] = b"t,2";
 
 pub fn region<R: Abort + AllocGlobal>(rt: &R, text: &[u8]) -> RegionName {
     RegionName::parse(rt.alloc(), text).expect(rt, "a region")
@@ -47,59 +47,83 @@ pub fn call<R: Abort + AllocGlobal>(rt: &R, id: u64, ask: Ask) -> Call {
 type ServerRow = (Option<u32>, u64, Ask, Option<Told>, [bool; 2]);
 
 const OF_A_SERVER: [ServerRow; 18] = [
-    (None, 5, Ask::Open(T1), Some(Told::Opened), [true, false]),
-    (None, 4, Ask::Close(T1), None, [true, false]),
-    (None, 5, Ask::Close(T1), Some(Told::Opened), [true, false]),
-    (None, 4, Ask::Open(T2), Some(Told::Opened), [true, true]),
+    (None, 5, Ask::Open(LOWER), Some(Told::Opened), [true, false]),
+    (None, 4, Ask::Close(LOWER), None, [true, false]),
+    (
+        None,
+        5,
+        Ask::Close(LOWER),
+        Some(Told::Opened),
+        [true, false],
+    ),
+    (None, 4, Ask::Open(UPPER), Some(Told::Opened), [true, true]),
     (None, 5, Ask::Layout, None, [true, true]),
-    (None, 7, Ask::Close(T1), Some(Told::Closed), [false, true]),
-    (None, 7, Ask::Open(T1), Some(Told::Closed), [false, true]),
+    (
+        None,
+        7,
+        Ask::Close(LOWER),
+        Some(Told::Closed),
+        [false, true],
+    ),
+    (None, 7, Ask::Open(LOWER), Some(Told::Closed), [false, true]),
     (
         Some(2),
         8,
-        Ask::Open(T1),
+        Ask::Open(LOWER),
         Some(Told::FailedOpen),
         [false, true],
     ),
     (
         None,
         8,
-        Ask::Open(T1),
+        Ask::Open(LOWER),
         Some(Told::FailedOpen),
         [false, true],
     ),
     (
         None,
         9,
-        Ask::Open(T2),
+        Ask::Open(UPPER),
         Some(Told::FailedOpen),
         [false, true],
     ),
-    (None, 10, Ask::Open(T1), Some(Told::Opened), [true, true]),
+    (None, 10, Ask::Open(LOWER), Some(Told::Opened), [true, true]),
     (
         Some(1),
         11,
-        Ask::Close(T1),
+        Ask::Close(LOWER),
         Some(Told::Closed),
         [false, true],
     ),
-    (None, 11, Ask::Open(T1), Some(Told::Closed), [false, true]),
-    (Some(0), 12, Ask::Open(T1), Some(Told::Opened), [true, true]),
+    (
+        None,
+        11,
+        Ask::Open(LOWER),
+        Some(Told::Closed),
+        [false, true],
+    ),
+    (
+        Some(0),
+        12,
+        Ask::Open(LOWER),
+        Some(Told::Opened),
+        [true, true],
+    ),
     (
         Some(1),
         13,
-        Ask::Open(T1),
+        Ask::Open(LOWER),
         Some(Told::FailedOpen),
         [true, true],
     ),
-    (None, 12, Ask::Close(T1), None, [true, true]),
+    (None, 12, Ask::Close(LOWER), None, [true, true]),
     (None, 14, Ask::Fence, None, [true, true]),
     (None, 15, Ask::Sweep, None, [true, true]),
 ];
 
 #[test]
 fn new_serve_refuse_and_holds(rt: HostRuntime) -> Result<(), Fail> {
-    let regions = [region(&rt, T1), region(&rt, T2)];
+    let regions = [region(&rt, LOWER), region(&rt, UPPER)];
     let mut actor = Actor::new(rt.alloc(), server(&rt, b"h1,1,1"));
     for (refused, id, ask, wanted, held) in OF_A_SERVER {
         if let Some(count) = refused {
@@ -125,8 +149,8 @@ const OF_THE_STORAGE: [StorageRow; 13] = [
     (None, 3, Ask::Layout, Some(Told::Swept), false),
     (None, 4, Ask::Layout, Some(Told::Refused), false),
     (None, 5, Ask::Layout, Some(Told::LaidOut), false),
-    (None, 1, Ask::Open(T1), None, false),
-    (Some(1), 6, Ask::Close(T1), None, false),
+    (None, 1, Ask::Open(LOWER), None, false),
+    (Some(1), 6, Ask::Close(LOWER), None, false),
     (None, 6, Ask::Fence, Some(Told::Fenced), true),
     (None, 6, Ask::Layout, Some(Told::Fenced), true),
     (None, 7, Ask::Layout, Some(Told::Refused), true),

@@ -1,6 +1,6 @@
 //! Two servers and the storage: whom calls are delivered to, what they are answered, and who holds the region then. The
 //! answers were given by an independent implementation.
-use crate::calls::{Ask, T1, call, region, server};
+use crate::calls::{Ask, LOWER, call, region, server};
 use hm_data::{Call, ReportMsg, Told};
 use hm_server::{Actor, StorageActor};
 use std::alloc::{AllocError, AllocGlobal, Global};
@@ -29,21 +29,21 @@ type Delivery = (To, u64, Ask, Option<Told>);
 // The region is opened, its server is fenced but goes on, and the region is opened at the other one.
 const RESCUED: [Delivery; 4] = [
     (To::Storage, 2, Ask::Layout, Some(Told::LaidOut)),
-    (To::First, 5, Ask::Open(T1), Some(Told::Opened)),
+    (To::First, 5, Ask::Open(LOWER), Some(Told::Opened)),
     (To::Storage, 7, Ask::Fence, Some(Told::Fenced)),
-    (To::Second, 9, Ask::Open(T1), Some(Told::Opened)),
+    (To::Second, 9, Ask::Open(LOWER), Some(Told::Opened)),
 ];
 
 // The region is opened and moved, and then each call comes again.
 const MOVED: [Delivery; 8] = [
     (To::Storage, 2, Ask::Layout, Some(Told::LaidOut)),
-    (To::First, 5, Ask::Open(T1), Some(Told::Opened)),
-    (To::First, 7, Ask::Close(T1), Some(Told::Closed)),
-    (To::Second, 8, Ask::Open(T1), Some(Told::Opened)),
+    (To::First, 5, Ask::Open(LOWER), Some(Told::Opened)),
+    (To::First, 7, Ask::Close(LOWER), Some(Told::Closed)),
+    (To::Second, 8, Ask::Open(LOWER), Some(Told::Opened)),
     (To::Storage, 2, Ask::Layout, Some(Told::LaidOut)),
-    (To::First, 5, Ask::Open(T1), None),
-    (To::First, 7, Ask::Close(T1), Some(Told::Closed)),
-    (To::Second, 8, Ask::Open(T1), Some(Told::Opened)),
+    (To::First, 5, Ask::Open(LOWER), None),
+    (To::First, 7, Ask::Close(LOWER), Some(Told::Closed)),
+    (To::Second, 8, Ask::Open(LOWER), Some(Told::Opened)),
 ];
 
 impl Fleet {
@@ -75,8 +75,8 @@ fn delivered<R: Abort + AllocGlobal>(rt: &R, deliveries: &[Delivery]) -> [bool; 
         assert_eq!(rt; report.map(|report| report.told), *wanted);
     }
     [
-        fleet.first.holds(&region(rt, T1)),
-        fleet.second.holds(&region(rt, T1)),
+        fleet.first.holds(&region(rt, LOWER)),
+        fleet.second.holds(&region(rt, LOWER)),
         fleet.storage.has_fenced(&server(rt, b"h1,1,1")),
     ]
 }

@@ -1,6 +1,6 @@
 //! A fleet that opens a region and moves or rescues it: who holds the region then, and where all that travelled travels once more. The
 //! answers were given by an independent implementation.
-use crate::calls::{Ask, T1, call, region, server};
+use crate::calls::{Ask, LOWER, call, region, server};
 use hm_data::{Call, Peer, Told};
 use hm_fleet::Fleet;
 use hm_server::StorageActor;
@@ -17,16 +17,16 @@ type Sent = (Option<&'static [u8]>, u64, Ask, Told);
 
 const RESCUED: [Sent; 4] = [
     (None, 2, Ask::Layout, Told::LaidOut),
-    (Some(H1), 5, Ask::Open(T1), Told::Opened),
+    (Some(H1), 5, Ask::Open(LOWER), Told::Opened),
     (None, 7, Ask::Fence, Told::Fenced),
-    (Some(H2), 9, Ask::Open(T1), Told::Opened),
+    (Some(H2), 9, Ask::Open(LOWER), Told::Opened),
 ];
 
 const MOVED: [Sent; 4] = [
     (None, 2, Ask::Layout, Told::LaidOut),
-    (Some(H1), 5, Ask::Open(T1), Told::Opened),
-    (Some(H1), 7, Ask::Close(T1), Told::Closed),
-    (Some(H2), 8, Ask::Open(T1), Told::Opened),
+    (Some(H1), 5, Ask::Open(LOWER), Told::Opened),
+    (Some(H1), 7, Ask::Close(LOWER), Told::Closed),
+    (Some(H2), 8, Ask::Open(LOWER), Told::Opened),
 ];
 
 // Starts a server.
@@ -81,7 +81,7 @@ fn delivered<R: Abort + AllocGlobal>(rt: &R, fleet: &mut Fleet) -> u64 {
 
 // Which of both servers hold the region.
 fn holders<R: Abort + AllocGlobal>(rt: &R, fleet: &Fleet) -> [bool; 2] {
-    let region = region(rt, T1);
+    let region = region(rt, LOWER);
     [
         fleet.holds(&server(rt, H1), &region),
         fleet.holds(&server(rt, H2), &region),
