@@ -10,7 +10,8 @@ use Rattle.std.specs.declared.cmp.Ordering.{Ordering}
 use Rattle.std.specs.declared.cmp.Ordering.TheVariants.{Less, Equal, Greater}
 use Rattle.hm_names.specs.Order.{bytes_cmp}
 use Rattle.hm_names.specs.Server.{Server}
-use Rattle.hm_model.specs.Actors.{Actor, Storage}
+use Rattle.hm_model.specs.Actors.{Actor}
+use Rattle.hm_model.specs.Storages.{Storage}
 use Rattle.hm_model.specs.Fleet.{same_address, same_server}
 use Rattle.hm_model.proofs.KeyTests.{bytes_eq-is}
 use Rattle.hm_server.specs.Actors.{IsActor, IsStorage}

@@ -59,4 +59,5 @@ pub mod Calls
 pub mod RowLaws
 pub mod Laws
 pub mod Actors
+pub mod Storages
 pub mod Layouts

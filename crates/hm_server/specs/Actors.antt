@@ -7,7 +7,8 @@ use Rattle.hm_names.specs.Server.{Server}
 use Rattle.hm_names.specs.declared.pid.Pid.{Pid}
 use Rattle.hm_data.specs.declared.call.Told.{Told}
 use Rattle.hm_index.specs.Index.{IndexView, find}
-use Rattle.hm_model.specs.Actors.{Actor, Served, Service, Storage}
+use Rattle.hm_model.specs.Actors.{Actor, Served, Service}
+use Rattle.hm_model.specs.Storages.{Storage}
 use Rattle.hm_server.specs.declared.actor.Doing.{Doing}
 use Rattle.hm_server.specs.declared.duty.Duty.{Duty}
 

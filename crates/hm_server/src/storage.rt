@@ -4,7 +4,7 @@ ghost use Rattle.std.specs.Option.{option_map};
 ghost use Rattle.hm_names.specs.Server.{Server};
 ghost use Rattle.hm_names.specs.declared.pid.Pid.{Pid as PidValue};
 ghost use Rattle.hm_data.specs.declared.call.Told.TheVariants as told_is;
-ghost use Rattle.hm_model.specs.Actors.{empty_storage, store, stored, answered, fence_in, lay_in, refuse_in};
+ghost use Rattle.hm_model.specs.Storages.{empty_storage, store, stored, answered, fence_in, lay_in, refuse_in};
 ghost use Rattle.hm_model.specs.Fleet.{same_server};
 ghost use Rattle.hm_server.specs.Actors.{storage_of, answer_in, is_fenced_in, is_laid_in, IsStorage};
 

@@ -14,7 +14,8 @@ use Rattle.hm_data.specs.declared.call.Told.{Told}
 use Rattle.hm_data.specs.declared.call.Told.TheVariants as told_is
 use Rattle.hm_data.specs.declared.call.Verb.{Verb}
 use Rattle.hm_data.specs.declared.call.Verb.TheVariants as verb_is
-use Rattle.hm_model.specs.Actors.{Actor, Served, Service, Storage, age, behind, closing, fence_in, holds, lay_in, once_more, opening, refuse_in, reported, serve, serve_by, serve_verb, store, store_by, store_verb, stored}
+use Rattle.hm_model.specs.Actors.{Actor, Served, Service, age, behind, closing, holds, once_more, opening, reported, serve, serve_by, serve_verb}
+use Rattle.hm_model.specs.Storages.{Storage, fence_in, lay_in, refuse_in, store, store_by, store_verb, stored}
 use Rattle.hm_model.specs.Keys.{same_region}
 use Rattle.hm_model.specs.Locks.{IsIn}
 use Rattle.hm_world_model.proofs.Facts.{cases_region}

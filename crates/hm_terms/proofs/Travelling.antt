@@ -19,7 +19,8 @@ use Rattle.hm_data.specs.declared.call.Verb.{Verb}
 use Rattle.hm_data.specs.declared.call.Verb.TheVariants as verb_is
 use Rattle.hm_data.specs.declared.entry.Entry.{Entry}
 use Rattle.hm_data.specs.declared.entry.Entry.TheVariants as entry_is
-use Rattle.hm_model.specs.Actors.{Actor, Served, Service, Storage, age, closing, fence_in, lay_in, once_more, opening, refuse_in, reported, serve_by, serve_verb, store_by, store_verb, stored}
+use Rattle.hm_model.specs.Actors.{Actor, Served, Service, age, closing, once_more, opening, reported, serve_by, serve_verb}
+use Rattle.hm_model.specs.Storages.{Storage, fence_in, lay_in, refuse_in, store_by, store_verb, stored}
 use Rattle.hm_model.specs.Answers.{report_of}
 use Rattle.hm_model.specs.Journal.{Past, back}
 use Rattle.hm_model.specs.Locks.{IsIn}

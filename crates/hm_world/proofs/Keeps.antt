@@ -27,7 +27,7 @@ use Rattle.hm_world_model.specs.Safe.{Safe}
 use Rattle.hm_world_model.specs.World.{opened, shown_storage}
 use Rattle.hm_world_model.proofs.Opening.{opened_kept}
 use Rattle.hm_world_model.proofs.Tails.{safe_past}
-use Rattle.hm_model.specs.Actors.{Storage}
+use Rattle.hm_model.specs.Storages.{Storage}
 use Rattle.hm_world_model.proofs.Facts.{node_called, parts_of}
 use Rattle.hm_world_model.proofs.Keeping.{outside_keeps}
 use Rattle.hm_world_model.proofs.Known.{called_up, peer_called}

@@ -9,7 +9,7 @@ use Rattle.hm_names.specs.declared.pid.Pid.{Pid}
 use Rattle.hm_data.specs.declared.call.Told.{Told}
 use Rattle.hm_data.specs.declared.record.Record.{Record}
 use Rattle.hm_judge.proofs.Found.{there_of}
-use Rattle.hm_model.specs.Actors.{Storage, empty_storage, fence_in, lay_in}
+use Rattle.hm_model.specs.Storages.{Storage, empty_storage, fence_in, lay_in}
 use Rattle.hm_model.specs.Answers.{report_of}
 use Rattle.hm_model.specs.Fleet.{came_up, is_fenced, same_server, servers_of}
 use Rattle.hm_model.specs.Journal.{Past}

@@ -2,7 +2,7 @@
 use Rattle.std.specs.Prelude.{◌≡◌, ℕ, List, None, Bool, true, false, ◌&&◌, ◌||◌}
 use Rattle.std.specs.List.{list_any}
 use Rattle.hm_names.specs.Server.{Server}
-use Rattle.hm_model.specs.Actors.{Storage, fence_in}
+use Rattle.hm_model.specs.Storages.{Storage, fence_in}
 use Rattle.hm_model.specs.Fleet.{is_fenced, same_server}
 use Rattle.hm_model.specs.Journal.{Past}
 use Rattle.hm_places.specs.declared.standing.Standing.{Standing}

@@ -10,7 +10,8 @@ use Rattle.hm_data.specs.declared.call.Call.{Call}
 use Rattle.hm_data.specs.declared.call.Peer.TheVariants as peer_is
 use Rattle.hm_data.specs.declared.call.ReportMsg.{ReportMsg}
 use Rattle.hm_data.specs.declared.call.Told.{Told}
-use Rattle.hm_model.specs.Actors.{Actor, Served, Storage, begun, holds, holds_if}
+use Rattle.hm_model.specs.Actors.{Actor, Served, begun, holds, holds_if}
+use Rattle.hm_model.specs.Storages.{Storage}
 use Rattle.hm_model.specs.Fleet.{same_address, same_server}
 use Rattle.hm_model.specs.Journal.{Past}
 use Rattle.hm_model.specs.Locks.{IsIn}

@@ -12,7 +12,7 @@ use Rattle.hm_data.specs.declared.call.Told.{Told}
 use Rattle.hm_data.specs.declared.call.Told.TheVariants as told_is
 use Rattle.hm_data.specs.declared.call.Verb.{Verb}
 use Rattle.hm_data.specs.declared.call.Verb.TheVariants as verb_is
-use Rattle.hm_model.specs.Actors.{Storage, answered, fence_in, lay_in, refuse_in, store_by, store_verb, stored}
+use Rattle.hm_model.specs.Storages.{Storage, answered, fence_in, lay_in, refuse_in, store_by, store_verb, stored}
 use Rattle.hm_model.specs.Fleet.{same_server}
 use Rattle.hm_model.specs.Journal.{Past}
 use Rattle.hm_model.specs.Reports.{call_of, fits_verb, peer_of, verb_of}

@@ -4,7 +4,7 @@ use Rattle.hm_names.specs.Server.{Server}
 use Rattle.hm_data.specs.declared.call.Call.{Call}
 use Rattle.hm_data.specs.declared.call.ReportMsg.{ReportMsg}
 use Rattle.hm_data.specs.declared.entry.Entry.{Entry}
-use Rattle.hm_model.specs.Actors.{Storage}
+use Rattle.hm_model.specs.Storages.{Storage}
 use Rattle.hm_model.specs.Fleet.{is_fenced}
 use Rattle.hm_model.specs.Journal.{Past}
 use Rattle.hm_model.specs.Layouts.{is_laid}
