@@ -1,6 +1,8 @@
 -- What callers see of a registry: all that is named of its fields.
 use Rattle.std.specs.Prelude.{ℕ, ◌+◌, ◌-◌, ◌^◌, min, List, map}
 use Rattle.std.specs.List.{flat_map}
+use Rattle.std.specs.declared.alloc.Global.{Global}
+use Rattle.std.specs.declared.dyn_box.DynBox.{DynBox}
 use Rattle.hm_data.specs.declared.sheet.Sheet.{Sheet}
 use Rattle.hm_sheet.specs.declared.handler.Handler.{Ghosts}
 use Rattle.hm_sheet.specs.declared.registry.Registry.{Registry}
@@ -14,10 +16,23 @@ runs_of registry = registry.runs
 abbrev pub whole_of : {X : Type 0} {F : X → Type 0} → Registry X F → List Sheet
 whole_of registry = registry.whole
 
+-- its handlers
+abbrev pub handlers_of : {X : Type 0} {F : X → Type 0} → Registry X F → List (DynBox X Global F)
+handlers_of registry = registry.handlers.items
+
+module _ {X : Type 0} {F : X → Type 0} (hand : (h : (x : X) × F x) → Ghosts (F h.0)) where
+  -- the sheets of its handlers, by what is known of each
+  abbrev pub sheets_by : Registry X F → List Sheet
+  sheets_by registry = flat_map (λ h. (hand (h.vtable, h.value)).sheets_are h.value) (handlers_of registry)
+
+  -- it lists its sheets of all kinds of procedures, by what is known of each
+  abbrev pub IsRegistryBy : Registry X F → Type 0
+  IsRegistryBy registry = AreWhole (sheets_by registry) (whole_of registry)
+
 module _ {X : Type 0} {F : X → Type 0} (hand : (x : X) → Ghosts (F x)) where
   -- the sheets of its handlers
   abbrev pub sheets_of : Registry X F → List Sheet
-  sheets_of registry = flat_map (λ h. (hand h.vtable).sheets_are h.value) registry.handlers.items
+  sheets_of registry = sheets_by (λ h. hand h.0) registry
 
   -- it lists its sheets of all kinds of procedures
   abbrev pub IsRegistry : Registry X F → Type 0
@@ -25,17 +40,17 @@ module _ {X : Type 0} {F : X → Type 0} (hand : (x : X) → Ghosts (F x)) where
 
   -- the sheets of each of its handlers
   abbrev pub sheets_each : Registry X F → List (List Sheet)
-  sheets_each registry = map (λ h. (hand h.vtable).sheets_are h.value) registry.handlers.items
+  sheets_each registry = map (λ h. (hand h.vtable).sheets_are h.value) (handlers_of registry)
 
   -- how many steps each of its handlers answered
   abbrev pub steps_of : Registry X F → List ℕ
-  steps_of registry = map (λ h. (hand h.vtable).steps_are h.value) registry.handlers.items
+  steps_of registry = map (λ h. (hand h.vtable).steps_are h.value) (handlers_of registry)
 
   -- how many steps each of them undid
   abbrev pub undos_of : Registry X F → List ℕ
-  undos_of registry = map (λ h. (hand h.vtable).undos_are h.value) registry.handlers.items
+  undos_of registry = map (λ h. (hand h.vtable).undos_are h.value) (handlers_of registry)
 
   -- how many calls each of them answered
   abbrev pub calls_of : Registry X F → List ℕ
   calls_of registry =
-      map (λ h. min ((hand h.vtable).steps_are h.value + (hand h.vtable).undos_are h.value) (2 ^ 64 - 1)) registry.handlers.items
+      map (λ h. min ((hand h.vtable).steps_are h.value + (hand h.vtable).undos_are h.value) (2 ^ 64 - 1)) (handlers_of registry)

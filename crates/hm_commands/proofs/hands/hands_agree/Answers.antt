@@ -1,4 +1,4 @@
-use Rattle.std.specs.List.{flat_map}
+use Rattle.hm_sheet.specs.Registry.{sheets_by}
 use Rattle.hm_commands.proofs.Agreeing.{agrees_more, all_agree, one_differs}
 use Rattle.hm_commands.proofs.hands.hands_agree.Goals as goal
 
@@ -11,7 +11,7 @@ returns-then-not-are_equal g c = (
 
 pub loop-other-preserved : goal.loop-other-preserved
 loop-other-preserved g c =
-    agrees_more (λ r. flat_map (λ h. (goal.Handler-dyn g (h.vtable, h.value)).sheets_are h.value) r.handlers.items) c.args.hands.now c.first-item.result c.other-item.result c.loop-other.other-index c.are_equal.result
+    agrees_more (λ r. sheets_by (goal.Handler-dyn g) r) c.args.hands.now c.first-item.result c.other-item.result c.loop-other.other-index c.are_equal.result
     c.loop-other-test.true c.other-item.is c.are_equal.ensures c.if-not-are_equal.false c.loop-other.invariant
 
 pub returns : goal.returns

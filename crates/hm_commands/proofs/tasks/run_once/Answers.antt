@@ -1,12 +1,12 @@
 use Rattle.std.proofs.Common.{◌≤◌, arith, inl, rules}
-use Rattle.std.specs.List.{flat_map}
+use Rattle.hm_sheet.specs.Registry.{sheets_by}
 use Rattle.hm_commands.proofs.Ran.{first_run, one_run}
 use Rattle.hm_commands.proofs.Registries.{some_hands}
 use Rattle.hm_commands.proofs.tasks.run_once.Goals as goal
 
 pub returns-in_err-run-clause-later : goal.returns-in_err-run-clause-later
 returns-in_err-run-clause-later g c =
-    let f = λ (r : _). flat_map (λ h. (goal.Handler-dyn g (h.vtable, h.value)).sheets_are h.value) r.handlers.items in
+    let f = λ (r : _). sheets_by (goal.Handler-dyn g) r in
     let hands = c.args.hands.now.items in
     let one = c.index_mut-hands.result.now in
     let new = c.run.new.self in
@@ -15,7 +15,7 @@ returns-in_err-run-clause-later g c =
 
 pub returns-clause-runs : goal.returns-clause-runs
 returns-clause-runs g c =
-    let f = λ (r : _). flat_map (λ h. (goal.Handler-dyn g (h.vtable, h.value)).sheets_are h.value) r.handlers.items in
+    let f = λ (r : _). sheets_by (goal.Handler-dyn g) r in
     let hands = c.args.hands.now.items in
     let one = c.index_mut-hands.result.now in
     let new = c.run.new.self in
@@ -24,7 +24,7 @@ returns-clause-runs g c =
 
 pub returns-clause-later : goal.returns-clause-later
 returns-clause-later g c =
-    let f = λ (r : _). flat_map (λ h. (goal.Handler-dyn g (h.vtable, h.value)).sheets_are h.value) r.handlers.items in
+    let f = λ (r : _). sheets_by (goal.Handler-dyn g) r in
     let hands = c.args.hands.now.items in
     let one = c.index_mut-hands.result.now in
     let new = c.run.new.self in

@@ -1,9 +1,9 @@
 use Rattle.std.proofs.Common.{◌≡◌, ◌≤◌, ◌+◌, ◌∷◌, ◌++◌, [], length, map, vec_len}
-use Rattle.std.specs.List.{flat_map}
 use Rattle.std.specs.Vec.{vec_capacity}
 use Rattle.std.specs.Vec.Iter.{into_iter_items, into_iter_len}
 use Rattle.hm_model.specs.Journal.{back}
 use Rattle.hm_model.specs.Sheets.{sheets_of}
+use Rattle.hm_sheet.specs.Registry.{sheets_by}
 use Rattle.hm_commands.specs.Hands.{Ran}
 use Rattle.hm_commands.specs.Scenes.{journal_at}
 use Rattle.hm_commands.specs.View.{scene_in}
@@ -19,8 +19,8 @@ invariant-loop-command g l = record {
   begun : sheets_of (back (journal_at (scene_in l.cluster))) ≡ sheets_of (back (journal_at (scene_in l.fn.cluster)));
   opened : l.cluster.recorder.opened ≡ l.fn.cluster.recorder.opened;
   ran : Ran (record {
-    before = map (λ r. flat_map (λ h. (goal.Handler-dyn g (h.vtable, h.value)).sheets_are h.value) r.handlers.items) l.fn.hands.items;
-    after = map (λ r. flat_map (λ h. (goal.Handler-dyn g (h.vtable, h.value)).sheets_are h.value) r.handlers.items) l.hands.items;
+    before = map (λ r. sheets_by (goal.Handler-dyn g) r) l.fn.hands.items;
+    after = map (λ r. sheets_by (goal.Handler-dyn g) r) l.hands.items;
     runs_before = map (λ r. r.runs) l.fn.hands.items;
     runs_after = map (λ r. r.runs) l.hands.items;
   }) (journal_at (scene_in l.fn.cluster)) (journal_at (scene_in l.cluster));

@@ -1,5 +1,5 @@
 use Rattle.std.proofs.Common.{◌≡◌, Ok, Err, map, refl, sym, ap, ◌∙◌, subst}
-use Rattle.std.specs.List.{flat_map}
+use Rattle.hm_sheet.specs.Registry.{sheets_by}
 use Rattle.hm_hall.specs.Recording.{Recording}
 use Rattle.hm_journal.specs.Opened.{Opened as OpenedAt}
 use Rattle.hm_model.specs.Journal.{back}
@@ -52,7 +52,7 @@ returns-in-Err-begin-clause-stopped g c =
 
 pub answer_all-requires-clause-hands : goal.answer_all-requires-clause-hands
 answer_all-requires-clause-hands g c =
-    let f = λ (r : _). flat_map (λ h. (goal.Handler-dyn g (h.vtable, h.value)).sheets_are h.value) r.handlers.items in
+    let f = λ (r : _). sheets_by (goal.Handler-dyn g) r in
     let was = scene_in c.in-Ok.cluster in
     let at = scene_in c.in-Ok-begin.begun in
     let passing = c.in-Ok-begin.ensures.done in

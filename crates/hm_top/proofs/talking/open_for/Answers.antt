@@ -1,8 +1,8 @@
 use Rattle.std.proofs.Common.{◌≡◌, sym, ◌∙◌, subst, map}
-use Rattle.std.specs.List.{flat_map}
 use Rattle.hm_model.specs.Journal.{back}
 use Rattle.hm_model.specs.Sheets.{sheets_of as begun_with}
 use Rattle.hm_sheet.specs.Words.{AreWhole}
+use Rattle.hm_sheet.specs.Registry.{sheets_by, whole_of}
 use Rattle.hm_commands.specs.Hands.{AgreeOn, first_sheets, hands_use}
 use Rattle.hm_commands.proofs.Registries.{agree_own, all_first, first_is, used_are}
 use Rattle.hm_top.specs.Talking.{IsOpened}
@@ -13,8 +13,8 @@ use Rattle.hm_top.proofs.talking.open_for.Goals as goal
 
 pub returns-clause-opened : goal.returns-clause-opened
 returns-clause-opened g c =
-    let f = λ (r : _). flat_map (λ h. (goal.Handler-dyn g (h.vtable, h.value)).sheets_are h.value) r.handlers.items in
-    let listed = used_are f (λ (r : _). r.whole) c.args.hands.now.items c.requires.agree c.requires.each c.index.result.now c.index.ensures c.as_slice.result.now (c.as_slice.ensures ∙ c.sheets-sheets.ensures) in
+    let f = λ (r : _). sheets_by (goal.Handler-dyn g) r in
+    let listed = used_are f (λ (r : _). whole_of r) c.args.hands.now.items c.requires.agree c.requires.each c.index.result.now c.index.ensures c.as_slice.result.now (c.as_slice.ensures ∙ c.sheets-sheets.ensures) in
     ok_so c.open.result (λ (store : StoreView _) (found : IsOpened g.D.Disk c.as_slice.result.now c.args.limits c.args.disk store). subst (λ s. IsOpened g.D.Disk s c.args.limits c.args.disk store) (sym listed) found) c.open.ensures.journal
 
 pub returns-clause-called : goal.returns-clause-called
@@ -22,21 +22,21 @@ returns-clause-called g c = called_to_open g.D.Disk c.args.disk c.open.result c.
 
 pub returns-clause-serve : goal.returns-clause-serve
 returns-clause-serve g c =
-    let f = λ (r : _). flat_map (λ h. (goal.Handler-dyn g (h.vtable, h.value)).sheets_are h.value) r.handlers.items in
+    let f = λ (r : _). sheets_by (goal.Handler-dyn g) r in
     let hands = c.args.hands.now.items in
     let one = c.index.result.now in
-    let list = all_first f hands c.requires.agree (λ (r : _). AreWhole (f r) r.whole) one c.index.ensures c.requires.each in
+    let list = all_first f hands c.requires.agree (λ (r : _). AreWhole (f r) (whole_of r)) one c.index.ensures c.requires.each in
     let first : first_sheets (map f hands) ≡ f one = first_is f hands c.requires.agree one c.index.ensures in
     ok_so c.open.result
     (λ (store : StoreView _) (begins : begun_with (back store.kept.entries) ≡ c.as_slice.result.now).
     record {
       agree = c.requires.agree;
-      begins = subst (λ s. AgreeOn s (begun_with (back store.kept.entries))) (sym first) (subst (AgreeOn (f one)) (sym (begins ∙ c.as_slice.ensures ∙ c.sheets-sheets.ensures)) (agree_own (f one) one.whole list));
+      begins = subst (λ s. AgreeOn s (begun_with (back store.kept.entries))) (sym first) (subst (AgreeOn (f one)) (sym (begins ∙ c.as_slice.ensures ∙ c.sheets-sheets.ensures)) (agree_own (f one) (whole_of one) list));
     }) c.open.ensures.sheets
 
 pub returns-clause-failed : goal.returns-clause-failed
 returns-clause-failed g c =
-    let f = λ (r : _). flat_map (λ h. (goal.Handler-dyn g (h.vtable, h.value)).sheets_are h.value) r.handlers.items in
-    let listed = used_are f (λ (r : _). r.whole) c.args.hands.now.items c.requires.agree c.requires.each c.index.result.now c.index.ensures c.as_slice.result.now (c.as_slice.ensures ∙ c.sheets-sheets.ensures) in
+    let f = λ (r : _). sheets_by (goal.Handler-dyn g) r in
+    let listed = used_are f (λ (r : _). whole_of r) c.args.hands.now.items c.requires.agree c.requires.each c.index.result.now c.index.ensures c.as_slice.result.now (c.as_slice.ensures ∙ c.sheets-sheets.ensures) in
     let its = c.open.ensures in
     failed_to_open g.D.Disk c.args.disk _ c.as_slice.result.now listed c.open.result its.why its.accepts its.fault its.same its.spared its.any_moment its.called

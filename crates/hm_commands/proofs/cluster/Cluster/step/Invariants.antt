@@ -1,5 +1,5 @@
 use Rattle.std.proofs.Common.{◌≡◌, ◌-◌, ◌≤◌, map}
-use Rattle.std.specs.List.{flat_map}
+use Rattle.hm_sheet.specs.Registry.{sheets_by}
 use Rattle.hm_world.specs.Scene.{GoesOn}
 use Rattle.hm_commands.specs.Hands.{Ran}
 use Rattle.hm_commands.specs.Scenes.{journal_at}
@@ -14,8 +14,8 @@ invariant-loop-done g l = record {
   going : GoesOn (scene_in l.self);
   opened : l.self.recorder.opened ≡ l.fn.self.recorder.opened;
   ran : Ran (record {
-    before = map (λ r. flat_map (λ h. (goal.Handler-dyn g (h.vtable, h.value)).sheets_are h.value) r.handlers.items) l.fn.hands.items;
-    after = map (λ r. flat_map (λ h. (goal.Handler-dyn g (h.vtable, h.value)).sheets_are h.value) r.handlers.items) l.hands.items;
+    before = map (λ r. sheets_by (goal.Handler-dyn g) r) l.fn.hands.items;
+    after = map (λ r. sheets_by (goal.Handler-dyn g) r) l.hands.items;
     runs_before = map (λ r. r.runs) l.fn.hands.items;
     runs_after = map (λ r. r.runs) l.hands.items;
   }) (journal_at (scene_in l.fn.self)) (journal_at (scene_in l.self));
