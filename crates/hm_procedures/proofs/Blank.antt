@@ -21,7 +21,8 @@ use Rattle.hm_model.proofs.Forest.{rooted_all}
 use Rattle.hm_model.proofs.Grown.{grown_all, nodes_stay, not_stepped}
 use Rattle.hm_model.proofs.Trees.{other_steps}
 use Rattle.hm_model.proofs.Waiting.{children_change, under_change}
-use Rattle.hm_procedures.specs.Kept.{made_in_step}
+use Rattle.hm_procedures.specs.Changes.{first_made}
+use Rattle.hm_procedures.specs.Kept.{first_child_of, made_in_step}
 
 pub record IsBlank (J : Past) (p : ℕ) : Type 0 where
   pub last : last_answer J p ≡ None
@@ -31,6 +32,7 @@ pub record IsBlank (J : Past) (p : ℕ) : Type 0 where
   pub tries : tries_of J p ≡ 0
   pub before : made_at_step J p ≡ 0
   pub count : made_in_step J p ≡ 0
+  pub first : first_child_of J p ≡ None
   pub cause_is : cause J p ≡ None
   pub children : open_children J p ≡ 0
   pub under : open_under J p ≡ 0
@@ -46,7 +48,7 @@ module _ (entry : Entry) (J : Past) (legal : IsLegal (entry ∷ J)) (p : ℕ) (w
   under_on none = nothing_over _ (under_change entry J legal p) was.under none
 
 pub blank_nothing : (p : ℕ) → IsBlank [] p
-blank_nothing p = record { last = refl; verb = refl; report = refl; aborted = refl; tries = refl; before = refl; count = refl; cause_is = refl; children = refl; under = refl }
+blank_nothing p = record { last = refl; verb = refl; report = refl; aborted = refl; tries = refl; before = refl; count = refl; first = refl; cause_is = refl; children = refl; under = refl }
 
 module _ (pid : Pid) (pick : Option Server) (out : StepOut) (J : Past) (legal : IsLegal (entry_is.Step pid pick out ∷ J)) (p : ℕ) (none : node_of J p ≡ None) (was : IsBlank J p) where
   abbrev me : Node
@@ -73,6 +75,7 @@ module _ (pid : Pid) (pick : Option Server) (out : StepOut) (J : Past) (legal : 
     tries = cond-false ((p == pid.0) && has_failed out.place) (one_more (tries_of J p)) (tries_of J p) (and_left (p == pid.0) (has_failed out.place) (ne_eqb p pid.0 differs)) ∙ was.tries;
     before = other_steps pid pick out J p differs ∙ was.before;
     count = cond-false (p == pid.0) (length (args_in out.children)) (made_in_step J p) (ne_eqb p pid.0 differs) ∙ was.count;
+    first = cond-false (p == pid.0) (option_or (first_child_of J p) (first_made (made J) (length (args_in out.children)))) (first_child_of J p) (ne_eqb p pid.0 differs) ∙ was.first;
     cause_is = cond-false (root_of J pid.0 == p) (or_else (cause J p) (failing out.answer)) (cause J p) other_root ∙ was.cause_is;
     children = children_on (entry_is.Step pid pick out) J legal p was (cond-false (pid.0 == p) (length (args_in out.children)) 0 (ne_eqb pid.0 p (λ e. differs (sym e))));
     under = under_on (entry_is.Step pid pick out) J legal p was (ap (λ b. if b then length (args_in out.children) else 0) (ap (in_tree p) is_me ∙ ne_eqb me.root p not_root));
@@ -80,10 +83,10 @@ module _ (pid : Pid) (pick : Option Server) (out : StepOut) (J : Past) (legal : 
 
 -- an entry tells nothing of who wasn't made before it
 pub blank_on : (entry : Entry) (J : Past) → IsLegal (entry ∷ J) → (p : ℕ) → node_of J p ≡ None → IsBlank J p → IsBlank (entry ∷ J) p
-blank_on (entry_is.Start sheets) J legal p none was = record { last = was.last; verb = was.verb; report = was.report; aborted = was.aborted; tries = was.tries; before = was.before; count = was.count; cause_is = was.cause_is; children = children_on (entry_is.Start sheets) J legal p was refl; under = under_on (entry_is.Start sheets) J legal p was refl }
-blank_on (entry_is.Submit nonce request) J legal p none was = record { last = was.last; verb = was.verb; report = was.report; aborted = was.aborted; tries = was.tries; before = was.before; count = was.count; cause_is = was.cause_is; children = children_on (entry_is.Submit nonce request) J legal p was refl; under = under_on (entry_is.Submit nonce request) J legal p was refl }
+blank_on (entry_is.Start sheets) J legal p none was = record { last = was.last; verb = was.verb; report = was.report; aborted = was.aborted; tries = was.tries; before = was.before; count = was.count; first = was.first; cause_is = was.cause_is; children = children_on (entry_is.Start sheets) J legal p was refl; under = under_on (entry_is.Start sheets) J legal p was refl }
+blank_on (entry_is.Submit nonce request) J legal p none was = record { last = was.last; verb = was.verb; report = was.report; aborted = was.aborted; tries = was.tries; before = was.before; count = was.count; first = was.first; cause_is = was.cause_is; children = children_on (entry_is.Submit nonce request) J legal p was refl; under = under_on (entry_is.Submit nonce request) J legal p was refl }
 blank_on (entry_is.Step pid pick out) J legal p none was = blank_step pid pick out J legal p none was
-blank_on (entry_is.Undo pid row out) J legal p none was = record { last = was.last; verb = was.verb; report = was.report; aborted = was.aborted; tries = was.tries; before = was.before; count = was.count; cause_is = was.cause_is; children = children_on (entry_is.Undo pid row out) J legal p was refl; under = under_on (entry_is.Undo pid row out) J legal p was refl }
+blank_on (entry_is.Undo pid row out) J legal p none was = record { last = was.last; verb = was.verb; report = was.report; aborted = was.aborted; tries = was.tries; before = was.before; count = was.count; first = was.first; cause_is = was.cause_is; children = children_on (entry_is.Undo pid row out) J legal p was refl; under = under_on (entry_is.Undo pid row out) J legal p was refl }
 blank_on (entry_is.Report call told) J legal p none was = record {
   last = was.last;
   verb = was.verb;
@@ -92,12 +95,13 @@ blank_on (entry_is.Report call told) J legal p none was = record {
   tries = was.tries;
   before = was.before;
   count = was.count;
+  first = was.first;
   cause_is = was.cause_is;
   children = children_on (entry_is.Report call told) J legal p was refl;
   under = under_on (entry_is.Report call told) J legal p was refl;
 }
-blank_on (entry_is.Up server) J legal p none was = record { last = was.last; verb = was.verb; report = was.report; aborted = was.aborted; tries = was.tries; before = was.before; count = was.count; cause_is = was.cause_is; children = children_on (entry_is.Up server) J legal p was refl; under = under_on (entry_is.Up server) J legal p was refl }
-blank_on (entry_is.Down server) J legal p none was = record { last = was.last; verb = was.verb; report = was.report; aborted = was.aborted; tries = was.tries; before = was.before; count = was.count; cause_is = was.cause_is; children = children_on (entry_is.Down server) J legal p was refl; under = under_on (entry_is.Down server) J legal p was refl }
+blank_on (entry_is.Up server) J legal p none was = record { last = was.last; verb = was.verb; report = was.report; aborted = was.aborted; tries = was.tries; before = was.before; count = was.count; first = was.first; cause_is = was.cause_is; children = children_on (entry_is.Up server) J legal p was refl; under = under_on (entry_is.Up server) J legal p was refl }
+blank_on (entry_is.Down server) J legal p none was = record { last = was.last; verb = was.verb; report = was.report; aborted = was.aborted; tries = was.tries; before = was.before; count = was.count; first = was.first; cause_is = was.cause_is; children = children_on (entry_is.Down server) J legal p was refl; under = under_on (entry_is.Down server) J legal p was refl }
 blank_on (entry_is.Abort pid) J legal p none was = record {
   last = was.last;
   verb = was.verb;
@@ -106,6 +110,7 @@ blank_on (entry_is.Abort pid) J legal p none was = record {
   tries = was.tries;
   before = was.before;
   count = was.count;
+  first = was.first;
   cause_is = was.cause_is;
   children = children_on (entry_is.Abort pid) J legal p was refl;
   under = under_on (entry_is.Abort pid) J legal p was refl;

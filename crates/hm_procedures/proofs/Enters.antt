@@ -82,6 +82,15 @@ module _ (J' : Past) (n : ℕ) (up : Option (Pid × Pid)) (make : ℕ → Args �
 pub count_more : (kept : List Tracked) (up : Option (Pid × Pid)) (made : List Args) (n : ℕ) → length kept ≡ n → length (kept ++ added (length kept) up made) ≡ n + length made
 count_more kept up made n long = length-append kept (added (length kept) up made) ∙ ap (λ k. length kept + k) (length-added (length kept) up made) ∙ ap (λ k. k + length made) long
 
+-- the root that an entry makes
+pub one_new : (J J' : Past) → IsLegal J → (args : Args) (first : ℕ) → ((q : ℕ) → q ≢ made J + 1 → node_of J' q ≡ node_of J q) → ((q : ℕ) → q ≡ made J + 1 → node_of J' q ≡ Some (root_node q args first))
+    → (q : ℕ) → made J ≤ q → node_of J' (q + 1) ≡ option_map (λ a. root_node (q + 1) a first) (slice_get (args ∷ []) (q - made J))
+one_new J J' legal args first old new q le = elim (cases_eq q (made J)) [
+  | inl same ↦ (let e : q - made J ≡ 0 = omega (arith, same) in new (q + 1) (omega (arith, same)) ∙ sym (ap (λ i. option_map (λ a. root_node (q + 1) a first) (slice_get (args ∷ []) i)) e))
+  | inr far ↦ (let e : q - made J ≡ suc (q - made J - 1) = omega (arith, le, far) in
+      old (q + 1) (λ e. omega (arith, le, far, e)) ∙ (grown_all J legal).numbered (q + 1) (omega (arith, le)) ∙ sym (ap (λ i. option_map (λ a. root_node (q + 1) a first) (slice_get (args ∷ []) i)) e))
+]
+
 -- an entry that makes a root of its own
 module _ (entry : Entry) (J : Past) (legal : IsLegal (entry ∷ J)) (kept : List Tracked) (roots : List Pid) (left : ℕ) (was : IsKept J kept roots left) (args : Args) (first : ℕ)
     (tree : tree_of J entry ≡ made J + 1) (made_is : made (entry ∷ J) ≡ made J + 1)
@@ -104,13 +113,6 @@ module _ (entry : Entry) (J : Past) (legal : IsLegal (entry ∷ J)) (kept : List
       by : (o : Option Node) → node_of J (q + 1) ≡ o → option_map (kept_at J (q + 1)) o ≡ option_map (kept_at now (q + 1)) o
       by None e = refl
       by (Some x) e = ap Some (sym (ap (λ f. kept_in f now (q + 1) x) (others entry J legal (made J + 1) tree (q + 1) x e (low_root (q + 1) x e)) ∙ still (phase J (q + 1) x) (q + 1) x))
-
-  one_new : (q : ℕ) → made J ≤ q → node_of now (q + 1) ≡ option_map (λ a. root_node (q + 1) a first) (slice_get made_now (q - made J))
-  one_new q le = elim (cases_eq q (made J)) [
-    | inl same ↦ (let e : q - made J ≡ 0 = omega (arith, same) in new (q + 1) (omega (arith, same)) ∙ sym (ap (λ i. option_map (λ a. root_node (q + 1) a first) (slice_get made_now i)) e))
-    | inr far ↦ (let e : q - made J ≡ suc (q - made J - 1) = omega (arith, le, far) in
-        old (q + 1) (λ e. omega (arith, le, far, e)) ∙ (grown_all J legal.0).numbered (q + 1) (omega (arith, le)) ∙ sym (ap (λ i. option_map (λ a. root_node (q + 1) a first) (slice_get made_now i)) e))
-  ]
 
   new_runs : (p : ℕ) (x : Node) → made J < p → node_of now p ≡ Some x → phase now p x ≡ phase_is.Runnable
   new_runs p x lt is = elim (cases_eq p (made J + 1)) [
@@ -137,7 +139,7 @@ module _ (entry : Entry) (J : Past) (legal : IsLegal (entry ∷ J)) (kept : List
   rooted_kept = record {
     legal = legal;
     count = count_more kept None made_now (made J) was.count ∙ sym made_is;
-    kept_are = more_made now (made J) None (λ p a. root_node p a first) (λ p a blank. fresh_root now p a first blank) (phase now) kept was.count made_now old_kept one_new (λ p lt. blank_new entry J legal p lt) new_runs;
+    kept_are = more_made now (made J) None (λ p a. root_node p a first) (λ p a blank. fresh_root now p a first blank) (phase now) kept was.count made_now old_kept (one_new J now legal.0 args first old new) (λ p lt. blank_new entry J legal p lt) new_runs;
     roots_are = roots_added roots kept (added (length kept) None made_now) was.roots_are;
     left_are = ap (λ n. n + 1) was.left_are ∙ sym (all_stay J now 1 made_is true (λ q lt le. open_root now q (root_node q args first) (new q (omega (arith, lt, le))) refl (blank_new entry J legal q lt)) open_same);
   }

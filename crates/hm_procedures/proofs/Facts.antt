@@ -50,10 +50,10 @@ eq_swap a b = elim (cases_eq a b) [
 
 -- what is kept, of a new root and of a new child
 pub fresh_root : (J : Past) (p : ℕ) (args : Args) (first : ℕ) → IsBlank J p → kept_in phase_is.Runnable J p (root_node p args first) ≡ fresh p None args
-fresh_root J p args first b = rw (b.last, b.verb, b.report, b.aborted, b.tries, b.before, b.count, b.cause_is, b.children, b.under) refl
+fresh_root J p args first b = rw (b.last, b.verb, b.report, b.aborted, b.tries, b.before, b.count, b.first, b.cause_is, b.children, b.under) refl
 
 pub fresh_child : (J : Past) (p : ℕ) (pid : Pid) (me : Node) (args : Args) → IsBlank J p → kept_in phase_is.Runnable J p (child_of pid.0 me args) ≡ fresh p (Some (pid, pid_of me.root)) args
-fresh_child J p pid me args b = rw (b.last, b.verb, b.report, b.aborted, b.tries, b.before, b.count, b.cause_is, b.children, b.under) refl
+fresh_child J p pid me args b = rw (b.last, b.verb, b.report, b.aborted, b.tries, b.before, b.count, b.first, b.cause_is, b.children, b.under) refl
 
 -- with other counts
 abbrev counted : Tracked → ℕ → ℕ → Tracked

@@ -15,4 +15,6 @@ mod Readers
 mod Called
 mod Needs
 mod Tops
+mod Firsts
+mod Elders
 mod Kids

@@ -66,7 +66,7 @@ module _ (pid : Pid) (pick : Option Server) (out : StepOut) (J : Past) (legal : 
   is_me = legal.1.1.0.1
 
   -- what is new is a child of who steps
-  child_new : (q : ℕ) → made J < q → q ≤ made after → child_in p (node_of after q) ≡ (pid.0 == p)
+  pub child_new : (q : ℕ) → made J < q → q ≤ made after → child_in p (node_of after q) ≡ (pid.0 == p)
   child_new q lt le =
       let there = (grown_all after legal).there q (omega (arith, lt)) le in
       let c = new_child pid pick out J me is_me q lt there.0 there.1 in

@@ -155,6 +155,17 @@ module _ (J : Past) (kept : List Tracked) (roots : List Pid) (left : ℕ) (was :
         by None = refl
         by (Some x) = ap Some (on_step pid pick out J legal me is_me (phase J (q + 1) x) (q + 1) x ∙ ap (λ f. kept_in f after (q + 1) x) (sym (old_phase J (q + 1) x (omega (arith, lt)))))
 
+    -- who steps, as it is kept then
+    pub step_here : slice_get three (pid.0 - 1) ≡ Some (kept_in (phase_before J pid.0 me) after pid.0 me)
+    step_here =
+        let within = made_up_to J (grown_all J was.legal) pid.0 me is_me in
+        let low = within.0 in
+        let most = within.1 in
+        let up : pid.0 - 1 + 1 ≡ pid.0 = omega (arith, low) in
+        old (pid.0 - 1) (omega (arith, low, most))
+        ∙ ap (shown_as (phase_before J) after) up
+        ∙ ap (option_map (λ x. kept_in (phase_before J pid.0 x) after pid.0 x)) (step_old pid pick out J pid.0 most ∙ is_me)
+
     child_is : (q : ℕ) → made J ≤ q → node_of after (q + 1) ≡ option_map (child_of pid.0 me) (slice_get (args_in out.children) (q - made J))
     child_is q le = let e : q + 1 - made J - 1 ≡ q - made J = omega (arith, le) in node_new pid pick out J me is_me (q + 1) (omega (arith, le)) ∙ ap (λ i. option_map (child_of pid.0 me) (slice_get (args_in out.children) i)) e
 

@@ -1,28 +1,33 @@
 -- What the book's fields hold.
-use Rattle.std.specs.Prelude.{◌≡◌, ◌≤◌, ℕ, ◌+◌, ◌-◌, List, Option, Some, None, min, slice_get, vec_capacity, vec_len}
+use Rattle.std.specs.Prelude.{◌≡◌, ◌≤◌, ℕ, ◌+◌, ◌-◌, ◌⊎◌, List, length, Option, Some, None, min, slice_get, vec_capacity, vec_len}
 use Rattle.hm_names.specs.declared.pid.Pid.{Pid}
 use Rattle.hm_data.specs.declared.entry.Entry.{Entry}
 use Rattle.hm_data.specs.declared.entry.Entry.TheVariants as entry_is
 use Rattle.hm_model.specs.Journal.{Past}
-use Rattle.hm_procedures.specs.Kept.{IsKept}
+use Rattle.hm_procedures.specs.Kept.{AreElders, IsKept}
 use Rattle.hm_procedures.specs.declared.book.Book.{Book}
 
 -- the book is what the journal says
 abbrev pub IsBook : Past → Book → Type 0
-IsBook past book = IsKept past book.kept.items book.trees.roots book.unfinished
+IsBook past book = IsKept past book.kept.items book.trees.roots book.unfinished × AreElders past book.siblings.roots
 
 -- for how many procedures more there is room
 abbrev pub spare_of : Book → ℕ
-spare_of book = min (vec_capacity book.kept - vec_len book.kept) book.trees.spare
+spare_of book = min (vec_capacity book.kept - vec_len book.kept) (min book.trees.spare book.siblings.spare)
 
 -- how much memory there is
 abbrev pub room_of : Book → ℕ
-room_of book = vec_capacity book.kept + book.trees.room
+room_of book = vec_capacity book.kept + book.trees.room + book.siblings.room
 
 -- the root of a new procedure that has a parent is there
 abbrev pub HasRoot : List Pid → Option (Pid × Pid) → Type 0
 HasRoot roots None = Unit {0}
 HasRoot roots (Some up) = (let root = up.1 in 1 ≤ root.0) × (let root = up.1 in slice_get roots (root.0 - 1) ≡ Some root)
+
+-- the eldest sibling of a new procedure is there, or it is the new one
+abbrev pub HasElder : List Pid → Option Pid → Type 0
+HasElder elders None = Unit {0}
+HasElder elders (Some eldest) = (1 ≤ eldest.0) × ((eldest.0 ≡ length elders + 1) ⊎ (slice_get elders (eldest.0 - 1) ≡ Some eldest))
 
 -- the entry makes a root of its own
 abbrev pub IsRooting : Entry → Type 0

@@ -1,5 +1,6 @@
 -- How what is kept changes.
 use Rattle.std.specs.Prelude.{ℕ, zero, suc, ◌+◌, ◌-◌, ◌==◌, List, [], ◌∷◌, ◌++◌, Option, Some, None, Bool, true, false, ◌&&◌, ◌||◌, if◌then◌else◌, is_none, is_some, not, slice_get}
+use Rattle.std.specs.Option.{option_or}
 use Rattle.hm_names.specs.declared.pid.Pid.{Pid}
 use Rattle.hm_data.specs.declared.answer.Cause.{Cause}
 use Rattle.hm_data.specs.declared.args.Args.{Args}
@@ -13,6 +14,11 @@ use Rattle.hm_model.specs.Kinds.{first_row_of, kind_of}
 use Rattle.hm_model.specs.Phase.{end_of, or_else, own_phase, phase_table, root_over}
 use Rattle.hm_model.specs.Places.{has_failed, one_more}
 use Rattle.hm_procedures.specs.declared.kept.Tracked.{Tracked}
+
+-- the first of so many procedures that are made behind so many
+abbrev pub first_made : ℕ → ℕ → Option Pid
+first_made made zero = None
+first_made made (suc count) = Some (record { 0 = made + 1 })
 
 -- the root of a new procedure: that of its parent, or its own
 abbrev pub root_by : ℕ → Option (Pid × Pid) → Pid
@@ -36,12 +42,23 @@ fresh p up args = record {
   open_under = 0;
   made_at_step = 0;
   made_in_step = 0;
+  first_child = None;
 }
 
 -- new procedures, numbered behind a number
 abbrev pub added : ℕ → Option (Pid × Pid) → List Args → List Tracked
 added p up [] = []
 added p up (args ∷ more) = fresh (p + 1) up args ∷ added (p + 1) up more
+
+-- the eldest sibling of a procedure, by the first child of its parent: that one, or itself
+abbrev pub elder_by : ℕ → Option Pid → Pid
+elder_by p None = record { 0 = p }
+elder_by p (Some eldest) = eldest
+
+-- the eldest siblings of new procedures, numbered behind a number
+abbrev pub elders : ℕ → Option Pid → List Args → List Pid
+elders p eldest [] = []
+elders p eldest (args ∷ more) = elder_by (p + 1) eldest ∷ elders (p + 1) eldest more
 
 -- behind a step, where it is the one's own, before which so many had been made and which makes so many
 abbrev pub stepped : Bool → StepOut → ℕ → ℕ → Tracked → Tracked
@@ -52,6 +69,7 @@ stepped own out made count one = record one {
   open_children = one.open_children + (if own then count else 0);
   made_at_step = if own then made else one.made_at_step;
   made_in_step = if own then count else one.made_in_step;
+  first_child = if own then option_or one.first_child (first_made made count) else one.first_child;
 }
 
 -- behind the end of a child, where it is the one's

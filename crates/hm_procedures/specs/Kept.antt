@@ -1,6 +1,6 @@
 -- What is kept of each procedure.
-use Rattle.std.specs.Prelude.{◌≡◌, ℕ, ◌+◌, ◌==◌, List, [], ◌∷◌, length, Option, if◌then◌else◌, is_some, slice_get}
-use Rattle.std.specs.Option.{option_map}
+use Rattle.std.specs.Prelude.{◌≡◌, ℕ, ◌+◌, ◌==◌, List, [], ◌∷◌, length, Option, None, if◌then◌else◌, is_some, slice_get}
+use Rattle.std.specs.Option.{option_map, option_or}
 use Rattle.hm_names.specs.declared.pid.Pid.{Pid}
 use Rattle.hm_data.specs.declared.args.Args.{Args}
 use Rattle.hm_data.specs.declared.args.Args.TheVariants as args_are
@@ -18,6 +18,7 @@ use Rattle.hm_model.specs.Reports.{verb_of}
 use Rattle.hm_model.specs.Rules.{IsLegal}
 use Rattle.hm_model.specs.Tree.{Node, args_in, first_of, made, node_of, parent_in, pid_of}
 use Rattle.hm_model.specs.Waiting.{open_children, open_under}
+use Rattle.hm_procedures.specs.Changes.{elder_by, first_made}
 use Rattle.hm_procedures.specs.declared.kept.Tracked.{Tracked}
 
 -- what the procedures that an entry makes work on, in order
@@ -43,6 +44,19 @@ made_in_step (entry_is.Up server ∷ before) p = made_in_step before p
 made_in_step (entry_is.Down server ∷ before) p = made_in_step before p
 made_in_step (entry_is.Abort pid ∷ before) p = made_in_step before p
 
+-- the first child that a procedure made
+abbrev pub first_child_of : Past → ℕ → Option Pid
+first_child_of [] p = None
+first_child_of (entry_is.Start sheets ∷ before) p = first_child_of before p
+first_child_of (entry_is.Submit nonce request ∷ before) p = first_child_of before p
+first_child_of (entry_is.Step pid pick out ∷ before) p =
+    if p == pid.0 then option_or (first_child_of before p) (first_made (made before) (length (args_in out.children))) else first_child_of before p
+first_child_of (entry_is.Undo pid row out ∷ before) p = first_child_of before p
+first_child_of (entry_is.Report call told ∷ before) p = first_child_of before p
+first_child_of (entry_is.Up server ∷ before) p = first_child_of before p
+first_child_of (entry_is.Down server ∷ before) p = first_child_of before p
+first_child_of (entry_is.Abort pid ∷ before) p = first_child_of before p
+
 -- what is kept of a procedure that is shown in a phase
 abbrev pub kept_in : Phase → Past → ℕ → Node → Tracked
 kept_in phase before p node = record {
@@ -65,6 +79,7 @@ kept_in phase before p node = record {
   open_under = open_under before p;
   made_at_step = made_at_step before p;
   made_in_step = made_in_step before p;
+  first_child = first_child_of before p;
 }
 
 -- what is kept of a procedure
@@ -78,6 +93,19 @@ kept_of before p = option_map (kept_at before p) (node_of before p)
 -- the root that is shown
 abbrev pub root_shown : Tracked → Pid
 root_shown one = let shown = one.shown in shown.root
+
+-- the eldest sibling of a procedure, by its ancestors: the first child of its parent, or itself
+abbrev pub eldest_in : Past → ℕ → List ℕ → Pid
+eldest_in past p [] = pid_of p
+eldest_in past p (up ∷ above) = elder_by p (first_child_of past up)
+
+-- the eldest sibling of a procedure
+abbrev pub eldest_of : Past → ℕ → Node → Pid
+eldest_of past p node = eldest_in past p node.above
+
+-- each procedure has its eldest sibling
+abbrev pub AreElders : Past → List Pid → Type 0
+AreElders past elders = (p : ℕ) → slice_get elders p ≡ option_map (eldest_of past (p + 1)) (node_of past (p + 1))
 
 -- what is kept is what a legal journal says of its procedures, of their roots, and of how many roots haven't ended
 pub record IsKept (past : Past) (kept : List Tracked) (roots : List Pid) (left : ℕ) : Type 0 where

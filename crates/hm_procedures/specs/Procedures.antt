@@ -1,11 +1,11 @@
 -- The procedures as callers see them.
-use Rattle.std.specs.Prelude.{◌≡◌, ℕ, zero, suc, ◌+◌, ◌<◌, List, [], ◌∷◌, ◌++◌, Bool, not, ◌&&◌, Option, Some, None, is_some, filter, map, if◌then◌else◌}
+use Rattle.std.specs.Prelude.{◌≡◌, ℕ, zero, suc, ◌+◌, ◌<◌, List, [], ◌∷◌, ◌++◌, Bool, true, false, not, ◌&&◌, Option, Some, None, is_some, filter, map, if◌then◌else◌}
 use Rattle.hm_names.specs.declared.pid.Pid.{Pid}
 use Rattle.hm_model.specs.Counts.{count_below}
 use Rattle.hm_model.specs.Journal.{Past}
 use Rattle.hm_model.specs.Phase.{child_in, ended}
 use Rattle.hm_model.specs.Pieces.{numbers_from}
-use Rattle.hm_model.specs.Tree.{Node, is_root, made, node_of, pid_of}
+use Rattle.hm_model.specs.Tree.{is_root, made, node_of, pid_of}
 
 -- the journal, back from its newest entry, for how many procedures more there is room, and how much memory there is
 pub record ProceduresView : Type 0 where
@@ -34,13 +34,8 @@ is_unfinished past q = is_some (node_of past q) && not (ended past q)
 abbrev pub unfinished_procedures : Past → ℕ
 unfinished_procedures past = count_below (is_unfinished past) (made past + 1)
 
--- no procedure between two numbers has the root
-abbrev pub NoneBetween : Past → ℕ → ℕ → ℕ → Type 0
-NoneBetween past root low high = (q : ℕ) (node : Node) → low < q → q < high → node_of past q ≡ Some node → node.root ≡ root → ⊥
-
--- the next procedure of the tree of one that is there
-abbrev pub IsBehind : Past → ℕ → Option Pid → Type 0
-IsBehind past p None = (node : Node) → node_of past p ≡ Some node → NoneBetween past node.root p (made past + 1)
-IsBehind past p (Some next) =
-    (node : Node) × (node_of past p ≡ Some node) × (other : Node) × (node_of past next.0 ≡ Some other) × (other.root ≡ node.root)
-    × (p < next.0) × NoneBetween past node.root p next.0
+-- the next child of a procedure behind a number
+abbrev pub IsNextChild : Past → ℕ → ℕ → Option Pid → Type 0
+IsNextChild past p low None = (q : ℕ) → low < q → child_in p (node_of past q) ≡ false
+IsNextChild past p low (Some next) =
+    (low < next.0) × (child_in p (node_of past next.0) ≡ true) × ((q : ℕ) → low < q → q < next.0 → child_in p (node_of past q) ≡ false)

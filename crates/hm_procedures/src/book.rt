@@ -6,14 +6,14 @@ ghost use Rattle.hm_model.specs.Apart.{tree_of};
 ghost use Rattle.hm_model.specs.Counts.{one_if};
 ghost use Rattle.hm_model.specs.Rules.{IsLegal};
 ghost use Rattle.hm_model.specs.Undo.{is_empty, stack};
-ghost use Rattle.hm_procedures.specs.Book.{HasRoot, IsAbort, IsBook, IsReport, IsRooting, IsUndo, room_of, spare_of};
-ghost use Rattle.hm_procedures.specs.Changes.{added};
+ghost use Rattle.hm_procedures.specs.Book.{HasElder, HasRoot, IsAbort, IsBook, IsReport, IsRooting, IsUndo, room_of, spare_of};
+ghost use Rattle.hm_procedures.specs.Changes.{added, elder_by, elders};
 ghost use Rattle.hm_procedures.specs.Kept.{args_made, root_shown};
 ghost use Rattle.hm_procedures.specs.declared.kept.Tracked.{Tracked as TrackedOf};
 
 use crate::changes::{note_abort, note_all, note_report};
 use crate::journal::Journal;
-use crate::kept::Tracked;
+use crate::kept::{Tracked, first_child};
 use crate::phases::{family, has_ended, show_phases};
 use crate::trees::Trees;
 use hm_data::{Args, Entry, StepOut, Told};
@@ -28,11 +28,27 @@ pub(crate) fn less_if(count: u64, over: bool) -> u64
     if over { count - 1 } else { count }
 }
 
-// What is kept of each procedure, the trees, and how many roots haven't ended.
+// Adds a procedure to the others: behind the eldest of its siblings, or as the eldest.
+fn add_sibling(siblings: &mut Trees, pid: Pid, eldest: Option<Pid>)
+    requires room { 1 ≤ siblings.old.spare }
+    requires number { pid.0 ≡ length siblings.old.roots + 1 }
+    requires elder { HasElder siblings.old.roots eldest }
+    ensures roots { siblings.new.roots ≡ siblings.old.roots ++ elder_by pid.0 eldest ∷ [] }
+    ensures spare { siblings.old.spare ≤ siblings.new.spare + 1 }
+    ensures room { siblings.new.room ≡ siblings.old.room }
+{
+    match eldest {
+        Some(eldest) if eldest.0 != pid.0 => siblings.add(eldest),
+        _ => siblings.add_root(),
+    }
+}
+
+// What is kept of each procedure, the trees, the children of each parent, led by the eldest, and how many roots haven't ended.
 #[derive(Drop)]
 pub(crate) struct Book {
     pub(crate) kept: Vec<Tracked>,
     pub(crate) trees: Trees,
+    pub(crate) siblings: Trees,
     pub(crate) unfinished: u64,
 }
 
@@ -43,6 +59,7 @@ impl Book {
         Book {
             kept: Vec::new(alloc),
             trees: Trees::new(alloc),
+            siblings: Trees::new(alloc),
             unfinished: 0,
         }
     }
@@ -51,21 +68,26 @@ impl Book {
     pub(crate) fn reserve(&mut self, count: u64) -> Result<(), AllocError>
         ensures kept { self.new.kept.items ≡ self.old.kept.items }
         ensures trees { self.new.trees.roots ≡ self.old.trees.roots }
+        ensures siblings { self.new.siblings.roots ≡ self.old.siblings.roots }
         ensures unfinished { self.new.unfinished ≡ self.old.unfinished }
         ensures room { OnOk result (count ≤ spare_of self.new) }
         ensures spare { spare_of self.old ≤ spare_of self.new }
     {
         self.kept.reserve(count as usize)?;
-        self.trees.reserve(count as usize)
+        self.trees.reserve(count as usize)?;
+        self.siblings.reserve(count as usize)
     }
 
-    // Adds a new procedure, as a root or with its parent and its root.
-    fn add(&mut self, up: Option<(Pid, Pid)>, args: Args)
+    // Adds a new procedure, as a root or with its parent and its root, and with the eldest child of its parent.
+    fn add(&mut self, up: Option<(Pid, Pid)>, eldest: Option<Pid>, args: Args)
         requires room { 1 ≤ spare_of self.old }
         requires count { length self.old.trees.roots ≡ length self.old.kept.items }
+        requires siblings { length self.old.siblings.roots ≡ length self.old.kept.items }
         requires root { HasRoot self.old.trees.roots up }
+        requires elder { HasElder self.old.siblings.roots eldest }
         ensures kept { self.new.kept.items ≡ self.old.kept.items ++ added (length self.old.kept.items) up (args ∷ []) }
         ensures trees { self.new.trees.roots ≡ self.old.trees.roots ++ map root_shown (added (length self.old.kept.items) up (args ∷ [])) }
+        ensures siblings { self.new.siblings.roots ≡ self.old.siblings.roots ++ elders (length self.old.kept.items) eldest (args ∷ []) }
         ensures unfinished { self.new.unfinished ≡ self.old.unfinished }
         ensures spare { spare_of self.old ≤ spare_of self.new + 1 }
         ensures room { room_of self.new ≡ room_of self.old }
@@ -75,22 +97,26 @@ impl Book {
             Some((_, root)) => self.trees.add(root),
             None => self.trees.add_root(),
         }
+        add_sibling(&mut self.siblings, pid, eldest);
         self.kept.push_reserved(Tracked::fresh(pid, up, args));
     }
 
-    // Adds new procedures, as roots or with their parent and their root.
-    fn add_all(&mut self, up: Option<(Pid, Pid)>, made: List<Args>)
+    // Adds new procedures, as roots or with their parent and their root, and with the eldest child of their parent.
+    fn add_all(&mut self, up: Option<(Pid, Pid)>, eldest: Option<Pid>, made: List<Args>)
         requires room { length made ≤ spare_of self.old }
         requires count { length self.old.trees.roots ≡ length self.old.kept.items }
+        requires siblings { length self.old.siblings.roots ≡ length self.old.kept.items }
         requires root { HasRoot self.old.trees.roots up }
+        requires elder { HasElder self.old.siblings.roots eldest }
         ensures kept { self.new.kept.items ≡ self.old.kept.items ++ added (length self.old.kept.items) up made }
         ensures trees { self.new.trees.roots ≡ self.old.trees.roots ++ map root_shown (added (length self.old.kept.items) up made) }
+        ensures siblings { self.new.siblings.roots ≡ self.old.siblings.roots ++ elders (length self.old.kept.items) eldest made }
         ensures unfinished { self.new.unfinished ≡ self.old.unfinished }
         ensures spare { spare_of self.old ≤ spare_of self.new + length made }
         ensures room { room_of self.new ≡ room_of self.old }
     {
         for args in made.into_vec() {
-            self.add(up, args);
+            self.add(up, eldest, args);
         }
     }
 
@@ -105,7 +131,7 @@ impl Book {
         ensures spare { spare_of self.old ≤ spare_of self.new + length made }
         ensures room { room_of self.new ≡ room_of self.old }
     {
-        self.add_all(None, made);
+        self.add_all(None, None, made);
         self.unfinished += 1;
     }
 
@@ -132,7 +158,8 @@ impl Book {
         let before = self.kept.len() as u64;
         let count = made.as_slice().len() as u64;
         note_all(&mut self.kept, pid, parent, root, out, before, count);
-        self.add_all(Some((pid, root)), made);
+        let eldest = first_child(&self.kept, pid);
+        self.add_all(Some((pid, root)), eldest, made);
         show_phases(&mut self.kept, &self.trees, pid, parent, root, nothing_left);
         let over = has_ended(&self.kept, root);
         self.unfinished = less_if(self.unfinished, over);
@@ -159,7 +186,7 @@ impl Book {
         };
         let (parent, root) = family(&self.kept, *pid);
         self.unfinished += made.as_slice().len() as u64;
-        self.add_all(None, made);
+        self.add_all(None, None, made);
         show_phases(
             &mut self.kept,
             &self.trees,

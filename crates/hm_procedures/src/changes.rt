@@ -16,6 +16,7 @@ pub(crate) fn note_step(kept: &mut [Tracked], pid: Pid, out: &StepOut, made: u64
     requires low { 1 ≤ pid.0 }
     requires high { pid.0 ≤ length kept.old }
     requires small { (one : TrackedOf) → slice_get kept.old (pid.0 - 1) ≡ Some one → one.open_children + count < 2 ^ 64 }
+    requires numbers { made + count < 2 ^ 64 }
     ensures { (p : ℕ) → slice_get kept.new p ≡ option_map (stepped (p + 1 == pid.0) out.now made count) (slice_get kept.old p) }
 {
     kept[pid.0 as usize - 1].step(out, made, count);
@@ -92,6 +93,7 @@ pub(crate) fn note_all(
     requires root_low { 1 ≤ root.0 }
     requires root_high { root.0 ≤ length kept.old }
     requires small { (one : TrackedOf) → slice_get kept.old (pid.0 - 1) ≡ Some one → one.open_children + count < 2 ^ 64 }
+    requires numbers { made + count < 2 ^ 64 }
     requires child { let answer = (let now = out.now in now.answer) in stops answer ≡ true → (up : PidOf) → parent ≡ Some up → (one : TrackedOf) → slice_get kept.old (up.0 - 1) ≡ Some one → 1 ≤ one.open_children }
     requires few { (one : TrackedOf) → slice_get kept.old (root.0 - 1) ≡ Some one → one.open_under + count < 2 ^ 64 }
     requires under { let answer = (let now = out.now in now.answer) in (stops answer && is_some parent) ≡ true → (one : TrackedOf) → slice_get kept.old (root.0 - 1) ≡ Some one → 1 ≤ one.open_under + count }

@@ -1,11 +1,12 @@
 //! What is kept of a procedure.
-ghost use Rattle.std.specs.Prelude.{◌≡◌, ◌+◌, ◌<◌, ◌≤◌, ◌^◌, ◌==◌, Bool, true, false, Some, if◌then◌else◌, slice_get};
-ghost use Rattle.std.specs.Option.{option_copied};
+ghost use Rattle.std.specs.Prelude.{◌≡◌, ◌+◌, ◌-◌, ◌<◌, ◌≤◌, ◌^◌, ◌==◌, Bool, true, false, Some, if◌then◌else◌, length, slice_get};
+ghost use Rattle.std.specs.Option.{option_copied, option_or};
 ghost use Rattle.hm_model.specs.Answers.{done_with as told_by, failing as failure_of, is_stop as stops, is_stopped as has_stopped, row_after as row_behind};
 ghost use Rattle.hm_model.specs.Kinds.{first_row_of as row_at_first};
 ghost use Rattle.hm_model.specs.Phase.{own_phase as own_phase_of, phase_table};
 ghost use Rattle.hm_model.specs.Places.{has_failed as has_failed_at, one_more};
-ghost use Rattle.hm_procedures.specs.Changes.{fresh, has_ended as is_over, is_undoing, phase_by, shown_if, stepped};
+ghost use Rattle.hm_procedures.specs.Changes.{first_made, fresh, has_ended as its_end, is_undoing, phase_by, shown_if, stepped};
+ghost use Rattle.hm_procedures.specs.declared.kept.Tracked.{Tracked as TrackedOf};
 
 use crate::kinds::{first_row_of, kind_of};
 use hm_data::{Answer, Args, Cause, Phase, Place, Record, RegionState, StepOut, Told};
@@ -28,6 +29,8 @@ pub(crate) struct Tracked {
     // How many procedures had been made before its last step, and how many that made.
     pub(crate) made_at_step: u64,
     pub(crate) made_in_step: u64,
+    // The first child that it made.
+    pub(crate) first_child: Option<Pid>,
 }
 
 // Whether an answer ends a procedure.
@@ -136,6 +139,27 @@ pub(crate) fn kept_at(kept: &[Tracked], place: u64) -> Option<&Tracked>
     kept.get(place as usize)
 }
 
+// The first child of a procedure.
+pub(crate) fn first_child(kept: &[Tracked], pid: Pid) -> Option<Pid>
+    requires low { 1 ≤ pid.0 }
+    requires high { pid.0 ≤ length kept.now }
+    ensures { (one : TrackedOf) → slice_get kept.now (pid.0 - 1) ≡ Some one → result ≡ one.first_child }
+{
+    kept[pid.0 as usize - 1].first_child
+}
+
+// The first child behind a step, before which so many procedures had been made and which makes so many.
+fn first_after(first: Option<Pid>, made: u64, count: u64) -> Option<Pid>
+    requires { made + count < 2 ^ 64 }
+    ensures { result ≡ option_or first (first_made made count) }
+{
+    match first {
+        Some(first) => Some(first),
+        None if count == 0 => None,
+        None => Some(Pid(made + 1)),
+    }
+}
+
 impl Tracked {
     // A new procedure, as a root or with its parent and its root.
     pub(crate) fn fresh(pid: Pid, up: Option<(Pid, Pid)>, args: Args) -> Tracked
@@ -167,12 +191,14 @@ impl Tracked {
             open_under: 0,
             made_at_step: 0,
             made_in_step: 0,
+            first_child: None,
         }
     }
 
     // Takes in its own step, before which so many had been made and which makes so many.
     pub(crate) fn step(&mut self, out: &StepOut, made: u64, count: u64)
-        requires { self.old.open_children + count < 2 ^ 64 }
+        requires children { self.old.open_children + count < 2 ^ 64 }
+        requires numbers { made + count < 2 ^ 64 }
         ensures { self.new ≡ stepped true out.now made count self.old }
     {
         self.shown.row = row_after(&self.shown.args, &out.answer);
@@ -182,6 +208,7 @@ impl Tracked {
         self.open_children += count;
         self.made_at_step = made;
         self.made_in_step = count;
+        self.first_child = first_after(self.first_child, made, count);
     }
 
     // The phase, by the cause of the root and whether that is rolled back.
@@ -201,7 +228,7 @@ impl Tracked {
 
     // Whether it has ended.
     pub(crate) fn has_ended(&self) -> bool
-        ensures { result ≡ is_over self.now }
+        ensures { result ≡ its_end self.now }
     {
         if self.shown.parent.is_some() {
             return is_stopped(&self.last);

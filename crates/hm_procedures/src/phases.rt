@@ -2,7 +2,7 @@
 ghost use Rattle.std.specs.Prelude.{◌≡◌, ℕ, ◌+◌, ◌-◌, ◌<◌, ◌≤◌, ◌&&◌, ◌==◌, true, Some, length, slice_get};
 ghost use Rattle.std.specs.Option.{option_map};
 ghost use Rattle.hm_names.specs.declared.pid.Pid.{Pid as PidOf};
-ghost use Rattle.hm_procedures.specs.Changes.{has_ended as is_over, is_shown, is_this, is_touched, shown_if};
+ghost use Rattle.hm_procedures.specs.Changes.{has_ended as its_end, is_shown, is_this, is_touched, shown_if};
 ghost use Rattle.hm_procedures.specs.Kept.{root_shown};
 ghost use Rattle.hm_procedures.specs.declared.kept.Tracked.{Tracked as TrackedOf};
 
@@ -108,7 +108,7 @@ pub(crate) fn show_phases(
 pub(crate) fn has_ended(kept: &[Tracked], pid: Pid) -> bool
     requires low { 1 ≤ pid.0 }
     requires high { pid.0 ≤ length kept.now }
-    ensures { (one : TrackedOf) → slice_get kept.now (pid.0 - 1) ≡ Some one → result ≡ is_over one }
+    ensures { (one : TrackedOf) → slice_get kept.now (pid.0 - 1) ≡ Some one → result ≡ its_end one }
 {
     kept[pid.0 as usize - 1].has_ended()
 }

@@ -1,4 +1,4 @@
-ghost use Rattle.std.specs.Prelude.{◌≡◌, ◌≢◌, ◌+◌, ◌<◌, ◌≤◌, ◌^◌, ◌↔◌, [], ◌∷◌, ◌++◌, if◌then◌else◌, length, IfOk, OnOk, None, is_some, IsTrue};
+ghost use Rattle.std.specs.Prelude.{◌≡◌, ◌≢◌, ℕ, ◌+◌, ◌<◌, ◌≤◌, ◌^◌, ◌↔◌, [], ◌∷◌, length, IfOk, OnOk, None, true, is_some, IsTrue};
 ghost use Rattle.std.specs.Option.{option_copied};
 ghost use Rattle.hm_model.specs.Answers.{last_answer, report_of};
 ghost use Rattle.hm_model.specs.Apart.{tree_of};
@@ -12,8 +12,8 @@ ghost use Rattle.hm_model.specs.Tree.{made, node_of};
 ghost use Rattle.hm_model.specs.Undo.{is_empty, stack};
 ghost use Rattle.hm_model.specs.Waiting.{children_made, ends_one};
 ghost use Rattle.hm_procedures.specs.Below.{is_below};
-ghost use Rattle.hm_procedures.specs.Kept.{args_made, kept_of, made_in_step};
-ghost use Rattle.hm_procedures.specs.Procedures.{IsBehind, children, roots, unfinished_procedures};
+ghost use Rattle.hm_procedures.specs.Kept.{args_made, first_child_of, kept_of, made_in_step};
+ghost use Rattle.hm_procedures.specs.Procedures.{IsNextChild, children, roots, unfinished_procedures};
 
 use crate::book::{Book, less_if};
 use crate::calls::call_with;
@@ -25,16 +25,6 @@ use hm_model::laws::calls_are_own;
 use hm_names::{List, Pid};
 use std::alloc::{AllocError, Global};
 use std::marker::Model;
-
-// Adds a procedure to a list, where it belongs there.
-fn push_if(list: &mut Vec<Pid>, belongs: bool, pid: Pid) -> Result<(), AllocError>
-    ensures { OnOk result (list.new.items ≡ list.old.items ++ (if belongs then pid ∷ [] else [])) }
-{
-    if belongs {
-        list.push(pid)?;
-    }
-    Ok(())
-}
 
 /// The procedures of a journal as they stand. Contracts see the journal, back from its newest entry, and for how many
 /// procedures more there is room.
@@ -205,40 +195,36 @@ impl Procedures {
         }
     }
 
-    /// Its children, in the order of their numbers. Their tree is gone over, from the procedure on.
+    /// Its children, in the order of their numbers.
     pub fn children(&self, alloc: Global, pid: Pid) -> Result<List<Pid>, AllocError>
         ensures { IfOk result (λ list. list ≡ children self.now.past pid.0) }
     {
         let _legal = self.last_pid();
         let mut children = Vec::new(alloc);
-        let mut at = self.behind(pid);
-        while let Some(other) = at {
-            let own = self.is_child(other, pid);
-            push_if(&mut children, own, other)?;
-            at = self.behind(other);
+        let mut at = self.first_child(pid);
+        while let Some(child) = at {
+            children.push(child)?;
+            at = self.next_sibling(child);
         }
         Ok(List::of(children))
     }
 
-    // The next procedure of its tree.
-    fn behind(&self, pid: Pid) -> Option<Pid>
-        ensures { IsBehind self.now.past pid.0 result }
+    // The first child of a procedure.
+    fn first_child(&self, pid: Pid) -> Option<Pid>
+        ensures { result ≡ first_child_of self.now.past pid.0 }
     {
-        self.kept(pid)?;
-        self.book.trees.next(pid)
+        match self.kept(pid) {
+            Some(kept) => kept.first_child,
+            None => None,
+        }
     }
 
-    // Whether it is a child of another one.
-    fn is_child(&self, pid: Pid, parent: Pid) -> bool
-        ensures { result ≡ child_in parent.0 (node_of self.now.past pid.0) }
+    // The next child of its parent.
+    fn next_sibling(&self, pid: Pid) -> Option<Pid>
+        ensures { (parent : ℕ) → child_in parent (node_of self.now.past pid.0) ≡ true → IsNextChild self.now.past parent pid.0 result }
     {
-        match self.find(pid) {
-            Some(record) => match record.parent {
-                Some(up) => up.0 == parent.0,
-                None => false,
-            },
-            None => false,
-        }
+        self.kept(pid)?;
+        self.book.siblings.next(pid)
     }
 
     /// How many roots haven't ended.

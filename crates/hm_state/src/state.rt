@@ -147,7 +147,7 @@ impl State {
         self.procedures().find(pid)
     }
 
-    /// The children of a procedure, in the order of their numbers. Their tree is gone over, from the procedure on.
+    /// The children of a procedure, in the order of their numbers.
     pub fn children(&self, alloc: Global, pid: Pid) -> Result<List<Pid>, AllocError>
         ensures { IfOk result (λ list. list ≡ children (back self.now.entries) pid.0) }
     {

@@ -1,9 +1,10 @@
-use Rattle.std.proofs.Common.{◌≡◌, ℕ, ◌+◌, ◌==◌, ◌∷◌, slice_get, ap, subst, ◌∙◌, arith}
+use Rattle.std.proofs.Common.{◌≡◌, ℕ, ◌+◌, ◌==◌, ◌∷◌, slice_get, ap, refl, subst, ◌∙◌, arith}
 use Rattle.std.specs.Option.{option_map}
 use Rattle.hm_procedures.specs.Changes.{aborted}
 use Rattle.hm_procedures.proofs.Places.{written}
 use Rattle.hm_model.specs.Journal.{Past}
 use Rattle.hm_procedures.specs.declared.book.Book.{Book}
+use Rattle.hm_procedures.proofs.Elders.{same_elders}
 use Rattle.hm_procedures.proofs.Enters.{abort_kept, same_length}
 use Rattle.hm_procedures.proofs.Needs.{abort_there, kept_here}
 use Rattle.hm_data.specs.declared.entry.Entry.{Entry}
@@ -17,7 +18,7 @@ note_abort-requires-clause-low c =
     let J : Past = c.args.past.now.entries in
     let b : Book = c.args.self.now in
     let there = abort_there c.in-Abort.pid J legal in
-    (kept_here J b.kept.items b.trees.roots b.unfinished c.requires.book c.in-Abort.pid.0 there.0 there.1).0
+    (kept_here J b.kept.items b.trees.roots b.unfinished c.requires.book.0 c.in-Abort.pid.0 there.0 there.1).0
 
 pub note_abort-requires-clause-high : goal.note_abort-requires-clause-high
 note_abort-requires-clause-high c =
@@ -25,7 +26,7 @@ note_abort-requires-clause-high c =
     let J : Past = c.args.past.now.entries in
     let b : Book = c.args.self.now in
     let there = abort_there c.in-Abort.pid J legal in
-    rw c.deref_mut.ensures.value (kept_here J b.kept.items b.trees.roots b.unfinished c.requires.book c.in-Abort.pid.0 there.0 there.1).1
+    rw c.deref_mut.ensures.value (kept_here J b.kept.items b.trees.roots b.unfinished c.requires.book.0 c.in-Abort.pid.0 there.0 there.1).1
 
 pub returns-clause-book : goal.returns-clause-book
 returns-clause-book c =
@@ -35,4 +36,7 @@ returns-clause-book c =
     let each : (q : ℕ) → slice_get c.note_abort.new.kept q ≡ option_map (aborted (q + 1 == c.in-Abort.pid.0)) (slice_get b.kept.items q) = λ q. c.note_abort.ensures q ∙ ap (λ l. option_map (aborted (q + 1 == c.in-Abort.pid.0)) (slice_get l q)) c.deref_mut.ensures.value in
     let ok = b.kept.ok.0 in
     let once = written b.kept.items c.note_abort.new.kept b.kept.len (same_length (λ q. aborted (q + 1 == c.in-Abort.pid.0)) c.note_abort.new.kept b.kept.items each) (omega (arith, ok)) in
-    λ is. rw (c.in-Abort.is, once) (abort_kept J b.kept.items b.trees.roots b.unfinished c.requires.book c.in-Abort.pid legal c.note_abort.new.kept each)
+    λ is. (
+      rw (c.in-Abort.is, once) (abort_kept J b.kept.items b.trees.roots b.unfinished c.requires.book.0 c.in-Abort.pid legal c.note_abort.new.kept each),
+      rw c.in-Abort.is (same_elders J c.requires.book.0.legal b.siblings.roots c.requires.book.1 (entry_is.Abort c.in-Abort.pid) legal (λ q lt. refl)),
+    )

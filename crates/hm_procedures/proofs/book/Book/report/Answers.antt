@@ -1,9 +1,10 @@
-use Rattle.std.proofs.Common.{◌≡◌, ℕ, ◌+◌, ◌==◌, ◌∷◌, slice_get, ap, subst, ◌∙◌, arith}
+use Rattle.std.proofs.Common.{◌≡◌, ℕ, ◌+◌, ◌==◌, ◌∷◌, slice_get, ap, refl, subst, ◌∙◌, arith}
 use Rattle.std.specs.Option.{option_map}
 use Rattle.hm_procedures.specs.Changes.{reported}
 use Rattle.hm_procedures.proofs.Places.{written}
 use Rattle.hm_model.specs.Journal.{Past}
 use Rattle.hm_procedures.specs.declared.book.Book.{Book}
+use Rattle.hm_procedures.proofs.Elders.{same_elders}
 use Rattle.hm_procedures.proofs.Enters.{report_kept, same_length}
 use Rattle.hm_procedures.proofs.Needs.{report_there, kept_here}
 use Rattle.hm_data.specs.declared.entry.Entry.{Entry}
@@ -17,7 +18,7 @@ note_report-requires-clause-low c =
     let J : Past = c.args.past.now.entries in
     let b : Book = c.args.self.now in
     let there = report_there c.in-Report.call c.in-Report.told J legal in
-    (kept_here J b.kept.items b.trees.roots b.unfinished c.requires.book c.in-Report.call.0 there.0 there.1).0
+    (kept_here J b.kept.items b.trees.roots b.unfinished c.requires.book.0 c.in-Report.call.0 there.0 there.1).0
 
 pub note_report-requires-clause-high : goal.note_report-requires-clause-high
 note_report-requires-clause-high c =
@@ -25,7 +26,7 @@ note_report-requires-clause-high c =
     let J : Past = c.args.past.now.entries in
     let b : Book = c.args.self.now in
     let there = report_there c.in-Report.call c.in-Report.told J legal in
-    rw c.deref_mut.ensures.value (kept_here J b.kept.items b.trees.roots b.unfinished c.requires.book c.in-Report.call.0 there.0 there.1).1
+    rw c.deref_mut.ensures.value (kept_here J b.kept.items b.trees.roots b.unfinished c.requires.book.0 c.in-Report.call.0 there.0 there.1).1
 
 pub returns-clause-book : goal.returns-clause-book
 returns-clause-book c =
@@ -35,4 +36,7 @@ returns-clause-book c =
     let each : (q : ℕ) → slice_get c.note_report.new.kept q ≡ option_map (reported (q + 1 == c.in-Report.call.0) c.in-Report.told) (slice_get b.kept.items q) = λ q. c.note_report.ensures q ∙ ap (λ l. option_map (reported (q + 1 == c.in-Report.call.0) c.in-Report.told) (slice_get l q)) c.deref_mut.ensures.value in
     let ok = b.kept.ok.0 in
     let once = written b.kept.items c.note_report.new.kept b.kept.len (same_length (λ q. reported (q + 1 == c.in-Report.call.0) c.in-Report.told) c.note_report.new.kept b.kept.items each) (omega (arith, ok)) in
-    λ is. rw (c.in-Report.is, once) (report_kept J b.kept.items b.trees.roots b.unfinished c.requires.book c.in-Report.call c.in-Report.told legal c.note_report.new.kept each)
+    λ is. (
+      rw (c.in-Report.is, once) (report_kept J b.kept.items b.trees.roots b.unfinished c.requires.book.0 c.in-Report.call c.in-Report.told legal c.note_report.new.kept each),
+      rw c.in-Report.is (same_elders J c.requires.book.0.legal b.siblings.roots c.requires.book.1 (entry_is.Report c.in-Report.call c.in-Report.told) legal (λ q lt. refl)),
+    )

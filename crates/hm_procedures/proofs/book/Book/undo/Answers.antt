@@ -11,6 +11,7 @@ use Rattle.hm_procedures.specs.Changes.{added, has_ended}
 use Rattle.hm_procedures.specs.Kept.{args_made, kept_at, root_shown}
 use Rattle.hm_procedures.specs.declared.book.Book.{Book}
 use Rattle.hm_procedures.specs.declared.kept.Tracked.{Tracked}
+use Rattle.hm_procedures.proofs.Elders.{elders_long, elders_undo}
 use Rattle.hm_procedures.proofs.Enters.{count_more}
 use Rattle.hm_procedures.proofs.Facts.{parent_shown}
 use Rattle.hm_procedures.proofs.InTrees.{undo_tree, undone_there}
@@ -29,7 +30,7 @@ family-parent-requires-clause-low c =
     let found = undone_there c.in-Undo.pid c.in-Undo._row c.in-Undo._out c.args.past.now.entries legal in
     let me : Node = found.0 in
     let is_me = found.1 in
-    let here = kept_here J b.kept.items b.trees.roots b.unfinished c.requires.book c.in-Undo.pid.0 me is_me in
+    let here = kept_here J b.kept.items b.trees.roots b.unfinished c.requires.book.0 c.in-Undo.pid.0 me is_me in
     here.0
 
 pub family-parent-requires-clause-high : goal.family-parent-requires-clause-high
@@ -40,20 +41,26 @@ family-parent-requires-clause-high c =
     let found = undone_there c.in-Undo.pid c.in-Undo._row c.in-Undo._out c.args.past.now.entries legal in
     let me : Node = found.0 in
     let is_me = found.1 in
-    let here = kept_here J b.kept.items b.trees.roots b.unfinished c.requires.book c.in-Undo.pid.0 me is_me in
+    let here = kept_here J b.kept.items b.trees.roots b.unfinished c.requires.book.0 c.in-Undo.pid.0 me is_me in
     rw c.deref.ensures.value here.1
 
 pub overflow_add-self : goal.overflow_add-self
 overflow_add-self c =
     let b : Book = c.args.self.now in
-    let few = few_roots c.args.past.now.entries b.kept.items b.trees.roots b.unfinished c.requires.book in
+    let few = few_roots c.args.past.now.entries b.kept.items b.trees.roots b.unfinished c.requires.book.0 in
     let m = ap length c.as_slice.ensures in
     omega (arith, few, m, c.requires.room, b.kept.ok.0, b.kept.small)
 
 pub add_all-requires-clause-count : goal.add_all-requires-clause-count
 add_all-requires-clause-count c =
     let b : Book = c.args.self.now in
-    roots_long c.args.past.now.entries b.kept.items b.trees.roots b.unfinished c.requires.book
+    roots_long c.args.past.now.entries b.kept.items b.trees.roots b.unfinished c.requires.book.0
+
+pub add_all-requires-clause-siblings : goal.add_all-requires-clause-siblings
+add_all-requires-clause-siblings c =
+    let J : Past = c.args.past.now.entries in
+    let b : Book = c.args.self.now in
+    elders_long J c.requires.book.0.legal b.siblings.roots c.requires.book.1 (kept_at J) b.kept.items c.requires.book.0.kept_are
 
 pub show_phases-requires-clause-pid_low : goal.show_phases-requires-clause-pid_low
 show_phases-requires-clause-pid_low c =
@@ -63,7 +70,7 @@ show_phases-requires-clause-pid_low c =
     let found = undone_there c.in-Undo.pid c.in-Undo._row c.in-Undo._out c.args.past.now.entries legal in
     let me : Node = found.0 in
     let is_me = found.1 in
-    let here = kept_here J b.kept.items b.trees.roots b.unfinished c.requires.book c.in-Undo.pid.0 me is_me in
+    let here = kept_here J b.kept.items b.trees.roots b.unfinished c.requires.book.0 c.in-Undo.pid.0 me is_me in
     here.0
 
 pub show_phases-requires-clause-pid_high : goal.show_phases-requires-clause-pid_high
@@ -75,13 +82,13 @@ show_phases-requires-clause-pid_high c =
     let found = undone_there c.in-Undo.pid c.in-Undo._row c.in-Undo._out c.args.past.now.entries legal in
     let me : Node = found.0 in
     let is_me = found.1 in
-    let here = kept_here J b.kept.items b.trees.roots b.unfinished c.requires.book c.in-Undo.pid.0 me is_me in
+    let here = kept_here J b.kept.items b.trees.roots b.unfinished c.requires.book.0 c.in-Undo.pid.0 me is_me in
     let fam = c.family-parent.ensures (kept_at J c.in-Undo.pid.0 me) (ap (λ l. slice_get l (c.in-Undo.pid.0 - 1)) c.deref.ensures.value ∙ here.2) in
-    let top = root_here J b.kept.items b.trees.roots b.unfinished c.requires.book c.in-Undo.pid.0 me is_me in
+    let top = root_here J b.kept.items b.trees.roots b.unfinished c.requires.book.0 c.in-Undo.pid.0 me is_me in
     let er = ap (λ (p : Pid). p.0) fam.1 in
-    let mid_is : c.add_all.new.self.kept.items ≡ mid_undo c.args.past.now.entries c.args.self.now.kept.items c.args.self.now.trees.roots c.args.self.now.unfinished c.requires.book c.in-Undo.pid c.in-Undo._row c.in-Undo._out legal me is_me = c.add_all.ensures.kept ∙ rw made_is refl in
-    let roots_is : c.add_all.new.self.trees.roots ≡ roots_undo c.args.past.now.entries c.args.self.now.kept.items c.args.self.now.trees.roots c.args.self.now.unfinished c.requires.book c.in-Undo.pid c.in-Undo._row c.in-Undo._out legal me is_me = c.add_all.ensures.trees ∙ rw made_is refl in
-    let n = c.requires.book.count in
+    let mid_is : c.add_all.new.self.kept.items ≡ mid_undo c.args.past.now.entries c.args.self.now.kept.items c.args.self.now.trees.roots c.args.self.now.unfinished c.requires.book.0 c.in-Undo.pid c.in-Undo._row c.in-Undo._out legal me is_me = c.add_all.ensures.kept ∙ rw made_is refl in
+    let roots_is : c.add_all.new.self.trees.roots ≡ roots_undo c.args.past.now.entries c.args.self.now.kept.items c.args.self.now.trees.roots c.args.self.now.unfinished c.requires.book.0 c.in-Undo.pid c.in-Undo._row c.in-Undo._out legal me is_me = c.add_all.ensures.trees ∙ rw made_is refl in
+    let n = c.requires.book.0.count in
     let more = ap length mid_is ∙ count_more b.kept.items None (args_in c.in-Undo._out.followers) (made J) n in
     let long = ap length c.deref_mut.ensures.value in omega (arith, here.1, more, n, long)
 
@@ -93,11 +100,11 @@ show_phases-requires-clause-parent_low c =
     let found = undone_there c.in-Undo.pid c.in-Undo._row c.in-Undo._out c.args.past.now.entries legal in
     let me : Node = found.0 in
     let is_me = found.1 in
-    let here = kept_here J b.kept.items b.trees.roots b.unfinished c.requires.book c.in-Undo.pid.0 me is_me in
+    let here = kept_here J b.kept.items b.trees.roots b.unfinished c.requires.book.0 c.in-Undo.pid.0 me is_me in
     let fam = c.family-parent.ensures (kept_at J c.in-Undo.pid.0 me) (ap (λ l. slice_get l (c.in-Undo.pid.0 - 1)) c.deref.ensures.value ∙ here.2) in
-    let top = root_here J b.kept.items b.trees.roots b.unfinished c.requires.book c.in-Undo.pid.0 me is_me in
+    let top = root_here J b.kept.items b.trees.roots b.unfinished c.requires.book.0 c.in-Undo.pid.0 me is_me in
     let er = ap (λ (p : Pid). p.0) fam.1 in
-    λ up is. (parent_here J b.kept.items b.trees.roots b.unfinished c.requires.book c.in-Undo.pid.0 me is_me up (sym fam.0 ∙ is)).0
+    λ up is. (parent_here J b.kept.items b.trees.roots b.unfinished c.requires.book.0 c.in-Undo.pid.0 me is_me up (sym fam.0 ∙ is)).0
 
 pub show_phases-requires-clause-parent_high : goal.show_phases-requires-clause-parent_high
 show_phases-requires-clause-parent_high c =
@@ -108,15 +115,15 @@ show_phases-requires-clause-parent_high c =
     let found = undone_there c.in-Undo.pid c.in-Undo._row c.in-Undo._out c.args.past.now.entries legal in
     let me : Node = found.0 in
     let is_me = found.1 in
-    let here = kept_here J b.kept.items b.trees.roots b.unfinished c.requires.book c.in-Undo.pid.0 me is_me in
+    let here = kept_here J b.kept.items b.trees.roots b.unfinished c.requires.book.0 c.in-Undo.pid.0 me is_me in
     let fam = c.family-parent.ensures (kept_at J c.in-Undo.pid.0 me) (ap (λ l. slice_get l (c.in-Undo.pid.0 - 1)) c.deref.ensures.value ∙ here.2) in
-    let top = root_here J b.kept.items b.trees.roots b.unfinished c.requires.book c.in-Undo.pid.0 me is_me in
+    let top = root_here J b.kept.items b.trees.roots b.unfinished c.requires.book.0 c.in-Undo.pid.0 me is_me in
     let er = ap (λ (p : Pid). p.0) fam.1 in
-    let mid_is : c.add_all.new.self.kept.items ≡ mid_undo c.args.past.now.entries c.args.self.now.kept.items c.args.self.now.trees.roots c.args.self.now.unfinished c.requires.book c.in-Undo.pid c.in-Undo._row c.in-Undo._out legal me is_me = c.add_all.ensures.kept ∙ rw made_is refl in
-    let roots_is : c.add_all.new.self.trees.roots ≡ roots_undo c.args.past.now.entries c.args.self.now.kept.items c.args.self.now.trees.roots c.args.self.now.unfinished c.requires.book c.in-Undo.pid c.in-Undo._row c.in-Undo._out legal me is_me = c.add_all.ensures.trees ∙ rw made_is refl in
-    let n = c.requires.book.count in
+    let mid_is : c.add_all.new.self.kept.items ≡ mid_undo c.args.past.now.entries c.args.self.now.kept.items c.args.self.now.trees.roots c.args.self.now.unfinished c.requires.book.0 c.in-Undo.pid c.in-Undo._row c.in-Undo._out legal me is_me = c.add_all.ensures.kept ∙ rw made_is refl in
+    let roots_is : c.add_all.new.self.trees.roots ≡ roots_undo c.args.past.now.entries c.args.self.now.kept.items c.args.self.now.trees.roots c.args.self.now.unfinished c.requires.book.0 c.in-Undo.pid c.in-Undo._row c.in-Undo._out legal me is_me = c.add_all.ensures.trees ∙ rw made_is refl in
+    let n = c.requires.book.0.count in
     let more = ap length mid_is ∙ count_more b.kept.items None (args_in c.in-Undo._out.followers) (made J) n in
-    let long = ap length c.deref_mut.ensures.value in λ up is. (let high = (parent_here J b.kept.items b.trees.roots b.unfinished c.requires.book c.in-Undo.pid.0 me is_me up (sym fam.0 ∙ is)).1 in omega (arith, high, more, n, long))
+    let long = ap length c.deref_mut.ensures.value in λ up is. (let high = (parent_here J b.kept.items b.trees.roots b.unfinished c.requires.book.0 c.in-Undo.pid.0 me is_me up (sym fam.0 ∙ is)).1 in omega (arith, high, more, n, long))
 
 pub show_phases-requires-clause-root_low : goal.show_phases-requires-clause-root_low
 show_phases-requires-clause-root_low c =
@@ -126,9 +133,9 @@ show_phases-requires-clause-root_low c =
     let found = undone_there c.in-Undo.pid c.in-Undo._row c.in-Undo._out c.args.past.now.entries legal in
     let me : Node = found.0 in
     let is_me = found.1 in
-    let here = kept_here J b.kept.items b.trees.roots b.unfinished c.requires.book c.in-Undo.pid.0 me is_me in
+    let here = kept_here J b.kept.items b.trees.roots b.unfinished c.requires.book.0 c.in-Undo.pid.0 me is_me in
     let fam = c.family-parent.ensures (kept_at J c.in-Undo.pid.0 me) (ap (λ l. slice_get l (c.in-Undo.pid.0 - 1)) c.deref.ensures.value ∙ here.2) in
-    let top = root_here J b.kept.items b.trees.roots b.unfinished c.requires.book c.in-Undo.pid.0 me is_me in
+    let top = root_here J b.kept.items b.trees.roots b.unfinished c.requires.book.0 c.in-Undo.pid.0 me is_me in
     let er = ap (λ (p : Pid). p.0) fam.1 in
     rw er top.0
 
@@ -141,13 +148,13 @@ show_phases-requires-clause-root c =
     let found = undone_there c.in-Undo.pid c.in-Undo._row c.in-Undo._out c.args.past.now.entries legal in
     let me : Node = found.0 in
     let is_me = found.1 in
-    let here = kept_here J b.kept.items b.trees.roots b.unfinished c.requires.book c.in-Undo.pid.0 me is_me in
+    let here = kept_here J b.kept.items b.trees.roots b.unfinished c.requires.book.0 c.in-Undo.pid.0 me is_me in
     let fam = c.family-parent.ensures (kept_at J c.in-Undo.pid.0 me) (ap (λ l. slice_get l (c.in-Undo.pid.0 - 1)) c.deref.ensures.value ∙ here.2) in
-    let top = root_here J b.kept.items b.trees.roots b.unfinished c.requires.book c.in-Undo.pid.0 me is_me in
+    let top = root_here J b.kept.items b.trees.roots b.unfinished c.requires.book.0 c.in-Undo.pid.0 me is_me in
     let er = ap (λ (p : Pid). p.0) fam.1 in
-    let mid_is : c.add_all.new.self.kept.items ≡ mid_undo c.args.past.now.entries c.args.self.now.kept.items c.args.self.now.trees.roots c.args.self.now.unfinished c.requires.book c.in-Undo.pid c.in-Undo._row c.in-Undo._out legal me is_me = c.add_all.ensures.kept ∙ rw made_is refl in
-    let roots_is : c.add_all.new.self.trees.roots ≡ roots_undo c.args.past.now.entries c.args.self.now.kept.items c.args.self.now.trees.roots c.args.self.now.unfinished c.requires.book c.in-Undo.pid c.in-Undo._row c.in-Undo._out legal me is_me = c.add_all.ensures.trees ∙ rw made_is refl in
-    let n = c.requires.book.count in
+    let mid_is : c.add_all.new.self.kept.items ≡ mid_undo c.args.past.now.entries c.args.self.now.kept.items c.args.self.now.trees.roots c.args.self.now.unfinished c.requires.book.0 c.in-Undo.pid c.in-Undo._row c.in-Undo._out legal me is_me = c.add_all.ensures.kept ∙ rw made_is refl in
+    let roots_is : c.add_all.new.self.trees.roots ≡ roots_undo c.args.past.now.entries c.args.self.now.kept.items c.args.self.now.trees.roots c.args.self.now.unfinished c.requires.book.0 c.in-Undo.pid c.in-Undo._row c.in-Undo._out legal me is_me = c.add_all.ensures.trees ∙ rw made_is refl in
+    let n = c.requires.book.0.count in
     let more = ap length mid_is ∙ count_more b.kept.items None (args_in c.in-Undo._out.followers) (made J) n in
     let low = slice_get-low b.trees.roots (map root_shown (added (length b.kept.items) None (args_in c.in-Undo._out.followers))) (me.root - 1) (slice_get_within b.trees.roots (me.root - 1) (pid_of me.root) top.2) in
     rw fam.1 (ap (λ l. slice_get l (me.root - 1)) roots_is ∙ low ∙ top.2)
@@ -161,15 +168,15 @@ show_phases-requires-clause-roots c =
     let found = undone_there c.in-Undo.pid c.in-Undo._row c.in-Undo._out c.args.past.now.entries legal in
     let me : Node = found.0 in
     let is_me = found.1 in
-    let here = kept_here J b.kept.items b.trees.roots b.unfinished c.requires.book c.in-Undo.pid.0 me is_me in
+    let here = kept_here J b.kept.items b.trees.roots b.unfinished c.requires.book.0 c.in-Undo.pid.0 me is_me in
     let fam = c.family-parent.ensures (kept_at J c.in-Undo.pid.0 me) (ap (λ l. slice_get l (c.in-Undo.pid.0 - 1)) c.deref.ensures.value ∙ here.2) in
-    let top = root_here J b.kept.items b.trees.roots b.unfinished c.requires.book c.in-Undo.pid.0 me is_me in
+    let top = root_here J b.kept.items b.trees.roots b.unfinished c.requires.book.0 c.in-Undo.pid.0 me is_me in
     let er = ap (λ (p : Pid). p.0) fam.1 in
-    let mid_is : c.add_all.new.self.kept.items ≡ mid_undo c.args.past.now.entries c.args.self.now.kept.items c.args.self.now.trees.roots c.args.self.now.unfinished c.requires.book c.in-Undo.pid c.in-Undo._row c.in-Undo._out legal me is_me = c.add_all.ensures.kept ∙ rw made_is refl in
-    let roots_is : c.add_all.new.self.trees.roots ≡ roots_undo c.args.past.now.entries c.args.self.now.kept.items c.args.self.now.trees.roots c.args.self.now.unfinished c.requires.book c.in-Undo.pid c.in-Undo._row c.in-Undo._out legal me is_me = c.add_all.ensures.trees ∙ rw made_is refl in
-    let n = c.requires.book.count in
+    let mid_is : c.add_all.new.self.kept.items ≡ mid_undo c.args.past.now.entries c.args.self.now.kept.items c.args.self.now.trees.roots c.args.self.now.unfinished c.requires.book.0 c.in-Undo.pid c.in-Undo._row c.in-Undo._out legal me is_me = c.add_all.ensures.kept ∙ rw made_is refl in
+    let roots_is : c.add_all.new.self.trees.roots ≡ roots_undo c.args.past.now.entries c.args.self.now.kept.items c.args.self.now.trees.roots c.args.self.now.unfinished c.requires.book.0 c.in-Undo.pid c.in-Undo._row c.in-Undo._out legal me is_me = c.add_all.ensures.trees ∙ rw made_is refl in
+    let n = c.requires.book.0.count in
     let more = ap length mid_is ∙ count_more b.kept.items None (args_in c.in-Undo._out.followers) (made J) n in
-    λ p. ap (λ l. slice_get l p) roots_is ∙ roots_undo_are c.args.past.now.entries c.args.self.now.kept.items c.args.self.now.trees.roots c.args.self.now.unfinished c.requires.book c.in-Undo.pid c.in-Undo._row c.in-Undo._out legal me is_me p ∙ sym (ap (λ l. option_map root_shown (slice_get l p)) (c.deref_mut.ensures.value ∙ mid_is))
+    λ p. ap (λ l. slice_get l p) roots_is ∙ roots_undo_are c.args.past.now.entries c.args.self.now.kept.items c.args.self.now.trees.roots c.args.self.now.unfinished c.requires.book.0 c.in-Undo.pid c.in-Undo._row c.in-Undo._out legal me is_me p ∙ sym (ap (λ l. option_map root_shown (slice_get l p)) (c.deref_mut.ensures.value ∙ mid_is))
 
 pub has_ended-over-requires-clause-low : goal.has_ended-over-requires-clause-low
 has_ended-over-requires-clause-low c =
@@ -179,9 +186,9 @@ has_ended-over-requires-clause-low c =
     let found = undone_there c.in-Undo.pid c.in-Undo._row c.in-Undo._out c.args.past.now.entries legal in
     let me : Node = found.0 in
     let is_me = found.1 in
-    let here = kept_here J b.kept.items b.trees.roots b.unfinished c.requires.book c.in-Undo.pid.0 me is_me in
+    let here = kept_here J b.kept.items b.trees.roots b.unfinished c.requires.book.0 c.in-Undo.pid.0 me is_me in
     let fam = c.family-parent.ensures (kept_at J c.in-Undo.pid.0 me) (ap (λ l. slice_get l (c.in-Undo.pid.0 - 1)) c.deref.ensures.value ∙ here.2) in
-    let top = root_here J b.kept.items b.trees.roots b.unfinished c.requires.book c.in-Undo.pid.0 me is_me in
+    let top = root_here J b.kept.items b.trees.roots b.unfinished c.requires.book.0 c.in-Undo.pid.0 me is_me in
     let er = ap (λ (p : Pid). p.0) fam.1 in
     rw er top.0
 
@@ -195,17 +202,17 @@ has_ended-over-requires-clause-high c =
     let found = undone_there c.in-Undo.pid c.in-Undo._row c.in-Undo._out c.args.past.now.entries legal in
     let me : Node = found.0 in
     let is_me = found.1 in
-    let here = kept_here J b.kept.items b.trees.roots b.unfinished c.requires.book c.in-Undo.pid.0 me is_me in
+    let here = kept_here J b.kept.items b.trees.roots b.unfinished c.requires.book.0 c.in-Undo.pid.0 me is_me in
     let fam = c.family-parent.ensures (kept_at J c.in-Undo.pid.0 me) (ap (λ l. slice_get l (c.in-Undo.pid.0 - 1)) c.deref.ensures.value ∙ here.2) in
-    let top = root_here J b.kept.items b.trees.roots b.unfinished c.requires.book c.in-Undo.pid.0 me is_me in
+    let top = root_here J b.kept.items b.trees.roots b.unfinished c.requires.book.0 c.in-Undo.pid.0 me is_me in
     let er = ap (λ (p : Pid). p.0) fam.1 in
-    let mid_is : c.add_all.new.self.kept.items ≡ mid_undo c.args.past.now.entries c.args.self.now.kept.items c.args.self.now.trees.roots c.args.self.now.unfinished c.requires.book c.in-Undo.pid c.in-Undo._row c.in-Undo._out legal me is_me = c.add_all.ensures.kept ∙ rw made_is refl in
-    let roots_is : c.add_all.new.self.trees.roots ≡ roots_undo c.args.past.now.entries c.args.self.now.kept.items c.args.self.now.trees.roots c.args.self.now.unfinished c.requires.book c.in-Undo.pid c.in-Undo._row c.in-Undo._out legal me is_me = c.add_all.ensures.trees ∙ rw made_is refl in
-    let n = c.requires.book.count in
+    let mid_is : c.add_all.new.self.kept.items ≡ mid_undo c.args.past.now.entries c.args.self.now.kept.items c.args.self.now.trees.roots c.args.self.now.unfinished c.requires.book.0 c.in-Undo.pid c.in-Undo._row c.in-Undo._out legal me is_me = c.add_all.ensures.kept ∙ rw made_is refl in
+    let roots_is : c.add_all.new.self.trees.roots ≡ roots_undo c.args.past.now.entries c.args.self.now.kept.items c.args.self.now.trees.roots c.args.self.now.unfinished c.requires.book.0 c.in-Undo.pid c.in-Undo._row c.in-Undo._out legal me is_me = c.add_all.ensures.trees ∙ rw made_is refl in
+    let n = c.requires.book.0.count in
     let more = ap length mid_is ∙ count_more b.kept.items None (args_in c.in-Undo._out.followers) (made J) n in
-    let shown : Shows (mid_undo c.args.past.now.entries c.args.self.now.kept.items c.args.self.now.trees.roots c.args.self.now.unfinished c.requires.book c.in-Undo.pid c.in-Undo._row c.in-Undo._out legal me is_me) c.show_phases.new.kept c.in-Undo.pid (parent_shown found.0.above) (pid_of found.0.root) c.args.nothing_left = rw (c.deref_mut.ensures.value, mid_is, fam.0, fam.1) at c.show_phases.ensures in
+    let shown : Shows (mid_undo c.args.past.now.entries c.args.self.now.kept.items c.args.self.now.trees.roots c.args.self.now.unfinished c.requires.book.0 c.in-Undo.pid c.in-Undo._row c.in-Undo._out legal me is_me) c.show_phases.new.kept c.in-Undo.pid (parent_shown found.0.above) (pid_of found.0.root) c.args.nothing_left = rw (c.deref_mut.ensures.value, mid_is, fam.0, fam.1) at c.show_phases.ensures in
     let left = left_is ∙ ap (λ r. is_empty (stack (entry_is.Undo c.in-Undo.pid c.in-Undo._row c.in-Undo._out ∷ J) r)) (undo_tree c.in-Undo.pid c.in-Undo._row c.in-Undo._out J legal me is_me) in
-    let new_long = undo_long c.args.past.now.entries c.args.self.now.kept.items c.args.self.now.trees.roots c.args.self.now.unfinished c.requires.book c.in-Undo.pid c.in-Undo._row c.in-Undo._out legal me is_me c.show_phases.new.kept c.args.nothing_left left shown in
+    let new_long = undo_long c.args.past.now.entries c.args.self.now.kept.items c.args.self.now.trees.roots c.args.self.now.unfinished c.requires.book.0 c.in-Undo.pid c.in-Undo._row c.in-Undo._out legal me is_me c.show_phases.new.kept c.args.nothing_left left shown in
     let once = written c.add_all.new.self.kept.items c.show_phases.new.kept c.add_all.new.self.kept.len (new_long ∙ sym (ap length mid_is)) (omega (arith, c.add_all.new.self.kept.ok.0)) in
     let now = ap length (c.deref-2.ensures.value ∙ once) ∙ new_long ∙ sym (ap length mid_is) in
     omega (arith, top.1, er, now, n, more)
@@ -220,22 +227,22 @@ less_if-self-requires c =
     let found = undone_there c.in-Undo.pid c.in-Undo._row c.in-Undo._out c.args.past.now.entries legal in
     let me : Node = found.0 in
     let is_me = found.1 in
-    let here = kept_here J b.kept.items b.trees.roots b.unfinished c.requires.book c.in-Undo.pid.0 me is_me in
+    let here = kept_here J b.kept.items b.trees.roots b.unfinished c.requires.book.0 c.in-Undo.pid.0 me is_me in
     let fam = c.family-parent.ensures (kept_at J c.in-Undo.pid.0 me) (ap (λ l. slice_get l (c.in-Undo.pid.0 - 1)) c.deref.ensures.value ∙ here.2) in
-    let top = root_here J b.kept.items b.trees.roots b.unfinished c.requires.book c.in-Undo.pid.0 me is_me in
+    let top = root_here J b.kept.items b.trees.roots b.unfinished c.requires.book.0 c.in-Undo.pid.0 me is_me in
     let er = ap (λ (p : Pid). p.0) fam.1 in
-    let mid_is : c.add_all.new.self.kept.items ≡ mid_undo c.args.past.now.entries c.args.self.now.kept.items c.args.self.now.trees.roots c.args.self.now.unfinished c.requires.book c.in-Undo.pid c.in-Undo._row c.in-Undo._out legal me is_me = c.add_all.ensures.kept ∙ rw made_is refl in
-    let roots_is : c.add_all.new.self.trees.roots ≡ roots_undo c.args.past.now.entries c.args.self.now.kept.items c.args.self.now.trees.roots c.args.self.now.unfinished c.requires.book c.in-Undo.pid c.in-Undo._row c.in-Undo._out legal me is_me = c.add_all.ensures.trees ∙ rw made_is refl in
-    let n = c.requires.book.count in
+    let mid_is : c.add_all.new.self.kept.items ≡ mid_undo c.args.past.now.entries c.args.self.now.kept.items c.args.self.now.trees.roots c.args.self.now.unfinished c.requires.book.0 c.in-Undo.pid c.in-Undo._row c.in-Undo._out legal me is_me = c.add_all.ensures.kept ∙ rw made_is refl in
+    let roots_is : c.add_all.new.self.trees.roots ≡ roots_undo c.args.past.now.entries c.args.self.now.kept.items c.args.self.now.trees.roots c.args.self.now.unfinished c.requires.book.0 c.in-Undo.pid c.in-Undo._row c.in-Undo._out legal me is_me = c.add_all.ensures.trees ∙ rw made_is refl in
+    let n = c.requires.book.0.count in
     let more = ap length mid_is ∙ count_more b.kept.items None (args_in c.in-Undo._out.followers) (made J) n in
-    let shown : Shows (mid_undo c.args.past.now.entries c.args.self.now.kept.items c.args.self.now.trees.roots c.args.self.now.unfinished c.requires.book c.in-Undo.pid c.in-Undo._row c.in-Undo._out legal me is_me) c.show_phases.new.kept c.in-Undo.pid (parent_shown found.0.above) (pid_of found.0.root) c.args.nothing_left = rw (c.deref_mut.ensures.value, mid_is, fam.0, fam.1) at c.show_phases.ensures in
+    let shown : Shows (mid_undo c.args.past.now.entries c.args.self.now.kept.items c.args.self.now.trees.roots c.args.self.now.unfinished c.requires.book.0 c.in-Undo.pid c.in-Undo._row c.in-Undo._out legal me is_me) c.show_phases.new.kept c.in-Undo.pid (parent_shown found.0.above) (pid_of found.0.root) c.args.nothing_left = rw (c.deref_mut.ensures.value, mid_is, fam.0, fam.1) at c.show_phases.ensures in
     let left = left_is ∙ ap (λ r. is_empty (stack (entry_is.Undo c.in-Undo.pid c.in-Undo._row c.in-Undo._out ∷ J) r)) (undo_tree c.in-Undo.pid c.in-Undo._row c.in-Undo._out J legal me is_me) in
-    let new_long = undo_long c.args.past.now.entries c.args.self.now.kept.items c.args.self.now.trees.roots c.args.self.now.unfinished c.requires.book c.in-Undo.pid c.in-Undo._row c.in-Undo._out legal me is_me c.show_phases.new.kept c.args.nothing_left left shown in
+    let new_long = undo_long c.args.past.now.entries c.args.self.now.kept.items c.args.self.now.trees.roots c.args.self.now.unfinished c.requires.book.0 c.in-Undo.pid c.in-Undo._row c.in-Undo._out legal me is_me c.show_phases.new.kept c.args.nothing_left left shown in
     let once = written c.add_all.new.self.kept.items c.show_phases.new.kept c.add_all.new.self.kept.len (new_long ∙ sym (ap length mid_is)) (omega (arith, c.add_all.new.self.kept.ok.0)) in
     let told : (k : Tracked) → slice_get c.show_phases.new.kept (found.0.root - 1) ≡ Some k → c.has_ended-over.result ≡ has_ended k = λ k at. c.has_ended-over.ensures k (rw er (ap (λ l. slice_get l (me.root - 1)) (c.deref-2.ensures.value ∙ once) ∙ at)) in
     let m = ap length (c.as_slice.ensures ∙ made_is) in
     let same = c.add_all.ensures.unfinished in
-    let enough = undo_enough c.args.past.now.entries c.args.self.now.kept.items c.args.self.now.trees.roots c.args.self.now.unfinished c.requires.book c.in-Undo.pid c.in-Undo._row c.in-Undo._out legal me is_me c.show_phases.new.kept c.args.nothing_left c.has_ended-over.result 0 left shown told in
+    let enough = undo_enough c.args.past.now.entries c.args.self.now.kept.items c.args.self.now.trees.roots c.args.self.now.unfinished c.requires.book.0 c.in-Undo.pid c.in-Undo._row c.in-Undo._out legal me is_me c.show_phases.new.kept c.args.nothing_left c.has_ended-over.result 0 left shown told in
     omega (arith, enough, same, m)
 
 pub returns-clause-book : goal.returns-clause-book
@@ -248,20 +255,24 @@ returns-clause-book c =
     let found = undone_there c.in-Undo.pid c.in-Undo._row c.in-Undo._out c.args.past.now.entries legal in
     let me : Node = found.0 in
     let is_me = found.1 in
-    let here = kept_here J b.kept.items b.trees.roots b.unfinished c.requires.book c.in-Undo.pid.0 me is_me in
+    let here = kept_here J b.kept.items b.trees.roots b.unfinished c.requires.book.0 c.in-Undo.pid.0 me is_me in
     let fam = c.family-parent.ensures (kept_at J c.in-Undo.pid.0 me) (ap (λ l. slice_get l (c.in-Undo.pid.0 - 1)) c.deref.ensures.value ∙ here.2) in
-    let top = root_here J b.kept.items b.trees.roots b.unfinished c.requires.book c.in-Undo.pid.0 me is_me in
+    let top = root_here J b.kept.items b.trees.roots b.unfinished c.requires.book.0 c.in-Undo.pid.0 me is_me in
     let er = ap (λ (p : Pid). p.0) fam.1 in
-    let mid_is : c.add_all.new.self.kept.items ≡ mid_undo c.args.past.now.entries c.args.self.now.kept.items c.args.self.now.trees.roots c.args.self.now.unfinished c.requires.book c.in-Undo.pid c.in-Undo._row c.in-Undo._out legal me is_me = c.add_all.ensures.kept ∙ rw made_is refl in
-    let roots_is : c.add_all.new.self.trees.roots ≡ roots_undo c.args.past.now.entries c.args.self.now.kept.items c.args.self.now.trees.roots c.args.self.now.unfinished c.requires.book c.in-Undo.pid c.in-Undo._row c.in-Undo._out legal me is_me = c.add_all.ensures.trees ∙ rw made_is refl in
-    let n = c.requires.book.count in
+    let mid_is : c.add_all.new.self.kept.items ≡ mid_undo c.args.past.now.entries c.args.self.now.kept.items c.args.self.now.trees.roots c.args.self.now.unfinished c.requires.book.0 c.in-Undo.pid c.in-Undo._row c.in-Undo._out legal me is_me = c.add_all.ensures.kept ∙ rw made_is refl in
+    let roots_is : c.add_all.new.self.trees.roots ≡ roots_undo c.args.past.now.entries c.args.self.now.kept.items c.args.self.now.trees.roots c.args.self.now.unfinished c.requires.book.0 c.in-Undo.pid c.in-Undo._row c.in-Undo._out legal me is_me = c.add_all.ensures.trees ∙ rw made_is refl in
+    let n = c.requires.book.0.count in
     let more = ap length mid_is ∙ count_more b.kept.items None (args_in c.in-Undo._out.followers) (made J) n in
-    let shown : Shows (mid_undo c.args.past.now.entries c.args.self.now.kept.items c.args.self.now.trees.roots c.args.self.now.unfinished c.requires.book c.in-Undo.pid c.in-Undo._row c.in-Undo._out legal me is_me) c.show_phases.new.kept c.in-Undo.pid (parent_shown found.0.above) (pid_of found.0.root) c.args.nothing_left = rw (c.deref_mut.ensures.value, mid_is, fam.0, fam.1) at c.show_phases.ensures in
+    let shown : Shows (mid_undo c.args.past.now.entries c.args.self.now.kept.items c.args.self.now.trees.roots c.args.self.now.unfinished c.requires.book.0 c.in-Undo.pid c.in-Undo._row c.in-Undo._out legal me is_me) c.show_phases.new.kept c.in-Undo.pid (parent_shown found.0.above) (pid_of found.0.root) c.args.nothing_left = rw (c.deref_mut.ensures.value, mid_is, fam.0, fam.1) at c.show_phases.ensures in
     let left = left_is ∙ ap (λ r. is_empty (stack (entry_is.Undo c.in-Undo.pid c.in-Undo._row c.in-Undo._out ∷ J) r)) (undo_tree c.in-Undo.pid c.in-Undo._row c.in-Undo._out J legal me is_me) in
-    let new_long = undo_long c.args.past.now.entries c.args.self.now.kept.items c.args.self.now.trees.roots c.args.self.now.unfinished c.requires.book c.in-Undo.pid c.in-Undo._row c.in-Undo._out legal me is_me c.show_phases.new.kept c.args.nothing_left left shown in
+    let new_long = undo_long c.args.past.now.entries c.args.self.now.kept.items c.args.self.now.trees.roots c.args.self.now.unfinished c.requires.book.0 c.in-Undo.pid c.in-Undo._row c.in-Undo._out legal me is_me c.show_phases.new.kept c.args.nothing_left left shown in
     let once = written c.add_all.new.self.kept.items c.show_phases.new.kept c.add_all.new.self.kept.len (new_long ∙ sym (ap length mid_is)) (omega (arith, c.add_all.new.self.kept.ok.0)) in
     let told : (k : Tracked) → slice_get c.show_phases.new.kept (found.0.root - 1) ≡ Some k → c.has_ended-over.result ≡ has_ended k = λ k at. c.has_ended-over.ensures k (rw er (ap (λ l. slice_get l (me.root - 1)) (c.deref-2.ensures.value ∙ once) ∙ at)) in
     let m = ap length (c.as_slice.ensures ∙ made_is) in
     let same = c.add_all.ensures.unfinished in
     let rest = c.less_if-self.ensures in
-    λ is. rw (c.in-Undo.is, once, roots_is) (undo_kept c.args.past.now.entries c.args.self.now.kept.items c.args.self.now.trees.roots c.args.self.now.unfinished c.requires.book c.in-Undo.pid c.in-Undo._row c.in-Undo._out legal me is_me c.show_phases.new.kept c.args.nothing_left c.has_ended-over.result c.less_if-self.result left shown told (omega (arith, rest, same, m)))
+    let long = elders_long J c.requires.book.0.legal b.siblings.roots c.requires.book.1 (kept_at J) b.kept.items c.requires.book.0.kept_are ∙ c.requires.book.0.count in
+    λ is. (
+      rw (c.in-Undo.is, once, roots_is) (undo_kept c.args.past.now.entries c.args.self.now.kept.items c.args.self.now.trees.roots c.args.self.now.unfinished c.requires.book.0 c.in-Undo.pid c.in-Undo._row c.in-Undo._out legal me is_me c.show_phases.new.kept c.args.nothing_left c.has_ended-over.result c.less_if-self.result left shown told (omega (arith, rest, same, m))),
+      rw (c.in-Undo.is, c.add_all.ensures.siblings, made_is, c.requires.book.0.count) (elders_undo J c.requires.book.0.legal b.siblings.roots c.requires.book.1 long c.in-Undo.pid c.in-Undo._row c.in-Undo._out legal),
+    )

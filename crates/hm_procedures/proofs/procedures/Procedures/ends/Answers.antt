@@ -10,11 +10,11 @@ use Rattle.hm_procedures.proofs.procedures.Procedures.ends.Goals as goal
 
 pub ends_from-requires : goal.ends_from-requires
 ends_from-requires c =
-    let most = (run_all c.self.inside.past.entries c.self.invariant.0.legal c.args.pid.0).most in
+    let most = (run_all c.self.inside.past.entries c.self.invariant.0.0.legal c.args.pid.0).most in
     let at = c.last_made-from.ensures.0 ∙ ap (λ (v : ProceduresView). made_at_step v.past c.args.pid.0) (sym c.self.view_is) in
     let in_it = c.last_made-from.ensures.1 ∙ ap (λ (v : ProceduresView). made_in_step v.past c.args.pid.0) (sym c.self.view_is) in
     let long = ap length c.deref.ensures.value in
-    omega (arith, most, at, in_it, long, c.self.invariant.0.count)
+    omega (arith, most, at, in_it, long, c.self.invariant.0.0.count)
 
 pub returns : goal.returns
 returns c =
@@ -25,6 +25,6 @@ returns c =
     ap (λ l. ends_in l c.last_made-from.result.0 c.last_made-from.result.1) c.deref.ensures.value
     ∙ ap (λ n. ends_in c.self.inside.book.kept.items n c.last_made-from.result.1) at
     ∙ ap (ends_in c.self.inside.book.kept.items (made_at_step J c.args.pid.0)) in_it
-    ∙ ends_are J c.self.invariant.0.legal c.args.pid.0 c.self.inside.book.kept.items c.self.invariant.0.kept_are
+    ∙ ends_are J c.self.invariant.0.0.legal c.args.pid.0 c.self.inside.book.kept.items c.self.invariant.0.0.kept_are
     ∙ ap (λ (v : ProceduresView). ends_of v.past c.args.pid.0) c.self.view_is in
     ends_said c.ends_from.result are c.ends_from.ensures

@@ -3,8 +3,7 @@ use Rattle.hm_data.specs.declared.entry.Entry.{Entry}
 use Rattle.hm_model.specs.Counts.{one_if}
 use Rattle.hm_model.specs.Journal.{Past}
 use Rattle.hm_procedures.specs.Below.{open_below}
-use Rattle.hm_procedures.specs.Book.{spare_of}
-use Rattle.hm_procedures.specs.Kept.{IsKept}
+use Rattle.hm_procedures.specs.Book.{IsBook, spare_of}
 use Rattle.hm_procedures.specs.Procedures.{ProceduresView}
 use Rattle.hm_procedures.specs.declared.book.Book.{Book}
 use Rattle.hm_procedures.proofs.Below.{below_change, below_few, below_most}
@@ -19,7 +18,7 @@ overflow_add-self-inside c =
     let more = c.made_below-more.ensures in
     let below = c.self.invariant.1 in
     let most = below_most c.self.inside.past.entries in
-    let count = c.self.invariant.0.count in
+    let count = c.self.invariant.0.0.count in
     omega (arith, room, few, made_is, more, below, most, count, b.kept.ok.0, b.kept.small)
 
 pub less_if-self-inside-requires : goal.less_if-self-inside-requires
@@ -41,6 +40,6 @@ invariant_of-self c =
     let now = c.then-self-inside.ensures in
     let past = now ∙ ap (λ (v : ProceduresView). entry ∷ v.past) c.self.view_is in
     let are : c.less_if-self-inside.result ≡ open_below (entry ∷ c.args.self.now.past) = omega (arith, law, below, more, ends, rest) in (
-      subst (λ (J : Past). IsKept J c.enter.new.self.kept.items c.enter.new.self.trees.roots c.enter.new.self.unfinished) (sym now) c.enter.ensures.book,
+      subst (λ (J : Past). IsBook J c.enter.new.self) (sym now) c.enter.ensures.book,
       are ∙ sym (ap open_below past),
     )

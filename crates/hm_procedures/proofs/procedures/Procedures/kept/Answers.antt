@@ -7,7 +7,7 @@ use Rattle.hm_procedures.proofs.procedures.Procedures.kept.Goals as goal
 
 pub returns-then-pid-eq0-clause-kept : goal.returns-then-pid-eq0-clause-kept
 returns-then-pid-eq0-clause-kept c =
-    let legal = subst (λ (v : ProceduresView). IsLegal v.past) c.self.view_is c.self.invariant.0.legal in
+    let legal = subst (λ (v : ProceduresView). IsLegal v.past) c.self.view_is c.self.invariant.0.0.legal in
     kept_none c.args.self.now.past legal c.args.pid.0 c.if-pid-eq0.true
 
 pub returns-clause-kept : goal.returns-clause-kept
@@ -16,6 +16,6 @@ returns-clause-kept c =
     let up : c.args.pid.0 - 1 + 1 ≡ c.args.pid.0 = omega (arith, some) in
     c.kept_at.ensures
     ∙ ap (λ l. slice_get l (c.args.pid.0 - 1)) c.deref.ensures.value
-    ∙ c.self.invariant.0.kept_are (c.args.pid.0 - 1)
+    ∙ c.self.invariant.0.0.kept_are (c.args.pid.0 - 1)
     ∙ ap (kept_of c.self.inside.past.entries) up
     ∙ ap (λ (v : ProceduresView). kept_of v.past c.args.pid.0) c.self.view_is

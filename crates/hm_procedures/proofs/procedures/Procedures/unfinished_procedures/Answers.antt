@@ -9,16 +9,16 @@ pub overflow_add-result : goal.overflow_add-result
 overflow_add-result c =
     let J : Past = c.self.inside.past.entries in
     let b : Book = c.self.inside.book in
-    let left = c.self.invariant.0.left_are in
+    let left = c.self.invariant.0.0.left_are in
     let below = c.self.invariant.1 in
-    let count = c.self.invariant.0.count in
+    let count = c.self.invariant.0.0.count in
     let sum = unfinished_sum J in
     let most = unfinished_most J in
     omega (arith, left, below, count, sum, most, b.kept.ok.0, b.kept.small)
 
 pub returns : goal.returns
 returns c =
-    let left = c.self.invariant.0.left_are in
+    let left = c.self.invariant.0.0.left_are in
     let below = c.self.invariant.1 in
     let sum = unfinished_sum c.self.inside.past.entries in
     let are : c.self.inside.book.unfinished + c.self.inside.below ≡ unfinished_procedures c.self.inside.past.entries = omega (arith, left, below, sum) in
