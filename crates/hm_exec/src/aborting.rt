@@ -25,6 +25,7 @@ impl<R: Recorder> Exec<R> {
         ensures added { OnOk result (IsAdded (moment_of R.kept self.old) (entry_is.Abort pid) (moment_of R.kept self.new)) }
         ensures refused { IfErr result (λ fault. FaultsAt (moment_of R.kept self.old) (entry_is.Abort pid) fault (moment_of R.kept self.new)) }
         ensures fault { IsErrOf result HallFault.LogFault → Rose (R.faults self.old.recorder) (R.faults self.new.recorder) }
+        ensures counts { IsErrOf result HallFault.Memory → R.faults self.new.recorder ≡ R.faults self.old.recorder }
         ensures later { R.faults self.old.recorder ≤ R.faults self.new.recorder }
         ensures opened { R.opened self.new.recorder ≡ R.opened self.old.recorder }
     {
@@ -40,6 +41,7 @@ impl<R: Recorder> Exec<R> {
     pub fn abort(&mut self, alloc: Global, pid: Pid) -> Result<bool, AbortRefused>
         ensures answers { AnswersAbort (moment_of R.kept self.old) pid result (moment_of R.kept self.new) }
         ensures fault { IsErrOf result (AbortRefused.Fault HallFault.LogFault) → Rose (R.faults self.old.recorder) (R.faults self.new.recorder) }
+        ensures counts { IsErrOf result (AbortRefused.Fault HallFault.Memory) → R.faults self.new.recorder ≡ R.faults self.old.recorder }
         ensures later { R.faults self.old.recorder ≤ R.faults self.new.recorder }
         ensures opened { R.opened self.new.recorder ≡ R.opened self.old.recorder }
         ensures spared { SparesAbort result → self.new.recorder ≡ self.old.recorder }

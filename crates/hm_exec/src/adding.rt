@@ -21,6 +21,7 @@ pub(crate) fn record<R: Recorder>(
     requires fits { CanBeRecorded entry.now }
     ensures adds { Adds (R.kept recorder.old) entry.now result (R.kept recorder.new) }
     ensures fault { IsErrOf result HallFault.LogFault → Rose (R.faults recorder.old) (R.faults recorder.new) }
+    ensures counts { IsErrOf result HallFault.Memory → R.faults recorder.new ≡ R.faults recorder.old }
     ensures later { R.faults recorder.old ≤ R.faults recorder.new }
     ensures opened { R.opened recorder.new ≡ R.opened recorder.old }
 {
@@ -40,6 +41,7 @@ pub(crate) fn refuse<R: Recorder>(
     ensures adds { Adds (R.kept recorder.old) entry result (R.kept recorder.new) }
     ensures entries { entries_of (R.kept recorder.new) ≡ entries_of (R.kept recorder.old) }
     ensures fault { IsErrOf result HallFault.LogFault → Rose (R.faults recorder.old) (R.faults recorder.new) }
+    ensures counts { IsErrOf result HallFault.Memory → R.faults recorder.new ≡ R.faults recorder.old }
     ensures later { R.faults recorder.old ≤ R.faults recorder.new }
     ensures opened { R.opened recorder.new ≡ R.opened recorder.old }
 {
@@ -61,6 +63,7 @@ fn admit<R: Recorder>(
     ensures adds { Adds (R.kept recorder.old) entry result (R.kept recorder.new) }
     ensures entries { entries_of (R.kept recorder.new) ≡ state.new.entries }
     ensures fault { IsErrOf result HallFault.LogFault → Rose (R.faults recorder.old) (R.faults recorder.new) }
+    ensures counts { IsErrOf result HallFault.Memory → R.faults recorder.new ≡ R.faults recorder.old }
     ensures later { R.faults recorder.old ≤ R.faults recorder.new }
     ensures opened { R.opened recorder.new ≡ R.opened recorder.old }
 {
@@ -92,6 +95,7 @@ pub(crate) fn add<R: Recorder>(
     ensures adds { Adds (R.kept recorder.old) entry result (R.kept recorder.new) }
     ensures entries { entries_of (R.kept recorder.new) ≡ state.new.entries }
     ensures fault { IsErrOf result HallFault.LogFault → Rose (R.faults recorder.old) (R.faults recorder.new) }
+    ensures counts { IsErrOf result HallFault.Memory → R.faults recorder.new ≡ R.faults recorder.old }
     ensures later { R.faults recorder.old ≤ R.faults recorder.new }
     ensures opened { R.opened recorder.new ≡ R.opened recorder.old }
 {

@@ -89,6 +89,7 @@ impl<R: Recorder> Exec<R> {
         ensures kept { IfOk result (λ number. Commits (moment_of R.kept self.old) taken.now out number (moment_of R.kept self.new)) }
         ensures refused { IfErr result (λ fault. RefusesCommit (moment_of R.kept self.old) taken.now out fault (moment_of R.kept self.new)) }
         ensures fault { IsErrOf result HallFault.LogFault → Rose (R.faults self.old.recorder) (R.faults self.new.recorder) }
+        ensures counts { IsErrOf result HallFault.Memory → R.faults self.new.recorder ≡ R.faults self.old.recorder }
         ensures later { R.faults self.old.recorder ≤ R.faults self.new.recorder }
         ensures opened { R.opened self.new.recorder ≡ R.opened self.old.recorder }
     {
@@ -123,6 +124,7 @@ impl<R: Recorder> Exec<R> {
         ensures kept { IfOk result (λ number. Commits (moment_of R.kept self.old) taken.now out number (moment_of R.kept self.new)) }
         ensures refused { IfErr result (λ fault. RefusesCommit (moment_of R.kept self.old) taken.now out fault (moment_of R.kept self.new)) }
         ensures fault { IsErrOf result HallFault.LogFault → Rose (R.faults self.old.recorder) (R.faults self.new.recorder) }
+        ensures counts { IsErrOf result HallFault.Memory → R.faults self.new.recorder ≡ R.faults self.old.recorder }
         ensures later { R.faults self.old.recorder ≤ R.faults self.new.recorder }
         ensures opened { R.opened self.new.recorder ≡ R.opened self.old.recorder }
     {
@@ -159,6 +161,7 @@ impl<R: Recorder> Exec<R> {
         ensures kept { IfOk result (λ number. Commits (moment_of R.kept self.old) taken.now out number (moment_of R.kept self.new)) }
         ensures refused { IfErr result (λ fault. RefusesCommit (moment_of R.kept self.old) taken.now out fault (moment_of R.kept self.new)) }
         ensures fault { IsErrOf result HallFault.LogFault → Rose (R.faults self.old.recorder) (R.faults self.new.recorder) }
+        ensures counts { IsErrOf result HallFault.Memory → R.faults self.new.recorder ≡ R.faults self.old.recorder }
         ensures later { R.faults self.old.recorder ≤ R.faults self.new.recorder }
         ensures opened { R.opened self.new.recorder ≡ R.opened self.old.recorder }
     {
@@ -176,6 +179,7 @@ impl<R: Recorder> Exec<R> {
         ensures stale { IfOk result (λ answered. (now : StepInValue) → answered ≡ Answered.Stale now → GivesUp (moment_of R.kept self.old) taken.now now (moment_of R.kept self.new)) }
         ensures refused { IfErr result (λ fault. RefusesCommit (moment_of R.kept self.old) taken.now out fault (moment_of R.kept self.new)) }
         ensures fault { IsErrOf result HallFault.LogFault → Rose (R.faults self.old.recorder) (R.faults self.new.recorder) }
+        ensures counts { IsErrOf result HallFault.Memory → R.faults self.new.recorder ≡ R.faults self.old.recorder }
         ensures later { R.faults self.old.recorder ≤ R.faults self.new.recorder }
         ensures opened { R.opened self.new.recorder ≡ R.opened self.old.recorder }
         ensures spared_stale { IfOk result (λ answered. (now : StepInValue) → answered ≡ Answered.Stale now → self.new.recorder ≡ self.old.recorder) }
@@ -205,6 +209,7 @@ impl<R: Recorder> Exec<R> {
         requires answer { answer_of (sheets_of (past_of (moment_of R.kept self.old))) taken.was ≡ Some out }
         ensures answers { AnswersCommit (moment_of R.kept self.old) taken out result (moment_of R.kept self.new) }
         ensures fault { IfErr result (λ e. e.1 ≡ HallFault.LogFault → Rose (R.faults self.old.recorder) (R.faults self.new.recorder)) }
+        ensures counts { IfErr result (λ e. e.1 ≡ HallFault.Memory → R.faults self.new.recorder ≡ R.faults self.old.recorder) }
         ensures later { R.faults self.old.recorder ≤ R.faults self.new.recorder }
         ensures opened { R.opened self.new.recorder ≡ R.opened self.old.recorder }
         ensures spared { SparesCommit result → self.new.recorder ≡ self.old.recorder }

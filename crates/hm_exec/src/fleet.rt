@@ -93,6 +93,7 @@ impl<R: Recorder> Exec<R> {
         ensures down { IfOk result (λ pid. IsAdded (moment_of R.kept self.old) (entry_is.Down server.now) (moment_of R.kept self.new) × (pid.0 ≡ made (past_of (moment_of R.kept self.old)) + 1)) }
         ensures refused { IfErr result (λ fault. FaultsCopying (moment_of R.kept self.old) (entry_is.Down server.now) fault (moment_of R.kept self.new)) }
         ensures fault { IsErrOf result HallFault.LogFault → Rose (R.faults self.old.recorder) (R.faults self.new.recorder) }
+        ensures counts { IsErrOf result HallFault.Memory → R.faults self.new.recorder ≡ R.faults self.old.recorder }
         ensures later { R.faults self.old.recorder ≤ R.faults self.new.recorder }
         ensures opened { R.opened self.new.recorder ≡ R.opened self.old.recorder }
     {
@@ -238,6 +239,7 @@ impl<R: Recorder> Exec<R> {
     pub fn server_down(&mut self, alloc: Global, server: &ServerName) -> Result<Pid, DownWhy>
         ensures answers { AnswersDown (moment_of R.kept self.old) server.now result (moment_of R.kept self.new) }
         ensures fault { IsErrOf result (DownWhy.Fault HallFault.LogFault) → Rose (R.faults self.old.recorder) (R.faults self.new.recorder) }
+        ensures counts { IsErrOf result (DownWhy.Fault HallFault.Memory) → R.faults self.new.recorder ≡ R.faults self.old.recorder }
         ensures later { R.faults self.old.recorder ≤ R.faults self.new.recorder }
         ensures opened { R.opened self.new.recorder ≡ R.opened self.old.recorder }
         ensures spared { SparesDown result → self.new.recorder ≡ self.old.recorder }

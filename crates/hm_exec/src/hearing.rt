@@ -19,6 +19,7 @@ impl<R: Recorder> Exec<R> {
     pub fn hear(&mut self, alloc: Global, message: &ReportMsg) -> Result<Heard, HallFault>
         ensures answers { AnswersReport (moment_of R.kept self.old) message.now result (moment_of R.kept self.new) }
         ensures fault { IsErrOf result HallFault.LogFault → Rose (R.faults self.old.recorder) (R.faults self.new.recorder) }
+        ensures counts { IsErrOf result HallFault.Memory → R.faults self.new.recorder ≡ R.faults self.old.recorder }
         ensures later { R.faults self.old.recorder ≤ R.faults self.new.recorder }
         ensures opened { R.opened self.new.recorder ≡ R.opened self.old.recorder }
         ensures spared { SparesReport result → self.new.recorder ≡ self.old.recorder }
@@ -47,6 +48,7 @@ impl<R: Recorder> Exec<R> {
     pub fn report(&mut self, alloc: Global, message: ReportMsg) -> Result<Heard, HallFault>
         ensures answers { AnswersReport (moment_of R.kept self.old) message result (moment_of R.kept self.new) }
         ensures fault { IsErrOf result HallFault.LogFault → Rose (R.faults self.old.recorder) (R.faults self.new.recorder) }
+        ensures counts { IsErrOf result HallFault.Memory → R.faults self.new.recorder ≡ R.faults self.old.recorder }
         ensures later { R.faults self.old.recorder ≤ R.faults self.new.recorder }
         ensures opened { R.opened self.new.recorder ≡ R.opened self.old.recorder }
         ensures spared { SparesReport result → self.new.recorder ≡ self.old.recorder }

@@ -62,6 +62,7 @@ fn enter<R: Recorder>(
     ensures follows { OnErr result (Follows (back state.new.entries) desk.new) }
     ensures claimed { claims_on desk.new ≡ claims_on desk.old }
     ensures fault { IsErrOf result HallFault.LogFault → Rose (R.faults recorder.old) (R.faults recorder.new) }
+    ensures counts { IsErrOf result HallFault.Memory → R.faults recorder.new ≡ R.faults recorder.old }
     ensures later { R.faults recorder.old ≤ R.faults recorder.new }
     ensures opened { R.opened recorder.new ≡ R.opened recorder.old }
 {
@@ -102,6 +103,7 @@ fn enlist_and_enter<R: Recorder>(
     ensures follows { OnErr result (Follows (back state.new.entries) desk.new) }
     ensures claimed { claims_on desk.new ≡ claims_on desk.old }
     ensures fault { IsErrOf result HallFault.LogFault → Rose (R.faults recorder.old) (R.faults recorder.new) }
+    ensures counts { IsErrOf result HallFault.Memory → R.faults recorder.new ≡ R.faults recorder.old }
     ensures later { R.faults recorder.old ≤ R.faults recorder.new }
     ensures opened { R.opened recorder.new ≡ R.opened recorder.old }
 {
@@ -136,6 +138,7 @@ fn admit_made<R: Recorder>(
     ensures follows { OnErr result (Follows (back state.new.entries) desk.new) }
     ensures claimed { claims_on desk.new ≡ claims_on desk.old }
     ensures fault { IsErrOf result HallFault.LogFault → Rose (R.faults recorder.old) (R.faults recorder.new) }
+    ensures counts { IsErrOf result HallFault.Memory → R.faults recorder.new ≡ R.faults recorder.old }
     ensures later { R.faults recorder.old ≤ R.faults recorder.new }
     ensures opened { R.opened recorder.new ≡ R.opened recorder.old }
 {
@@ -165,6 +168,7 @@ pub(crate) fn add_made<R: Recorder>(
     ensures follows { OnErr result (Follows (back state.new.entries) desk.new) }
     ensures claimed { claims_on desk.new ≡ claims_on desk.old }
     ensures fault { IsErrOf result HallFault.LogFault → Rose (R.faults recorder.old) (R.faults recorder.new) }
+    ensures counts { IsErrOf result HallFault.Memory → R.faults recorder.new ≡ R.faults recorder.old }
     ensures later { R.faults recorder.old ≤ R.faults recorder.new }
     ensures opened { R.opened recorder.new ≡ R.opened recorder.old }
 {

@@ -32,7 +32,7 @@ fn refused(fault: HallFault) -> Refused
 
 impl<R: Recorder> Exec<R> {
     // Judges a submission before anything is recorded: the procedure that was made for it, if it is repeated.
-    fn judge(&self, nonce: &Nonce, request: &Request) -> Result<Option<Pid>, Refused>
+    fn examine(&self, nonce: &Nonce, request: &Request) -> Result<Option<Pid>, Refused>
         ensures repeated { IfOk result (λ pid. IfSome pid (λ pid. Submits (moment_of R.kept self.now) nonce.now request.now (record { pid = pid; repeated = true }) (moment_of R.kept self.now))) }
         ensures welcome { IfOk result (λ pid. IfNone pid (IsWelcome (moment_of R.kept self.now) nonce.now request.now)) }
         ensures allowed { IfOk result (λ pid. IfNone pid (Allowed (past_of (moment_of R.kept self.now)) (entry_is.Submit nonce.now request.now))) }
@@ -57,6 +57,7 @@ impl<R: Recorder> Exec<R> {
         ensures made { IfOk result (λ pid. Submits (moment_of R.kept self.old) nonce request (record { pid = pid; repeated = false }) (moment_of R.kept self.new)) }
         ensures refused { IfErr result (λ fault. RefusesToSubmit (moment_of R.kept self.old) nonce request (refused_by fault) (moment_of R.kept self.new)) }
         ensures fault { IsErrOf result HallFault.LogFault → Rose (R.faults self.old.recorder) (R.faults self.new.recorder) }
+        ensures counts { IsErrOf result HallFault.Memory → R.faults self.new.recorder ≡ R.faults self.old.recorder }
         ensures later { R.faults self.old.recorder ≤ R.faults self.new.recorder }
         ensures opened { R.opened self.new.recorder ≡ R.opened self.old.recorder }
     {
@@ -86,11 +87,12 @@ impl<R: Recorder> Exec<R> {
     ) -> Result<Accepted, Refused>
         ensures answers { AnswersSubmit (moment_of R.kept self.old) nonce request result (moment_of R.kept self.new) }
         ensures fault { IsErrOf result Refused.LogFault → Rose (R.faults self.old.recorder) (R.faults self.new.recorder) }
+        ensures counts { IsErrOf result Refused.Memory → R.faults self.new.recorder ≡ R.faults self.old.recorder }
         ensures later { R.faults self.old.recorder ≤ R.faults self.new.recorder }
         ensures opened { R.opened self.new.recorder ≡ R.opened self.old.recorder }
         ensures spared { SparesSubmit result → self.new.recorder ≡ self.old.recorder }
     {
-        match self.judge(&nonce, &request) {
+        match self.examine(&nonce, &request) {
             Err(why) => Err(why),
             Ok(Some(pid)) => Ok(Accepted {
                 pid,

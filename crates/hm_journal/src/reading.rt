@@ -72,7 +72,7 @@ fn state_with(alloc: Global, first: &Entry, sheets: &[Sheet]) -> Result<State, J
 }
 
 // Whether an entry may stand behind those that are there, and else why not.
-fn judge(alloc: Global, state: &State, entry: &Entry) -> Result<(), JournalWhy>
+fn may_stand(alloc: Global, state: &State, entry: &Entry) -> Result<(), JournalWhy>
     ensures allowed { OnOk result (Allowed (back state.now.entries) entry.now) }
     ensures why { IfErr result (IsNotAdded state.now.entries entry.now) }
 {
@@ -100,7 +100,7 @@ fn add_entry(alloc: Global, state: &mut State, entry: Entry) -> Result<(), Journ
     ensures allowed { OnOk result (Allowed (back state.old.entries) entry) }
     ensures why { IfErr result (IsNotAdded state.old.entries entry) }
 {
-    if let Err(why) = judge(alloc, state, &entry) {
+    if let Err(why) = may_stand(alloc, state, &entry) {
         drop(entry);
         return Err(why);
     }

@@ -20,7 +20,7 @@ use Rattle.hm_judge.proofs.Found.{shown_of}
 use Rattle.hm_sched.specs.Moves.{pid_in}
 use Rattle.hm_tied.specs.Tied.{Debts, IsTied, IsTiedBut}
 use Rattle.hm_roster.specs.Behind.{IsEntered, entry_debts}
-use Rattle.hm_roster.specs.Roster.{Follows, HasLists, IsSameBut, Owes, number_on, pids_on, roster_of, rows_on, settled, settled_if}
+use Rattle.hm_roster.specs.Roster.{Follows, HasLists, IsSameBut, Owes, number_on, pids_on, roster_of, rows_on, paid, paid_if}
 use Rattle.hm_roster.specs.declared.desk.Desk.{Desk}
 use Rattle.hm_roster.proofs.Desks.{below_still}
 use Rattle.hm_roster.proofs.Stepped.{chain, chained}
@@ -139,7 +139,7 @@ module _ (J : Past) (legal : IsLegal J) (p low : ℕ) (late : Bool) (desk : Desk
       }
 
 -- who is looked at changes nothing of those that were set aside
-pub late_still : (debts : Debts) (p : ℕ) (parent : Option ℕ) (root : ℕ) → (let left = settled (settled_if (settled debts p) parent) root in left.late) ≡ debts.late
+pub late_still : (debts : Debts) (p : ℕ) (parent : Option ℕ) (root : ℕ) → (let left = paid (paid_if (paid debts p) parent) root in left.late) ≡ debts.late
 late_still debts p None root = refl
 late_still debts p (Some up) root = refl
 

@@ -26,10 +26,10 @@ use Rattle.hm_tied.proofs.Stepping.{step_owes}
 use Rattle.hm_tied.proofs.Undoing.{undo_owes}
 use Rattle.hm_tied.proofs.Uses.{debts_rise}
 use Rattle.hm_roster.specs.Behind.{IsRooted, IsUndoOf, entry_debts}
-use Rattle.hm_roster.specs.Roster.{Follows, IsEnlistedFor, IsSameBut, IsStepOf, Owes, claims_on, lists_on, number_on, roster_of, roster_with, rows_on, settled_from}
+use Rattle.hm_roster.specs.Roster.{Follows, IsEnlistedFor, IsSameBut, IsStepOf, Owes, claims_on, lists_on, number_on, roster_of, roster_with, rows_on, paid_from}
 use Rattle.hm_roster.specs.declared.desk.Desk.{Desk}
 use Rattle.hm_roster.proofs.Desks.{below_still}
-use Rattle.hm_roster.proofs.Following.{new_settled}
+use Rattle.hm_roster.proofs.Following.{new_paid}
 
 -- a step, whose procedure's claim has ended
 pub step_enters : (J : Past) → IsLegal J → (pid : Pid) (low : ℕ) (late : Bool) (desk : Desk) (claimed : List ℕ) (step : IsStepOf J pid low late desk) → Unclaims pid.0 (claims_on desk) claimed
@@ -134,17 +134,17 @@ last_there J legal late desk rooted last q is ge lt none =
 
 -- behind an entry that made a root, once that was looked at, it follows
 pub root_follows : (J : Past) → IsLegal J → (late : Bool) (desk new : Desk) (rooted : IsRooted J late desk) (last : ℕ) → last ≡ made J → IsSameBut desk new
-    → (let debts = settled_from (root_debts rooted.before late) last (last + 1) in Owes J new (record debts { late = false })) → Follows J new
+    → (let debts = paid_from (root_debts rooted.before late) last (last + 1) in Owes J new (record debts { late = false })) → Follows J new
 root_follows J legal late desk new rooted last is same owes =
     let before = rooted.before in
     let entry = rooted.entry in
     let start = root_debts before false in
     let more = rooted.more in
     let grew = ap made rooted.is in
-    let owing = subst (λ K. IsTiedBut K (number_on new) (roster_of new) (settled_from start last (last + 1))) rooted.is owes in
+    let owing = subst (λ K. IsTiedBut K (number_on new) (roster_of new) (paid_from start last (last + 1))) rooted.is owes in
     record {
       tied = subst (λ K. IsTied K (number_on new) (roster_of new)) (sym rooted.is)
-          (new_settled before entry (subst IsLegal rooted.is legal) (number_on new) (roster_of new) start last (last + 1) (is ∙ more) (ap (λ k. k + 1) (is ∙ grew)) refl owing);
+          (new_paid before entry (subst IsLegal rooted.is legal) (number_on new) (roster_of new) start last (last + 1) (is ∙ more) (ap (λ k. k + 1) (is ∙ grew)) refl owing);
       room = subst (λ (k : ℕ). made J < k) (sym same.pids) rooted.room;
       below = below_still desk new same rooted.below;
     }

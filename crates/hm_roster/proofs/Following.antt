@@ -24,10 +24,10 @@ use Rattle.hm_tied.specs.Tied.{Debts, IsTied, IsTiedBut, Roster}
 use Rattle.hm_tied.proofs.Calls.{wake_all_owes, wake_owes}
 use Rattle.hm_tied.proofs.Going.{busy_open}
 use Rattle.hm_tied.proofs.Others.{report_owes}
-use Rattle.hm_tied.proofs.Settled.{fence_settles, owed_told, report_settles}
+use Rattle.hm_tied.proofs.Paid.{fence_pays, owed_told, report_pays}
 use Rattle.hm_tied.proofs.Uses.{fences_one}
 use Rattle.hm_roster.specs.Behind.{IsHeard, fenced_in, number_of_some, server_to_fence}
-use Rattle.hm_roster.specs.Roster.{Follows, IsSameBut, claims_on, lists_on, number_on, outside, pids_on, roster_of, rows_on, settled_from}
+use Rattle.hm_roster.specs.Roster.{Follows, IsSameBut, claims_on, lists_on, number_on, outside, pids_on, roster_of, rows_on, paid_from}
 use Rattle.hm_roster.specs.declared.desk.Desk.{Desk}
 use Rattle.hm_roster.proofs.Desks.{below_still}
 
@@ -43,9 +43,9 @@ module _ (J : Past) (entry : Entry) (legal : IsLegal (entry ∷ J)) where
       above one (inl e) = e
       above one (inr e) = (let y = (grown_all J legal.0).there q one e in absurd (false≢true (sym (ap is_none y.1) ∙ new)))
 
-  pub new_settled : (n : Option Server → ℕ) (roster : Roster) (debts : Debts) (low high : ℕ) → low ≡ made J + 1 → high ≡ made (entry ∷ J) + 1 → debts.owed ≡ is_new J
-      → IsTiedBut (entry ∷ J) n roster (settled_from debts low high) → IsTiedBut (entry ∷ J) n roster (record debts { owed = λ q. false; slack = outside debts.slack low high })
-  new_settled n roster debts low high from to owed tied = owed_told (entry ∷ J) n roster (settled_from debts low high) (λ q. false) tied (λ q on free busy. absurd (none q on (busy_open (entry ∷ J) legal q busy).0))
+  pub new_paid : (n : Option Server → ℕ) (roster : Roster) (debts : Debts) (low high : ℕ) → low ≡ made J + 1 → high ≡ made (entry ∷ J) + 1 → debts.owed ≡ is_new J
+      → IsTiedBut (entry ∷ J) n roster (paid_from debts low high) → IsTiedBut (entry ∷ J) n roster (record debts { owed = λ q. false; slack = outside debts.slack low high })
+  new_paid n roster debts low high from to owed tied = owed_told (entry ∷ J) n roster (paid_from debts low high) (λ q. false) tied (λ q on free busy. absurd (none q on (busy_open (entry ∷ J) legal q busy).0))
     where
       none : (q : ℕ) → outside debts.owed low high q ≡ true → node_of (entry ∷ J) q ≢ None → ⊥
       none q on there =
@@ -67,7 +67,7 @@ reported_known call told J legal =
 pub heard_one : (call : Pid) (told : Told) (J : Past) → IsLegal (entry_is.Report call told ∷ J) → (n : Option Server → ℕ) (roster : Roster) (lists : List (List ℕ)) → IsTied J n roster → WakesOne roster.lists lists call.0
     → ((node : Node) (server : Server) → node_of J call.0 ≡ Some node → node.args ≡ args_are.FenceCall server → ⊥) → IsTied (entry_is.Report call told ∷ J) n (record roster { lists = lists })
 heard_one call told J legal n roster lists tied wakes none =
-    report_settles call told J n (record roster { lists = lists }) fenced
+    report_pays call told J n (record roster { lists = lists }) fenced
     (wake_owes (entry_is.Report call told ∷ J) n roster (report_debts J (entry_is.Report call told ∷ J) call.0) lists call.0 (report_owes call told J n roster legal tied) wakes)
   where
     fenced : (q : ℕ) → is_fenced_by J (entry_is.Report call told ∷ J) (node_of J q) ≡ false
@@ -81,7 +81,7 @@ pub heard_all : (call : Pid) (told : Told) (J : Past) → IsLegal (entry_is.Repo
     → Wakes between lists (Suspended number) → ((node : Node) × (server : Server) × (node_of J call.0 ≡ Some node) × (node.args ≡ args_are.FenceCall server) × (number ≡ n (Some server)))
     → IsTied (entry_is.Report call told ∷ J) n (record roster { lists = lists })
 heard_all call told J legal n roster between lists number tied one all fences =
-    fence_settles call told J n (record roster { lists = lists }) fences.0 fences.1 fences.2 fences.3
+    fence_pays call told J n (record roster { lists = lists }) fences.0 fences.1 fences.2 fences.3
     (wake_all_owes (entry_is.Report call told ∷ J) n (record roster { lists = between }) (let debts = report_debts J (entry_is.Report call told ∷ J) call.0 in record debts { slack = without debts.slack call.0 }) lists (n (Some fences.1))
     (wake_owes (entry_is.Report call told ∷ J) n roster (report_debts J (entry_is.Report call told ∷ J) call.0) between call.0 (report_owes call told J n roster legal tied) one)
     (subst (λ s. Wakes between lists (Suspended s)) fences.4 all))

@@ -21,7 +21,7 @@ use Rattle.hm_sched.specs.declared.queue.Queue.TheVariants.{Held, Servers, Suspe
 use Rattle.hm_tied.specs.Calls.{Unclaims, owing}
 use Rattle.hm_tied.specs.Tied.{CanGo, IsOpen, IsTied, IsTiedBut, Roster}
 use Rattle.hm_tied.proofs.Calls.{exact, give_up_owes, join_owes, keep_on_owes, next_owes}
-use Rattle.hm_tied.proofs.Settled.{one_settles}
+use Rattle.hm_tied.proofs.Paid.{one_pays}
 use Rattle.hm_tied.proofs.Uses.{free_ties}
 
 -- a row set twice is set by the second
@@ -102,7 +102,7 @@ none_given J n roster lists tied passes =
 -- who is given and can go on, but has no pick, is set aside
 pub held_aside : (J : Past) → IsLegal J → (n : Option Server → ℕ) (roster : Roster) (lists : List (List ℕ)) (p : ℕ) → IsTiedBut J n roster (owing p) → IsOpen J p → (IsIn p roster.claimed → ⊥)
     → MayStep J p → (MayStepPicked J p → ⊥) → IsClear J [] p → Joins roster.lists lists Held p → IsTied J n (record roster { lists = lists })
-held_aside J legal n roster lists p tied opens free may none alone joins = one_settles J n (record roster { lists = lists }) p (join_owes J n roster (owing p) lists Held p legal tied opens free (may, none, alone) joins)
+held_aside J legal n roster lists p tied opens free may none alone joins = one_pays J n (record roster { lists = lists }) p (join_owes J n roster (owing p) lists Held p legal tied opens free (may, none, alone) joins)
 
 -- a list that isn't ready gains one: the ready stay
 pub unready : (queue : Queue) → is_ready queue ≡ false → (is_same queue Servers ≡ false) × (is_same queue Tables ≡ false)

@@ -15,7 +15,7 @@ use Rattle.hm_tied.specs.Tied.{Awaits, CanGo, Debts, IsOpen, IsTiedBut, Roster, 
 use Rattle.hm_tied.proofs.Calls.{join_owes, over_less, owed_less, wake_owes}
 use Rattle.hm_tied.proofs.Going.{busy_open}
 use Rattle.hm_tied.proofs.Uses.{debts_rise}
-use Rattle.hm_roster.specs.Roster.{settled, settled_if}
+use Rattle.hm_roster.specs.Roster.{paid, paid_if}
 
 -- one isn't among those without it
 pub out_of : (test : ℕ → Bool) (p : ℕ) → without test p p ≡ false
@@ -30,7 +30,7 @@ out_still : (test : ℕ → Bool) (p q : ℕ) → test p ≡ false → without t
 out_still test p q none = ap (λ b. b && not (p == q)) none
 
 -- who was looked at isn't owed, once its parent was looked at too
-pub own_out : (debts : Debts) (p : ℕ) (parent : Option ℕ) → (let left = settled_if (settled debts p) parent in (left.owed p ≡ false) × (left.slack p ≡ false))
+pub own_out : (debts : Debts) (p : ℕ) (parent : Option ℕ) → (let left = paid_if (paid debts p) parent in (left.owed p ≡ false) × (left.slack p ≡ false))
 own_out debts p None = (out_of debts.owed p, out_of debts.slack p)
 own_out debts p (Some up) = (out_still (without debts.owed p) p up (out_of debts.owed p), out_still (without debts.slack p) p up (out_of debts.slack p))
 
@@ -87,8 +87,8 @@ module _ (J : Past) (n : Option Server → ℕ) (roster : Roster) (debts : Debts
       ]
 
   -- who isn't said to be owed or to be taken from the calls
-  pub not_owed : debts.owed p ≡ false → debts.slack p ≡ false → IsTiedBut J n roster (settled debts p)
-  not_owed owed slack = debts_rise J n roster debts (settled debts p) tied (record { owed = λ q on. others debts.owed owed q on; slack = λ q on. others debts.slack slack q on; over = λ q. refl; late = λ e. e })
+  pub not_owed : debts.owed p ≡ false → debts.slack p ≡ false → IsTiedBut J n roster (paid debts p)
+  not_owed owed slack = debts_rise J n roster debts (paid debts p) tied (record { owed = λ q on. others debts.owed owed q on; slack = λ q on. others debts.slack slack q on; over = λ q. refl; late = λ e. e })
     where
       others : (test : ℕ → Bool) → test p ≡ false → (q : ℕ) → test q ≡ true → without test p q ≡ true
       others test none q on = elim (cases_eq q p) [

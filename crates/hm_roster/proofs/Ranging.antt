@@ -6,7 +6,7 @@ use Rattle.hm_model.specs.Journal.{Past}
 use Rattle.hm_tied.specs.Calls.{without}
 use Rattle.hm_tied.specs.Tied.{Debts, IsTiedBut, Roster}
 use Rattle.hm_tied.proofs.Uses.{debts_rise}
-use Rattle.hm_roster.specs.Roster.{IsSameBut, outside, settled, settled_from}
+use Rattle.hm_roster.specs.Roster.{IsSameBut, outside, paid, paid_from}
 use Rattle.hm_roster.specs.declared.desk.Desk.{Desk}
 
 -- nobody is from one number on to below itself
@@ -26,16 +26,16 @@ outside_next test low k q on =
       | inr over ↦ or_right (nat_lt q low) (nat_le (k + 1) q) (le-leb (k + 1) q (let l = leb-true k q over in omega (arith, l, differs)))
     ])
 
-pub begins : (J : Past) (n : Option Server → ℕ) (roster : Roster) (debts : Debts) (low : ℕ) → IsTiedBut J n roster debts → IsTiedBut J n roster (settled_from debts low low)
-begins J n roster debts low tied = debts_rise J n roster debts (settled_from debts low low) tied (record {
+pub begins : (J : Past) (n : Option Server → ℕ) (roster : Roster) (debts : Debts) (low : ℕ) → IsTiedBut J n roster debts → IsTiedBut J n roster (paid_from debts low low)
+begins J n roster debts low tied = debts_rise J n roster debts (paid_from debts low low) tied (record {
   owed = λ q e. outside_all debts.owed low q e;
   slack = λ q e. outside_all debts.slack low q e;
   over = λ q. refl;
   late = λ e. e;
 })
 
-pub goes_on : (J : Past) (n : Option Server → ℕ) (roster : Roster) (debts : Debts) (low k : ℕ) → IsTiedBut J n roster (settled (settled_from debts low k) k) → IsTiedBut J n roster (settled_from debts low (k + 1))
-goes_on J n roster debts low k tied = debts_rise J n roster (settled (settled_from debts low k) k) (settled_from debts low (k + 1)) tied (record {
+pub goes_on : (J : Past) (n : Option Server → ℕ) (roster : Roster) (debts : Debts) (low k : ℕ) → IsTiedBut J n roster (paid (paid_from debts low k) k) → IsTiedBut J n roster (paid_from debts low (k + 1))
+goes_on J n roster debts low k tied = debts_rise J n roster (paid (paid_from debts low k) k) (paid_from debts low (k + 1)) tied (record {
   owed = λ q e. outside_next debts.owed low k q e;
   slack = λ q e. outside_next debts.slack low k q e;
   over = λ q. refl;

@@ -15,7 +15,7 @@ use Rattle.hm_sched.specs.declared.queue.Queue.{Queue}
 use Rattle.hm_sched.specs.declared.queue.Queue.TheVariants.{Servers, Tables}
 use Rattle.hm_tied.specs.Tied.{IsOpen, IsTiedBut}
 use Rattle.hm_tied.proofs.Going.{busy_open}
-use Rattle.hm_tied.proofs.Settled.{owed_told}
+use Rattle.hm_tied.proofs.Paid.{owed_told}
 use Rattle.hm_tied.proofs.Uses.{debts_rise, opening_owes}
 use Rattle.hm_roster.specs.Opening.{IsBookBelow, IsReadyBelow, all_owed, open_among}
 use Rattle.hm_roster.specs.Roster.{Follows, HasLists, IsSameBut, claims_on, is_of_crash, lists_on, number_on, pids_on, roster_of, rows_on}

@@ -11,10 +11,10 @@ use Rattle.hm_tied.specs.Calls.{without}
 use Rattle.hm_tied.specs.Entries.{is_new, touched}
 use Rattle.hm_tied.specs.Tied.{Debts, IsTied, IsTiedBut, Roster, no_debts}
 use Rattle.hm_tied.proofs.Going.{busy_open}
-use Rattle.hm_tied.proofs.Settled.{owed_told}
+use Rattle.hm_tied.proofs.Paid.{owed_told}
 use Rattle.hm_tied.proofs.Uses.{debts_rise}
 use Rattle.hm_roster.specs.Behind.{entry_debts}
-use Rattle.hm_roster.specs.Roster.{finished, outside, settled, settled_from, settled_if}
+use Rattle.hm_roster.specs.Roster.{finished, outside, paid, paid_from, paid_if}
 use Rattle.hm_roster.proofs.Following.{new_below}
 
 -- without one that may be there
@@ -24,7 +24,7 @@ without_if test (Some p) = without test p
 
 -- what is left to do behind all calls
 abbrev pub chain : Debts → ℕ → Option ℕ → ℕ → ℕ → ℕ → Debts
-chain debts p parent root low high = record (settled (settled_if (settled (settled_from (finished (finished debts p) root) low high) p) parent) root) { late = false }
+chain debts p parent root low high = record (paid (paid_if (paid (paid_from (finished (finished debts p) root) low high) p) parent) root) { late = false }
 
 -- who passes a test without one isn't that one
 kept : (test : ℕ → Bool) (p q : ℕ) → without test p q ≡ true → (test q ≡ true) × (q ≢ p)

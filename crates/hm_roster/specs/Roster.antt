@@ -97,21 +97,21 @@ pub record IsGiven (J : Past) (desk : Desk) (p : ℕ) : Type 0 where
   pub alone : IsFree was p
 
 -- a procedure that was looked at isn't owed any more
-abbrev pub settled : Debts → ℕ → Debts
-settled debts p = record debts { owed = without debts.owed p; slack = without debts.slack p }
+abbrev pub paid : Debts → ℕ → Debts
+paid debts p = record debts { owed = without debts.owed p; slack = without debts.slack p }
 
 -- nor is one that may be there
-abbrev pub settled_if : Debts → Option ℕ → Debts
-settled_if debts None = debts
-settled_if debts (Some p) = settled debts p
+abbrev pub paid_if : Debts → Option ℕ → Debts
+paid_if debts None = debts
+paid_if debts (Some p) = paid debts p
 
 -- a test that no number from one on to below another passes
 abbrev pub outside : (ℕ → Bool) → ℕ → ℕ → ℕ → Bool
 outside test low high q = test q && (nat_lt q low || nat_le high q)
 
 -- nor are all those from one number on to below another
-abbrev pub settled_from : Debts → ℕ → ℕ → Debts
-settled_from debts low high = record debts { owed = outside debts.owed low high; slack = outside debts.slack low high }
+abbrev pub paid_from : Debts → ℕ → ℕ → Debts
+paid_from debts low high = record debts { owed = outside debts.owed low high; slack = outside debts.slack low high }
 
 -- one that may have ended isn't owed as such any more
 abbrev pub finished : Debts → ℕ → Debts

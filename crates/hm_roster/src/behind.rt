@@ -129,18 +129,18 @@ impl Desk {
     }
 
     // A root that was made last stands where it belongs; and those that were set aside are ready, where they may go on.
-    fn settle_last<L: Ledger>(&mut self, records: &Records, late: bool, steps: &mut Steps<L>)
+    fn line_up_last<L: Ledger>(&mut self, records: &Records, late: bool, steps: &mut Steps<L>)
         requires { IsRooted records.now.past late self.old }
         ensures follows { Follows records.now.past self.new }
         ensures same { IsSameBut self.old self.new }
     {
         let last = records.procedures().last_pid();
-        self.settle_from(records, last, last + 1, steps);
+        self.line_up_from(records, last, last + 1, steps);
         self.wake_if(late, steps);
     }
 
     // The same, with a count of steps of its own.
-    fn settle_last_uncounted<L: Ledger>(&mut self, records: &Records, late: bool, blank: Blank)
+    fn line_up_last_uncounted<L: Ledger>(&mut self, records: &Records, late: bool, blank: Blank)
         requires name { blank.name ≡ L.name }
         requires parts { blank.parts ≡ L.parts }
         requires some { 1 ≤ L.parts }
@@ -149,7 +149,7 @@ impl Desk {
         ensures same { IsSameBut self.old self.new }
     {
         let mut steps = Steps::<L>::new(blank);
-        self.settle_last(records, late, &mut steps);
+        self.line_up_last(records, late, &mut steps);
     }
 
     /// Behind a submission, whose root is enlisted, that is ready.
@@ -159,7 +159,7 @@ impl Desk {
         ensures same { IsSameBut self.old self.new }
     {
         let _legal = records.procedures();
-        self.settle_last_uncounted::<Brand>(records, false, Blank::new(1));
+        self.line_up_last_uncounted::<Brand>(records, false, Blank::new(1));
     }
 
     /// Behind a server that went down the root of its crash, which is enlisted, is ready; and so are those that were set aside for
@@ -170,6 +170,6 @@ impl Desk {
         ensures same { IsSameBut self.old self.new }
     {
         let _legal = records.procedures();
-        self.settle_last_uncounted::<Brand>(records, true, Blank::new(1));
+        self.line_up_last_uncounted::<Brand>(records, true, Blank::new(1));
     }
 }

@@ -6,7 +6,7 @@ ghost use Rattle.hm_model.specs.Locks.{IsIn};
 ghost use Rattle.hm_model.specs.Phase.{ended};
 ghost use Rattle.hm_model.specs.Rules.{IsLegal};
 ghost use Rattle.hm_model.specs.Tree.{node_of};
-ghost use Rattle.hm_roster.specs.Roster.{HasLists, IsSameBut, Owes, finished, settled, settled_from, settled_if};
+ghost use Rattle.hm_roster.specs.Roster.{HasLists, IsSameBut, Owes, finished, paid, paid_from, paid_if};
 ghost use Rattle.hm_sched.specs.Queues.{StandsNowhere};
 ghost use Rattle.hm_sched.specs.Moves.{pid_in};
 ghost use Rattle.hm_tied.specs.Calls.{without};
@@ -43,11 +43,11 @@ impl Desk {
     }
 
     // A procedure that an entry may let go on stands where it belongs.
-    pub(crate) fn settle<L: Ledger>(&mut self, records: &Records, pid: Pid, steps: &mut Steps<L>)
+    pub(crate) fn line_up<L: Ledger>(&mut self, records: &Records, pid: Pid, steps: &mut Steps<L>)
         requires known { pid.0 < self.old.sched.pids }
         requires below { HasLists self.old }
         requires there { node_of records.now.past pid.0 ≢ None }
-        ensures owes { (debts : Debts) → Owes records.now.past self.old debts → Owes records.now.past self.new (settled debts pid.0) }
+        ensures owes { (debts : Debts) → Owes records.now.past self.old debts → Owes records.now.past self.new (paid debts pid.0) }
         ensures same { IsSameBut self.old self.new }
         ensures rows { self.new.book.rows ≡ self.old.book.rows }
     {
@@ -66,7 +66,7 @@ impl Desk {
     }
 
     // The same of one that may be there.
-    pub(crate) fn settle_if<L: Ledger>(
+    pub(crate) fn line_up_if<L: Ledger>(
         &mut self,
         records: &Records,
         pid: Option<Pid>,
@@ -75,17 +75,17 @@ impl Desk {
         requires known { IfSome pid (λ p. p.0 < self.old.sched.pids) }
         requires below { HasLists self.old }
         requires there { IfSome pid (λ p. node_of records.now.past p.0 ≢ None) }
-        ensures owes { (debts : Debts) → Owes records.now.past self.old debts → Owes records.now.past self.new (settled_if debts (pid_in pid)) }
+        ensures owes { (debts : Debts) → Owes records.now.past self.old debts → Owes records.now.past self.new (paid_if debts (pid_in pid)) }
         ensures same { IsSameBut self.old self.new }
         ensures rows { self.new.book.rows ≡ self.old.book.rows }
     {
         if let Some(pid) = pid {
-            self.settle(records, pid, steps);
+            self.line_up(records, pid, steps);
         }
     }
 
     // The same of those from one number on, to below another.
-    pub(crate) fn settle_from<L: Ledger>(
+    pub(crate) fn line_up_from<L: Ledger>(
         &mut self,
         records: &Records,
         low: u64,
@@ -96,12 +96,12 @@ impl Desk {
         requires known { high ≤ self.old.sched.pids }
         requires below { HasLists self.old }
         requires there { (p : ℕ) → low ≤ p → p < high → node_of records.now.past p ≢ None }
-        ensures owes { (debts : Debts) → Owes records.now.past self.old debts → Owes records.now.past self.new (settled_from debts low high) }
+        ensures owes { (debts : Debts) → Owes records.now.past self.old debts → Owes records.now.past self.new (paid_from debts low high) }
         ensures same { IsSameBut self.old self.new }
         ensures rows { self.new.book.rows ≡ self.old.book.rows }
     {
         for pid in low..high {
-            self.settle(records, Pid(pid), steps);
+            self.line_up(records, Pid(pid), steps);
         }
     }
 

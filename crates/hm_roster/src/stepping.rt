@@ -4,7 +4,7 @@ ghost use Rattle.hm_locks.specs.Book.{IsEnlisted};
 ghost use Rattle.hm_model.specs.Phase.{ended};
 ghost use Rattle.hm_model.specs.Tree.{Node, node_of, parent_in};
 ghost use Rattle.hm_roster.specs.Behind.{IsEntered, IsUndoOf};
-ghost use Rattle.hm_roster.specs.Roster.{Follows, HasLists, IsSameBut, IsStepOf, Owes, finished, settled, settled_if};
+ghost use Rattle.hm_roster.specs.Roster.{Follows, HasLists, IsSameBut, IsStepOf, Owes, finished, paid, paid_if};
 ghost use Rattle.hm_sched.specs.Moves.{pid_in};
 ghost use Rattle.hm_tied.specs.Calls.{Unclaims};
 ghost use Rattle.hm_tied.specs.Tied.{Debts};
@@ -71,7 +71,7 @@ impl Desk {
 
     // The root of a procedure, where that is another one, stands where it belongs too. A root that called was suspended just now, and
     // its own step doesn't wake it.
-    fn settle_other<L: Ledger>(
+    fn line_up_other<L: Ledger>(
         &mut self,
         records: &Records,
         pid: Pid,
@@ -81,16 +81,16 @@ impl Desk {
         requires known { root.0 < self.old.sched.pids }
         requires there { node_of records.now.past root.0 ≢ None }
         requires below { HasLists self.old }
-        ensures owes { (debts : Debts) → debts.owed pid.0 ≡ false → debts.slack pid.0 ≡ false → Owes records.now.past self.old debts → Owes records.now.past self.new (settled debts root.0) }
+        ensures owes { (debts : Debts) → debts.owed pid.0 ≡ false → debts.slack pid.0 ≡ false → Owes records.now.past self.old debts → Owes records.now.past self.new (paid debts root.0) }
         ensures same { IsSameBut self.old self.new }
     {
         if root != pid {
-            self.settle(records, root, steps);
+            self.line_up(records, root, steps);
         }
     }
 
     // A procedure, its parent and its root stand where they belong.
-    fn settle_kin<L: Ledger>(
+    fn line_up_kin<L: Ledger>(
         &mut self,
         records: &Records,
         pid: Pid,
@@ -105,12 +105,12 @@ impl Desk {
         requires root_known { root.0 < self.old.sched.pids }
         requires root_there { node_of records.now.past root.0 ≢ None }
         requires below { HasLists self.old }
-        ensures owes { (debts : Debts) → Owes records.now.past self.old debts → Owes records.now.past self.new (settled (settled_if (settled debts pid.0) (pid_in parent)) root.0) }
+        ensures owes { (debts : Debts) → Owes records.now.past self.old debts → Owes records.now.past self.new (paid (paid_if (paid debts pid.0) (pid_in parent)) root.0) }
         ensures same { IsSameBut self.old self.new }
     {
-        self.settle(records, pid, steps);
-        self.settle_if(records, parent, steps);
-        self.settle_other(records, pid, root, steps);
+        self.line_up(records, pid, steps);
+        self.line_up_if(records, parent, steps);
+        self.line_up_other(records, pid, root, steps);
     }
 
     // Who has ended is enlisted no longer, and those who waited for it are ready; then those that were made, from this number on, the
@@ -131,8 +131,8 @@ impl Desk {
         let high = records.procedures().last_pid() + 1;
         let (parent, root) = kin_of(records, pid);
         self.finish_both(records, pid, root, steps);
-        self.settle_from(records, low, high, steps);
-        self.settle_kin(records, pid, parent, root, steps);
+        self.line_up_from(records, low, high, steps);
+        self.line_up_kin(records, pid, parent, root, steps);
         self.wake_if(late, steps);
     }
 

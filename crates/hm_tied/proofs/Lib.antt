@@ -9,6 +9,6 @@ pub mod Others
 pub mod Stepping
 pub mod Undoing
 pub mod Uses
-pub mod Settled
+pub mod Paid
 pub mod Ables
 pub mod Openings

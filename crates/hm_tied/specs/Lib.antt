@@ -2,5 +2,5 @@ pub mod Tied
 pub mod Calls
 pub mod Entries
 pub mod Uses
-pub mod Settled
+pub mod Paid
 pub mod Ables

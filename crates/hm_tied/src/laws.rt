@@ -2,7 +2,7 @@
 ghost use Rattle.hm_tied.specs.Ables.{AblesStay, ClaimedStayAble};
 ghost use Rattle.hm_tied.specs.Calls.{ClaimTies, EndOwes, GiveBackTies, GiveUpOwes, JoinOwes, KeepOnOwes, NextOwes, OverIsLess, OwedIsLess, ReadyAreAvailable, SlackIsLess, WakeAllOwes, WakeHeldOwes, WakeOwes};
 ghost use Rattle.hm_tied.specs.Entries.{AbortTies, DownOwes, ReportOwes, StepOwes, SubmitOwes, UndoOwes, UpOwes};
-ghost use Rattle.hm_tied.specs.Settled.{FenceSettles, OneSettles, OwedIsTold, ReportSettles};
+ghost use Rattle.hm_tied.specs.Paid.{FencePays, OnePays, OwedIsTold, ReportPays};
 ghost use Rattle.hm_tied.specs.Uses.{AncestorsAreTold, DebtsMayRise, EnlistingBegins, EnlistingEnds, EnlistingGoesOn, FencesOne, FreeTies, KnownAreMade, NoneClashTies, NumbersTie, OpeningOwes, ReadyAreEnlisted, RoomTies};
 
 /// Whoever is available is ready, where nothing is left to do.
@@ -44,7 +44,7 @@ pub fn less_is_owed()
     ensures over { OverIsLess }
 {}
 
-/// What the wake-ups settle.
+/// What the wake-ups pay of what is owed.
 pub fn wakes_owe()
     ensures one { WakeOwes }
     ensures all { WakeAllOwes }
@@ -127,11 +127,11 @@ pub fn enlisting_ties()
 
 /// Where nothing is left to do: of the owed those alone are that are busy and stand nowhere; behind one call for one that was
 /// owed; and behind the wake-ups of a report.
-pub fn debts_settle()
+pub fn debts_are_paid()
     ensures told { OwedIsTold }
-    ensures one { OneSettles }
-    ensures report { ReportSettles }
-    ensures fence { FenceSettles }
+    ensures one { OnePays }
+    ensures report { ReportPays }
+    ensures fence { FencePays }
 {}
 
 /// By no entry but its own step, or what undoes a step of its tree where it is the root, does who can go on cease to. So where

@@ -1,5 +1,5 @@
 use Rattle.hm_roster.proofs.Entries.{down_roots}
 use Rattle.hm_roster.proofs.desk.Desk.behind_down.Goals as goal
 
-pub settle_last_uncounted-requires-clause-rooted : goal.settle_last_uncounted-requires-clause-rooted
-settle_last_uncounted-requires-clause-rooted c = down_roots c.args.records.now.past c.procedures-legal.ensures.legal c.requires.0 c.args.self.now c.requires.1
+pub line_up_last_uncounted-requires-clause-rooted : goal.line_up_last_uncounted-requires-clause-rooted
+line_up_last_uncounted-requires-clause-rooted c = down_roots c.args.records.now.past c.procedures-legal.ensures.legal c.requires.0 c.args.self.now c.requires.1

@@ -1,5 +1,5 @@
 use Rattle.hm_roster.proofs.Entries.{submit_roots}
 use Rattle.hm_roster.proofs.desk.Desk.behind_submit.Goals as goal
 
-pub settle_last_uncounted-requires-clause-rooted : goal.settle_last_uncounted-requires-clause-rooted
-settle_last_uncounted-requires-clause-rooted c = submit_roots c.args.records.now.past c.procedures-legal.ensures.legal c.requires.0 c.requires.1 c.args.self.now c.requires.2
+pub line_up_last_uncounted-requires-clause-rooted : goal.line_up_last_uncounted-requires-clause-rooted
+line_up_last_uncounted-requires-clause-rooted c = submit_roots c.args.records.now.past c.procedures-legal.ensures.legal c.requires.0 c.requires.1 c.args.self.now c.requires.2

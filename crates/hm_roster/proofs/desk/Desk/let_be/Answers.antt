@@ -3,7 +3,7 @@ use Rattle.hm_model.specs.Locks.{IsIn}
 use Rattle.hm_model.specs.Tree.{made}
 use Rattle.hm_sched.specs.Queues.{IsWith, members, ready_list}
 use Rattle.hm_tied.specs.Calls.{owing}
-use Rattle.hm_tied.proofs.Settled.{one_settles}
+use Rattle.hm_tied.proofs.Paid.{one_pays}
 use Rattle.hm_roster.specs.Roster.{number_on, roster_of}
 use Rattle.hm_roster.proofs.Desks.{below_still}
 use Rattle.hm_roster.proofs.Placing.{readied}
@@ -16,7 +16,7 @@ returns-clause-follows c =
     let same = c.give_back.ensures.same in
     record {
       tied =
-          one_settles J (number_on c.give_back.new.self) (record { claimed = c.give_back.new.self.claimed.items; lists = c.ready.new.self.lists; rows = c.give_back.new.self.book.rows }) c.args.pid.0
+          one_pays J (number_on c.give_back.new.self) (record { claimed = c.give_back.new.self.claimed.items; lists = c.ready.new.self.lists; rows = c.give_back.new.self.book.rows }) c.args.pid.0
           (readied J (number_on c.give_back.new.self) (roster_of c.give_back.new.self) (owing c.args.pid.0) c.args.pid.0 c.give_back.ensures.owes c.procedures-legal.ensures.legal given.opened
           (λ mine. given.unclaimed (subst (λ (l : List ℕ). IsIn c.args.pid.0 l) (ap (λ v. v.items) same.claimed) mine)) c.ready.new.self.lists c.is_of_crash-servers.result c.ready.ensures.joins);
       room = subst (λ (k : ℕ). made J < k) (sym (c.ready.ensures.pids ∙ same.pids)) given.room;

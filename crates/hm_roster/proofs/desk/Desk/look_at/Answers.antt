@@ -1,7 +1,7 @@
 use Rattle.std.proofs.Common.{◌+◌, ap, ◌∙◌}
 use Rattle.hm_model.specs.Tree.{made}
 use Rattle.hm_roster.specs.Behind.{entry_debts}
-use Rattle.hm_roster.specs.Roster.{finished, settled, settled_from, settled_if}
+use Rattle.hm_roster.specs.Roster.{finished, paid, paid_from, paid_if}
 use Rattle.hm_sched.specs.Moves.{pid_in}
 use Rattle.hm_roster.proofs.Entered.{follows_now, late_still, needs, needs_still, own_enlisted, root_enlisted}
 use Rattle.hm_roster.proofs.Ranging.{same_on}
@@ -25,48 +25,48 @@ finish_both-requires-clause-enlisted g c = own_enlisted c.args.records.now.past 
 pub finish_both-requires-clause-root_enlisted : goal.finish_both-requires-clause-root_enlisted
 finish_both-requires-clause-root_enlisted g c = root_enlisted c.args.records.now.past c.procedures.ensures.legal c.args.pid.0 c.args.low c.args.late c.args.self.now c.requires c.kin_of-parent.result.1.0 (c.kin_of-parent.ensures.root c.requires.node c.requires.there)
 
-pub settle_from-requires-clause-order : goal.settle_from-requires-clause-order
-settle_from-requires-clause-order g c = let n = needs_still c.args.records.now.past c.args.pid.0 c.args.low (c.last_pid-high.result + 1) c.kin_of-parent.result.0 c.kin_of-parent.result.1.0 c.args.self.now c.finish_both.new.self (needs c.args.records.now.past c.procedures.ensures.legal c.args.pid.0 c.args.low c.args.late c.args.self.now c.requires (c.last_pid-high.result + 1) c.kin_of-parent.result.0 c.kin_of-parent.result.1.0 (c.kin_of-parent.ensures.parent c.requires.node c.requires.there) (c.kin_of-parent.ensures.root c.requires.node c.requires.there) (ap (λ k. k + 1) (c.last_pid-high.ensures.last ∙ ap made c.procedures.ensures.past))) c.finish_both.ensures.same in n.new_order
+pub line_up_from-requires-clause-order : goal.line_up_from-requires-clause-order
+line_up_from-requires-clause-order g c = let n = needs_still c.args.records.now.past c.args.pid.0 c.args.low (c.last_pid-high.result + 1) c.kin_of-parent.result.0 c.kin_of-parent.result.1.0 c.args.self.now c.finish_both.new.self (needs c.args.records.now.past c.procedures.ensures.legal c.args.pid.0 c.args.low c.args.late c.args.self.now c.requires (c.last_pid-high.result + 1) c.kin_of-parent.result.0 c.kin_of-parent.result.1.0 (c.kin_of-parent.ensures.parent c.requires.node c.requires.there) (c.kin_of-parent.ensures.root c.requires.node c.requires.there) (ap (λ k. k + 1) (c.last_pid-high.ensures.last ∙ ap made c.procedures.ensures.past))) c.finish_both.ensures.same in n.new_order
 
-pub settle_from-requires-clause-known : goal.settle_from-requires-clause-known
-settle_from-requires-clause-known g c = let n = needs_still c.args.records.now.past c.args.pid.0 c.args.low (c.last_pid-high.result + 1) c.kin_of-parent.result.0 c.kin_of-parent.result.1.0 c.args.self.now c.finish_both.new.self (needs c.args.records.now.past c.procedures.ensures.legal c.args.pid.0 c.args.low c.args.late c.args.self.now c.requires (c.last_pid-high.result + 1) c.kin_of-parent.result.0 c.kin_of-parent.result.1.0 (c.kin_of-parent.ensures.parent c.requires.node c.requires.there) (c.kin_of-parent.ensures.root c.requires.node c.requires.there) (ap (λ k. k + 1) (c.last_pid-high.ensures.last ∙ ap made c.procedures.ensures.past))) c.finish_both.ensures.same in n.new_known
+pub line_up_from-requires-clause-known : goal.line_up_from-requires-clause-known
+line_up_from-requires-clause-known g c = let n = needs_still c.args.records.now.past c.args.pid.0 c.args.low (c.last_pid-high.result + 1) c.kin_of-parent.result.0 c.kin_of-parent.result.1.0 c.args.self.now c.finish_both.new.self (needs c.args.records.now.past c.procedures.ensures.legal c.args.pid.0 c.args.low c.args.late c.args.self.now c.requires (c.last_pid-high.result + 1) c.kin_of-parent.result.0 c.kin_of-parent.result.1.0 (c.kin_of-parent.ensures.parent c.requires.node c.requires.there) (c.kin_of-parent.ensures.root c.requires.node c.requires.there) (ap (λ k. k + 1) (c.last_pid-high.ensures.last ∙ ap made c.procedures.ensures.past))) c.finish_both.ensures.same in n.new_known
 
-pub settle_from-requires-clause-there : goal.settle_from-requires-clause-there
-settle_from-requires-clause-there g c = let n = needs_still c.args.records.now.past c.args.pid.0 c.args.low (c.last_pid-high.result + 1) c.kin_of-parent.result.0 c.kin_of-parent.result.1.0 c.args.self.now c.finish_both.new.self (needs c.args.records.now.past c.procedures.ensures.legal c.args.pid.0 c.args.low c.args.late c.args.self.now c.requires (c.last_pid-high.result + 1) c.kin_of-parent.result.0 c.kin_of-parent.result.1.0 (c.kin_of-parent.ensures.parent c.requires.node c.requires.there) (c.kin_of-parent.ensures.root c.requires.node c.requires.there) (ap (λ k. k + 1) (c.last_pid-high.ensures.last ∙ ap made c.procedures.ensures.past))) c.finish_both.ensures.same in n.new_there
+pub line_up_from-requires-clause-there : goal.line_up_from-requires-clause-there
+line_up_from-requires-clause-there g c = let n = needs_still c.args.records.now.past c.args.pid.0 c.args.low (c.last_pid-high.result + 1) c.kin_of-parent.result.0 c.kin_of-parent.result.1.0 c.args.self.now c.finish_both.new.self (needs c.args.records.now.past c.procedures.ensures.legal c.args.pid.0 c.args.low c.args.late c.args.self.now c.requires (c.last_pid-high.result + 1) c.kin_of-parent.result.0 c.kin_of-parent.result.1.0 (c.kin_of-parent.ensures.parent c.requires.node c.requires.there) (c.kin_of-parent.ensures.root c.requires.node c.requires.there) (ap (λ k. k + 1) (c.last_pid-high.ensures.last ∙ ap made c.procedures.ensures.past))) c.finish_both.ensures.same in n.new_there
 
-pub settle_from-requires-clause-below : goal.settle_from-requires-clause-below
-settle_from-requires-clause-below g c = let n = needs_still c.args.records.now.past c.args.pid.0 c.args.low (c.last_pid-high.result + 1) c.kin_of-parent.result.0 c.kin_of-parent.result.1.0 c.args.self.now c.finish_both.new.self (needs c.args.records.now.past c.procedures.ensures.legal c.args.pid.0 c.args.low c.args.late c.args.self.now c.requires (c.last_pid-high.result + 1) c.kin_of-parent.result.0 c.kin_of-parent.result.1.0 (c.kin_of-parent.ensures.parent c.requires.node c.requires.there) (c.kin_of-parent.ensures.root c.requires.node c.requires.there) (ap (λ k. k + 1) (c.last_pid-high.ensures.last ∙ ap made c.procedures.ensures.past))) c.finish_both.ensures.same in n.below
+pub line_up_from-requires-clause-below : goal.line_up_from-requires-clause-below
+line_up_from-requires-clause-below g c = let n = needs_still c.args.records.now.past c.args.pid.0 c.args.low (c.last_pid-high.result + 1) c.kin_of-parent.result.0 c.kin_of-parent.result.1.0 c.args.self.now c.finish_both.new.self (needs c.args.records.now.past c.procedures.ensures.legal c.args.pid.0 c.args.low c.args.late c.args.self.now c.requires (c.last_pid-high.result + 1) c.kin_of-parent.result.0 c.kin_of-parent.result.1.0 (c.kin_of-parent.ensures.parent c.requires.node c.requires.there) (c.kin_of-parent.ensures.root c.requires.node c.requires.there) (ap (λ k. k + 1) (c.last_pid-high.ensures.last ∙ ap made c.procedures.ensures.past))) c.finish_both.ensures.same in n.below
 
-pub settle_kin-requires-clause-known : goal.settle_kin-requires-clause-known
-settle_kin-requires-clause-known g c = let n = needs_still c.args.records.now.past c.args.pid.0 c.args.low (c.last_pid-high.result + 1) c.kin_of-parent.result.0 c.kin_of-parent.result.1.0 c.finish_both.new.self c.settle_from.new.self (needs_still c.args.records.now.past c.args.pid.0 c.args.low (c.last_pid-high.result + 1) c.kin_of-parent.result.0 c.kin_of-parent.result.1.0 c.args.self.now c.finish_both.new.self (needs c.args.records.now.past c.procedures.ensures.legal c.args.pid.0 c.args.low c.args.late c.args.self.now c.requires (c.last_pid-high.result + 1) c.kin_of-parent.result.0 c.kin_of-parent.result.1.0 (c.kin_of-parent.ensures.parent c.requires.node c.requires.there) (c.kin_of-parent.ensures.root c.requires.node c.requires.there) (ap (λ k. k + 1) (c.last_pid-high.ensures.last ∙ ap made c.procedures.ensures.past))) c.finish_both.ensures.same) c.settle_from.ensures.same in n.known
+pub line_up_kin-requires-clause-known : goal.line_up_kin-requires-clause-known
+line_up_kin-requires-clause-known g c = let n = needs_still c.args.records.now.past c.args.pid.0 c.args.low (c.last_pid-high.result + 1) c.kin_of-parent.result.0 c.kin_of-parent.result.1.0 c.finish_both.new.self c.line_up_from.new.self (needs_still c.args.records.now.past c.args.pid.0 c.args.low (c.last_pid-high.result + 1) c.kin_of-parent.result.0 c.kin_of-parent.result.1.0 c.args.self.now c.finish_both.new.self (needs c.args.records.now.past c.procedures.ensures.legal c.args.pid.0 c.args.low c.args.late c.args.self.now c.requires (c.last_pid-high.result + 1) c.kin_of-parent.result.0 c.kin_of-parent.result.1.0 (c.kin_of-parent.ensures.parent c.requires.node c.requires.there) (c.kin_of-parent.ensures.root c.requires.node c.requires.there) (ap (λ k. k + 1) (c.last_pid-high.ensures.last ∙ ap made c.procedures.ensures.past))) c.finish_both.ensures.same) c.line_up_from.ensures.same in n.known
 
-pub settle_kin-requires-clause-there : goal.settle_kin-requires-clause-there
-settle_kin-requires-clause-there g c = let n = needs_still c.args.records.now.past c.args.pid.0 c.args.low (c.last_pid-high.result + 1) c.kin_of-parent.result.0 c.kin_of-parent.result.1.0 c.finish_both.new.self c.settle_from.new.self (needs_still c.args.records.now.past c.args.pid.0 c.args.low (c.last_pid-high.result + 1) c.kin_of-parent.result.0 c.kin_of-parent.result.1.0 c.args.self.now c.finish_both.new.self (needs c.args.records.now.past c.procedures.ensures.legal c.args.pid.0 c.args.low c.args.late c.args.self.now c.requires (c.last_pid-high.result + 1) c.kin_of-parent.result.0 c.kin_of-parent.result.1.0 (c.kin_of-parent.ensures.parent c.requires.node c.requires.there) (c.kin_of-parent.ensures.root c.requires.node c.requires.there) (ap (λ k. k + 1) (c.last_pid-high.ensures.last ∙ ap made c.procedures.ensures.past))) c.finish_both.ensures.same) c.settle_from.ensures.same in n.there
+pub line_up_kin-requires-clause-there : goal.line_up_kin-requires-clause-there
+line_up_kin-requires-clause-there g c = let n = needs_still c.args.records.now.past c.args.pid.0 c.args.low (c.last_pid-high.result + 1) c.kin_of-parent.result.0 c.kin_of-parent.result.1.0 c.finish_both.new.self c.line_up_from.new.self (needs_still c.args.records.now.past c.args.pid.0 c.args.low (c.last_pid-high.result + 1) c.kin_of-parent.result.0 c.kin_of-parent.result.1.0 c.args.self.now c.finish_both.new.self (needs c.args.records.now.past c.procedures.ensures.legal c.args.pid.0 c.args.low c.args.late c.args.self.now c.requires (c.last_pid-high.result + 1) c.kin_of-parent.result.0 c.kin_of-parent.result.1.0 (c.kin_of-parent.ensures.parent c.requires.node c.requires.there) (c.kin_of-parent.ensures.root c.requires.node c.requires.there) (ap (λ k. k + 1) (c.last_pid-high.ensures.last ∙ ap made c.procedures.ensures.past))) c.finish_both.ensures.same) c.line_up_from.ensures.same in n.there
 
-pub settle_kin-requires-clause-parent_known : goal.settle_kin-requires-clause-parent_known
-settle_kin-requires-clause-parent_known g c = let n = needs_still c.args.records.now.past c.args.pid.0 c.args.low (c.last_pid-high.result + 1) c.kin_of-parent.result.0 c.kin_of-parent.result.1.0 c.finish_both.new.self c.settle_from.new.self (needs_still c.args.records.now.past c.args.pid.0 c.args.low (c.last_pid-high.result + 1) c.kin_of-parent.result.0 c.kin_of-parent.result.1.0 c.args.self.now c.finish_both.new.self (needs c.args.records.now.past c.procedures.ensures.legal c.args.pid.0 c.args.low c.args.late c.args.self.now c.requires (c.last_pid-high.result + 1) c.kin_of-parent.result.0 c.kin_of-parent.result.1.0 (c.kin_of-parent.ensures.parent c.requires.node c.requires.there) (c.kin_of-parent.ensures.root c.requires.node c.requires.there) (ap (λ k. k + 1) (c.last_pid-high.ensures.last ∙ ap made c.procedures.ensures.past))) c.finish_both.ensures.same) c.settle_from.ensures.same in n.parent_known
+pub line_up_kin-requires-clause-parent_known : goal.line_up_kin-requires-clause-parent_known
+line_up_kin-requires-clause-parent_known g c = let n = needs_still c.args.records.now.past c.args.pid.0 c.args.low (c.last_pid-high.result + 1) c.kin_of-parent.result.0 c.kin_of-parent.result.1.0 c.finish_both.new.self c.line_up_from.new.self (needs_still c.args.records.now.past c.args.pid.0 c.args.low (c.last_pid-high.result + 1) c.kin_of-parent.result.0 c.kin_of-parent.result.1.0 c.args.self.now c.finish_both.new.self (needs c.args.records.now.past c.procedures.ensures.legal c.args.pid.0 c.args.low c.args.late c.args.self.now c.requires (c.last_pid-high.result + 1) c.kin_of-parent.result.0 c.kin_of-parent.result.1.0 (c.kin_of-parent.ensures.parent c.requires.node c.requires.there) (c.kin_of-parent.ensures.root c.requires.node c.requires.there) (ap (λ k. k + 1) (c.last_pid-high.ensures.last ∙ ap made c.procedures.ensures.past))) c.finish_both.ensures.same) c.line_up_from.ensures.same in n.parent_known
 
-pub settle_kin-requires-clause-parent_there : goal.settle_kin-requires-clause-parent_there
-settle_kin-requires-clause-parent_there g c = let n = needs_still c.args.records.now.past c.args.pid.0 c.args.low (c.last_pid-high.result + 1) c.kin_of-parent.result.0 c.kin_of-parent.result.1.0 c.finish_both.new.self c.settle_from.new.self (needs_still c.args.records.now.past c.args.pid.0 c.args.low (c.last_pid-high.result + 1) c.kin_of-parent.result.0 c.kin_of-parent.result.1.0 c.args.self.now c.finish_both.new.self (needs c.args.records.now.past c.procedures.ensures.legal c.args.pid.0 c.args.low c.args.late c.args.self.now c.requires (c.last_pid-high.result + 1) c.kin_of-parent.result.0 c.kin_of-parent.result.1.0 (c.kin_of-parent.ensures.parent c.requires.node c.requires.there) (c.kin_of-parent.ensures.root c.requires.node c.requires.there) (ap (λ k. k + 1) (c.last_pid-high.ensures.last ∙ ap made c.procedures.ensures.past))) c.finish_both.ensures.same) c.settle_from.ensures.same in n.parent_there
+pub line_up_kin-requires-clause-parent_there : goal.line_up_kin-requires-clause-parent_there
+line_up_kin-requires-clause-parent_there g c = let n = needs_still c.args.records.now.past c.args.pid.0 c.args.low (c.last_pid-high.result + 1) c.kin_of-parent.result.0 c.kin_of-parent.result.1.0 c.finish_both.new.self c.line_up_from.new.self (needs_still c.args.records.now.past c.args.pid.0 c.args.low (c.last_pid-high.result + 1) c.kin_of-parent.result.0 c.kin_of-parent.result.1.0 c.args.self.now c.finish_both.new.self (needs c.args.records.now.past c.procedures.ensures.legal c.args.pid.0 c.args.low c.args.late c.args.self.now c.requires (c.last_pid-high.result + 1) c.kin_of-parent.result.0 c.kin_of-parent.result.1.0 (c.kin_of-parent.ensures.parent c.requires.node c.requires.there) (c.kin_of-parent.ensures.root c.requires.node c.requires.there) (ap (λ k. k + 1) (c.last_pid-high.ensures.last ∙ ap made c.procedures.ensures.past))) c.finish_both.ensures.same) c.line_up_from.ensures.same in n.parent_there
 
-pub settle_kin-requires-clause-root_known : goal.settle_kin-requires-clause-root_known
-settle_kin-requires-clause-root_known g c = let n = needs_still c.args.records.now.past c.args.pid.0 c.args.low (c.last_pid-high.result + 1) c.kin_of-parent.result.0 c.kin_of-parent.result.1.0 c.finish_both.new.self c.settle_from.new.self (needs_still c.args.records.now.past c.args.pid.0 c.args.low (c.last_pid-high.result + 1) c.kin_of-parent.result.0 c.kin_of-parent.result.1.0 c.args.self.now c.finish_both.new.self (needs c.args.records.now.past c.procedures.ensures.legal c.args.pid.0 c.args.low c.args.late c.args.self.now c.requires (c.last_pid-high.result + 1) c.kin_of-parent.result.0 c.kin_of-parent.result.1.0 (c.kin_of-parent.ensures.parent c.requires.node c.requires.there) (c.kin_of-parent.ensures.root c.requires.node c.requires.there) (ap (λ k. k + 1) (c.last_pid-high.ensures.last ∙ ap made c.procedures.ensures.past))) c.finish_both.ensures.same) c.settle_from.ensures.same in n.root_known
+pub line_up_kin-requires-clause-root_known : goal.line_up_kin-requires-clause-root_known
+line_up_kin-requires-clause-root_known g c = let n = needs_still c.args.records.now.past c.args.pid.0 c.args.low (c.last_pid-high.result + 1) c.kin_of-parent.result.0 c.kin_of-parent.result.1.0 c.finish_both.new.self c.line_up_from.new.self (needs_still c.args.records.now.past c.args.pid.0 c.args.low (c.last_pid-high.result + 1) c.kin_of-parent.result.0 c.kin_of-parent.result.1.0 c.args.self.now c.finish_both.new.self (needs c.args.records.now.past c.procedures.ensures.legal c.args.pid.0 c.args.low c.args.late c.args.self.now c.requires (c.last_pid-high.result + 1) c.kin_of-parent.result.0 c.kin_of-parent.result.1.0 (c.kin_of-parent.ensures.parent c.requires.node c.requires.there) (c.kin_of-parent.ensures.root c.requires.node c.requires.there) (ap (λ k. k + 1) (c.last_pid-high.ensures.last ∙ ap made c.procedures.ensures.past))) c.finish_both.ensures.same) c.line_up_from.ensures.same in n.root_known
 
-pub settle_kin-requires-clause-root_there : goal.settle_kin-requires-clause-root_there
-settle_kin-requires-clause-root_there g c = let n = needs_still c.args.records.now.past c.args.pid.0 c.args.low (c.last_pid-high.result + 1) c.kin_of-parent.result.0 c.kin_of-parent.result.1.0 c.finish_both.new.self c.settle_from.new.self (needs_still c.args.records.now.past c.args.pid.0 c.args.low (c.last_pid-high.result + 1) c.kin_of-parent.result.0 c.kin_of-parent.result.1.0 c.args.self.now c.finish_both.new.self (needs c.args.records.now.past c.procedures.ensures.legal c.args.pid.0 c.args.low c.args.late c.args.self.now c.requires (c.last_pid-high.result + 1) c.kin_of-parent.result.0 c.kin_of-parent.result.1.0 (c.kin_of-parent.ensures.parent c.requires.node c.requires.there) (c.kin_of-parent.ensures.root c.requires.node c.requires.there) (ap (λ k. k + 1) (c.last_pid-high.ensures.last ∙ ap made c.procedures.ensures.past))) c.finish_both.ensures.same) c.settle_from.ensures.same in n.root_there
+pub line_up_kin-requires-clause-root_there : goal.line_up_kin-requires-clause-root_there
+line_up_kin-requires-clause-root_there g c = let n = needs_still c.args.records.now.past c.args.pid.0 c.args.low (c.last_pid-high.result + 1) c.kin_of-parent.result.0 c.kin_of-parent.result.1.0 c.finish_both.new.self c.line_up_from.new.self (needs_still c.args.records.now.past c.args.pid.0 c.args.low (c.last_pid-high.result + 1) c.kin_of-parent.result.0 c.kin_of-parent.result.1.0 c.args.self.now c.finish_both.new.self (needs c.args.records.now.past c.procedures.ensures.legal c.args.pid.0 c.args.low c.args.late c.args.self.now c.requires (c.last_pid-high.result + 1) c.kin_of-parent.result.0 c.kin_of-parent.result.1.0 (c.kin_of-parent.ensures.parent c.requires.node c.requires.there) (c.kin_of-parent.ensures.root c.requires.node c.requires.there) (ap (λ k. k + 1) (c.last_pid-high.ensures.last ∙ ap made c.procedures.ensures.past))) c.finish_both.ensures.same) c.line_up_from.ensures.same in n.root_there
 
-pub settle_kin-requires-clause-below : goal.settle_kin-requires-clause-below
-settle_kin-requires-clause-below g c = let n = needs_still c.args.records.now.past c.args.pid.0 c.args.low (c.last_pid-high.result + 1) c.kin_of-parent.result.0 c.kin_of-parent.result.1.0 c.finish_both.new.self c.settle_from.new.self (needs_still c.args.records.now.past c.args.pid.0 c.args.low (c.last_pid-high.result + 1) c.kin_of-parent.result.0 c.kin_of-parent.result.1.0 c.args.self.now c.finish_both.new.self (needs c.args.records.now.past c.procedures.ensures.legal c.args.pid.0 c.args.low c.args.late c.args.self.now c.requires (c.last_pid-high.result + 1) c.kin_of-parent.result.0 c.kin_of-parent.result.1.0 (c.kin_of-parent.ensures.parent c.requires.node c.requires.there) (c.kin_of-parent.ensures.root c.requires.node c.requires.there) (ap (λ k. k + 1) (c.last_pid-high.ensures.last ∙ ap made c.procedures.ensures.past))) c.finish_both.ensures.same) c.settle_from.ensures.same in n.below
+pub line_up_kin-requires-clause-below : goal.line_up_kin-requires-clause-below
+line_up_kin-requires-clause-below g c = let n = needs_still c.args.records.now.past c.args.pid.0 c.args.low (c.last_pid-high.result + 1) c.kin_of-parent.result.0 c.kin_of-parent.result.1.0 c.finish_both.new.self c.line_up_from.new.self (needs_still c.args.records.now.past c.args.pid.0 c.args.low (c.last_pid-high.result + 1) c.kin_of-parent.result.0 c.kin_of-parent.result.1.0 c.args.self.now c.finish_both.new.self (needs c.args.records.now.past c.procedures.ensures.legal c.args.pid.0 c.args.low c.args.late c.args.self.now c.requires (c.last_pid-high.result + 1) c.kin_of-parent.result.0 c.kin_of-parent.result.1.0 (c.kin_of-parent.ensures.parent c.requires.node c.requires.there) (c.kin_of-parent.ensures.root c.requires.node c.requires.there) (ap (λ k. k + 1) (c.last_pid-high.ensures.last ∙ ap made c.procedures.ensures.past))) c.finish_both.ensures.same) c.line_up_from.ensures.same in n.below
 
 pub returns-clause-same : goal.returns-clause-same
-returns-clause-same g c = same_on c.args.self.now c.settle_kin.new.self c.wake_if.new.self (same_on c.args.self.now c.settle_from.new.self c.settle_kin.new.self (same_on c.args.self.now c.finish_both.new.self c.settle_from.new.self c.finish_both.ensures.same c.settle_from.ensures.same) c.settle_kin.ensures.same) c.wake_if.ensures.same
+returns-clause-same g c = same_on c.args.self.now c.line_up_kin.new.self c.wake_if.new.self (same_on c.args.self.now c.line_up_from.new.self c.line_up_kin.new.self (same_on c.args.self.now c.finish_both.new.self c.line_up_from.new.self c.finish_both.ensures.same c.line_up_from.ensures.same) c.line_up_kin.ensures.same) c.wake_if.ensures.same
 
 pub returns-clause-follows : goal.returns-clause-follows
 returns-clause-follows g c =
     let start = entry_debts c.requires.before c.args.pid.0 c.requires.node c.args.late in
     let ended = finished (finished start c.args.pid.0) c.kin_of-parent.result.1.0 in
-    let made_ones = settled_from ended c.args.low (c.last_pid-high.result + 1) in
-    let kin = settled (settled_if (settled made_ones c.args.pid.0) (pid_in c.kin_of-parent.result.0)) c.kin_of-parent.result.1.0 in
+    let made_ones = paid_from ended c.args.low (c.last_pid-high.result + 1) in
+    let kin = paid (paid_if (paid made_ones c.args.pid.0) (pid_in c.kin_of-parent.result.0)) c.kin_of-parent.result.1.0 in
     follows_now c.args.records.now.past c.procedures.ensures.legal c.args.pid.0 c.args.low c.args.late c.args.self.now c.requires c.wake_if.new.self (pid_in c.kin_of-parent.result.0) c.kin_of-parent.result.1.0 (c.last_pid-high.result + 1) (c.kin_of-parent.ensures.parent c.requires.node c.requires.there) (c.kin_of-parent.ensures.root c.requires.node c.requires.there) (ap (λ k. k + 1) (c.last_pid-high.ensures.last ∙ ap made c.procedures.ensures.past))
-    (same_on c.args.self.now c.settle_kin.new.self c.wake_if.new.self (same_on c.args.self.now c.settle_from.new.self c.settle_kin.new.self (same_on c.args.self.now c.finish_both.new.self c.settle_from.new.self c.finish_both.ensures.same c.settle_from.ensures.same) c.settle_kin.ensures.same) c.wake_if.ensures.same)
-    (c.wake_if.ensures.owes c.args.records.now.past kin (late_still made_ones c.args.pid.0 (pid_in c.kin_of-parent.result.0) c.kin_of-parent.result.1.0) (c.settle_kin.ensures.owes made_ones (c.settle_from.ensures.owes ended (c.finish_both.ensures.owes start c.requires.owes))))
+    (same_on c.args.self.now c.line_up_kin.new.self c.wake_if.new.self (same_on c.args.self.now c.line_up_from.new.self c.line_up_kin.new.self (same_on c.args.self.now c.finish_both.new.self c.line_up_from.new.self c.finish_both.ensures.same c.line_up_from.ensures.same) c.line_up_kin.ensures.same) c.wake_if.ensures.same)
+    (c.wake_if.ensures.owes c.args.records.now.past kin (late_still made_ones c.args.pid.0 (pid_in c.kin_of-parent.result.0) c.kin_of-parent.result.1.0) (c.line_up_kin.ensures.owes made_ones (c.line_up_from.ensures.owes ended (c.finish_both.ensures.owes start c.requires.owes))))

@@ -1,7 +1,7 @@
 use Rattle.std.proofs.Common.{◌<◌, ℕ, List, arith, refl, ap, subst, sym, ◌∙◌}
 use Rattle.hm_model.specs.Tree.{made}
 use Rattle.hm_tied.specs.Calls.{Unclaims, owing}
-use Rattle.hm_tied.proofs.Settled.{one_settles}
+use Rattle.hm_tied.proofs.Paid.{one_pays}
 use Rattle.hm_roster.specs.Roster.{number_on, roster_of}
 use Rattle.hm_roster.proofs.Desks.{below_still, enlisted_known}
 use Rattle.hm_roster.proofs.Giving.{claimed_enlisted}
@@ -21,7 +21,7 @@ returns-clause-follows c =
     let fewer = subst (λ (l : List ℕ). Unclaims c.args.pid.0 l c.unclaim.new.claimed.items) (ap (λ v. v.items) same.claimed) c.unclaim.ensures.less in
     record {
       tied =
-          one_settles J (number_on c.let_go_uncounted.new.self) (record { claimed = c.unclaim.new.claimed.items; lists = c.ready.new.self.lists; rows = c.let_go_uncounted.new.self.book.rows }) c.args.pid.0
+          one_pays J (number_on c.let_go_uncounted.new.self) (record { claimed = c.unclaim.new.claimed.items; lists = c.ready.new.self.lists; rows = c.let_go_uncounted.new.self.book.rows }) c.args.pid.0
           (readied J (number_on c.let_go_uncounted.new.self) (record { claimed = c.unclaim.new.claimed.items; lists = c.let_go_uncounted.new.self.sched.lists; rows = c.let_go_uncounted.new.self.book.rows }) (owing c.args.pid.0) c.args.pid.0
           (c.let_go_uncounted.ensures.owes c.unclaim.new.claimed.items fewer) c.procedures-legal.ensures.legal (c.requires.follows.tied.claims c.args.pid.0 c.requires.mine).0 (λ e. ((fewer c.args.pid.0).0 e).1 refl)
           c.ready.new.self.lists c.is_of_crash-servers.result c.ready.ensures.joins);

@@ -4,7 +4,7 @@ use Rattle.hm_model.specs.Locks.{IsIn}
 use Rattle.hm_model.specs.Tree.{made}
 use Rattle.hm_sched.specs.Queues.{StandsIn, ready_count}
 use Rattle.hm_sched.specs.declared.queue.Queue.TheVariants.{Held, Suspended, Waits}
-use Rattle.hm_tied.proofs.Settled.{one_settles}
+use Rattle.hm_tied.proofs.Paid.{one_pays}
 use Rattle.hm_tied.proofs.Uses.{free_given}
 use Rattle.hm_tied.specs.Calls.{owing}
 use Rattle.hm_roster.specs.Looks.{ready_in}
@@ -40,7 +40,7 @@ returns-then-awaits-clause-follows g c =
     let same = c.give_back.ensures.same in
     record {
       tied =
-          one_settles J (number_on c.give_back.new.self) (record { claimed = c.give_back.new.self.claimed.items; lists = c.suspend.new.self.lists; rows = c.give_back.new.self.book.rows }) c.args.pid.0
+          one_pays J (number_on c.give_back.new.self) (record { claimed = c.give_back.new.self.claimed.items; lists = c.suspend.new.self.lists; rows = c.give_back.new.self.book.rows }) c.args.pid.0
           (suspended J (number_on c.give_back.new.self) (roster_of c.give_back.new.self) (owing c.args.pid.0) c.args.pid.0 c.give_back.ensures.owes c.can_go.ensures.legal given.opened
           (λ mine. given.unclaimed (subst (λ (l : List ℕ). IsIn c.args.pid.0 l) (ap (λ v. v.items) same.claimed) mine)) c.suspend.new.self.lists c.number_called-server.result c.number_called-server.ensures.number
           (λ go. true≢false (sym (c.can_go.ensures.go.1 go) ∙ c.if-can_go.false)) c.suspend.ensures.joins);
@@ -58,7 +58,7 @@ returns-else-awaits-clause-follows g c =
     let same = c.give_back.ensures.same in
     record {
       tied =
-          one_settles J (number_on c.give_back.new.self) (roster_of c.give_back.new.self) c.args.pid.0
+          one_pays J (number_on c.give_back.new.self) (roster_of c.give_back.new.self) c.args.pid.0
           (idle J (number_on c.give_back.new.self) (roster_of c.give_back.new.self) (owing c.args.pid.0) c.args.pid.0 c.give_back.ensures.owes
           (λ go. true≢false (sym (c.can_go.ensures.go.1 go) ∙ c.if-can_go.false))
           (λ waits. true≢false (sym ((c.awaits.ensures (λ go. true≢false (sym (c.can_go.ensures.go.1 go) ∙ c.if-can_go.false))).1 waits) ∙ c.if-awaits.false)));

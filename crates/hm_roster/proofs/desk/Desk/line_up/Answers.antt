@@ -4,7 +4,7 @@ use Rattle.hm_model.specs.Phase.{ended}
 use Rattle.hm_tied.specs.Calls.{without}
 use Rattle.hm_roster.specs.Roster.{number_on, roster_of}
 use Rattle.hm_roster.proofs.Placing.{claimed_is, ended_is, stands_is, woken}
-use Rattle.hm_roster.proofs.desk.Desk.settle.Goals as goal
+use Rattle.hm_roster.proofs.desk.Desk.line_up.Goals as goal
 
 pub returns-then-is_claimed-clause-owes : goal.returns-then-is_claimed-clause-owes
 returns-then-is_claimed-clause-owes g c debts owes =

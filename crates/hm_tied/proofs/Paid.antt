@@ -10,7 +10,7 @@ use Rattle.hm_model.specs.Tree.{Node, node_of}
 use Rattle.hm_tied.specs.Tied.{called_in, no_debts}
 use Rattle.hm_tied.specs.Calls.{without}
 use Rattle.hm_tied.specs.Entries.{is_fenced_by}
-use Rattle.hm_tied.specs.Settled.{FenceSettles, OneSettles, OwedIsTold, ReportSettles}
+use Rattle.hm_tied.specs.Paid.{FencePays, OnePays, OwedIsTold, ReportPays}
 use Rattle.hm_tied.proofs.Uses.{debts_rise, fences_one}
 
 pub owed_told : OwedIsTold
@@ -28,16 +28,16 @@ owed_told J number_of roster debts owed tied told = record {
 out : (test : ℕ → Bool) (p q : ℕ) → (q == p) ≡ true → without test p q ≡ true → ⊥
 out test p q same e = true≢false (sym same ∙ not-true (q == p) (and_parts (test q) (not (q == p)) e).1)
 
-pub one_settles : OneSettles
-one_settles J number_of roster p tied = debts_rise J number_of roster (record no_debts { owed = without (λ q. q == p) p }) no_debts tied (record {
+pub one_pays : OnePays
+one_pays J number_of roster p tied = debts_rise J number_of roster (record no_debts { owed = without (λ q. q == p) p }) no_debts tied (record {
   owed = λ q e. absurd (out (λ q. q == p) p q (and_parts (q == p) (not (q == p)) e).0 e);
   slack = λ q e. e;
   over = λ q. refl;
   late = λ e. e;
 })
 
-pub report_settles : ReportSettles
-report_settles call told J number_of roster none tied =
+pub report_pays : ReportPays
+report_pays call told J number_of roster none tied =
     debts_rise (entry_is.Report call told ∷ J) number_of roster
     (record no_debts { slack = without (λ q. (q == call.0) || is_fenced_by J (entry_is.Report call told ∷ J) (node_of J q)) call.0 }) no_debts tied (record {
       owed = λ q e. e;
@@ -52,8 +52,8 @@ report_settles call told J number_of roster none tied =
       | inr fenced ↦ true≢false (sym fenced ∙ none q)
     ]
 
-pub fence_settles : FenceSettles
-fence_settles call told J number_of roster node server is named tied =
+pub fence_pays : FencePays
+fence_pays call told J number_of roster node server is named tied =
     debts_rise (entry_is.Report call told ∷ J) number_of roster
     (record no_debts { slack = λ q. without (λ n. (n == call.0) || is_fenced_by J (entry_is.Report call told ∷ J) (node_of J n)) call.0 q && not (number_of (called_in (node_of J q)) == number_of (Some server)) }) no_debts tied (record {
       owed = λ q e. e;

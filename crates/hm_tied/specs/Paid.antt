@@ -21,23 +21,23 @@ OwedIsTold =
     → IsTiedBut J number_of roster (record debts { owed = owed })
 
 -- where one alone was owed and isn't any more, nothing is left
-abbrev pub OneSettles : Type 0
-OneSettles =
+abbrev pub OnePays : Type 0
+OnePays =
     (J : Past) (number_of : Option Server → ℕ) (roster : Roster) (p : ℕ)
     → (let debts = owing p in IsTiedBut J number_of roster (record debts { owed = without debts.owed p })) → IsTied J number_of roster
 
--- a report that fences nobody is settled once the one that called is woken
-abbrev pub ReportSettles : Type 0
-ReportSettles =
+-- what a report leaves that fences nobody is paid once the one that called is woken
+abbrev pub ReportPays : Type 0
+ReportPays =
     (call : Pid) (told : Told) (J : Past) (number_of : Option Server → ℕ) (roster : Roster)
     → (let after = entry_is.Report call told ∷ J in
     ((q : ℕ) → is_fenced_by J after (node_of J q) ≡ false)
     → (let debts = report_debts J after call.0 in IsTiedBut after number_of roster (record debts { slack = without debts.slack call.0 }))
     → IsTied after number_of roster)
 
--- a report of a call to fence is settled once those are woken too whose calls went to its server
-abbrev pub FenceSettles : Type 0
-FenceSettles =
+-- what the report of a call to fence leaves is paid once those are woken too whose calls went to its server
+abbrev pub FencePays : Type 0
+FencePays =
     (call : Pid) (told : Told) (J : Past) (number_of : Option Server → ℕ) (roster : Roster) (node : Node) (server : Server)
     → node_of J call.0 ≡ Some node → node.args ≡ args_are.FenceCall server
     → (let after = entry_is.Report call told ∷ J in

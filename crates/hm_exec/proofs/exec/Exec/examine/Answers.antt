@@ -7,7 +7,7 @@ use Rattle.hm_model.specs.Journal.{Past, back}
 use Rattle.hm_model.specs.Rules.{Allowed}
 use Rattle.hm_exec.specs.Moment.{past_of}
 use Rattle.hm_exec.specs.View.{ExecView, moment_of}
-use Rattle.hm_exec.proofs.exec.Exec.judge.Goals as goal
+use Rattle.hm_exec.proofs.exec.Exec.examine.Goals as goal
 
 pub returns-in-None-clause-allowed : goal.returns-in-None-clause-allowed
 returns-in-None-clause-allowed g c =

@@ -2,7 +2,7 @@ use Rattle.std.proofs.Common.{◌==◌, ℕ, ap, sym, ◌∙◌}
 use Rattle.std.proofs.lemmas.Bool.{eqb-true, not-false}
 use Rattle.hm_roster.specs.Roster.{number_on, roster_of}
 use Rattle.hm_roster.proofs.Placing.{not_owed}
-use Rattle.hm_roster.proofs.desk.Desk.settle_other.Goals as goal
+use Rattle.hm_roster.proofs.desk.Desk.line_up_other.Goals as goal
 
 pub returns-else-ne-clause-owes : goal.returns-else-ne-clause-owes
 returns-else-ne-clause-owes g c debts owed slack owes =
