@@ -7,5 +7,5 @@ mod reports;
 mod submissions;
 
 pub use aborts::{AbortRefused, judge_abort};
-pub use reports::{IgnoredWhy, has_settled, judge_report};
+pub use reports::{IgnoredWhy, judge_report};
 pub use submissions::{Refused, judge_submission};

@@ -1,7 +1,7 @@
 //! Reports.
 ghost use Rattle.std.specs.Prelude.{◌≡◌, ◌≢◌, ◌↔◌, IfErr, IsTrue, None, OnOk, Some};
 ghost use Rattle.hm_data.specs.declared.entry.Entry.TheVariants as entry_is;
-ghost use Rattle.hm_model.specs.Reports.{is_settled, peer_in, peer_of, verb_of};
+ghost use Rattle.hm_model.specs.Reports.{peer_in, peer_of, verb_of};
 ghost use Rattle.hm_model.specs.Rules.{Allowed};
 ghost use Rattle.hm_refusals.specs.Reports.{IsHeard, IsIgnored};
 
@@ -51,14 +51,6 @@ fn comes_from(records: &Records, call: Pid, from: &Peer) -> bool
     }
 }
 
-/// Whether a call has a report, or its procedure has ended.
-pub fn has_settled(records: &Records, call: Pid) -> bool
-    ensures { result ≡ is_settled records.now.past call.0 }
-{
-    let procedures = records.procedures();
-    procedures.report(call).is_some() || procedures.has_ended(call)
-}
-
 /// Judges a report by what the journal says: whether there is such a call, whether the report comes from the one who was called,
 /// whether its answer fits, and whether it is the first.
 pub fn judge_report(records: &Records, message: &ReportMsg) -> Result<(), IgnoredWhy>
@@ -75,7 +67,7 @@ pub fn judge_report(records: &Records, message: &ReportMsg) -> Result<(), Ignore
     if !fits_call(records, message.call, message.told) {
         return Err(IgnoredWhy::WrongTold);
     }
-    if has_settled(records, message.call) {
+    if records.procedures().is_settled(message.call) {
         return Err(IgnoredWhy::Settled);
     }
     Ok(())

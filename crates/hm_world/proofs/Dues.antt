@@ -32,6 +32,15 @@ use Rattle.hm_world.specs.Due.{IsDue, IsDueAt}
 use Rattle.hm_world.specs.Sound.{HaveDue}
 use Rattle.hm_world.proofs.Entered.{Entered}
 
+-- the id of a call is the number of its procedure
+id_if : (p : ℕ) (peer : Option Peer) (verb : Option Verb) (call : Call) → call_if p peer verb ≡ Some call → call.id ≡ pid_of p
+id_if p None verb call e = absurd (none-some call e)
+id_if p (Some peer) None call e = absurd (none-some call e)
+id_if p (Some peer) (Some verb) call e = ap (λ (c : Call). c.id) (sym (same_Some (record { id = pid_of p; peer = peer; verb = verb }) call e))
+
+pub own_id : (J : Past) (p : ℕ) (call : Call) → call_of J p ≡ Some call → call.id ≡ pid_of p
+own_id J p call is = id_if p (peer_of J p) (verb_of J p) call is
+
 -- a call that is due behind an entry was due before it, or is the entry's
 pub due_before : (entry : Entry) (J : Past) (o : Outside) (call : Call) → IsLegal (entry ∷ J) → IsDue (entry ∷ J) o call → IsDue J o call ⊎ ((calls_made entry ≡ 1) × (call.id.0 ≡ stepper entry))
 due_before entry J o call legal due =

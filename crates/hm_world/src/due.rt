@@ -2,18 +2,15 @@
 ghost use Rattle.std.specs.Prelude.{◌≡◌, ◌≢◌, [], IfNone, IfOk, IfSome, IsSome, Some, true, false};
 ghost use Rattle.hm_model.specs.Journal.{back};
 ghost use Rattle.hm_model.specs.Reports.{call_of as recorded, peer_in};
-ghost use Rattle.hm_model.specs.Verbs.{verb_in};
 ghost use Rattle.hm_fleet.specs.Fleet.{outside_of};
 ghost use Rattle.hm_world.specs.Due.{NoneIsBelow, IsDueAt, NoneDue};
 ghost use Rattle.hm_world.specs.Sound.{HaveDue};
 ghost use Rattle.hm_world_model.specs.Outside.{runs};
 
 use crate::numbers::Numbers;
-use hm_data::{Args, Call, Peer, Verb};
+use hm_data::{Args, Call};
 use hm_fleet::Fleet;
-use hm_model::laws::calls_are_own;
-use hm_names::{Copied, Pid};
-use hm_refusals::has_settled;
+use hm_names::Pid;
 use hm_state::State;
 use std::alloc::{AllocError, Global};
 
@@ -48,37 +45,10 @@ pub(crate) fn is_due(state: &State, fleet: &Fleet, pid: Pid) -> bool
     if !procedures.has_called(pid) {
         return false;
     }
-    if has_settled(state.records(), pid) {
+    if state.is_settled(pid) {
         return false;
     }
     peer_runs(fleet, &record.args)
-}
-
-// Whom a procedure with these arguments calls.
-fn peer_of(alloc: Global, args: &Args) -> Result<Peer, AllocError>
-    ensures { IfOk result (λ peer. peer ≡ peer_in args.now) }
-{
-    match args {
-        Args::AssignCall { region: _, server } => Ok(Peer::Server(server.copy(alloc)?)),
-        Args::CloseCall { region: _, server } => Ok(Peer::Server(server.copy(alloc)?)),
-        _ => Ok(Peer::Storage),
-    }
-}
-
-// What a procedure with these arguments asks.
-fn verb_of(alloc: Global, args: &Args) -> Result<Option<Verb>, AllocError>
-    ensures { IfOk result (λ verb. verb ≡ verb_in args.now) }
-{
-    match args {
-        Args::AssignCall { region, server: _ } => {
-            Ok(Some(Verb::AssignRegion(region.copy(alloc)?)))
-        }
-        Args::CloseCall { region, server: _ } => Ok(Some(Verb::CloseRegion(region.copy(alloc)?))),
-        Args::FenceCall { server } => Ok(Some(Verb::Fence(server.copy(alloc)?))),
-        Args::LayoutCall { root } => Ok(Some(Verb::Layout(*root))),
-        Args::SweepLayout { root } => Ok(Some(Verb::Sweep(*root))),
-        _ => Ok(None),
-    }
 }
 
 // The call of a procedure that called.
@@ -87,20 +57,10 @@ pub(crate) fn call_of(state: &State, alloc: Global, pid: Pid) -> Result<Call, Al
     ensures recorded { IfOk result (λ call. recorded (back state.now.entries) pid.0 ≡ Some call) }
     ensures id { IfOk result (λ call. call.id ≡ pid) }
 {
-    calls_are_own();
-    let _legal = state.entries();
-    let Some(record) = state.procedures().find(pid) else {
+    let Some(call) = state.call(alloc, pid)? else {
         unreachable!()
     };
-    let peer = peer_of(alloc, &record.args)?;
-    let Some(verb) = verb_of(alloc, &record.args)? else {
-        unreachable!()
-    };
-    Ok(Call {
-        id: pid,
-        peer,
-        verb,
-    })
+    Ok(call)
 }
 
 // The number of the first call that is due. Lower ones, whose calls aren't due any more, are forgotten.
