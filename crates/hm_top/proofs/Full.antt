@@ -76,5 +76,5 @@ ended_full session bytes ended =
     let opened = ended.0 in
     let its = opened.answering in
     let first = begun session.limits (sheets_used session.hands) opened.old in
-    let start = downs_full session.limits.hard its.passed first its.lines its.start refl (going_full session.limits.hard first refl refl) its.downs in
-    (remains_full session.limits.hard bytes its.left its.answered its.rest its.start session.marks its.answers its.mid opened.new start.1 start.0 its.transcript its.remains).1 bytes ended.1
+    let start = downs_full session.limits.hard its.opening.passed first its.lines its.start refl (going_full session.limits.hard first refl refl) its.opening.downs in
+    (remains_full session.limits.hard bytes its.left its.turns.answered its.rest its.start session.marks its.answers its.mid opened.new start.1 start.0 its.turns.transcript its.remains).1 bytes ended.1

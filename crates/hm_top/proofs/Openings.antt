@@ -43,7 +43,7 @@ use Rattle.hm_top.specs.declared.status.EarlyEnd.TheVariants as early_is
 use Rattle.hm_top.specs.Answering.{IsAnswering, IsAnsweringOn, EndsAt, Remains}
 use Rattle.hm_top.specs.Ending.{ended_status}
 use Rattle.hm_top.specs.Got.{GotAnswers, IsPartOf, IsShort}
-use Rattle.hm_top.specs.Opening.{AddsNoStep, Downs, GoesDown, HaltsOpening, IsEndOf, IsPassing, LacksOpening, PassesBy, StopsAt, opening_lines}
+use Rattle.hm_top.specs.Opening.{AddsNoStep, Downs, GoesDown, HaltsOpening, IsEndOf, IsPassing, OpeningLacksMemory, PassesBy, StopsAt, opening_lines}
 use Rattle.hm_top.specs.Transcript.{text_of}
 
 -- what is answered to a server that is held to be dead, by what the executor answered
@@ -175,20 +175,16 @@ module _ {tells : Type 0} {got0 got1 : List ℕ} (old : Scene) where
   -- it wasn't said whole
   pub not_opened : (commands : List Command) → (tells → IsPartOf got0 got1 (answer_text (answer_is.Opened (length (journal_at old))))) → IsAnswering tells got0 got1 (Err early_is.WriteFault) commands old [] old
   not_opened commands part = record {
-    passed = [];
     left = servers_of (past_in old);
-    servers = refl;
     lines = [];
     start = old;
-    downs = (refl, refl);
-    answered = [];
+    opening = record { passed = []; servers = refl; downs = (refl, refl) };
     rest = commands;
-    parts = refl;
-    mid = old;
     answers = [];
-    transcript = (refl, refl, refl);
-    said = λ told. short_more got0 got0 got1 [] (answer_is.Opened (length (journal_at old))) (sym (append-nil got0)) (part told);
+    mid = old;
+    turns = record { answered = []; parts = refl; transcript = (refl, refl, refl) };
     remains = (inr refl, refl);
+    said_are = λ told. short_more got0 got0 got1 [] (answer_is.Opened (length (journal_at old))) (sym (append-nil got0)) (part told);
   }
 
 -- The first servers were passed by.
@@ -208,72 +204,56 @@ module _ {tells : Type 0} {got0 got1 : List ℕ} {old at : Scene} {passed : List
 
     pub stops_halted : (why : Halt) (new : Scene) {got2 : List ℕ} → StopsAt tells got1 got2 server at (early_is.Halted why) new → IsAnswering tells got0 got2 (Err (early_is.Halted why)) commands old [] new
     stops_halted halt_is.LogFault new {got2} s = record {
-      passed = passed;
       left = server ∷ more;
-      servers = all;
       lines = passing.lines;
       start = at;
-      downs = passing.downs;
-      answered = [];
+      opening = record { passed = passed; servers = all; downs = passing.downs };
       rest = commands;
-      parts = refl;
-      mid = at;
       answers = [];
-      transcript = (refl, refl, refl);
-      said = λ told. s.1 told ∙ passing.said told ∙ ap (λ l. got0 ++ text_of l) (sym (no_more (opening_lines old passing.lines)));
+      mid = at;
+      turns = record { answered = []; parts = refl; transcript = (refl, refl, refl) };
       remains = inr (refl, s.0);
+      said_are = λ told. s.1 told ∙ passing.said told ∙ ap (λ l. got0 ++ text_of l) (sym (no_more (opening_lines old passing.lines)));
     }
     stops_halted (halt_is.JournalFull bytes) new {got2} s = record {
-      passed = passed;
       left = server ∷ more;
-      servers = all;
       lines = passing.lines;
       start = at;
-      downs = passing.downs;
-      answered = [];
+      opening = record { passed = passed; servers = all; downs = passing.downs };
       rest = commands;
-      parts = refl;
-      mid = at;
       answers = [];
-      transcript = (refl, refl, refl);
-      said = λ told. s.1 told ∙ passing.said told ∙ ap (λ l. got0 ++ text_of l) (sym (no_more (opening_lines old passing.lines)));
+      mid = at;
+      turns = record { answered = []; parts = refl; transcript = (refl, refl, refl) };
       remains = inr (refl, s.0);
+      said_are = λ told. s.1 told ∙ passing.said told ∙ ap (λ l. got0 ++ text_of l) (sym (no_more (opening_lines old passing.lines)));
     }
 
     -- by this end
-    pub stops : (end : EarlyEnd) (new : Scene) {got2 : List ℕ} → StopsAt tells got1 got2 server at end new → IsAnswering tells got0 got2 (Err end) commands old [] new
-    stops (early_is.Halted why) new s = stops_halted why new s
-    stops early_is.WriteFault new {got2} s = record {
-      passed = passed ++ server ∷ [];
+    pub stops : (end : EarlyEnd) (new : Scene) (got2 : List ℕ) → StopsAt tells got1 got2 server at end new → IsAnswering tells got0 got2 (Err end) commands old [] new
+    stops (early_is.Halted why) new got2 s = stops_halted why new s
+    stops early_is.WriteFault new got2 s = record {
       left = more;
-      servers = all ∙ sym (append_assoc passed (server ∷ []) more);
       lines = passing.lines ++ s.0 ∷ [];
       start = new;
-      downs = downs_more passed server old at new passing.lines (s.0 ∷ []) passing.downs (inl s.1);
-      answered = [];
+      opening = record { passed = passed ++ server ∷ []; servers = all ∙ sym (append_assoc passed (server ∷ []) more); downs = downs_more passed server old at new passing.lines (s.0 ∷ []) passing.downs (inl s.1) };
       rest = commands;
-      parts = refl;
-      mid = new;
       answers = [];
-      transcript = (refl, refl, refl);
-      said = λ told. subst (IsShort got0 got2) (sym (no_more (opening_lines old passing.lines ++ s.0 ∷ []))) (short_more got0 got1 got2 (opening_lines old passing.lines) s.0 (passing.said told) (s.2 told));
+      mid = new;
+      turns = record { answered = []; parts = refl; transcript = (refl, refl, refl) };
       remains = (inr refl, refl);
+      said_are = λ told. subst (IsShort got0 got2) (sym (no_more (opening_lines old passing.lines ++ s.0 ∷ []))) (short_more got0 got1 got2 (opening_lines old passing.lines) s.0 (passing.said told) (s.2 told));
     }
-    stops early_is.Memory new {got2} s = record {
-      passed = passed;
+    stops early_is.Memory new got2 s = record {
       left = server ∷ more;
-      servers = all;
       lines = passing.lines;
       start = at;
-      downs = passing.downs;
-      answered = [];
+      opening = record { passed = passed; servers = all; downs = passing.downs };
       rest = commands;
-      parts = refl;
-      mid = at;
       answers = [];
-      transcript = (refl, refl, refl);
-      said = λ told. s.1 told ∙ passing.said told ∙ ap (λ l. got0 ++ text_of l) (sym (no_more (opening_lines old passing.lines)));
+      mid = at;
+      turns = record { answered = []; parts = refl; transcript = (refl, refl, refl) };
       remains = inr (refl, s.0);
+      said_are = λ told. s.1 told ∙ passing.said told ∙ ap (λ l. got0 ++ text_of l) (sym (no_more (opening_lines old passing.lines)));
     }
 
 -- what an end of the opening says of the run
@@ -305,20 +285,16 @@ remains_on (Err early_is.Memory) answered rest mid new e = inl (refl, e)
 pub answered_on : {tells : Type 0} {got0 got1 got2 : List ℕ} {old at : Scene} {servers : List Server} → servers_of (past_in old) ≡ servers → IsPassing tells got0 got1 old servers at → (ended : Result (Unit {0}) EarlyEnd) {commands : List Command}
     {marks : List ℕ} {new : Scene} → IsAnsweringOn tells got1 got2 ended commands at marks new → IsAnswering tells got0 got2 ended commands old marks new
 answered_on {got0} {got1} {got2} {old} {at} {servers} all passing ended {new} a = record {
-  passed = servers;
   left = [];
-  servers = all ∙ sym (append-nil servers);
   lines = passing.lines;
   start = at;
-  downs = passing.downs;
-  answered = a.answered;
+  opening = record { passed = servers; servers = all ∙ sym (append-nil servers); downs = passing.downs };
   rest = a.rest;
-  parts = a.parts;
-  mid = a.mid;
   answers = a.answers;
-  transcript = a.transcript;
-  said = λ told. said_on got0 got1 got2 (opening_lines old passing.lines) ended a.rest a.mid new a.answers a.ends (passing.said told) (a.said told);
-  remains = remains_on ended a.answered a.rest a.mid new a.ends;
+  mid = a.mid;
+  turns = a.turns;
+  remains = remains_on ended a.turns.answered a.rest a.mid new a.ends;
+  said_are = λ told. said_on got0 got1 got2 (opening_lines old passing.lines) ended a.rest a.mid new a.answers a.ends (passing.said told) (a.said told);
 }
 
 -- a server that is found is at the place, and live

@@ -71,14 +71,14 @@ got_finished rose rose' old mid new status answers later e last = last_more rose
 faith_of : (J : Past) → IsLegal J → KeepsFaith J
 faith_of J legal = record {
   legal = legal;
-  serial_is = catalog_is J legal;
-  deeds = λ newer older pid pick out is. deeds_apply_is pid pick out older (legal_before newer (entry_is.Step pid pick out ∷ older) (subst IsLegal is legal));
-  failures = λ newer older entry is. failure_leaves_all entry older (legal_before newer (entry ∷ older) (subst IsLegal is legal));
+  catalog = record {
+    serial_is = catalog_is J legal;
+    deeds = λ newer older pid pick out is. deeds_apply_is pid pick out older (legal_before newer (entry_is.Step pid pick out ∷ older) (subst IsLegal is legal));
+    failures = λ newer older entry is. failure_leaves_all entry older (legal_before newer (entry ∷ older) (subst IsLegal is legal));
+  };
+  ranges = record { apart = never_overlap J legal; covered = live_cover J legal; bare = missing_bare J legal };
   nonces = nonces_once J legal;
   locks = legal_apart J legal;
-  apart = never_overlap J legal;
-  covered = live_cover J legal;
-  bare = missing_bare J legal;
   single = single_over J legal;
 }
 
@@ -100,18 +100,14 @@ module _ (session : Session) (given : List Command → Type 0) (said : RunStatus
 
   pub answered_map : (commands : List Command) (old : List Entry) (new : Scene) → AreAnswered session status commands old new → AreAnswered other status commands old new
   answered_map commands old new a = record {
-    passed = a.passed;
     left = a.left;
-    servers = a.servers;
     lines = a.lines;
     start = a.start;
-    downs = a.downs;
-    answered = a.answered;
+    opening = a.opening;
     rest = a.rest;
-    parts = a.parts;
     answers = a.answers;
     mid = a.mid;
-    transcript = a.transcript;
+    turns = a.turns;
     remains = a.remains;
     said_are = g (opening_lines (begun session.limits (sheets_used session.hands) old) a.lines ++ a.answers) a.said_are;
   }
@@ -243,20 +239,16 @@ module _ (takes : List Entry → Type 0) (commands : List Command) (limits : Lim
       taken = taken;
       new = new;
       answering = record {
-        passed = a.passed;
         left = a.left;
-        servers = a.servers;
         lines = a.lines;
         start = a.start;
-        downs = a.downs;
-        answered = a.answered;
+        opening = a.opening;
         rest = a.rest;
-        parts = a.parts;
         answers = a.answers;
         mid = a.mid;
-        transcript = a.transcript;
-        remains = r a.left a.answered a.rest a.mid new a.remains;
-        said_are = λ told. f (opening_lines first a.lines ++ a.answers) (a.said told);
+        turns = a.turns;
+        remains = r a.left a.turns.answered a.rest a.mid new a.remains;
+        said_are = λ told. f (opening_lines first a.lines ++ a.answers) (a.said_are told);
       };
       left = left;
     }

@@ -78,12 +78,10 @@ none_answered {got} old none = record { answers = []; transcript = (none, refl, 
 pub all_answered : {tells : Type 0} {got0 got1 : List ℕ} {commands done : List Command} {old mid : Scene} {before : List ℕ} → SoFar tells got0 got1 done old before mid
     → (rest : List Command) → commands ≡ done ++ rest → rest ≡ [] → IsAnsweringOn tells got0 got1 (Ok tt) commands old before mid
 all_answered {done} {mid} so_far rest parts none = record {
-  answered = done;
   rest = rest;
-  parts = parts;
-  mid = mid;
   answers = so_far.answers;
-  transcript = so_far.transcript;
+  mid = mid;
+  turns = record { answered = done; parts = parts; transcript = so_far.transcript };
   said = so_far.said;
   ends = (none, refl);
 }
@@ -94,12 +92,10 @@ module _ {tells : Type 0} {got0 got1 : List ℕ} {commands done : List Command} 
   -- memory ran out in it
   pub stopped_within : (new : Scene) → IsUnanswered command mid new → IsAnsweringOn tells got0 got1 (Err early_is.Memory) commands old before new
   stopped_within new left = record {
-    answered = done;
     rest = rest;
-    parts = parts;
-    mid = mid;
     answers = so_far.answers;
-    transcript = so_far.transcript;
+    mid = mid;
+    turns = record { answered = done; parts = parts; transcript = so_far.transcript };
     said = so_far.said;
     ends = subst (λ l. RunsOut l mid new) (sym next) left;
   }
@@ -122,12 +118,10 @@ module _ {tells : Type 0} {got0 got1 : List ℕ} {commands done : List Command} 
     -- and the sink has a part of it
     pub said_less : {got2 : List ℕ} → (tells → IsPartOf got1 got2 (answer_text answer)) → IsAnsweringOn tells got0 got2 (Err early_is.WriteFault) commands old marks new
     said_less {got2} part = record {
-      answered = done ++ command ∷ [];
       rest = more;
-      parts = parts ∙ ap (λ l. done ++ l) next ∙ sym (append_assoc done (command ∷ []) more);
-      mid = new;
       answers = so_far.answers ++ answer ∷ [];
-      transcript = transcript;
+      mid = new;
+      turns = record { answered = done ++ command ∷ []; parts = parts ∙ ap (λ l. done ++ l) next ∙ sym (append_assoc done (command ∷ []) more); transcript = transcript };
       said = λ told. short_more got0 got1 got2 so_far.answers answer (so_far.said told) (part told);
       ends = refl;
     }

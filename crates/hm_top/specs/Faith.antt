@@ -56,25 +56,26 @@ abbrev pub MissingAreBare : Past → Type 0
 MissingAreBare before =
     (table : TableName) → (IsBusy before (key_is.Table table) → ⊥) → cat before (key_is.Table table) ≡ None → IsBare (cat before) table
 
--- what each journal keeps to
-pub record KeepsFaith (before : Past) : Type 0 where
-  -- each entry may follow those before it
-  pub legal : IsLegal before
-  -- what isn't busy is as by the deeds of roots, one after another
+-- what a journal keeps to of deeds: what isn't busy is as the deeds of roots leave it, one after another; each that counts is a list of edits; and a failure leaves all
+pub record KeepsDeeds (before : Past) : Type 0 where
   pub serial_is : (key : CatKey) → (IsBusy before key → ⊥) → cat before key ≡ serial before key
-  -- each deed that counts is a list of edits
   pub deeds : DeedsApplied before
-  -- all or nothing
   pub failures : FailuresLeftAll before
+
+-- what it keeps to of ranges: live regions of one table never overlap; of a table that isn't busy they cover every key, or there is none where there is no such table
+pub record KeepsRanges (before : Past) : Type 0 where
+  pub apart : RegionsApart before
+  pub covered : RegionsCover before
+  pub bare : MissingAreBare before
+
+-- what each journal keeps to, in which each entry may follow those before it
+pub record KeepsFaith (before : Past) : Type 0 where
+  pub legal : IsLegal before
+  pub catalog : KeepsDeeds before
+  pub ranges : KeepsRanges before
   -- a nonce acts once
   pub nonces : NoncesActOnce before
   -- no two holders conflict
   pub locks : NoneClash before []
-  -- live regions of one table never overlap, at any moment
-  pub apart : RegionsApart before
-  -- and cover every key, where their table isn't busy
-  pub covered : RegionsCover before
-  -- or there is no region, where there is no such table
-  pub bare : MissingAreBare before
   -- no region is assigned while another opening of it, or of one whose range overlaps its own, may still stand
   pub single : Single before

@@ -45,17 +45,17 @@ HaltsOpening [] old why new = ⊥
 HaltsOpening (server ∷ more) old why new =
     (is_live (past_in old) server ≡ true) × Expires server old (Some (answer_is.Halted why)) new × (halt_at new ≡ Some why)
 
--- or memory runs out for it
-abbrev pub LacksOpening : List Server → Scene → Scene → Type 0
-LacksOpening [] old new = ⊥
-LacksOpening (server ∷ more) old new = (is_live (past_in old) server ≡ true) × (Expires server old None new ⊎ (GoesOn old × (new ≡ old)))
+-- the first of these servers is live, and memory runs out for it
+abbrev pub OpeningLacksMemory : List Server → Scene → Scene → Type 0
+OpeningLacksMemory [] old new = ⊥
+OpeningLacksMemory (server ∷ more) old new = (is_live (past_in old) server ≡ true) × (Expires server old None new ⊎ (GoesOn old × (new ≡ old)))
 
 -- how the opening stops at a server that is live, and what the sink got for it then
 abbrev pub StopsAt : (tells : Type 0) (before after : List ℕ) → Server → Scene → EarlyEnd → Scene → Type 0
 StopsAt tells before after server old (early_is.Halted why) new = HaltsOpening (server ∷ []) old why new × (tells → after ≡ before)
 StopsAt tells before after server old early_is.WriteFault new =
     (line : Answer) × GoesDown server old (line ∷ []) new × (tells → IsPartOf before after (answer_text line))
-StopsAt tells before after server old early_is.Memory new = LacksOpening (server ∷ []) old new × (tells → after ≡ before)
+StopsAt tells before after server old early_is.Memory new = OpeningLacksMemory (server ∷ []) old new × (tells → after ≡ before)
 
 -- what an early end says of the run: it is halted by what it names
 abbrev pub IsEndOf : EarlyEnd → Scene → Type 0

@@ -61,8 +61,7 @@ stop_use disk old new =
       leave_then = LeavesThen disk.moment disk.left_since old new;
     }
 
--- a disk: its bytes before and after, its stops, that it counted so many changes at most, that a call failed, that it was only read, and
--- that it is as handed in
+-- a disk: its bytes before and after, its stops, that it counted so many changes at most, that a call failed, that it was only read, that it is as handed in
 pub record DiskUse : Type 1 where
   pub tells : Type 0
   pub before : List ℕ

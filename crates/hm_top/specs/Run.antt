@@ -111,8 +111,7 @@ module _ (run : Run) where
       → IsOnDisk (sheets_used hands) disk.before journal → taken_by form journal → ¬ script.failed → ¬ out.failed → ¬ disk.failed
       → (status ≡ Done) ⊎ (((bytes : ℕ) × (status ≡ JournalFull bytes)) ⊎ (status ≡ Memory))
 
-  -- where memory ran out for the commands of a session: in opening what may be a log; over a journal, for its executor or their marks, or
-  -- for a server that is live; or for the next of them
+  -- where memory ran out for the commands of a session: in opening what may be a log; over a journal, for its executor or their marks; or for a live server or the next of them
   abbrev pub RanOutIn : Session → List Command → Type 0
   RanOutIn session commands =
       (disk.tells → (place : ℕ) → IsNotALog disk.before place → ⊥)

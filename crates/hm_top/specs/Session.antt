@@ -1,5 +1,5 @@
 -- What answering commands over the ports says and leaves, and how each status of it comes.
-use Rattle.std.specs.Prelude.{◌≡◌, ◌≢◌, ◌⊎◌, ℕ, List, [], ◌++◌, Option, Some, None}
+use Rattle.std.specs.Prelude.{◌≡◌, ◌⊎◌, ℕ, List, [], Option, Some, None}
 use Rattle.hm_data.specs.declared.entry.Entry.{Entry}
 use Rattle.hm_hall.specs.declared.fault.Halt.{Halt}
 use Rattle.hm_hall.specs.declared.fault.Halt.TheVariants as halt_is
@@ -7,24 +7,19 @@ use Rattle.hm_journal.specs.declared.limits.Limits.{Limits}
 use Rattle.hm_journal.specs.declared.why.JournalWhy.{JournalWhy}
 use Rattle.hm_journal.specs.declared.why.JournalWhy.TheVariants as journal_why_is
 use Rattle.hm_script.specs.declared.command.Command.{Command}
-use Rattle.hm_names.specs.Server.{Server}
-use Rattle.hm_model.specs.Fleet.{servers_of}
-use Rattle.hm_world.specs.Scene.{Scene, past_in}
+use Rattle.hm_world.specs.Scene.{Scene}
 use Rattle.hm_commands.specs.Hands.{HandsUse, sheets_used}
 use Rattle.hm_commands.specs.Scenes.{halt_at}
 use Rattle.hm_commands.specs.declared.answer.Answer.{Answer}
 use Rattle.hm_top.specs.declared.status.RunStatus.{RunStatus}
 use Rattle.hm_top.specs.declared.status.RunStatus.TheVariants.{Done, LogFault, LogRefused, WriteFault, JournalFull, Memory}
-use Rattle.hm_top.specs.Answering.{Remains}
+use Rattle.hm_top.specs.Answering.{Converses}
 use Rattle.hm_top.specs.Ending.{log_why_of}
 use Rattle.hm_top.specs.Left.{IsLeft, IsNotOpened, IsSpared}
 use Rattle.hm_top.specs.Ports.{DiskUse, SinkUse}
 use Rattle.hm_top.specs.Standing.{begun}
-use Rattle.hm_top.specs.Opening.{Downs, opening_lines}
-use Rattle.hm_top.specs.Transcript.{Transcript}
 
--- commands answered over the ports: over which journals and which commands they are, what the sink has of answers under a status, and
--- the marks
+-- commands answered over the ports: over which journals and which commands they are, what the sink has of answers under a status, and the marks
 pub record Session : Type 1 where
   pub takes : List Entry → Type 0
   pub given : List Command → Type 0
@@ -38,22 +33,9 @@ pub record Session : Type 1 where
 module _ (session : Session) where
   open session use {takes, given, said, limits, out, disk, hands, marks}
 
-  -- the servers that are live were held to be dead, and these commands were answered in turn, but for what remains under this status
-  pub record AreAnswered (status : RunStatus) (commands : List Command) (old : List Entry) (new : Scene) : Type 0 where
-    pub passed : List Server
-    pub left : List Server
-    pub servers : servers_of (past_in (begun limits (sheets_used hands) old)) ≡ passed ++ left
-    pub lines : List Answer
-    pub start : Scene
-    pub downs : Downs passed (begun limits (sheets_used hands) old) lines start
-    pub answered : List Command
-    pub rest : List Command
-    pub parts : commands ≡ answered ++ rest
-    pub answers : List Answer
-    pub mid : Scene
-    pub transcript : Transcript answered start marks answers mid
-    pub remains : Remains status left answered rest mid new
-    pub said_are : said status (opening_lines (begun limits (sheets_used hands) old) lines ++ answers)
+  -- the servers that are live were held to be dead, then these commands answered in turn, but for what of both remains under this status
+  abbrev pub AreAnswered : RunStatus → List Command → List Entry → Scene → Type 0
+  AreAnswered status commands old new = Converses (said status) status commands (begun limits (sheets_used hands) old) marks new
 
   -- the log was opened, and commands were answered, but for what remains under this status
   pub record WasOpened (status : RunStatus) : Type 0 where

@@ -39,7 +39,7 @@ returns-in-Err-pass_by-clause-early g c =
       subst (λ (opened : OpenedAt _). IsLeftBy g.D.Disk opened early.2 c.in-Err-pass_by.early.0) so_far.opened early.4,
       adds_on was at early.2 so_far.keeps.steps (stop_steps _ _ _ early.0 at end early.2 so_far.keeps.going early.3),
       stop_ends _ _ _ early.0 at end early.2 early.3,
-      λ commands. stops so_far.passing early.0 parts.0 parts.1 commands end early.2 early.3,
+      λ commands. stops so_far.passing early.0 parts.0 parts.1 commands end early.2 (g.K.Sink.got c.pass_by.new.out) early.3,
     )
 
 pub loop-place-preserved : goal.loop-place-preserved
