@@ -1,5 +1,5 @@
 -- What the calls of a cluster make of those of its world.
-use Rattle.std.proofs.Common.{◌≡◌, ◌↔◌, ◌∷◌, ◌++◌, ◌≤◌, ◌+◌, [], All, List, ℕ, Bool, true, false, Option, Some, None, Result, Ok, Err, refl, sym, ap, ◌∙◌, subst, inl, inr, arith}
+use Rattle.std.proofs.Common.{◌≡◌, ◌∷◌, [], All, List, ℕ, Bool, true, false, Option, Some, None, Result, Ok, Err, refl, sym, ap, ◌∙◌, subst, inl, inr, arith}
 use Rattle.std.specs.Prelude.{IfOk, MatchResult, OnErr}
 use Rattle.std.specs.Option.{option_map}
 use Rattle.std.proofs.lemmas.Option.{none-some}
@@ -21,12 +21,11 @@ use Rattle.hm_data.specs.declared.step.StepIn.{StepIn}
 use Rattle.hm_data.specs.declared.step.StepOut.{StepOut}
 use Rattle.hm_data.specs.declared.step.Turn.{Turn}
 use Rattle.hm_data.specs.declared.step.Turn.TheVariants as turn_is
-use Rattle.hm_hall.specs.Recording.{Recording, Records}
+use Rattle.hm_hall.specs.Recording.{Recording}
 use Rattle.hm_hall.specs.declared.fault.Halt.{Halt}
 use Rattle.hm_hall.specs.declared.fault.HallFault.{HallFault}
 use Rattle.hm_hall.specs.declared.fault.HallFault.TheVariants as fault_is
 use Rattle.hm_hall.specs.declared.fault.RecordFault.TheVariants as record_is
-use Rattle.hm_hall.specs.declared.hall.Task.{Task}
 use Rattle.hm_hall.specs.declared.hall.Task.TheVariants as task_is
 use Rattle.hm_hall.specs.declared.taken.Taken.{Taken}
 use Rattle.hm_model.specs.Evaluation.{answer_of}
@@ -38,20 +37,20 @@ use Rattle.hm_model.specs.Tree.{Node, node_of}
 use Rattle.hm_refusals.specs.declared.aborts.AbortRefused.{AbortRefused}
 use Rattle.hm_refusals.specs.declared.aborts.AbortRefused.TheVariants as abort_is
 use Rattle.hm_tied.specs.Calls.{Unclaims}
-use Rattle.hm_exec.specs.Claiming.{AnswersClaim, Claims, PutsBack, RefusesCommit, entry_by, entry_of}
+use Rattle.hm_exec.specs.Claiming.{RefusesCommit, entry_by, entry_of}
 use Rattle.hm_exec.specs.Moment.{IsGoing, Moment, past_of}
 use Rattle.hm_exec.specs.Submitting.{AnswersAbort}
-use Rattle.hm_world.specs.Carrying.{CanCarry, Carries, OnlyExec}
+use Rattle.hm_world.specs.Carrying.{CanCarry, OnlyExec}
 use Rattle.hm_world.specs.Scene.{GoesOn, Scene, past_in}
 use Rattle.hm_world.specs.Taking.{Gives, IsStill, Returns, Takes}
 use Rattle.hm_commands.specs.Hands.{HandsUse, Ran, RunBy, one_step, steps_in}
 use Rattle.hm_commands.specs.RowNames.{act_at, act_by, act_of_row}
 use Rattle.hm_commands.specs.Scenes.{IsOnly, IsUnrecorded, claimed_at, journal_at, kept_at}
-use Rattle.hm_commands.specs.Tasks.{Becomes, Carried, IsDone, LacksMemory, RunsTo, Steps, Works}
+use Rattle.hm_commands.specs.Tasks.{Becomes, Carried, LacksMemory, RunsTo, Steps, Works}
 use Rattle.hm_commands.specs.Telling.{halt_of_fault, told_abort}
 use Rattle.hm_commands.specs.declared.tasks.Worked.{Worked}
 use Rattle.hm_commands.specs.declared.tasks.Worked.TheVariants as worked_is
-use Rattle.hm_commands.proofs.Claims.{at_rest, none_claimed, one_claimed, restless}
+use Rattle.hm_commands.proofs.Claims.{at_rest, none_claimed, restless}
 use Rattle.hm_commands.proofs.Ran.{ran_idle, ran_none, run_less}
 
 -- what a row of the sheet of a procedure that is kept does

@@ -45,13 +45,13 @@ use Rattle.hm_script.specs.declared.command.Command.TheVariants as command_is
 use Rattle.hm_world.specs.Acts.{Arms, Dies, Repeats, Starts}
 use Rattle.hm_world.specs.Carrying.{Carries, CarriesBy}
 use Rattle.hm_world.specs.Scene.{Scene}
-use Rattle.hm_commands.specs.Commands.{Aborts, Comes, ComesAt, ComesOther, ComesUp, Expires, IsMove, IsWork, Kills, LosesAll, MayAdd, OtherMayAdd, Refuses, RepeatsAll, Settles, Shows, WorksFor, asked}
+use Rattle.hm_commands.specs.Commands.{Comes, ComesAt, ComesOther, IsMove, IsWork, MayAdd, OtherMayAdd, Settles, WorksFor, asked}
 use Rattle.hm_commands.specs.Balancing.{AreRecorded, Balances, Ends, HaltsAt, MayTry, SubmitsMove, no_nonce}
 use Rattle.hm_commands.specs.Submissions.{Submits}
-use Rattle.hm_commands.specs.Telling.{told_accepted, told_full, told_submit}
+use Rattle.hm_commands.specs.Telling.{told_submit}
 use Rattle.hm_moves.specs.declared.moving.Move.{Move}
 use Rattle.hm_commands.specs.Scenes.{halt_at, kept_at}
-use Rattle.hm_commands.specs.Tasks.{Becomes, Breaks, Carried, LacksMemory, RunsTo, Steps, Tasks, Works}
+use Rattle.hm_commands.specs.Tasks.{Becomes, Breaks, LacksMemory, Steps, Tasks, Works}
 use Rattle.hm_commands.specs.declared.answer.Answer.{Answer}
 use Rattle.hm_commands.specs.declared.answer.Answer.TheVariants as answer_is
 use Rattle.hm_commands.specs.declared.tasks.Worked.{Worked}

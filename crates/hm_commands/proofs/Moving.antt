@@ -1,5 +1,5 @@
 -- How moves are submitted, one after another.
-use Rattle.std.proofs.Common.{codes, arith, ◌≡◌, ◌≢◌, ◌⊎◌, ℕ, List, [], ◌∷◌, ◌++◌, length, map, Option, Some, None, Bool, true, false, Result, Ok, Err, refl, sym, ap, ◌∙◌, subst, inl, inr, append-nil, append_assoc}
+use Rattle.std.proofs.Common.{codes, arith, ◌≡◌, ◌≢◌, ℕ, List, [], ◌∷◌, ◌++◌, length, map, Option, Some, None, Bool, true, false, Result, Ok, Err, refl, sym, ap, ◌∙◌, subst, inl, inr, append-nil, append_assoc}
 use Rattle.std.specs.Prelude.{IfOk, OnOk}
 use Rattle.std.specs.Result.{IsErrAnd, result_ok}
 use Rattle.std.specs.List.{flat_map}
@@ -22,7 +22,7 @@ use Rattle.hm_world.specs.Carrying.{OnlyExec}
 use Rattle.hm_world.specs.Scene.{Scene, past_in}
 use Rattle.hm_commands.specs.Answer.{answer_text}
 use Rattle.hm_moves.specs.Planned.{ArePlanned}
-use Rattle.hm_commands.specs.Balancing.{AreRecorded, Balances, Ends, HaltsAt, IsEndOf, IsOther, MayTry, SubmitsMove, Tries, balance_text, head_text, move_text}
+use Rattle.hm_commands.specs.Balancing.{AreRecorded, Balances, Ends, HaltsAt, IsEndOf, IsOther, MayTry, SubmitsMove, Tries, head_text, move_text}
 use Rattle.hm_commands.specs.Scenes.{halt_at}
 use Rattle.hm_commands.specs.Submissions.{Submits}
 use Rattle.hm_commands.specs.Telling.{told_accepted, told_full, told_submit}

@@ -1,7 +1,6 @@
 -- Tasks, one after another, and how much is left to do.
-use Rattle.std.proofs.Common.{◌≡◌, ◌≢◌, ◌↔◌, ◌≤◌, ◌<◌, ◌+◌, ◌-◌, ◌*◌, ◌⊎◌, ℕ, zero, suc, Bool, List, [], ◌∷◌, ◌++◌, length, sum_by, Option, Some, None, Result, Ok, Err, true, false, refl, sym, ap, ◌∙◌, subst, inl, inr, is_some, arith}
+use Rattle.std.proofs.Common.{◌≡◌, ◌≤◌, ◌<◌, ◌+◌, ◌-◌, ◌*◌, ℕ, zero, suc, Bool, List, [], ◌∷◌, ◌++◌, length, None, Ok, true, false, refl, sym, ap, ◌∙◌, subst, is_some, arith}
 use Rattle.std.specs.Option.{option_map}
-use Rattle.std.proofs.lemmas.Option.{none-some}
 use Rattle.std.proofs.lemmas.List.Sums.{sum_by-append}
 use Rattle.hm_data.specs.declared.call.Call.{Call}
 use Rattle.hm_data.specs.declared.call.ReportMsg.{ReportMsg}
@@ -13,31 +12,24 @@ use Rattle.hm_data.specs.declared.step.Turn.{Turn}
 use Rattle.hm_data.specs.declared.step.Turn.TheVariants as turn_is
 use Rattle.hm_entry.specs.Spelling.{entry as spelling}
 use Rattle.hm_hall.specs.Recording.{Recording, Records, bytes_of}
-use Rattle.hm_hall.specs.declared.fault.HallFault.{HallFault}
 use Rattle.hm_hall.specs.declared.fault.HallFault.TheVariants as fault_is
-use Rattle.hm_hall.specs.declared.hall.Task.{Task}
 use Rattle.hm_hall.specs.declared.hall.Task.TheVariants as task_is
-use Rattle.hm_hall.specs.declared.taken.Taken.{Taken}
 use Rattle.hm_model.specs.Counts.{one_if}
 use Rattle.hm_model.specs.Journal.{Past, back}
-use Rattle.hm_model.specs.Locks.{IsIn}
-use Rattle.hm_model.specs.Rest.{IsAtRest, IsAvailable}
 use Rattle.hm_model.specs.Rules.{Allowed}
 use Rattle.hm_model.proofs.Prefixes.{back-push}
-use Rattle.hm_exec.specs.Claiming.{AnswersClaim, IsFresh, IsHandedOut, entry_by, entry_of}
-use Rattle.hm_exec.specs.Moment.{Moment, past_of}
+use Rattle.hm_exec.specs.Claiming.{entry_by, entry_of}
 use Rattle.hm_world_model.specs.Measure.{calls_made, left_to_carry}
 use Rattle.hm_world_model.specs.Outside.{Outside}
 use Rattle.hm_world_model.specs.Safe.{IsKept}
 use Rattle.hm_world_model.proofs.Raising.{carrying_stays}
-use Rattle.hm_world.specs.Carrying.{CanCarry, Carries, CarriesBy, IsNearer}
-use Rattle.hm_world.specs.Scene.{GoesOn, Scene, halted_by, past_in, world_of}
-use Rattle.hm_world.specs.Taking.{IsStill, Takes}
+use Rattle.hm_world.specs.Carrying.{IsNearer}
+use Rattle.hm_world.specs.Scene.{Scene, halted_by, past_in, world_of}
 use Rattle.hm_commands.specs.Commands.{IsWork}
-use Rattle.hm_commands.specs.Scenes.{claimed_at, halt_at, kept_at}
-use Rattle.hm_commands.specs.Tasks.{IsDone, LacksMemory, Steps, Tasks, Works, left_to_do}
+use Rattle.hm_commands.specs.Scenes.{kept_at}
+use Rattle.hm_commands.specs.Tasks.{Steps, Tasks, Works, left_to_do}
 use Rattle.hm_commands.specs.declared.tasks.Worked.TheVariants as worked_is
-use Rattle.hm_commands.proofs.Growth.{Grows, works_grows}
+use Rattle.hm_commands.proofs.Growth.{Grows}
 
 -- one task more
 pub tasks_more : (count : ℕ) (old mid new : Scene) → Tasks count old mid → Works mid worked_is.Done new → Tasks (suc count) old new

@@ -8,7 +8,6 @@ use Rattle.hm_model.specs.Locks.{IsIn}
 use Rattle.hm_world_model.specs.Outside.{nobody}
 use Rattle.hm_world_model.specs.World.{shown_storage}
 use Rattle.hm_journal.specs.Since.{with_tail}
-use Rattle.hm_exec.specs.Moment.{Moment}
 use Rattle.hm_world.specs.Carrying.{OnlyExec}
 use Rattle.hm_world.specs.Scene.{Scene}
 

@@ -1,5 +1,5 @@
 -- Tasks: what the run does for `step` and `settle`.
-use Rattle.std.specs.Prelude.{◌≡◌, ◌⊎◌, ◌<◌, ◌+◌, ◌*◌, ◌-◌, ℕ, zero, suc, Some, None, Ok, Err, true}
+use Rattle.std.specs.Prelude.{◌≡◌, ◌⊎◌, ◌+◌, ◌*◌, ◌-◌, ℕ, zero, suc, Some, Ok, Err, true}
 use Rattle.hm_data.specs.declared.step.StepOut.{StepOut}
 use Rattle.hm_hall.specs.Recording.{bytes_of}
 use Rattle.hm_hall.specs.declared.fault.Halt.{Halt}
@@ -14,7 +14,7 @@ use Rattle.hm_world_model.specs.Measure.{left_to_carry}
 use Rattle.hm_world.specs.Carrying.{Carries}
 use Rattle.hm_world.specs.Scene.{GoesOn, Scene, past_in, world_of}
 use Rattle.hm_world.specs.Taking.{Gives, IsStill, Returns, Takes}
-use Rattle.hm_commands.specs.Scenes.{claimed_at, journal_at, kept_at}
+use Rattle.hm_commands.specs.Scenes.{claimed_at, kept_at}
 use Rattle.hm_commands.specs.Telling.{halt_of_fault}
 use Rattle.hm_commands.specs.declared.tasks.Worked.{Worked}
 use Rattle.hm_commands.specs.declared.tasks.Worked.TheVariants as worked_is

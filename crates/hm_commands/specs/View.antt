@@ -8,7 +8,7 @@ use Rattle.hm_journal.specs.Since.{Since}
 use Rattle.hm_journal.specs.Stored.{AllStored}
 use Rattle.hm_journal.specs.View.{JournalView}
 use Rattle.hm_world.specs.Scene.{Scene, WorldView, scene_of}
-use Rattle.hm_commands.specs.Scenes.{halt_at, journal_at, kept_at, whole}
+use Rattle.hm_commands.specs.Scenes.{kept_at, whole}
 
 -- how a run stands with a world over a journal
 abbrev pub scene_in : {D : Type 0} → WorldView (JournalView D) → Scene

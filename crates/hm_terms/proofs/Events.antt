@@ -9,7 +9,7 @@ use Rattle.hm_data.specs.declared.call.Peer.{Peer}
 use Rattle.hm_data.specs.declared.call.Peer.TheVariants as peer_is
 use Rattle.hm_data.specs.declared.call.ReportMsg.{ReportMsg}
 use Rattle.hm_model.specs.Actors.{Actor, begun, serve}
-use Rattle.hm_model.specs.Storages.{Storage, store}
+use Rattle.hm_model.specs.Storages.{store}
 use Rattle.hm_model.specs.Fleet.{same_address, same_server}
 use Rattle.hm_model.specs.Journal.{Past}
 use Rattle.hm_model.specs.Locks.{IsIn}

@@ -1,34 +1,28 @@
 -- Who can go on, and what it says of its tree.
-use Rattle.std.proofs.Common.{Bool, List, None, Option, Some, [], ap, arith, false, if◌then◌else◌, inl, inr, is_some, not, refl, subst, sym, true, ℕ, ◌&&◌, ◌+◌, ◌==◌, ◌||◌, ◌∙◌, ◌∷◌, ◌≡◌, ◌≢◌, ◌⊎◌}
-use Rattle.std.proofs.lemmas.Bool.{and_parts, cases_Bool, cases_eq, cond-false, eq-eqb, eqb-true, false≢true, ne_eqb, not-true, true≢false}
+use Rattle.std.proofs.Common.{List, None, Option, Some, [], ap, false, if◌then◌else◌, inl, inr, not, refl, subst, sym, true, ℕ, ◌&&◌, ◌+◌, ◌==◌, ◌∙◌, ◌∷◌, ◌≡◌, ◌≢◌}
+use Rattle.std.proofs.lemmas.Bool.{and_parts, cases_Bool, eq-eqb, eqb-true, false≢true, not-true, true≢false}
 use Rattle.std.proofs.lemmas.Option.{none-some}
-use Rattle.hm_data.specs.declared.answer.Answer.{Answer}
 use Rattle.hm_data.specs.declared.answer.Answer.TheVariants as answer_is
-use Rattle.hm_data.specs.declared.answer.Cause.{Cause}
 use Rattle.hm_data.specs.declared.entry.Entry.TheVariants as entry_is
-use Rattle.hm_data.specs.declared.record.Phase.{Phase}
 use Rattle.hm_data.specs.declared.record.Phase.TheVariants as phase_is
-use Rattle.hm_model.specs.Answers.{done_with, failing, is_stopped, last_answer}
+use Rattle.hm_model.specs.Answers.{is_stopped, last_answer}
 use Rattle.hm_model.specs.Forest.{IsWait}
 use Rattle.hm_model.specs.Holding.{IsFree}
-use Rattle.hm_model.specs.Inputs.{undoes}
 use Rattle.hm_model.specs.Journal.{Past}
-use Rattle.hm_model.specs.Phase.{all_stopped, cause, children_ended, ended, ended_node, in_tree, or_else, own_phase, phase, phase_table, rolled_back, root_ended, root_over, stopped_in}
+use Rattle.hm_model.specs.Phase.{children_ended, ended, ended_node, in_tree, phase, root_ended}
 use Rattle.hm_model.specs.Picks.{has_pick}
-use Rattle.hm_model.specs.Rest.{IsReady, MayStep, MayStepPicked}
+use Rattle.hm_model.specs.Rest.{MayStep, MayStepPicked}
 use Rattle.hm_model.specs.Rules.{IsLegal}
-use Rattle.hm_model.specs.Tree.{Node, is_root_in, is_top, made, node_of, root_in, root_of}
-use Rattle.hm_model.specs.Undo.{is_empty, stack}
+use Rattle.hm_model.specs.Tree.{Node, is_root_in, is_top, made, node_of}
 use Rattle.hm_model.specs.Waiting.{is_open_under}
 use Rattle.hm_model.proofs.Counting.{count_none, find_below}
-use Rattle.hm_model.proofs.Grown.{not_stepped, stepped}
-use Rattle.hm_model.proofs.Forest.{forest_all, roots_wait, top_is, top_is_own}
+use Rattle.hm_model.proofs.Forest.{forest_all, roots_wait}
 use Rattle.hm_model.proofs.Waiting.{under_tells}
-use Rattle.hm_model.proofs.Trees.{all_below_at, child_stopped, grown_all, is_there}
+use Rattle.hm_model.proofs.Trees.{child_stopped, grown_all}
 use Rattle.hm_tied.proofs.Openings.{unopening}
 use Rattle.hm_tied.proofs.Picking.{lacking_row}
 use Rattle.hm_tied.specs.Tied.{CanGo, IsBusy, IsCalm, IsOpen, LacksPick}
-use Rattle.hm_model.proofs.Running.{Runs, ready_runs, run_last, run_none, run_open, top_or_below, undo_facts, undo_open}
+use Rattle.hm_model.proofs.Running.{Runs, ready_runs, run_last, run_none, run_open, undo_facts, undo_open}
 
 -- who can go on hasn't ended
 pub go_open : (J : Past) → IsLegal J → (p : ℕ) → CanGo J p → IsOpen J p

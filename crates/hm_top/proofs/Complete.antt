@@ -1,12 +1,10 @@
 -- Where nothing is wrong and nothing fails, a run is done, or the journal is full; and why each status comes.
-use Rattle.std.proofs.Common.{◌≡◌, ◌⊎◌, ℕ, List, Ok, Err, refl, sym, ◌∙◌, subst, inl, inr}
+use Rattle.std.proofs.Common.{◌≡◌, ℕ, List, Ok, refl, sym, ◌∙◌, subst, inl, inr}
 use Rattle.hm_data.specs.declared.entry.Entry.{Entry}
-use Rattle.hm_gen.specs.Generated.{generated}
 use Rattle.hm_script.specs.declared.command.Command.{Command}
 use Rattle.hm_script.specs.declared.bad.Bad.{Bad}
 use Rattle.hm_commands.specs.declared.answer.Answer.{Answer}
 use Rattle.hm_commands.proofs.Growth.{IsPassed}
-use Rattle.hm_top.specs.declared.status.LogWhy.{LogWhy}
 use Rattle.hm_top.specs.declared.status.RunStatus.{RunStatus}
 use Rattle.hm_top.specs.declared.status.RunStatus.TheVariants.{Done, Usage, BadScript, LogFault, LogRefused, ReadFault, WriteFault, JournalFull, Memory}
 use Rattle.hm_top.specs.declared.words.Form.{Form}

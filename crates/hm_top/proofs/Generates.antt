@@ -1,6 +1,5 @@
 -- How making a cluster by a script ends.
-use Rattle.std.proofs.Common.{◌≡◌, ◌⊎◌, ◌<◌, ℕ, List, [], ◌++◌, length, Option, Some, None, refl, sym, ap, ◌∙◌, subst, inl, inr}
-use Rattle.hm_data.specs.declared.entry.Entry.{Entry}
+use Rattle.std.proofs.Common.{◌≡◌, ℕ, List, [], Option, Some, None, refl, sym, ap, ◌∙◌, subst, inl, inr}
 use Rattle.hm_gen.specs.Generated.{generated}
 use Rattle.hm_hall.specs.declared.fault.Halt.{Halt}
 use Rattle.hm_hall.specs.declared.fault.Halt.TheVariants as halt_is
@@ -11,10 +10,9 @@ use Rattle.hm_script.specs.declared.command.Command.{Command}
 use Rattle.hm_world.specs.Scene.{Scene}
 use Rattle.hm_commands.specs.Hands.{HandsUse}
 use Rattle.hm_commands.specs.Scenes.{halt_at}
-use Rattle.hm_commands.specs.declared.answer.Answer.{Answer}
 use Rattle.hm_top.specs.declared.status.EarlyEnd.TheVariants as early_is
 use Rattle.hm_top.specs.declared.status.RunStatus.{RunStatus}
-use Rattle.hm_top.specs.declared.status.RunStatus.TheVariants.{Done, LogFault, LogRefused, WriteFault, JournalFull, Memory}
+use Rattle.hm_top.specs.declared.status.RunStatus.TheVariants.{Done, LogRefused, WriteFault, Memory}
 use Rattle.hm_top.specs.declared.status.LogWhy.TheVariants as log_why_is
 use Rattle.hm_top.specs.declared.talking.Stop.{Stop}
 use Rattle.hm_top.specs.declared.talking.Stop.TheVariants as stop_is

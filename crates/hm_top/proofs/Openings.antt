@@ -5,7 +5,6 @@ use Rattle.std.proofs.lemmas.Grind.{flat_map-append}
 use Rattle.std.proofs.lemmas.Option.{none-some}
 use Rattle.std.proofs.lemmas.List.Elements.{All-head, All-tail}
 use Rattle.hm_names.specs.Server.{Server}
-use Rattle.hm_names.specs.declared.pid.Pid.{Pid}
 use Rattle.hm_data.specs.declared.entry.Entry.{Entry}
 use Rattle.hm_data.specs.declared.entry.Entry.TheVariants as entry_is
 use Rattle.hm_hall.specs.Recording.{Recording}
@@ -18,32 +17,26 @@ use Rattle.hm_model.specs.Sheets.{sheets_of}
 use Rattle.hm_model.proofs.CameUp.{live_came}
 use Rattle.hm_model.proofs.Prefixes.{back-push}
 use Rattle.hm_places.specs.declared.refused.DownRefused.TheVariants as down_is
-use Rattle.hm_exec.specs.Fleet.{AnswersDown}
 use Rattle.hm_exec.specs.Moment.{IsAdded}
-use Rattle.hm_exec.specs.declared.answers.DownWhy.{DownWhy}
 use Rattle.hm_exec.specs.declared.answers.DownWhy.TheVariants as down_why
 use Rattle.hm_script.specs.declared.command.Command.{Command}
 use Rattle.hm_script.specs.declared.command.Command.TheVariants as command_is
-use Rattle.hm_world.specs.Carrying.{OnlyExec}
 use Rattle.hm_world.specs.Scene.{GoesOn, Scene, past_in}
-use Rattle.hm_world_model.specs.Twice.{Twice}
 use Rattle.hm_commands.specs.Answer.{answer_text}
 use Rattle.hm_commands.specs.Commands.{Comes, ComesAt, Expires}
 use Rattle.hm_commands.specs.Hands.{HandsUse, Ran, RunBy, one_step, steps_in}
 use Rattle.hm_commands.specs.Live.{live_if}
-use Rattle.hm_commands.specs.Scenes.{halt_at, journal_at, kept_at}
-use Rattle.hm_commands.specs.Telling.{told_down}
+use Rattle.hm_commands.specs.Scenes.{halt_at, journal_at}
 use Rattle.hm_commands.specs.declared.answer.Answer.{Answer}
 use Rattle.hm_commands.specs.declared.answer.Answer.TheVariants as answer_is
 use Rattle.hm_commands.proofs.Growth.{comes_grows}
 use Rattle.hm_commands.proofs.Ran.{steps_more}
-use Rattle.hm_commands.proofs.Serving.{comes_sheets}
 use Rattle.hm_top.specs.declared.status.EarlyEnd.{EarlyEnd}
 use Rattle.hm_top.specs.declared.status.EarlyEnd.TheVariants as early_is
 use Rattle.hm_top.specs.Answering.{IsAnswering, IsAnsweringOn, EndsAt, Remains}
 use Rattle.hm_top.specs.Ending.{ended_status}
 use Rattle.hm_top.specs.Got.{GotAnswers, IsPartOf, IsShort}
-use Rattle.hm_top.specs.Opening.{AddsNoStep, Downs, GoesDown, HaltsOpening, IsEndOf, IsPassing, OpeningLacksMemory, PassesBy, StopsAt, opening_lines}
+use Rattle.hm_top.specs.Opening.{AddsNoStep, Downs, GoesDown, IsEndOf, IsPassing, PassesBy, StopsAt, opening_lines}
 use Rattle.hm_top.specs.Transcript.{text_of}
 
 -- what is answered to a server that is held to be dead, by what the executor answered

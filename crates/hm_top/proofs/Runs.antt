@@ -1,5 +1,5 @@
 -- How a run ends, from the ends of its commands.
-use Rattle.std.proofs.Common.{◌≡◌, ◌≢◌, ◌⊎◌, ◌<◌, ◌≤◌, ◌+◌, ◌-◌, ◌*◌, ℕ, List, [], ◌++◌, ◌∷◌, length, append-nil, append_assoc, Option, Some, None, Result, Ok, Err, IfErr, IfOk, MatchResult, refl, sym, ap, ◌∙◌, subst, arith}
+use Rattle.std.proofs.Common.{◌≡◌, ◌≢◌, ◌<◌, ◌≤◌, ◌+◌, ◌-◌, ◌*◌, ℕ, List, [], ◌++◌, ◌∷◌, length, append-nil, append_assoc, Option, Some, None, Result, Ok, Err, IfErr, IfOk, MatchResult, refl, sym, ap, ◌∙◌, subst, arith}
 use Rattle.std.proofs.lemmas.List.{length-map}
 use Rattle.hm_ports.specs.Faults.{Rose}
 use Rattle.hm_ports.specs.declared.sink.Sink as Sink
@@ -8,14 +8,13 @@ use Rattle.hm_disk.specs.Disk.{LeavesOnly, LeavesThen}
 use Rattle.hm_disk.specs.declared.disk.Disk as Disk
 use Rattle.hm_disk.proofs.Moments.{then_weaker, then_stays}
 use Rattle.hm_log.specs.Format.{IsClean, Reads}
-use Rattle.hm_log.specs.Opening.{IsMaking}
 use Rattle.hm_log.proofs.Exact.{opens_once}
 use Rattle.hm_data.specs.declared.entry.Entry.{Entry}
 use Rattle.hm_data.specs.declared.sheet.Sheet.{Sheet}
 use Rattle.hm_entry.specs.Spelling.{entry as spelling}
 use Rattle.hm_hall.specs.declared.fault.Halt.TheVariants as halt_is
 use Rattle.hm_journal.specs.Since.{IsFront, with_tail}
-use Rattle.hm_journal.specs.Stored.{frames_of, IsJournal, IsOnDisk, IsOpening, SameFrames, Spares, opened}
+use Rattle.hm_journal.specs.Stored.{frames_of, IsOnDisk, IsOpening, SameFrames, Spares, opened}
 use Rattle.hm_journal.specs.Verdict.{IsUnjudged, Refuses}
 use Rattle.hm_journal.specs.declared.limits.Limits.{Limits}
 use Rattle.hm_journal.specs.declared.why.JournalWhy.{JournalWhy}
@@ -25,13 +24,11 @@ use Rattle.hm_world.specs.Scene.{Scene}
 use Rattle.hm_commands.specs.Hands.{HandsUse, Ran, RunBy, sheets_used}
 use Rattle.hm_commands.specs.Scenes.{halt_at, journal_at, kept_at, new_scene, whole}
 use Rattle.hm_commands.specs.View.{IsLeftBy}
-use Rattle.hm_commands.specs.declared.answer.Answer.{Answer}
-use Rattle.hm_commands.proofs.Ran.{ran_idle}
 use Rattle.hm_script.specs.declared.command.Command.{Command}
 use Rattle.hm_top.specs.declared.status.EarlyEnd.{EarlyEnd}
 use Rattle.hm_top.specs.declared.status.EarlyEnd.TheVariants as early_is
 use Rattle.hm_top.specs.declared.status.RunStatus.{RunStatus}
-use Rattle.hm_top.specs.declared.status.RunStatus.TheVariants.{Done, Memory}
+use Rattle.hm_top.specs.declared.status.RunStatus.TheVariants.{Done}
 use Rattle.hm_top.specs.Ending.{ended_status, stop_status, unopened_status}
 use Rattle.hm_top.specs.Got.{IsLast}
 use Rattle.hm_top.specs.declared.talking.Stop.{Stop}

@@ -1,5 +1,5 @@
 -- What a run says where the outside tells its content, and how each status comes.
-use Rattle.std.specs.Prelude.{◌≡◌, ◌≢◌, ◌⊎◌, ℕ, List, [], Option, None, Ok, Err}
+use Rattle.std.specs.Prelude.{◌≡◌, ◌⊎◌, ℕ, List, [], None, Ok, Err}
 use Rattle.hm_ports.specs.declared.source.Source as Source
 use Rattle.hm_ports.specs.declared.sink.Sink as Sink
 use Rattle.hm_disk.specs.declared.disk.Disk as Disk

@@ -1,5 +1,5 @@
 -- What `carry` answers, by what waits and what is on the wire.
-use Rattle.std.proofs.Common.{◌≡◌, ◌≢◌, ◌⊎◌, ℕ, List, [], ◌∷◌, drop, length, slice_get, Bool, true, false, Option, Some, None, Result, Ok, Err, refl, sym, ap, ◌∙◌, subst, inl, inr}
+use Rattle.std.proofs.Common.{◌≡◌, List, [], ◌∷◌, drop, slice_get, true, false, Some, None, Ok, Err, refl, sym, ap, subst}
 use Rattle.std.proofs.lemmas.Option.{none-some, same_Some}
 use Rattle.hm_data.specs.declared.call.Call.{Call}
 use Rattle.hm_data.specs.declared.call.ReportMsg.{ReportMsg}

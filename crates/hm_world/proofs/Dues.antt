@@ -1,8 +1,7 @@
 -- Which calls are due behind what happens.
-use Rattle.std.proofs.Common.{◌≡◌, ◌≢◌, ◌⊎◌, ℕ, ◌+◌, ◌∷◌, ◌++◌, [], Bool, true, false, ◌||◌, is_some, None, Option, Some, List, Result, Ok, Err, refl, sym, ap, ◌∙◌, inl, inr, subst, arith}
-use Rattle.std.proofs.lemmas.Bool.{false≢true, or_from, or_parts, true≢false}
+use Rattle.std.proofs.Common.{◌≡◌, ◌≢◌, ◌⊎◌, ℕ, ◌∷◌, true, false, is_some, None, Option, Some, List, Result, Ok, Err, refl, sym, ap, ◌∙◌, inl, inr, subst, arith}
+use Rattle.std.proofs.lemmas.Bool.{false≢true, or_from, or_parts}
 use Rattle.std.proofs.lemmas.Option.{none-some, same_Some}
-use Rattle.hm_names.specs.Server.{Server}
 use Rattle.hm_data.specs.declared.call.Call.{Call}
 use Rattle.hm_data.specs.declared.call.Peer.{Peer}
 use Rattle.hm_data.specs.declared.call.Peer.TheVariants as peer_is
@@ -10,23 +9,20 @@ use Rattle.hm_data.specs.declared.entry.Entry.{Entry}
 use Rattle.hm_hall.specs.Recording.{Recording, Records}
 use Rattle.hm_hall.specs.declared.fault.RecordFault.{RecordFault}
 use Rattle.hm_hall.specs.declared.fault.RecordFault.TheVariants as record_is
-use Rattle.hm_model.specs.Fleet.{came_up, same_address, same_server}
 use Rattle.hm_model.specs.Journal.{Past, back}
-use Rattle.hm_model.specs.Locks.{IsIn}
 use Rattle.hm_model.specs.Phase.{ended}
 use Rattle.hm_model.specs.Reports.{call_if, call_of, is_reported, is_settled, peer_in, peer_of, verb_of}
 use Rattle.hm_model.specs.Records.{record_of}
-use Rattle.hm_model.specs.Tree.{Node, node_of, pid_of}
+use Rattle.hm_model.specs.Tree.{Node, pid_of}
 use Rattle.hm_data.specs.declared.call.Verb.{Verb}
 use Rattle.hm_data.specs.declared.record.Record.{Record}
 use Rattle.hm_judge.proofs.Found.{there_of}
-use Rattle.hm_model.specs.Rules.{Allowed, IsLegal}
+use Rattle.hm_model.specs.Rules.{IsLegal}
 use Rattle.hm_model.proofs.Prefixes.{back-push}
 use Rattle.hm_serial.proofs.Taken.{open_before}
 use Rattle.hm_world_model.specs.Measure.{calls_made}
 use Rattle.hm_world_model.specs.Outside.{Outside, runs}
-use Rattle.hm_world_model.proofs.Facts.{call_now, node_called, parts_of, peer_same}
-use Rattle.hm_world_model.proofs.Known.{called_up, peer_called}
+use Rattle.hm_world_model.proofs.Facts.{node_called, parts_of, peer_same}
 use Rattle.hm_world_model.proofs.Raising.{new_call, reported_back, stepper}
 use Rattle.hm_world.specs.Due.{IsDue, IsDueAt}
 use Rattle.hm_world.specs.Sound.{HaveDue}

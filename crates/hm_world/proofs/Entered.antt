@@ -1,5 +1,5 @@
 -- What the calls of the executor do to what is recorded: nothing, or an entry that may follow is recorded or refused.
-use Rattle.std.proofs.Common.{◌≡◌, ◌≢◌, ◌⊎◌, ℕ, ◌∷◌, [], Bool, true, false, None, Option, Some, Result, Ok, Err, refl, sym, ap, inl, inr, subst}
+use Rattle.std.proofs.Common.{◌≡◌, ◌≢◌, ◌⊎◌, ℕ, [], Bool, true, false, None, Option, Some, Result, Ok, Err, refl, ap, inl, inr}
 use Rattle.hm_names.specs.Server.{Server}
 use Rattle.hm_names.specs.declared.nonce.Nonce.{Nonce}
 use Rattle.hm_names.specs.declared.pid.Pid.{Pid}

@@ -1,14 +1,12 @@
 -- A world stays sound behind an answer that is given back.
-use Rattle.std.proofs.Common.{◌≡◌, ◌≢◌, ◌⊎◌, ℕ, ◌∷◌, ◌++◌, [], Bool, true, false, is_some, None, Option, Some, List, Result, Ok, Err, refl, sym, ap, ◌∙◌, inl, inr, subst, arith}
-use Rattle.hm_names.specs.declared.pid.Pid.{Pid}
-use Rattle.hm_data.specs.declared.call.Call.{Call}
+use Rattle.std.proofs.Common.{◌≡◌, ℕ, ◌∷◌, Bool, true, false, is_some, List, Ok, refl, sym, ap, ◌∙◌, inl, inr, subst, arith}
 use Rattle.hm_data.specs.declared.entry.Entry.{Entry}
 use Rattle.hm_data.specs.declared.entry.Entry.TheVariants as entry_is
 use Rattle.hm_data.specs.declared.step.StepIn.{StepIn}
 use Rattle.hm_data.specs.declared.step.StepOut.{StepOut}
 use Rattle.hm_data.specs.declared.step.Turn.{Turn}
 use Rattle.hm_data.specs.declared.step.Turn.TheVariants as turn_is
-use Rattle.hm_hall.specs.Recording.{Recording, Records}
+use Rattle.hm_hall.specs.Recording.{Recording}
 use Rattle.hm_hall.specs.declared.fault.HallFault.{HallFault}
 use Rattle.hm_hall.specs.declared.fault.HallFault.TheVariants as fault_is
 use Rattle.hm_hall.specs.declared.fault.RecordFault.TheVariants as record_is
@@ -16,7 +14,7 @@ use Rattle.hm_hall.specs.declared.taken.Given.{Given}
 use Rattle.hm_hall.specs.declared.taken.Given.TheVariants as given_is
 use Rattle.hm_hall.specs.declared.taken.Taken.{Taken}
 use Rattle.hm_model.specs.Counts.{one_if}
-use Rattle.hm_model.specs.Journal.{Past, back}
+use Rattle.hm_model.specs.Journal.{back}
 use Rattle.hm_model.specs.Locks.{IsIn}
 use Rattle.hm_model.specs.Rules.{IsLegal}
 use Rattle.hm_model.proofs.Prefixes.{back-push}
@@ -27,10 +25,9 @@ use Rattle.hm_world_model.specs.Measure.{calls_made}
 use Rattle.hm_world_model.specs.Outside.{Outside}
 use Rattle.hm_world_model.specs.Runs.{IsTrueReport}
 use Rattle.hm_world_model.proofs.Raising.{stepper}
-use Rattle.hm_world.specs.Due.{IsDue}
 use Rattle.hm_world.specs.Sound.{HaveDue, IsSafeWith, IsSound}
 use Rattle.hm_world.proofs.Dues.{due_before}
-use Rattle.hm_world.proofs.Entered.{Entered, by_faults, by_same}
+use Rattle.hm_world.proofs.Entered.{by_faults}
 use Rattle.hm_world.proofs.Sounds.{safe_entered}
 
 -- what answers are of is no report

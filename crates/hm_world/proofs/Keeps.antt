@@ -1,5 +1,5 @@
 -- A world stays sound behind each of its calls.
-use Rattle.std.proofs.Common.{◌≡◌, ◌≢◌, ◌⊎◌, ℕ, ◌+◌, ◌∷◌, ◌++◌, [], Bool, true, false, drop, None, Option, Some, List, Result, Ok, Err, refl, sym, ap, ◌∙◌, inl, inr, subst, arith}
+use Rattle.std.proofs.Common.{◌≡◌, ◌≢◌, ℕ, ◌+◌, ◌∷◌, ◌++◌, [], Bool, true, false, None, Some, List, refl, sym, ap, ◌∙◌, inl, inr, subst}
 use Rattle.std.proofs.Math.Path.{fun_ext}
 use Rattle.std.proofs.lemmas.Bool.{false≢true}
 use Rattle.std.proofs.lemmas.Option.{none-some, same_Some}
@@ -12,16 +12,16 @@ use Rattle.hm_data.specs.declared.entry.Entry.{Entry}
 use Rattle.hm_data.specs.declared.entry.Entry.TheVariants as entry_is
 use Rattle.hm_hall.specs.Recording.{Recording}
 use Rattle.hm_model.specs.Fleet.{came_up}
-use Rattle.hm_model.specs.Journal.{Past, back}
+use Rattle.hm_model.specs.Journal.{back}
 use Rattle.hm_model.specs.Locks.{IsIn}
 use Rattle.hm_model.specs.Reports.{call_of, peer_in}
-use Rattle.hm_model.specs.Rules.{Allowed, IsLegal}
+use Rattle.hm_model.specs.Rules.{IsLegal}
 use Rattle.hm_server.specs.Actors.{IsStorage}
 use Rattle.hm_exec.specs.Hearing.{report_entry}
 use Rattle.hm_exec.specs.Moment.{IsAdded, Moment, past_of}
 use Rattle.hm_fleet.specs.Fleet.{Delivers, FleetView, outside_of}
 use Rattle.hm_world_model.specs.Measure.{calls_made}
-use Rattle.hm_world_model.specs.Outside.{Outside, armed, delivered, died, nobody, report_to, runs, started, with_report, with_sent}
+use Rattle.hm_world_model.specs.Outside.{armed, delivered, died, nobody, report_to, runs, started, with_report, with_sent}
 use Rattle.hm_world_model.specs.Runs.{IsTrueReport}
 use Rattle.hm_world_model.specs.Safe.{Safe}
 use Rattle.hm_world_model.specs.World.{opened, shown_storage}
@@ -33,9 +33,8 @@ use Rattle.hm_world_model.proofs.Keeping.{outside_keeps}
 use Rattle.hm_world_model.proofs.Known.{called_up, peer_called}
 use Rattle.hm_world_model.proofs.Measure.{runs_on}
 use Rattle.hm_world_model.proofs.Servers.{not_up}
-use Rattle.hm_world.specs.Due.{IsDue}
 use Rattle.hm_world.specs.Sound.{HaveDue, IsSafeWith, IsSent, IsSound}
-use Rattle.hm_world.proofs.Dues.{due_before, have_entered, have_outside}
+use Rattle.hm_world.proofs.Dues.{have_entered, have_outside}
 use Rattle.hm_world.proofs.Entered.{Entered, IsQuiet, by_added}
 use Rattle.hm_world.proofs.Running.{armed_runs, died_runs, started_runs}
 use Rattle.hm_world.proofs.Sendings.{sent_delivered, sent_heard, sent_lost, sent_outside, sent_repeated, sent_sent}

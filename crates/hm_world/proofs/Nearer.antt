@@ -1,5 +1,5 @@
 -- There is less to carry behind whatever is carried.
-use Rattle.std.proofs.Common.{◌≡◌, ◌≢◌, ◌⊎◌, ℕ, ◌+◌, ◌-◌, ◌≤◌, ◌∷◌, ◌++◌, [], List, is_some, length, Bool, true, false, not, ◌&&◌, ◌||◌, ◌==◌, drop, None, Option, Some, Result, Ok, Err, refl, sym, ap, ◌∙◌, inl, inr, subst, arith}
+use Rattle.std.proofs.Common.{◌≡◌, ◌≢◌, ℕ, ◌+◌, ◌-◌, ◌≤◌, ◌∷◌, ◌++◌, [], List, is_some, length, Bool, true, false, not, ◌||◌, ◌==◌, drop, None, Some, Result, Ok, refl, sym, ap, ◌∙◌, inl, inr, subst, arith}
 use Rattle.std.specs.List.{list_any}
 use Rattle.std.specs.Option.{option_map}
 use Rattle.std.proofs.lemmas.Bool.{and_from, cases_Bool, or_from, true≢false}
@@ -15,12 +15,11 @@ use Rattle.hm_model.proofs.Prefixes.{back-push}
 use Rattle.hm_refusals.specs.Reports.{IsIgnored}
 use Rattle.hm_refusals.specs.declared.reports.IgnoredWhy.{IgnoredWhy}
 use Rattle.hm_refusals.specs.declared.reports.IgnoredWhy.TheVariants as ignored_is
-use Rattle.hm_exec.specs.Hearing.{AnswersReport, report_entry}
+use Rattle.hm_exec.specs.Hearing.{report_entry}
 use Rattle.hm_exec.specs.Moment.{Moment, past_of}
-use Rattle.hm_exec.specs.declared.answers.Heard.{Heard}
 use Rattle.hm_exec.specs.declared.answers.Heard.TheVariants as heard_is
 use Rattle.hm_world_model.specs.Measure.{is_to_send, left_to_carry, runs_if, travels}
-use Rattle.hm_world_model.specs.Outside.{Outside, delivered, report_to, runs, with_report, with_sent}
+use Rattle.hm_world_model.specs.Outside.{Outside, delivered, report_to, with_report, with_sent}
 use Rattle.hm_world_model.specs.Runs.{MayHear}
 use Rattle.hm_world_model.specs.Safe.{IsKept}
 use Rattle.hm_world_model.specs.World as model

@@ -7,7 +7,7 @@ use Rattle.hm_data.specs.declared.call.Peer.{Peer}
 use Rattle.hm_data.specs.declared.call.Peer.TheVariants as peer_is
 use Rattle.hm_model.specs.Actors.{Actor, begun}
 use Rattle.hm_model.specs.Fleet.{same_address, same_server}
-use Rattle.hm_world_model.specs.Outside.{Outside, armed, died, refusing, runs, set_actor, started}
+use Rattle.hm_world_model.specs.Outside.{Outside, armed, died, refusing, runs, started}
 use Rattle.hm_world_model.proofs.Facts.{cases_server}
 
 -- nobody runs who didn't, behind a death

@@ -5,7 +5,7 @@ use Rattle.hm_data.specs.declared.call.ReportMsg.{ReportMsg}
 use Rattle.hm_hall.specs.Recording.{Recording}
 use Rattle.hm_fleet.specs.Fleet.{FleetView, outside_of}
 use Rattle.hm_world_model.specs.Outside.{Outside}
-use Rattle.hm_world.specs.Scene.{Scene, scene_with}
+use Rattle.hm_world.specs.Scene.{scene_with}
 
 -- a scene with this fleet
 pub scene_is : (kept : Recording) (claimed : List ℕ) (new : FleetView) (o : Outside) (wire : List Call) (waiting : List ReportMsg) → outside_of new ≡ o → new.wire ≡ wire → new.waiting ≡ waiting

@@ -1,5 +1,5 @@
 -- What is on the wire was sent, and what waits was reported, behind what happens.
-use Rattle.std.proofs.Common.{◌≡◌, ℕ, ◌∷◌, ◌++◌, [], None, Option, Some, List, refl, sym, ap, ◌∙◌, inl, inr, subst}
+use Rattle.std.proofs.Common.{◌≡◌, ◌∷◌, ◌++◌, [], None, Option, Some, List, refl, sym, ap, inl, inr, subst}
 use Rattle.hm_data.specs.declared.call.Call.{Call}
 use Rattle.hm_data.specs.declared.call.Peer.{Peer}
 use Rattle.hm_data.specs.declared.call.Peer.TheVariants as peer_is

@@ -1,5 +1,5 @@
 -- What taking a task answers, and what giving back an answer does.
-use Rattle.std.specs.Prelude.{◌≡◌, ◌≢◌, ℕ, [], Result, Ok, Err, Some, None}
+use Rattle.std.specs.Prelude.{◌≡◌, ◌≢◌, [], Result, Ok, Err, Some, None}
 use Rattle.hm_data.specs.declared.step.StepOut.{StepOut}
 use Rattle.hm_hall.specs.declared.fault.HallFault.{HallFault}
 use Rattle.hm_hall.specs.declared.hall.Task.{Task}

@@ -1,4 +1,4 @@
-use Rattle.std.proofs.Common.{◌≡◌, Err, ap, refl, sym, ◌∙◌, subst}
+use Rattle.std.proofs.Common.{Err, ap, refl, sym, ◌∙◌, subst}
 use Rattle.hm_sheet.specs.Registry.{sheets_by, whole_of}
 use Rattle.hm_journal.specs.Stored.{IsOnDisk, IsOnDiskByKind}
 use Rattle.hm_journal.specs.Verdict.{Refuses}

@@ -1,4 +1,3 @@
-use Rattle.std.proofs.Common.{refl}
 use Rattle.hm_top.specs.Ports.{source_use}
 use Rattle.hm_commands.proofs.Ran.{run_none}
 use Rattle.hm_top.proofs.Runs.{script_read}

@@ -1,13 +1,10 @@
-use Rattle.std.proofs.Common.{◌≡◌, Ok, refl, sym, ap, ◌∙◌, subst}
+use Rattle.std.proofs.Common.{Ok, refl, sym, ap, ◌∙◌, subst}
 use Rattle.hm_hall.specs.Recording.{Recording}
 use Rattle.hm_journal.specs.Opened.{Opened as OpenedAt}
-use Rattle.hm_commands.specs.Scenes.{halt_at}
 use Rattle.hm_commands.specs.View.{IsLeftBy, scene_in}
 use Rattle.hm_commands.proofs.Ran.{run_less, run_none}
 use Rattle.hm_top.specs.Ending.{halted_status}
-use Rattle.hm_top.specs.Ports.{disk_use, sink_use}
-use Rattle.hm_top.specs.Session.{Outcome}
-use Rattle.hm_top.proofs.Outcomes.{spoken}
+use Rattle.hm_top.specs.Ports.{sink_use}
 use Rattle.hm_top.proofs.Refusals.{halt_tells, stop_tells, unjudged_tells}
 use Rattle.hm_top.proofs.Runs.{talked_on, talked_stopped, talked_unopened}
 use Rattle.hm_top.proofs.ending.converse.Goals as goal

@@ -1,4 +1,4 @@
-use Rattle.std.proofs.Common.{◌≡◌, ◌<◌, ◌≤◌, length, refl, sym, ap, ◌∙◌, subst, arith}
+use Rattle.std.proofs.Common.{◌≤◌, length, refl, sym, ap, ◌∙◌, subst, arith}
 use Rattle.hm_hall.specs.Recording.{Recording}
 use Rattle.hm_journal.specs.Opened.{Opened as OpenedAt}
 use Rattle.hm_commands.specs.View.{IsLeftBy, scene_in}

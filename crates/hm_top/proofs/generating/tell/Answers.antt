@@ -1,4 +1,4 @@
-use Rattle.std.proofs.Common.{◌≡◌, None, length, ap, sym, ◌∙◌, subst}
+use Rattle.std.proofs.Common.{◌≡◌, length, ap, sym, ◌∙◌, subst}
 use Rattle.hm_top.specs.Generating.{TellsAs, gen_text, text_at}
 use Rattle.hm_top.specs.Ports.{sink_use}
 use Rattle.hm_top.specs.Run.{before_line}

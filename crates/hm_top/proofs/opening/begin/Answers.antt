@@ -1,5 +1,4 @@
-use Rattle.std.proofs.Common.{◌≡◌, ◌<◌, ◌≤◌, ◌+◌, ◌++◌, [], length, take, Some, refl, sym, ap, subst, ◌∙◌, append-nil, arith, slice_get}
-use Rattle.std.proofs.lemmas.Grind.{common_steps}
+use Rattle.std.proofs.Common.{◌≡◌, ◌<◌, [], length, take, Some, refl, sym, subst, ◌∙◌, append-nil, arith, slice_get}
 use lib.Seq.{take_all}
 use Rattle.hm_journal.proofs.Spelled.{take_item}
 use Rattle.hm_journal.specs.Opened.{Opened as OpenedAt}

@@ -1,4 +1,4 @@
-use Rattle.std.proofs.Common.{◌≡◌, ◌++◌, ◌∷◌, [], List, Some, None, Result, Ok, Err, refl, sym, ap, subst, ◌∙◌, append-nil, inl, inr, slice_get}
+use Rattle.std.proofs.Common.{◌≡◌, [], None, refl, sym, subst, ◌∙◌, append-nil, inl, inr, slice_get}
 use Rattle.std.proofs.lemmas.Option.{same_Some}
 use Rattle.hm_model.specs.Fleet.{servers_of}
 use Rattle.hm_world.specs.Scene.{past_in}

@@ -1,14 +1,10 @@
-use Rattle.std.proofs.Common.{◌≡◌, ◌≢◌, ◌++◌, ◌∷◌, [], Some, refl, sym, ap, subst, ◌∙◌, append-nil, inl}
-use Rattle.hm_hall.specs.declared.fault.Halt.{Halt}
-use Rattle.hm_world.specs.Scene.{Scene}
+use Rattle.std.proofs.Common.{◌++◌, ◌∷◌, [], Some, refl, sym, ap, subst, ◌∙◌, append-nil, inl}
 use Rattle.hm_commands.specs.Answer.{answer_text}
 use Rattle.hm_commands.specs.Commands.{Expires}
 use Rattle.hm_commands.specs.View.{IsLeftBy, scene_in}
 use Rattle.hm_commands.specs.declared.answer.Answer.{Answer}
 use Rattle.hm_commands.specs.declared.answer.Answer.TheVariants as answer_is
 use Rattle.hm_journal.specs.Opened.{Opened as OpenedAt}
-use Rattle.hm_top.specs.Got.{IsPartOf}
-use Rattle.hm_top.specs.Opening.{GoesDown}
 use Rattle.hm_top.proofs.Openings.{answered_so, halted_is}
 use Rattle.hm_top.proofs.opening.put_down.Goals as goal
 

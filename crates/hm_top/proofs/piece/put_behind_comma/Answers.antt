@@ -1,4 +1,4 @@
-use Rattle.std.proofs.Common.{codes, ap, ◌++◌, ◌∙◌, subst}
+use Rattle.std.proofs.Common.{codes, ◌∙◌, subst}
 use Rattle.std.specs.Fmt.{decimal}
 use Rattle.hm_top.specs.Got.{IsPartOf}
 use Rattle.hm_top.proofs.Pieces.{on_err_so, part_last}

@@ -1,6 +1,5 @@
-use Rattle.std.proofs.Common.{◌≡◌, Ok, Err, map, refl, sym, ap, ◌∙◌, subst}
+use Rattle.std.proofs.Common.{Ok, Err, map, refl, sym, ap, ◌∙◌, subst}
 use Rattle.hm_sheet.specs.Registry.{sheets_by}
-use Rattle.hm_hall.specs.Recording.{Recording}
 use Rattle.hm_journal.specs.Opened.{Opened as OpenedAt}
 use Rattle.hm_model.specs.Journal.{back}
 use Rattle.hm_model.specs.Sheets.{sheets_of as begun_with}
@@ -9,12 +8,11 @@ use Rattle.hm_commands.specs.Scenes.{halt_at, journal_at, new_scene}
 use Rattle.hm_commands.specs.View.{IsLeftBy, scene_in}
 use Rattle.hm_commands.proofs.Ran.{ran_idle, ran_none, run_none}
 use Rattle.hm_world.specs.Scene.{Scene}
-use Rattle.hm_top.specs.declared.status.EarlyEnd.{EarlyEnd}
 use Rattle.hm_top.specs.declared.status.EarlyEnd.TheVariants as early_is
 use Rattle.hm_top.specs.declared.talking.Stop.TheVariants as stop_is
 use Rattle.hm_top.specs.Answering.{IsAnswering}
 use Rattle.hm_top.proofs.Openings.{answered_on, answering_ends, downs_keep, ran_behind}
-use Rattle.hm_top.proofs.Runs.{ran_from, rose_late}
+use Rattle.hm_top.proofs.Runs.{ran_from}
 use Rattle.hm_top.proofs.talking.answer_over.Goals as goal
 
 pub returns-in-Err-clause-stopped : goal.returns-in-Err-clause-stopped

@@ -3,7 +3,7 @@ use Rattle.hm_model.specs.Journal.{back}
 use Rattle.hm_model.specs.Sheets.{sheets_of as begun_with}
 use Rattle.hm_sheet.specs.Words.{AreWhole}
 use Rattle.hm_sheet.specs.Registry.{sheets_by, whole_of}
-use Rattle.hm_commands.specs.Hands.{AgreeOn, first_sheets, hands_use}
+use Rattle.hm_commands.specs.Hands.{AgreeOn, first_sheets}
 use Rattle.hm_commands.proofs.Registries.{agree_own, all_first, first_is, used_are}
 use Rattle.hm_top.specs.Talking.{IsOpened}
 use Rattle.hm_top.specs.View.{StoreView}

@@ -1,4 +1,4 @@
-use Rattle.std.proofs.Common.{ap, ◌≡◌, ◌∙◌, subst, sym}
+use Rattle.std.proofs.Common.{ap, ◌≡◌, ◌∙◌, subst}
 use Rattle.hm_journal.specs.Since.{Since}
 use Rattle.hm_journal.specs.Stored.{AllStored}
 use Rattle.hm_journal.specs.View.{JournalView}

@@ -1,4 +1,4 @@
-use Rattle.std.proofs.Common.{◌≡◌, suc, refl, sym, ap, ◌∙◌, subst}
+use Rattle.std.proofs.Common.{suc, refl, sym, ◌∙◌, subst}
 use Rattle.hm_world.specs.Scene.{Scene}
 use Rattle.hm_commands.specs.Scenes.{journal_at}
 use Rattle.hm_commands.specs.Tasks.{IsDone, Tasks, Works}

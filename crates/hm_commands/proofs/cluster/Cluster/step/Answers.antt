@@ -1,4 +1,4 @@
-use Rattle.std.proofs.Common.{◌≡◌, ◌+◌, ℕ, suc, refl, sym, ap, ◌∙◌, subst, arith}
+use Rattle.std.proofs.Common.{◌≡◌, ◌+◌, ℕ, suc, refl, sym, ◌∙◌, subst, arith}
 use Rattle.hm_world.specs.Scene.{Scene}
 use Rattle.hm_commands.specs.Scenes.{journal_at}
 use Rattle.hm_commands.specs.Tasks.{IsDone, Tasks, Works}
