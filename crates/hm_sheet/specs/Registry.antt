@@ -25,7 +25,7 @@ module _ {X : Type 0} {F : X → Type 0} (hand : (h : (x : X) × F x) → Ghosts
   abbrev pub sheets_by : Registry X F → List Sheet
   sheets_by registry = flat_map (λ h. (hand (h.vtable, h.value)).sheets_are h.value) (handlers_of registry)
 
-  -- it lists its sheets of all kinds of procedures, by what is known of each
+  -- it lists its sheets of all kinds of procedures, each of them valid, by what is known of each handler
   abbrev pub IsRegistryBy : Registry X F → Type 0
   IsRegistryBy registry = AreWhole (sheets_by registry) (whole_of registry)
 
@@ -34,7 +34,7 @@ module _ {X : Type 0} {F : X → Type 0} (hand : (x : X) → Ghosts (F x)) where
   abbrev pub sheets_of : Registry X F → List Sheet
   sheets_of registry = sheets_by (λ h. hand h.0) registry
 
-  -- it lists its sheets of all kinds of procedures
+  -- it lists its sheets of all kinds of procedures, each of them valid
   abbrev pub IsRegistry : Registry X F → Type 0
   IsRegistry registry = AreWhole (sheets_of registry) (whole_of registry)
 
