@@ -8,7 +8,7 @@ use hm_data::CatKey;
 use hm_data::laws::keys_order_by_name;
 use hm_index::Sought;
 use hm_names::laws::names_order_by_parts;
-use hm_names::{Ns, RegionName, TableName};
+use hm_names::{Ns, RegionName, TableName, front_hint};
 use std::cmp::Ordering;
 
 /// A key, by the name that it is of.
@@ -50,6 +50,17 @@ impl<'a> Sought<CatKey> for Name<'a> {
                 Name::FirstRegion => after_tables(region),
                 _ => Ordering::Greater,
             },
+        }
+    }
+
+    fn hint(&self) -> u64 {
+        match self {
+            Name::Ns(ns) => front_hint(0, ns.as_bytes()),
+            Name::Table(table) => front_hint(1, table.ns.as_bytes()),
+            Name::Region(region) => front_hint(2, region.table.ns.as_bytes()),
+            Name::FirstTable(ns) => front_hint(1, ns.as_bytes()),
+            Name::RegionsFrom(table, _) => front_hint(2, table.ns.as_bytes()),
+            Name::FirstRegion => front_hint(2, b""),
         }
     }
 }

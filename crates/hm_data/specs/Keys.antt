@@ -1,6 +1,8 @@
--- How the keys of the catalog order.
+-- How the keys of the catalog order, and hints of them.
+use Rattle.std.specs.Prelude.{ℕ}
 use Rattle.std.specs.declared.cmp.Ordering.{Ordering}
 use Rattle.std.specs.declared.cmp.Ordering.TheVariants.{Less, Greater}
+use Rattle.hm_names.specs.Hints.{front}
 use Rattle.hm_names.specs.Order.{bytes_cmp, table_cmp, region_cmp}
 use Rattle.hm_data.specs.declared.catalog.CatKey.{CatKey}
 use Rattle.hm_data.specs.declared.catalog.CatKey.TheVariants.{Ns, Table, Region}
@@ -16,3 +18,9 @@ key_cmp (Table a) (Region b) = Less
 key_cmp (Region a) (Ns b) = Greater
 key_cmp (Region a) (Table b) = Greater
 key_cmp (Region a) (Region b) = region_cmp a b
+
+-- the kind, and then the first bytes of the namespace
+abbrev pub key_hint : CatKey → ℕ
+key_hint (Ns a) = front 7 0 a
+key_hint (Table a) = front 7 1 a.ns
+key_hint (Region a) = front 7 2 a.table.ns

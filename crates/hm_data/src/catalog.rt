@@ -1,6 +1,7 @@
 ghost use Rattle.std.specs.Prelude.{◌≡◌, IfSome, Some};
 
-use hm_names::{Copied, KeyRange, List, Ns, RegionName, Same, TableName};
+use hm_hints::Hinted;
+use hm_names::{Copied, KeyRange, List, Ns, RegionName, Same, TableName, front_hint};
 use std::alloc::{AllocError, Global};
 
 /// What a row of the catalog is of. Namespaces order before tables, tables before regions, and each by name.
@@ -36,6 +37,24 @@ impl Same for CatKey {
                 CatKey::Region(other_region) => region.same(other_region),
                 _ => false,
             },
+        }
+    }
+}
+
+impl Hinted for CatKey {
+    ghost use Rattle.hm_data.specs.Keys.{key_hint};
+    ghost use Rattle.hm_data.specs.HintLaws.{keys_rise};
+    ghost use Rattle.hm_data.specs.declared.catalog.CatKey.TheVariants.{Ns, Table, Region};
+
+    ghost hint_of = { key_hint };
+
+    ghost rises = { elim [ Ns a ↦ elim [ Ns b ↦ keys_rise (Ns a) (Ns b) | Table b ↦ keys_rise (Ns a) (Table b) | Region b ↦ keys_rise (Ns a) (Region b) ] | Table a ↦ elim [ Ns b ↦ keys_rise (Table a) (Ns b) | Table b ↦ keys_rise (Table a) (Table b) | Region b ↦ keys_rise (Table a) (Region b) ] | Region a ↦ elim [ Ns b ↦ keys_rise (Region a) (Ns b) | Table b ↦ keys_rise (Region a) (Table b) | Region b ↦ keys_rise (Region a) (Region b) ] ] };
+
+    fn own_hint(&self) -> u64 {
+        match self {
+            CatKey::Ns(ns) => front_hint(0, ns.as_bytes()),
+            CatKey::Table(table) => front_hint(1, table.ns.as_bytes()),
+            CatKey::Region(region) => front_hint(2, region.table.ns.as_bytes()),
         }
     }
 }

@@ -1,7 +1,9 @@
 //! Where servers run.
 ghost use Rattle.std.specs.Prelude.{◌≡◌, IfOk};
+ghost use Rattle.std.proofs.Common.{rules};
 ghost use Rattle.hm_fleet.specs.Crew.{address_of};
 
+use hm_hints::Hinted;
 use hm_index::Sought;
 use hm_names::{Copied, Host, ServerName};
 use std::alloc::{AllocError, Global};
@@ -26,6 +28,16 @@ impl Address {
     }
 }
 
+impl Hinted for Address {
+    ghost hint_of = { λ address. 0 };
+
+    ghost rises = { Prim.search rules };
+
+    fn own_hint(&self) -> u64 {
+        0
+    }
+}
+
 impl Sought<Address> for ServerName {
     ghost use Rattle.hm_fleet.specs.Crew.{address_of};
 
@@ -33,5 +45,9 @@ impl Sought<Address> for ServerName {
 
     fn compared(&self, key: &Address) -> Ordering {
         key.host.cmp(&self.host).then(key.port.cmp(&self.port))
+    }
+
+    fn hint(&self) -> u64 {
+        0
     }
 }

@@ -1,5 +1,5 @@
--- Blocks one behind another: where each begins, what a place more or a split does, and a search in two levels.
-use Rattle.std.proofs.Common.{◌≡◌, ℕ, zero, suc, ◌+◌, ◌-◌, ◌<◌, ◌≤◌, List, [], ◌∷◌, ◌++◌, length, get_or, set, take, drop, Some, None, slice_get, Ok, Err, refl, inl, inr, arith, ap, sym, ◌∙◌, subst, length-append, append_assoc, zero-add}
+-- Blocks one behind another: where each begins, what an item more or a split does, and a search in two levels.
+use Rattle.std.proofs.Common.{◌≡◌, ◌≢◌, ℕ, zero, suc, ◌+◌, ◌-◌, ◌<◌, ◌≤◌, List, [], ◌∷◌, ◌++◌, length, get_or, set, take, drop, Ok, Err, refl, inl, inr, arith, ap, sym, ◌∙◌, subst, length-append, append_assoc, zero-add}
 use Rattle.std.specs.List.{insert}
 use Rattle.std.specs.List.Sorted.{IsBinarySearchResult, IsNonDecreasingBy}
 use Rattle.std.specs.Ordering.{ordering_index}
@@ -7,13 +7,13 @@ use Rattle.std.specs.declared.cmp.Ordering.{Ordering}
 use Rattle.std.specs.declared.cmp.Ordering.TheVariants.{Less, Equal, Greater}
 use Rattle.std.proofs.lemmas.Bool.{cases_lt, cases_eq}
 use Rattle.std.proofs.lemmas.List.{get_or_append_left, get_or-append-add, get_or_default, take-append-drop, length-take-le, length-drop}
-use Rattle.std.proofs.lemmas.List.Edits.{insert-append_left, insert-append_right}
-use Rattle.std.proofs.lemmas.Option.{slice_get-get_or}
+use Rattle.std.proofs.Math.ListN.{length-set}
+use Rattle.std.proofs.lemmas.List.Edits.{insert-append_left, insert-append_right, length-insert}
 use Rattle.hm_index.specs.Blocks.{laid, start, block_at, split_at, lead, IsPacked, IsSpot, IsBlockFor, IsBetween}
 
 -- Where blocks begin.
 
-pub read : (blocks : List (List ℕ)) (b i d : ℕ) → b < length blocks → i < length (block_at blocks b) → get_or (laid blocks) (start blocks b + i) d ≡ get_or (block_at blocks b) i d
+pub read : {X : Type 0} (blocks : List (List X)) (b i : ℕ) (d : X) → b < length blocks → i < length (block_at blocks b) → get_or (laid blocks) (start blocks b + i) d ≡ get_or (block_at blocks b) i d
 read [] b i d lt within = absurd (omega arith)
 read (block ∷ blocks) zero i d lt within = rw zero-add (get_or_append_left block (laid blocks) d i within)
 read (block ∷ blocks) (suc b) i d lt within =
@@ -21,20 +21,20 @@ read (block ∷ blocks) (suc b) i d lt within =
     rw place (get_or-append-add block (laid blocks) (start blocks b + i) d ∙ read blocks b i d (omega arith) within)
 
 -- a block ends within the order
-pub ends : (blocks : List (List ℕ)) (b : ℕ) → b < length blocks → start blocks b + length (block_at blocks b) ≤ length (laid blocks)
+pub ends : {X : Type 0} (blocks : List (List X)) (b : ℕ) → b < length blocks → start blocks b + length (block_at blocks b) ≤ length (laid blocks)
 ends [] b lt = absurd (omega arith)
 ends (block ∷ blocks) zero lt = omega (arith, length-append block (laid blocks))
 ends (block ∷ blocks) (suc b) lt = omega (arith, length-append block (laid blocks), ends blocks b (omega arith))
 
 -- the last block ends with the order
-last : (blocks : List (List ℕ)) (b : ℕ) → b + 1 ≡ length blocks → start blocks b + length (block_at blocks b) ≡ length (laid blocks)
+pub last : {X : Type 0} (blocks : List (List X)) (b : ℕ) → b + 1 ≡ length blocks → start blocks b + length (block_at blocks b) ≡ length (laid blocks)
 last [] b is = absurd (omega arith)
 last (block ∷ []) zero is = omega (arith, length-append block [])
 last (block ∷ next ∷ blocks) zero is = absurd (omega arith)
 last (block ∷ blocks) (suc b) is = omega (arith, length-append block (laid blocks), last blocks b (omega arith))
 
 -- the next block begins where one ends
-pub begins : (blocks : List (List ℕ)) (b : ℕ) → b + 1 < length blocks → start blocks (b + 1) ≡ start blocks b + length (block_at blocks b)
+pub begins : {X : Type 0} (blocks : List (List X)) (b : ℕ) → b + 1 < length blocks → start blocks (b + 1) ≡ start blocks b + length (block_at blocks b)
 begins [] b lt = absurd (omega arith)
 begins (block ∷ []) zero lt = absurd (omega arith)
 begins (block ∷ next ∷ blocks) zero lt = omega arith
@@ -43,19 +43,19 @@ begins (block ∷ blocks) (suc b) lt =
     rw e (omega (arith, begins blocks b (omega arith)))
 
 -- a later block begins behind the end of an earlier one
-order : (blocks : List (List ℕ)) (i j : ℕ) → i < j → j < length blocks → start blocks i + length (block_at blocks i) ≤ start blocks j
+order : {X : Type 0} (blocks : List (List X)) (i j : ℕ) → i < j → j < length blocks → start blocks i + length (block_at blocks i) ≤ start blocks j
 order [] i j less lt = absurd (omega arith)
 order (block ∷ blocks) i zero less lt = absurd (omega arith)
 order (block ∷ blocks) zero (suc j) less lt = omega arith
 order (block ∷ blocks) (suc i) (suc j) less lt = omega (arith, order blocks i j (omega arith) (omega arith))
 
 -- the order begins with the first block
-pub start-zero : (blocks : List (List ℕ)) → start blocks 0 + 0 ≡ 0
+pub start-zero : {X : Type 0} (blocks : List (List X)) → start blocks 0 + 0 ≡ 0
 start-zero [] = refl
 start-zero (block ∷ blocks) = refl
 
--- behind the end of a block stands the first place of the next, and then the spot behind that
-pub behind_end : (blocks : List (List ℕ)) (b at : ℕ) → IsPacked blocks → IsSpot blocks b at → at ≡ length (block_at blocks b) → start blocks b + at < length (laid blocks)
+-- behind the end of a block stands the first item of the next, and then the spot behind that
+pub behind_end : {X : Type 0} (blocks : List (List X)) (b at : ℕ) → IsPacked blocks → IsSpot blocks b at → at ≡ length (block_at blocks b) → start blocks b + at < length (laid blocks)
     → record { spot : IsSpot blocks (b + 1) 1; next : start blocks (b + 1) + 1 ≡ start blocks b + at + 1 }
 behind_end blocks b at packed spot end more =
     let lt : b + 1 < length blocks = elim (cases_lt (b + 1) (length blocks)) [
@@ -64,64 +64,87 @@ behind_end blocks b at packed spot end more =
     ] in
     record { spot = record { block = lt; within = packed.filled (b + 1) (omega arith) lt }; next = omega (arith, begins blocks b lt) }
 
--- What a place more and a split do.
+-- What an item more and a split do.
 
-pub laid-put : (blocks : List (List ℕ)) (b at place : ℕ) → b < length blocks → at ≤ length (block_at blocks b) → laid (set blocks b (insert (block_at blocks b) at place)) ≡ insert (laid blocks) (start blocks b + at) place
-laid-put [] b at place lt within = absurd (omega arith)
-laid-put (block ∷ blocks) zero at place lt within = rw zero-add (sym (insert-append_left block (laid blocks) at place within))
-laid-put (block ∷ blocks) (suc b) at place lt within =
+pub laid-put : {X : Type 0} (blocks : List (List X)) (b at : ℕ) (mark : X) → b < length blocks → at ≤ length (block_at blocks b) → laid (set blocks b (insert (block_at blocks b) at mark)) ≡ insert (laid blocks) (start blocks b + at) mark
+laid-put [] b at mark lt within = absurd (omega arith)
+laid-put (block ∷ blocks) zero at mark lt within = rw zero-add (sym (insert-append_left block (laid blocks) at mark within))
+laid-put (block ∷ blocks) (suc b) at mark lt within =
     let there : length block + start blocks b + at - length block ≡ start blocks b + at = omega arith in
-    sym (insert-append_right block (laid blocks) (length block) (length block + start blocks b + at) place refl (omega arith) ∙ ap (λ k. block ++ insert (laid blocks) k place) there ∙ ap (λ l. block ++ l) (sym (laid-put blocks b at place (omega arith) within)))
+    sym (insert-append_right block (laid blocks) (length block) (length block + start blocks b + at) mark refl (omega arith) ∙ ap (λ k. block ++ insert (laid blocks) k mark) there ∙ ap (λ l. block ++ l) (sym (laid-put blocks b at mark (omega arith) within)))
 
-pub split-insert : (blocks : List (List ℕ)) (b half : ℕ) → b < length blocks → insert (set blocks b (take half (block_at blocks b))) (b + 1) (drop half (block_at blocks b)) ≡ split_at blocks b half
+set-here : {X : Type 0} (blocks : List (List X)) (b : ℕ) (block : List X) → b < length blocks → block_at (set blocks b block) b ≡ block
+set-here [] b block lt = absurd (omega arith)
+set-here (first ∷ blocks) zero block lt = refl
+set-here (first ∷ blocks) (suc b) block lt = set-here blocks b block (omega arith)
+
+set-other : {X : Type 0} (blocks : List (List X)) (b k : ℕ) (block : List X) → k ≢ b → block_at (set blocks b block) k ≡ block_at blocks k
+set-other [] b k block other = refl
+set-other (first ∷ blocks) zero zero block other = absurd (other refl)
+set-other (first ∷ blocks) zero (suc k) block other = refl
+set-other (first ∷ blocks) (suc b) zero block other = refl
+set-other (first ∷ blocks) (suc b) (suc k) block other = set-other blocks b k block (λ is. other (ap suc is))
+
+pub packed-put : {X : Type 0} (blocks : List (List X)) (b at : ℕ) (mark : X) → IsPacked blocks → b < length blocks → at ≤ length (block_at blocks b) → IsPacked (set blocks b (insert (block_at blocks b) at mark))
+packed-put blocks b at mark packed lt le =
+    let size = length-set blocks b (insert (block_at blocks b) at mark) in
+    record {
+      some = omega (arith, size, packed.some);
+      filled = λ k low high. elim (cases_eq k b) [
+        | inl is ↦ rw (is, set-here blocks b (insert (block_at blocks b) at mark) lt) (omega (arith, length-insert (block_at blocks b) at mark le))
+        | inr other ↦ rw (set-other blocks b k (insert (block_at blocks b) at mark) other) (packed.filled k low (omega (arith, size, high)))
+      ];
+    }
+
+pub split-insert : {X : Type 0} (blocks : List (List X)) (b half : ℕ) → b < length blocks → insert (set blocks b (take half (block_at blocks b))) (b + 1) (drop half (block_at blocks b)) ≡ split_at blocks b half
 split-insert [] b half lt = absurd (omega arith)
 split-insert (block ∷ blocks) zero half lt = refl
 split-insert (block ∷ blocks) (suc b) half lt = let e : suc b + 1 ≡ suc (b + 1) = omega arith in rw e (ap (λ l. block ∷ l) (split-insert blocks b half (omega arith)))
 
-pub laid-split : (blocks : List (List ℕ)) (b half : ℕ) → b < length blocks → laid (split_at blocks b half) ≡ laid blocks
+pub laid-split : {X : Type 0} (blocks : List (List X)) (b half : ℕ) → b < length blocks → laid (split_at blocks b half) ≡ laid blocks
 laid-split [] b half lt = refl
 laid-split (block ∷ blocks) zero half lt = sym (append_assoc (take half block) (drop half block) (laid blocks)) ∙ ap (λ l. l ++ laid blocks) (take-append-drop half block)
 laid-split (block ∷ blocks) (suc b) half lt = ap (λ l. block ++ l) (laid-split blocks b half (omega arith))
 
-pub length-split : (blocks : List (List ℕ)) (b half : ℕ) → b < length blocks → length (split_at blocks b half) ≡ length blocks + 1
+pub length-split : {X : Type 0} (blocks : List (List X)) (b half : ℕ) → b < length blocks → length (split_at blocks b half) ≡ length blocks + 1
 length-split [] b half lt = absurd (omega arith)
 length-split (block ∷ blocks) zero half lt = omega arith
 length-split (block ∷ blocks) (suc b) half lt = omega (arith, length-split blocks b half (omega arith))
 
-split-below : (blocks : List (List ℕ)) (b half k : ℕ) → k < b → block_at (split_at blocks b half) k ≡ block_at blocks k
+split-below : {X : Type 0} (blocks : List (List X)) (b half k : ℕ) → k < b → block_at (split_at blocks b half) k ≡ block_at blocks k
 split-below [] b half k lt = refl
 split-below (block ∷ blocks) zero half k lt = absurd (omega arith)
 split-below (block ∷ blocks) (suc b) half zero lt = refl
 split-below (block ∷ blocks) (suc b) half (suc k) lt = split-below blocks b half k (omega arith)
 
-pub split-lower : (blocks : List (List ℕ)) (b half : ℕ) → b < length blocks → block_at (split_at blocks b half) b ≡ take half (block_at blocks b)
+pub split-lower : {X : Type 0} (blocks : List (List X)) (b half : ℕ) → b < length blocks → block_at (split_at blocks b half) b ≡ take half (block_at blocks b)
 split-lower [] b half lt = absurd (omega arith)
 split-lower (block ∷ blocks) zero half lt = refl
 split-lower (block ∷ blocks) (suc b) half lt = split-lower blocks b half (omega arith)
 
-pub split-upper : (blocks : List (List ℕ)) (b half : ℕ) → b < length blocks → block_at (split_at blocks b half) (b + 1) ≡ drop half (block_at blocks b)
+pub split-upper : {X : Type 0} (blocks : List (List X)) (b half : ℕ) → b < length blocks → block_at (split_at blocks b half) (b + 1) ≡ drop half (block_at blocks b)
 split-upper [] b half lt = absurd (omega arith)
 split-upper (block ∷ blocks) zero half lt = refl
 split-upper (block ∷ blocks) (suc b) half lt = let e : suc b + 1 ≡ suc (b + 1) = omega arith in rw e (split-upper blocks b half (omega arith))
 
-split-above : (blocks : List (List ℕ)) (b half k : ℕ) → b < k → block_at (split_at blocks b half) (suc k) ≡ block_at blocks k
+split-above : {X : Type 0} (blocks : List (List X)) (b half k : ℕ) → b < k → block_at (split_at blocks b half) (suc k) ≡ block_at blocks k
 split-above [] b half k lt = refl
 split-above (block ∷ blocks) zero half zero lt = absurd (omega arith)
 split-above (block ∷ blocks) zero half (suc k) lt = refl
 split-above (block ∷ blocks) (suc b) half zero lt = absurd (omega arith)
 split-above (block ∷ blocks) (suc b) half (suc k) lt = split-above blocks b half k (omega arith)
 
-start-lower : (blocks : List (List ℕ)) (b half : ℕ) → start (split_at blocks b half) b ≡ start blocks b
+start-lower : {X : Type 0} (blocks : List (List X)) (b half : ℕ) → start (split_at blocks b half) b ≡ start blocks b
 start-lower [] b half = refl
 start-lower (block ∷ blocks) zero half = refl
 start-lower (block ∷ blocks) (suc b) half = ap (λ n. length block + n) (start-lower blocks b half)
 
-start-upper : (blocks : List (List ℕ)) (b half : ℕ) → b < length blocks → half ≤ length (block_at blocks b) → start (split_at blocks b half) (b + 1) ≡ start blocks b + half
+start-upper : {X : Type 0} (blocks : List (List X)) (b half : ℕ) → b < length blocks → half ≤ length (block_at blocks b) → start (split_at blocks b half) (b + 1) ≡ start blocks b + half
 start-upper [] b half lt le = absurd (omega arith)
 start-upper (block ∷ blocks) zero half lt le = omega (arith, length-take-le half block le)
 start-upper (block ∷ blocks) (suc b) half lt le = let e : suc b + 1 ≡ suc (b + 1) = omega arith in rw e (omega (arith, start-upper blocks b half (omega arith) le))
 
-pub packed-split : (blocks : List (List ℕ)) (b half : ℕ) → IsPacked blocks → b < length blocks → 0 < half → half < length (block_at blocks b) → IsPacked (split_at blocks b half)
+pub packed-split : {X : Type 0} (blocks : List (List X)) (b half : ℕ) → IsPacked blocks → b < length blocks → 0 < half → half < length (block_at blocks b) → IsPacked (split_at blocks b half)
 packed-split blocks b half packed lt some less = record {
   some = omega (arith, length-split blocks b half lt);
   filled = λ k low high.
@@ -141,7 +164,7 @@ packed-split blocks b half packed lt some less = record {
 }
 
 -- a spot of a full block, after the block was split
-pub lower_spot : (blocks : List (List ℕ)) (b at half : ℕ) → b < length blocks → half < length (block_at blocks b) → at ≤ half
+pub lower_spot : {X : Type 0} (blocks : List (List X)) (b at half : ℕ) → b < length blocks → half < length (block_at blocks b) → at ≤ half
     → record { spot : IsSpot (split_at blocks b half) b at; same : start (split_at blocks b half) b + at ≡ start blocks b + at; size : length (block_at (split_at blocks b half) b) ≡ half }
 lower_spot blocks b at half lt less le =
     let size : length (block_at (split_at blocks b half) b) ≡ half = rw (split-lower blocks b half lt) (length-take-le half (block_at blocks b) (omega arith)) in
@@ -151,7 +174,7 @@ lower_spot blocks b at half lt less le =
       size = size;
     }
 
-pub upper_spot : (blocks : List (List ℕ)) (b at half : ℕ) → b < length blocks → half < length (block_at blocks b) → half < at → at ≤ length (block_at blocks b)
+pub upper_spot : {X : Type 0} (blocks : List (List X)) (b at half : ℕ) → b < length blocks → half < length (block_at blocks b) → half < at → at ≤ length (block_at blocks b)
     → record { spot : IsSpot (split_at blocks b half) (b + 1) (at - half); same : start (split_at blocks b half) (b + 1) + (at - half) ≡ start blocks b + at; size : length (block_at (split_at blocks b half) (b + 1)) ≡ length (block_at blocks b) - half }
 upper_spot blocks b at half lt less far le =
     let size : length (block_at (split_at blocks b half) (b + 1)) ≡ length (block_at blocks b) - half = rw (split-upper blocks b half lt) (length-drop half (block_at blocks b)) in
@@ -162,61 +185,18 @@ upper_spot blocks b at half lt less far le =
     }
 
 -- a block that was read
-pub taken : (blocks blocks' : List (List ℕ)) (b : ℕ) (block : List ℕ) → blocks ≡ blocks' → b < length blocks' → block ≡ get_or blocks b block → block ≡ block_at blocks' b
+pub taken : {X : Type 0} (blocks blocks' : List (List X)) (b : ℕ) (block : List X) → blocks ≡ blocks' → b < length blocks' → block ≡ get_or blocks b block → block ≡ block_at blocks' b
 taken blocks blocks' b block same lt is = is ∙ ap (λ l. get_or l b block) same ∙ get_or_default blocks' b block [] lt
 
--- all that stands from a place on
-pub all_from : (places : List ℕ) (n : ℕ) → take (length places - n) (drop n places) ≡ drop n places
-all_from places n = take_all (length places - n) (drop n places) (omega (arith, length-drop n places))
+-- all that stands from a number on
+pub all_from : {X : Type 0} (marks : List X) (n : ℕ) → take (length marks - n) (drop n marks) ≡ drop n marks
+all_from marks n = take_all (length marks - n) (drop n marks) (omega (arith, length-drop n marks))
   where
-    take_all : (n : ℕ) (places : List ℕ) → length places ≤ n → take n places ≡ places
+    take_all : {X : Type 0} (n : ℕ) (marks : List X) → length marks ≤ n → take n marks ≡ marks
     take_all zero [] le = refl
     take_all (suc n) [] le = refl
-    take_all zero (place ∷ places) le = absurd (omega arith)
-    take_all (suc n) (place ∷ places) le = ap (λ l. place ∷ l) (take_all n places (omega arith))
-
--- What stands at a number.
-
-get-front : (block more : List ℕ) (n : ℕ) → n < length block → slice_get (block ++ more) n ≡ Some (get_or block n 0)
-get-front [] more n lt = absurd (omega arith)
-get-front (place ∷ block) more zero lt = refl
-get-front (place ∷ block) more (suc n) lt = get-front block more n (omega arith)
-
-get-behind : (block more : List ℕ) (n : ℕ) → length block ≤ n → slice_get (block ++ more) n ≡ slice_get more (n - length block)
-get-behind [] more n le = let e : n - 0 ≡ n = omega arith in rw e refl
-get-behind (place ∷ block) more zero le = absurd (omega arith)
-get-behind (place ∷ block) more (suc n) le = let e : suc n - suc (length block) ≡ n - length block = omega arith in rw e (get-behind block more n (omega arith))
-
-pub in_first : (blocks : List (List ℕ)) (i : ℕ) (block : List ℕ) (n : ℕ) → i < length blocks → block ≡ get_or blocks i block → n < length block → slice_get (laid (drop i blocks)) n ≡ Some (get_or block n 0)
-in_first [] i block n lt is less = absurd (omega arith)
-in_first (first ∷ blocks) zero block n lt is less = rw is (get-front first (laid blocks) n (rw is at less))
-in_first (first ∷ blocks) (suc i) block n lt is less = in_first blocks i block n (omega arith) is less
-
-pub behind_first : (blocks : List (List ℕ)) (i : ℕ) (block : List ℕ) (n : ℕ) → i < length blocks → block ≡ get_or blocks i block → length block ≤ n → slice_get (laid (drop i blocks)) n ≡ slice_get (laid (drop (i + 1) blocks)) (n - length block)
-behind_first [] i block n lt is le = absurd (omega arith)
-behind_first (first ∷ blocks) zero block n lt is le = rw is (get-behind first (laid blocks) n (rw is at le))
-behind_first (first ∷ blocks) (suc i) block n lt is le = let e : suc i + 1 ≡ suc (i + 1) = omega arith in rw e (behind_first blocks i block n (omega arith) is le)
-
-past : (places : List ℕ) (n : ℕ) → length places ≤ n → slice_get places n ≡ None
-past [] n le = refl
-past (place ∷ places) zero le = absurd (omega arith)
-past (place ∷ places) (suc n) le = past places n (omega arith)
-
-pub below : (places : List ℕ) (n place : ℕ) → slice_get places n ≡ Some place → n < length places
-below [] n place is = cc
-below (first ∷ places) zero place is = omega arith
-below (first ∷ places) (suc n) place is = omega (arith, below places n place is)
-
-pub next_here : (blocks : List (List ℕ)) (b at : ℕ) → b < length blocks → at < length (block_at blocks b) → slice_get (laid blocks) (start blocks b + at) ≡ Some (get_or (block_at blocks b) at 0)
-next_here blocks b at lt within = slice_get-get_or (laid blocks) (start blocks b + at) 0 (omega (arith, ends blocks b lt)) ∙ ap Some (read blocks b at 0 lt within)
-
-pub next_block : (blocks : List (List ℕ)) (b at : ℕ) → b + 1 < length blocks → at ≡ length (block_at blocks b) → 0 < length (block_at blocks (b + 1)) → slice_get (laid blocks) (start blocks b + at) ≡ Some (get_or (block_at blocks (b + 1)) 0 0)
-next_block blocks b at lt is some =
-    let e : start blocks b + at ≡ start blocks (b + 1) + 0 = omega (arith, begins blocks b lt) in
-    rw e (next_here blocks (b + 1) 0 lt some)
-
-pub next_none : (blocks : List (List ℕ)) (b at : ℕ) → b + 1 ≡ length blocks → at ≡ length (block_at blocks b) → slice_get (laid blocks) (start blocks b + at) ≡ None
-next_none blocks b at is end = past (laid blocks) (start blocks b + at) (omega (arith, last blocks b is))
+    take_all zero (mark ∷ marks) le = absurd (omega arith)
+    take_all (suc n) (mark ∷ marks) le = ap (λ l. mark ∷ l) (take_all n marks (omega arith))
 
 -- A search in two levels, for ranks that don't fall.
 
@@ -230,20 +210,24 @@ greatest Less le = absurd (omega arith)
 greatest Equal le = absurd (omega arith)
 greatest Greater le = refl
 
-module _ (rank : ℕ → Ordering) where
-  lead_is : (block : List ℕ) (d : ℕ) → 0 < length block → lead rank block ≡ rank (get_or block 0 d)
+module _ {X : Type 0} (rank : X → Ordering) where
+  lead_is : (block : List X) (d : X) → 0 < length block → lead rank block ≡ rank (get_or block 0 d)
   lead_is [] d lt = absurd (omega arith)
-  lead_is (place ∷ more) d lt = refl
+  lead_is (mark ∷ more) d lt = refl
 
-  module _ (blocks : List (List ℕ)) where
+  one_of : (block : List X) → 0 < length block → X
+  one_of [] some = absurd (omega arith)
+  one_of (mark ∷ more) some = mark
+
+  module _ (blocks : List (List X)) where
     abbrev pub AreRising : Type 0
-    AreRising = IsNonDecreasingBy (λ place. ordering_index (rank place)) (laid blocks)
+    AreRising = IsNonDecreasingBy (λ mark. ordering_index (rank mark)) (laid blocks)
 
     -- the rank where a block begins
-    first_is : (b d : ℕ) → b < length blocks → 0 < length (block_at blocks b) → lead rank (block_at blocks b) ≡ rank (get_or (laid blocks) (start blocks b) d)
+    first_is : (b : ℕ) (d : X) → b < length blocks → 0 < length (block_at blocks b) → lead rank (block_at blocks b) ≡ rank (get_or (laid blocks) (start blocks b) d)
     first_is b d lt some = lead_is (block_at blocks b) d some ∙ ap rank (sym (ap (λ k. get_or (laid blocks) k d) (let e : start blocks b + 0 ≡ start blocks b = omega arith in sym e) ∙ read blocks b 0 d lt some))
 
-    leads_rise : AreRising → (i j : ℕ) → i ≤ j → j < length blocks → (0 < j → 0 < length (block_at blocks j)) → ordering_index (lead rank (block_at blocks i)) ≤ ordering_index (lead rank (block_at blocks j))
+    pub leads_rise : AreRising → (i j : ℕ) → i ≤ j → j < length blocks → (0 < j → 0 < length (block_at blocks j)) → ordering_index (lead rank (block_at blocks i)) ≤ ordering_index (lead rank (block_at blocks j))
     leads_rise rises i j le lt some = elim (cases_eq i j) [
       | inl is ↦ rw is (omega arith)
       | inr other ↦ elim (cases_eq (length (block_at blocks i)) 0) [
@@ -252,46 +236,26 @@ module _ (rank : ℕ → Ordering) where
             let up = order blocks i j (omega arith) lt in
             let there : 0 < length (block_at blocks j) = some (omega arith) in
             let within = ends blocks j lt in
-            rw (first_is i 0 (omega arith) (omega arith), first_is j 0 lt there) (rises (start blocks i) (start blocks j) 0 (omega arith) (omega arith)))
+            let d : X = one_of (block_at blocks j) there in
+            rw (first_is i d (omega arith) (omega arith), first_is j d lt there) (rises (start blocks i) (start blocks j) d (omega arith) (omega arith)))
       ]
     ]
       where
-        empty_leads : (block : List ℕ) → length block ≡ 0 → lead rank block ≡ Less
+        empty_leads : (block : List X) → length block ≡ 0 → lead rank block ≡ Less
         empty_leads [] is = refl
-        empty_leads (place ∷ more) is = absurd (omega arith)
-
-    -- where the ranks don't fall, those of the blocks' first places don't
-    pub firsts_rise : IsPacked blocks → AreRising → IsNonDecreasingBy (λ block. ordering_index (lead rank block)) blocks
-    firsts_rise packed rises i j d le lt =
-        rw (get_or_default blocks i d [] (omega arith), get_or_default blocks j d [] lt) (leads_rise rises i j le lt (λ some. packed.filled j some lt))
-
-    -- what a search among the first places says of the block that is taken
-    pub block_tied : (b : ℕ) → IsBinarySearchResult (lead rank) blocks (Ok b) → IsBlockFor rank blocks b
-    block_tied b is rises = inl (is [])
-
-    pub block_first : IsPacked blocks → (none : ℕ) → none ≡ 0 → IsBinarySearchResult (lead rank) blocks (Err none) → IsBlockFor rank blocks 0
-    block_first packed none is result rises = inr (record {
-      below = λ lt. absurd (omega arith);
-      above = λ lt. (result (firsts_rise packed rises)).1 1 [] (omega arith) lt;
-    })
-
-    pub block_below : IsPacked blocks → (above : ℕ) → 0 < above → IsBinarySearchResult (lead rank) blocks (Err above) → IsBlockFor rank blocks (above - 1)
-    block_below packed above some result rises = inr (record {
-      below = λ lt. (result (firsts_rise packed rises)).0 (above - 1) [] (omega arith) (omega arith);
-      above = λ lt. (result (firsts_rise packed rises)).1 (above - 1 + 1) [] (omega arith) lt;
-    })
+        empty_leads (mark ∷ more) is = absurd (omega arith)
 
     module _ (b : ℕ) (lt : b < length blocks) where
-      -- a place found in the block is one found in the order
+      -- a mark found in the block is one found in the order
       pub found_in : (at : ℕ) → at < length (block_at blocks b) → IsBinarySearchResult rank (block_at blocks b) (Ok at) → IsBinarySearchResult rank (laid blocks) (Ok (start blocks b + at))
       found_in at within is d = rw (read blocks b at d lt within) (is d)
 
-      in_block : (k d : ℕ) → start blocks b ≤ k → k < start blocks b + length (block_at blocks b) → get_or (laid blocks) k d ≡ get_or (block_at blocks b) (k - start blocks b) d
+      in_block : (k : ℕ) (d : X) → start blocks b ≤ k → k < start blocks b + length (block_at blocks b) → get_or (laid blocks) k d ≡ get_or (block_at blocks b) (k - start blocks b) d
       in_block k d low high =
           let e : start blocks b + (k - start blocks b) ≡ k = omega arith in
           ap (λ n. get_or (laid blocks) n d) (sym e) ∙ read blocks b (k - start blocks b) d lt (omega arith)
 
-      block_rises : AreRising → IsNonDecreasingBy (λ place. ordering_index (rank place)) (block_at blocks b)
+      block_rises : AreRising → IsNonDecreasingBy (λ mark. ordering_index (rank mark)) (block_at blocks b)
       block_rises rises i j d le within =
           let end = ends blocks b lt in
           rw (sym (read blocks b i d lt (omega arith)), sym (read blocks b j d lt within)) (rises (start blocks b + i) (start blocks b + j) d (omega arith) (omega arith))
@@ -305,18 +269,19 @@ module _ (rank : ℕ → Ordering) where
             no_tie tie = elim (cases_eq (length (block_at blocks b)) 0) [
               | inl none ↦ empty (block_at blocks b) none tie
               | inr some ↦ (
-                  let first = lead_is (block_at blocks b) 0 (omega arith) in
+                  let d : X = one_of (block_at blocks b) (omega arith) in
+                  let first = lead_is (block_at blocks b) d (omega arith) in
                   elim (cases_lt 0 at) [
-                    | inl low ↦ (let less = (inner (block_rises rises)).0 0 0 (omega arith) low in cc)
-                    | inr high ↦ (let more = (inner (block_rises rises)).1 0 0 high (omega arith) in cc)
+                    | inl low ↦ (let less = (inner (block_rises rises)).0 0 d (omega arith) low in cc)
+                    | inr high ↦ (let more = (inner (block_rises rises)).1 0 d high (omega arith) in cc)
                   ])
             ]
               where
-                empty : (block : List ℕ) → length block ≡ 0 → lead rank block ≡ Equal → ⊥
+                empty : (block : List X) → length block ≡ 0 → lead rank block ≡ Equal → ⊥
                 empty [] is e = cc
-                empty (place ∷ more) is e = absurd (omega arith)
+                empty (mark ∷ more) is e = absurd (omega arith)
 
-        before : (k d : ℕ) → 0 ≤ k → k < start blocks b + at → rank (get_or (laid blocks) k d) ≡ Less
+        before : (k : ℕ) (d : X) → 0 ≤ k → k < start blocks b + at → rank (get_or (laid blocks) k d) ≡ Less
         before k d low less = elim (cases_lt k (start blocks b)) [
           | inl front ↦ (
               let far : 0 < b = positive blocks b (omega arith) in
@@ -328,12 +293,12 @@ module _ (rank : ℕ → Ordering) where
           | inr here ↦ rw (in_block k d here (omega arith)) ((inner (block_rises rises)).0 (k - start blocks b) d (omega arith) (omega arith))
         ]
           where
-            positive : (blocks : List (List ℕ)) (b : ℕ) → 0 < start blocks b → 0 < b
+            positive : (blocks : List (List X)) (b : ℕ) → 0 < start blocks b → 0 < b
             positive [] b some = absurd (omega arith)
             positive (block ∷ blocks) zero some = absurd (omega arith)
             positive (block ∷ blocks) (suc b) some = omega arith
 
-        behind : (k d : ℕ) → start blocks b + at ≤ k → k < length (laid blocks) → rank (get_or (laid blocks) k d) ≡ Greater
+        behind : (k : ℕ) (d : X) → start blocks b + at ≤ k → k < length (laid blocks) → rank (get_or (laid blocks) k d) ≡ Greater
         behind k d low high = elim (cases_lt k (start blocks b + length (block_at blocks b))) [
           | inl here ↦ rw (in_block k d (omega arith) here) ((inner (block_rises rises)).1 (k - start blocks b) d (omega arith) (omega arith))
           | inr past ↦ elim (cases_lt (b + 1) (length blocks)) [

@@ -1,113 +1,132 @@
-//! The places of some rows that stand one after another in the order of their keys, in room for as many as a block holds.
+//! Marks of some rows that stand one after another in the order of their keys, in room for as many as a block holds.
 ghost use Rattle.std.specs.Prelude.{◌≡◌, ◌+◌, ◌^◌, ◌≤◌, ◌<◌, ◌++◌, [], ◌↔◌, length, take, drop, slice_get, slice_index_or, IfOk, IsTrue};
 ghost use Rattle.std.specs.List.{insert as inserted};
 ghost use Rattle.std.specs.List.Sorted.{IsSearchInRange, IsBinarySearchResult};
-ghost use Rattle.hm_index.specs.Blocks.{lead, rank_at};
+ghost use Rattle.hm_index.specs.Blocks.{first_mark, mark_rank, places, rank_at};
 
 use crate::room::{put_all, put_at};
 use crate::sought::Sought;
+use hm_hints::Hinted;
 use std::alloc::{AllocError, Global};
 use std::cmp::Ordering;
 use std::marker::Model;
 
-// How many places a block holds.
-pub(crate) const BLOCK: usize = 512;
+// How many marks a block holds.
+pub(crate) const BLOCK: usize = 128;
 
 // How many of them stay when a full block is split.
-pub(crate) const HALF: usize = 256;
+pub(crate) const HALF: usize = 64;
+
+// What stands for a row: the hint of its key, and its place.
+#[derive(Clone, Copy)]
+pub(crate) struct Mark {
+    pub(crate) hint: u64,
+    pub(crate) place: u32,
+}
 
 #[derive(Drop)]
 pub(crate) struct Block {
-    places: Vec<u32>,
+    marks: Vec<Mark>,
 }
 
 impl Model for Block {
-    ghost use Rattle.std.specs.Prelude.{◌≡◌, ◌≤◌, ℕ, List, length, vec_capacity};
+    ghost use Rattle.std.specs.Prelude.{◌≡◌, ◌≤◌, List, length, vec_capacity};
+    ghost use Rattle.hm_index.specs.declared.block.Mark.{Mark};
 
-    ghost Value = { List ℕ };
+    ghost Value = { List Mark };
 
-    ghost view = { λ s. s.places.items };
+    ghost view = { λ s. s.marks.items };
 
-    ghost invariant = { λ s. (vec_capacity s.places ≡ 512) × (length s.places.items ≤ 512) };
+    ghost invariant = { λ s. (vec_capacity s.marks ≡ 128) × (length s.marks.items ≤ 128) };
 }
 
 impl Block {
-    // No place.
+    // No mark.
     pub(crate) fn new(alloc: Global) -> Result<Block, AllocError>
         ensures { IfOk result (λ block. block ≡ []) }
     {
         Ok(Block {
-            places: Vec::with_capacity(alloc, BLOCK)?,
+            marks: Vec::with_capacity(alloc, BLOCK)?,
         })
     }
 
     pub(crate) fn len(&self) -> usize
         ensures count { result ≡ length self.now }
-        ensures limit { result ≤ 512 }
+        ensures limit { result ≤ 128 }
     {
-        self.places.len()
+        self.marks.len()
     }
 
-    // The place that stands there.
+    // The place that is marked there.
     pub(crate) fn get(&self, at: usize) -> usize
         requires { at < length self.now }
-        ensures { result ≡ slice_index_or self.now at 0 }
+        ensures { result ≡ slice_index_or (places self.now) at 0 }
     {
-        self.places[at] as usize
+        self.marks[at].place as usize
     }
 
-    // Puts a place in.
-    pub(crate) fn put(&mut self, at: usize, place: usize)
-        requires within { at ≤ length self.old }
-        requires room { length self.old < 512 }
-        requires fits { place < 2 ^ 32 }
-        ensures { self.new ≡ inserted self.old at place }
+    // The first mark.
+    pub(crate) fn first(&self) -> Mark
+        requires { 0 < length self.now }
+        ensures { result ≡ first_mark self.now }
     {
-        put_at(&mut self.places, at, place as u32);
+        self.marks[0]
+    }
+
+    // Puts a mark in.
+    pub(crate) fn put(&mut self, at: usize, mark: Mark)
+        requires within { at ≤ length self.old }
+        requires room { length self.old < 128 }
+        ensures { self.new ≡ inserted self.old at mark }
+    {
+        put_at(&mut self.marks, at, mark);
     }
 
     // Moves what stands behind the first half into a block that is empty.
     pub(crate) fn split(&mut self, upper: &mut Block)
-        requires full { length self.old ≡ 512 }
+        requires full { length self.old ≡ 128 }
         requires empty { upper.old ≡ [] }
-        ensures lower { self.new ≡ take 256 self.old }
-        ensures upper { upper.new ≡ drop 256 self.old }
+        ensures lower { self.new ≡ take 64 self.old }
+        ensures upper { upper.new ≡ drop 64 self.old }
     {
-        put_all(&mut upper.places, &self.places[HALF..]);
-        self.places.truncate(HALF);
+        put_all(&mut upper.marks, &self.marks[HALF..]);
+        self.marks.truncate(HALF);
     }
 
-    // How the key of the first place compares with this one. A block with no place stands lowest.
-    pub(crate) fn compare_first<K: Ord, V, S: Sought<K>>(
+    // Where among the marks a key of this hint stands, or where it belongs.
+    pub(crate) fn search<K: Hinted, V, S: Sought<K>>(
         &self,
         pairs: &[(K, V)],
         key: &S,
-    ) -> Ordering
-        ensures { result ≡ lead (rank_at K.cmp pairs.now (S.stands_for key.now)) self.now }
-    {
-        if self.places.is_empty() {
-            return Ordering::Less;
-        }
-        compare_at(pairs, self.places[0] as usize, key)
-    }
-
-    // Where among the places a key stands, or where it belongs.
-    pub(crate) fn search<K: Ord, V, S: Sought<K>>(
-        &self,
-        pairs: &[(K, V)],
-        key: &S,
+        hint: u64,
     ) -> Result<usize, usize>
-        ensures limit { IfOk result (λ at. at < 512) }
+        ensures limit { IfOk result (λ at. at < 128) }
         ensures range { IsSearchInRange result (length self.now) }
-        ensures position { IsBinarySearchResult (rank_at K.cmp pairs.now (S.stands_for key.now)) self.now result }
+        ensures position { IsBinarySearchResult (mark_rank (rank_at K.cmp pairs.now (S.stands_for key.now)) hint) self.now result }
     {
-        self.places
-            .binary_search_by(|place| compare_at(pairs, *place as usize, key))
+        self.marks
+            .binary_search_by(|mark| compare_mark(pairs, mark, key, hint))
+    }
+}
+
+// How a mark compares with a key of this hint: the pair is read only where the hints are equal.
+pub(crate) fn compare_mark<K: Hinted, V, S: Sought<K>>(
+    pairs: &[(K, V)],
+    mark: &Mark,
+    key: &S,
+    hint: u64,
+) -> Ordering
+    ensures { result ≡ mark_rank (rank_at K.cmp pairs.now (S.stands_for key.now)) hint mark.now }
+{
+    match mark.hint.cmp(&hint) {
+        Ordering::Less => Ordering::Less,
+        Ordering::Equal => compare_at(pairs, mark.place as usize, key),
+        Ordering::Greater => Ordering::Greater,
     }
 }
 
 // How the key of the pair at a place compares with this one. A place without a pair would stand lowest.
-fn compare_at<K: Ord, V, S: Sought<K>>(pairs: &[(K, V)], place: usize, key: &S) -> Ordering
+fn compare_at<K: Hinted, V, S: Sought<K>>(pairs: &[(K, V)], place: usize, key: &S) -> Ordering
     ensures { result ≡ rank_at K.cmp pairs.now (S.stands_for key.now) place }
 {
     match pairs.get(place) {

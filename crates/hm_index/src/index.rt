@@ -5,9 +5,11 @@ ghost use Rattle.std.specs.Ordering.{is_eq};
 ghost use Rattle.std.specs.declared.cmp.Ordering.TheVariants.{Equal};
 ghost use Rattle.hm_index.specs.Index.{IsRising, find, placed, pairs_from, changed, key_if, PutAt};
 
+use crate::block::Mark;
 use crate::order::{Order, Spot};
 use crate::sought::Sought;
 use crate::view::{Iter, View};
+use hm_hints::Hinted;
 use std::alloc::{AllocError, Global};
 use std::marker::Model;
 
@@ -16,26 +18,26 @@ const LIMIT: usize = 0x1_0000_0000;
 
 /// Values by their keys. Contracts see the pairs in the order of their keys, and for how many more there is room.
 #[derive(Drop)]
-pub struct Index<K: Ord, V> {
+pub struct Index<K: Hinted, V> {
     // In the order in which they came.
     pairs: Vec<(K, V)>,
-    // Their places, in the order of their keys.
+    // Marks of them, in the order of their keys.
     order: Order,
 }
 
-impl<K: Ord, V> Model for Index<K, V> {
+impl<K: Hinted, V> Model for Index<K, V> {
     ghost use Rattle.std.specs.Prelude.{◌-◌, ◌+◌, ◌^◌, min, vec_len, vec_capacity};
-    ghost use Rattle.hm_index.specs.Blocks.{IsKept, picked, laid};
+    ghost use Rattle.hm_index.specs.Blocks.{AreHinted, IsKept, picked, places, laid};
     ghost use Rattle.hm_index.specs.Index.{IndexView};
 
     ghost Value = { IndexView K V };
 
-    ghost view = { λ s. record { pairs = picked s.pairs.items (laid s.order.blocks); came = s.pairs.items; spare = min (2 ^ 32 - vec_len s.pairs) (min (vec_capacity s.pairs - vec_len s.pairs) s.order.spare); room = vec_capacity s.pairs + s.order.room } };
+    ghost view = { λ s. record { pairs = picked s.pairs.items (places (laid s.order.blocks)); came = s.pairs.items; spare = min (2 ^ 32 - vec_len s.pairs) (min (vec_capacity s.pairs - vec_len s.pairs) s.order.spare); room = vec_capacity s.pairs + s.order.room } };
 
-    ghost invariant = { λ s. IsKept K.cmp s.pairs.items (laid s.order.blocks) };
+    ghost invariant = { λ s. IsKept K.cmp s.pairs.items (places (laid s.order.blocks)) × AreHinted K.hint_of s.pairs.items (laid s.order.blocks) };
 }
 
-impl<K: Ord + Drop, V: Drop> Index<K, V> {
+impl<K: Hinted + Drop, V: Drop> Index<K, V> {
     /// No pair.
     pub fn new(alloc: Global) -> Result<Index<K, V>, AllocError>
         ensures { IfOk result (λ index. index.pairs ≡ []) }
@@ -124,10 +126,11 @@ impl<K: Ord + Drop, V: Drop> Index<K, V> {
                 place as u32
             }
             Err(spot) => {
-                let place = self.pairs.len();
+                let hint = key.own_hint();
+                let place = self.pairs.len() as u32;
                 self.pairs.push_reserved((key, value));
-                self.order.insert(spot, place);
-                place as u32
+                self.order.insert(spot, Mark { hint, place });
+                place
             }
         }
     }

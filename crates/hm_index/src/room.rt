@@ -2,6 +2,8 @@
 ghost use Rattle.std.specs.Prelude.{◌≡◌, ◌+◌, ◌≤◌, ◌<◌, ◌++◌, length, vec_len, vec_capacity};
 ghost use Rattle.std.specs.List.{insert as inserted};
 
+use crate::block::Mark;
+
 /// Adds an item at a place, in room that is there.
 pub fn put_at<T: Drop>(items: &mut Vec<T>, place: usize, item: T)
     requires bound { place ≤ vec_len items.old }
@@ -14,7 +16,7 @@ pub fn put_at<T: Drop>(items: &mut Vec<T>, place: usize, item: T)
 }
 
 // Adds items at the end.
-pub(crate) fn put_all(items: &mut Vec<u32>, more: &[u32])
+pub(crate) fn put_all(items: &mut Vec<Mark>, more: &[Mark])
     requires { vec_len items.old + length more.now ≤ vec_capacity items.old }
     ensures items { items.new.items ≡ items.old.items ++ more.now }
     ensures len { vec_len items.new ≡ vec_len items.old + length more.now }

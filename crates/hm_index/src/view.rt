@@ -2,7 +2,7 @@
 ghost use Rattle.std.specs.Prelude.{◌≡◌, ◌+◌, ◌<◌, ◌↔◌, [], length, drop, slice_get, slice_index_or, IsTrue};
 ghost use Rattle.std.specs.Iterator.{YieldsFirstRef, item_count};
 ghost use Rattle.std.specs.Option.{option_copied};
-ghost use Rattle.hm_index.specs.Blocks.{IsKept, IsSpot, laid, picked, start};
+ghost use Rattle.hm_index.specs.Blocks.{IsKept, IsSpot, laid, picked, places, start};
 ghost use Rattle.hm_index.specs.Index.{IsRising};
 
 use crate::order::{Order, Spot};
@@ -17,20 +17,20 @@ pub struct View<'a, K: Ord, V> {
 
 impl<'a, K: Ord, V> Model for View<'a, K, V> {
     ghost use Rattle.std.specs.Prelude.{List};
-    ghost use Rattle.hm_index.specs.Blocks.{IsKept, laid, picked};
+    ghost use Rattle.hm_index.specs.Blocks.{IsKept, laid, picked, places};
 
     ghost Value = { List (K × V) };
 
-    ghost view = { λ s. picked s.pairs.now (laid s.order.now.blocks) };
+    ghost view = { λ s. picked s.pairs.now (places (laid s.order.now.blocks)) };
 
-    ghost invariant = { λ s. IsKept K.cmp s.pairs.now (laid s.order.now.blocks) };
+    ghost invariant = { λ s. IsKept K.cmp s.pairs.now (places (laid s.order.now.blocks)) };
 }
 
 impl<'a, K: Ord, V> View<'a, K, V> {
     // The pairs as they came, and the order of their places.
     pub(crate) fn new(pairs: &'a [(K, V)], order: &'a Order) -> View<'a, K, V>
-        requires { IsKept K.cmp pairs.now (laid order.now.blocks) }
-        ensures { result ≡ picked pairs.now (laid order.now.blocks) }
+        requires { IsKept K.cmp pairs.now (places (laid order.now.blocks)) }
+        ensures { result ≡ picked pairs.now (places (laid order.now.blocks)) }
     {
         View { pairs, order }
     }
@@ -76,21 +76,21 @@ pub struct Iter<'a, K: Ord, V> {
 
 impl<'a, K: Ord, V> Model for Iter<'a, K, V> {
     ghost use Rattle.std.specs.Prelude.{◌+◌, List, drop};
-    ghost use Rattle.hm_index.specs.Blocks.{IsKept, IsSpot, laid, picked, start};
+    ghost use Rattle.hm_index.specs.Blocks.{IsKept, IsSpot, laid, picked, places, start};
 
     ghost Value = { List (K × V) };
 
-    ghost view = { λ s. drop (start s.order.now.blocks s.spot.block + s.spot.at) (picked s.pairs.now (laid s.order.now.blocks)) };
+    ghost view = { λ s. drop (start s.order.now.blocks s.spot.block + s.spot.at) (picked s.pairs.now (places (laid s.order.now.blocks))) };
 
-    ghost invariant = { λ s. IsKept K.cmp s.pairs.now (laid s.order.now.blocks) × IsSpot s.order.now.blocks s.spot.block s.spot.at };
+    ghost invariant = { λ s. IsKept K.cmp s.pairs.now (places (laid s.order.now.blocks)) × IsSpot s.order.now.blocks s.spot.block s.spot.at };
 }
 
 impl<'a, K: Ord, V> Iter<'a, K, V> {
     // The pairs from a spot of their order on.
     pub(crate) fn new(pairs: &'a [(K, V)], order: &'a Order, spot: Spot) -> Iter<'a, K, V>
-        requires kept { IsKept K.cmp pairs.now (laid order.now.blocks) }
+        requires kept { IsKept K.cmp pairs.now (places (laid order.now.blocks)) }
         requires spot { IsSpot order.now.blocks spot.block spot.at }
-        ensures { result ≡ drop (start order.now.blocks spot.block + spot.at) (picked pairs.now (laid order.now.blocks)) }
+        ensures { result ≡ drop (start order.now.blocks spot.block + spot.at) (picked pairs.now (places (laid order.now.blocks))) }
     {
         Iter { pairs, order, spot }
     }

@@ -12,3 +12,5 @@ pub mod Keys
 pub mod KeyLength
 pub mod Ranges
 pub mod Order
+pub mod Hints
+pub mod HintLaws

@@ -5,6 +5,7 @@ use crate::cut::cut_first;
 use crate::decimal::parse_decimal;
 use crate::fault::NameFault;
 use crate::same::Same;
+use hm_hints::Hinted;
 use std::alloc::{AllocError, Global};
 use std::fmt;
 
@@ -81,5 +82,22 @@ impl Copied for Nonce {
 impl Same for Nonce {
     fn same(&self, other: &Nonce) -> bool {
         self == other
+    }
+}
+
+impl Hinted for Nonce {
+    ghost use Rattle.hm_names.specs.Hints.{nonce_hint};
+    ghost use Rattle.hm_names.specs.HintLaws.{nonces_rise};
+
+    ghost hint_of = { nonce_hint };
+
+    ghost rises = { nonces_rise };
+
+    fn own_hint(&self) -> u64 {
+        if self.group < 0x1_0000 {
+            self.group * 0x1_0000_0000_0000 + self.number.min(0xFFFF_FFFF_FFFF)
+        } else {
+            u64::MAX
+        }
     }
 }

@@ -1,6 +1,7 @@
 ghost use Rattle.std.specs.Prelude.{◌≡◌, ◌≤◌, ◌++◌, IfOk, OnOk, OnErr, MatchResult, Ok, Err};
 ghost use Rattle.hm_names.specs.Names.{IsNs, IsQualifier};
 ghost use Rattle.hm_names.specs.Reading.{Answers};
+ghost use Rattle.std.proofs.Common.{rules};
 
 use crate::copied::Copied;
 use crate::cut::cut_last;
@@ -8,6 +9,7 @@ use crate::decimal::parse_within;
 use crate::fault::NameFault;
 use crate::same::Same;
 use crate::table::TableName;
+use hm_hints::Hinted;
 use std::alloc::{AllocError, Global};
 use std::fmt;
 use std::marker::Model;
@@ -111,5 +113,15 @@ impl Copied for RegionName {
 impl Same for RegionName {
     fn same(&self, other: &RegionName) -> bool {
         self == other
+    }
+}
+
+impl Hinted for RegionName {
+    ghost hint_of = { λ name. 0 };
+
+    ghost rises = { Prim.search rules };
+
+    fn own_hint(&self) -> u64 {
+        0
     }
 }

@@ -1,6 +1,7 @@
 ghost use Rattle.std.specs.Prelude.{◌≡◌, ◌≤◌, ◌++◌, IfOk, OnOk, OnErr, MatchResult, Ok, Err};
 ghost use Rattle.hm_names.specs.Names.{IsHost};
 ghost use Rattle.hm_names.specs.Reading.{Answers};
+ghost use Rattle.std.proofs.Common.{rules};
 
 use crate::copied::Copied;
 use crate::cut::cut_first;
@@ -8,6 +9,7 @@ use crate::decimal::parse_within;
 use crate::fault::NameFault;
 use crate::host::{Host, fault_of_host};
 use crate::same::Same;
+use hm_hints::Hinted;
 use std::alloc::{AllocError, Global};
 use std::fmt;
 use std::marker::Model;
@@ -132,5 +134,15 @@ impl Copied for ServerName {
 impl Same for ServerName {
     fn same(&self, other: &ServerName) -> bool {
         self == other
+    }
+}
+
+impl Hinted for ServerName {
+    ghost hint_of = { λ name. 0 };
+
+    ghost rises = { Prim.search rules };
+
+    fn own_hint(&self) -> u64 {
+        0
     }
 }

@@ -1,6 +1,7 @@
 ghost use Rattle.std.specs.Prelude.{◌≡◌, ◌++◌, IfOk, OnOk, OnErr, MatchResult, Ok, Err};
 ghost use Rattle.hm_names.specs.Names.{IsNs, IsQualifier};
 ghost use Rattle.hm_names.specs.Reading.{Answers};
+ghost use Rattle.std.proofs.Common.{rules};
 
 use crate::copied::Copied;
 use crate::cut::cut_first;
@@ -8,6 +9,7 @@ use crate::fault::NameFault;
 use crate::ns::{Ns, fault_of_ns};
 use crate::qualifier::{Qualifier, fault_of_qualifier};
 use crate::same::Same;
+use hm_hints::Hinted;
 use std::alloc::{AllocError, Global};
 use std::fmt;
 
@@ -115,5 +117,15 @@ impl Copied for TableName {
 impl Same for TableName {
     fn same(&self, other: &TableName) -> bool {
         self == other
+    }
+}
+
+impl Hinted for TableName {
+    ghost hint_of = { λ name. 0 };
+
+    ghost rises = { Prim.search rules };
+
+    fn own_hint(&self) -> u64 {
+        0
     }
 }

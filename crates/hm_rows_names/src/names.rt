@@ -1,5 +1,10 @@
-//! Texts of names: what each names or why it is none, and what is written of it.
-use hm_names::{Host, NameFault, Nonce, Ns, Qualifier, RegionName, RowKey, ServerName, TableName};
+//! Texts of names: what each names or why it is none, and what is written of it. Then hints.
+use hm_data::CatKey;
+use hm_hints::Hinted;
+use hm_names::{
+    Host, NameFault, Nonce, Ns, Pid, Qualifier, RegionName, RowKey, ServerName, TableName,
+    front_hint,
+};
 use std::alloc::{AllocError, Global};
 use std::fmt::Display;
 use std::test::Fail;
@@ -214,5 +219,28 @@ fn of_keeps_the_bytes(rt: HostRuntime) -> Result<(), Fail> {
             number: 2
         }
     );
+    Ok(())
+}
+
+#[test]
+fn front_hint_and_own_hint_have_what_comes_first(rt: HostRuntime) -> Result<(), Fail> {
+    let alloc = rt.alloc();
+    assert_eq!(rt; front_hint(0, b""), 0);
+    assert_eq!(rt; front_hint(1, b"ab"), 0x01_61_62_00_00_00_00_00);
+    assert_eq!(rt; front_hint(255, b"abcdefgh"), 0xff_61_62_63_64_65_66_67);
+    let table = TableName::parse(alloc, b"ab:t")?;
+    assert_eq!(rt; CatKey::Table(table).own_hint(), front_hint(1, b"ab"));
+    let region = RegionName::parse(alloc, b"ab:t,7")?;
+    assert_eq!(rt; CatKey::Region(region).own_hint(), front_hint(2, b"ab"));
+    assert_eq!(rt; Pid(7).own_hint(), 7);
+    let nonces = [
+        (b"1:2".as_slice(), 0x0001_0000_0000_0002),
+        (b"1:281474976710656", 0x0001_FFFF_FFFF_FFFF),
+        (b"65535:281474976710656", u64::MAX),
+        (b"65536:0", u64::MAX),
+    ];
+    for (text, hint) in nonces {
+        assert_eq!(rt; Nonce::parse(alloc, text)?.own_hint(), hint);
+    }
     Ok(())
 }

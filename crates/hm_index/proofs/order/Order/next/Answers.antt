@@ -1,6 +1,7 @@
 use Rattle.std.proofs.Common.{◌≡◌, ◌+◌, ◌<◌, length, ap, sym, Some, refl, ◌∙◌, get_or, arith}
-use Rattle.hm_index.specs.Blocks.{OrderView, block_at}
-use Rattle.hm_index.proofs.Laid.{taken, next_here, next_block, next_none}
+use Rattle.hm_index.specs.Blocks.{OrderView, block_at, places}
+use Rattle.hm_index.proofs.Laid.{taken}
+use Rattle.hm_index.proofs.Marks.{next_here, next_block, next_none}
 use Rattle.hm_index.proofs.order.Order.next.Goals as goal
 
 pub returns-then-spot-len : goal.returns-then-spot-len
@@ -8,7 +9,7 @@ returns-then-spot-len c =
     let same = ap (λ (t : OrderView). t.blocks) c.self.view_is in
     let block = taken c.self.inside.blocks.items c.args.self.now.blocks c.args.spot.block c.index-block.result.now same c.requires.block c.index-block.ensures in
     let within : c.args.spot.at < length (block_at c.args.self.now.blocks c.args.spot.block) = omega (arith, ap length block, c.len.ensures.count, c.if-spot-len.true) in
-    ap Some (c.get.ensures ∙ ap (λ l. get_or l c.args.spot.at 0) block) ∙ sym (next_here c.args.self.now.blocks c.args.spot.block c.args.spot.at c.requires.block within)
+    ap Some (c.get.ensures ∙ ap (λ l. get_or (places l) c.args.spot.at 0) block) ∙ sym (next_here c.args.self.now.blocks c.args.spot.block c.args.spot.at c.requires.block within)
 
 pub get-requires-then-after-len : goal.get-requires-then-after-len
 get-requires-then-after-len c =
@@ -27,7 +28,7 @@ returns-then-after-len c =
     let next = taken f.blocks.items c.args.self.now.blocks (c.args.spot.block + 1) c.index.result.now same more c.index.ensures in
     let packed = rw same at c.self.invariant.0 in
     let end : c.args.spot.at ≡ length (block_at c.args.self.now.blocks c.args.spot.block) = omega (arith, ap length block, c.len.ensures.count, c.if-spot-len.false, c.requires.within) in
-    ap Some (c.get-then-after-len.ensures ∙ ap (λ l. get_or l 0 0) next) ∙ sym (next_block c.args.self.now.blocks c.args.spot.block c.args.spot.at more end (packed.filled (c.args.spot.block + 1) (omega arith) more))
+    ap Some (c.get-then-after-len.ensures ∙ ap (λ l. get_or (places l) 0 0) next) ∙ sym (next_block c.args.self.now.blocks c.args.spot.block c.args.spot.at more end (packed.filled (c.args.spot.block + 1) (omega arith) more))
 
 pub returns : goal.returns
 returns c =
