@@ -13,6 +13,7 @@ keys_below (Ns a) before bytes lt = apart 7 0 before a bytes (omega (arith, lt))
 keys_below (Table a) before bytes lt = apart 7 1 before a.ns bytes (omega (arith, lt))
 keys_below (Region a) before bytes lt = apart 7 2 before a.table.ns bytes lt
 
+-- a key with a lesser hint is lesser
 pub keys_rise : (a b : CatKey) → key_hint a < key_hint b → key_cmp a b ≡ Less
 keys_rise (Ns a) (Ns b) lt = rises 7 0 a b lt
 keys_rise (Ns a) (Table b) lt = refl

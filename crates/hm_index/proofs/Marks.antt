@@ -1,5 +1,5 @@
 -- Marks: their places, the marks that blocks begin with, and hints.
-use Rattle.std.proofs.Common.{◌≡◌, ℕ, zero, suc, ◌+◌, ◌-◌, ◌<◌, ◌≤◌, ◌==◌, if◌then◌else◌, false, List, [], ◌∷◌, ◌++◌, length, map, get_or, set, take, drop, Option, Some, None, Result, slice_get, Ok, Err, refl, inl, inr, arith, ap, sym, ◌∙◌, subst, length-append}
+use Rattle.std.proofs.Common.{◌≡◌, ℕ, zero, suc, ◌+◌, ◌-◌, ◌<◌, ◌≤◌, ◌==◌, if◌then◌else◌, false, List, [], ◌∷◌, ◌++◌, length, map, get_or, set, take, drop, Option, Some, None, Result, slice_get, Ok, Err, refl, inl, inr, arith, ap, sym, ◌∙◌}
 use Rattle.std.specs.Cmp.{IsTotalOrder}
 use Rattle.std.specs.List.{All, insert}
 use Rattle.std.specs.List.Sorted.{IsSearchInRange, IsBinarySearchResult, IsNonDecreasingBy}
@@ -9,13 +9,13 @@ use Rattle.std.specs.declared.cmp.Ordering.TheVariants.{Less, Equal, Greater}
 use Rattle.std.proofs.lemmas.Bool.{cases_lt, cases_eq}
 use Rattle.std.proofs.lemmas.Bool.Decides.{nat_tests}
 use Rattle.std.proofs.lemmas.Grind.{get_or_after_one}
-use Rattle.std.proofs.lemmas.List.{map-append, length-map, get_or-map, length-drop, length-take-le}
+use Rattle.std.proofs.lemmas.List.{map-append, length-map, get_or-map, length-drop}
 use Rattle.std.proofs.lemmas.List.Elements.{All-append, All-take, All-drop, All-cons}
 use Rattle.std.proofs.lemmas.Option.{slice_get-get_or}
 use Rattle.hm_index.specs.declared.block.Mark.{Mark}
-use Rattle.hm_index.specs.Blocks.{laid, start, block_at, split_at, places, lead, first_mark, mark_rank, rank, rank_at, hint_if, AreHinted, IsPacked, IsSpot, IsBlockFor}
+use Rattle.hm_index.specs.Blocks.{laid, start, block_at, split_at, places, lead, first_mark, mark_rank, rank, rank_at, hint_if, AreHinted, IsPacked, IsBlockFor}
 use Rattle.hm_index.proofs.Laid.{read, ends, last, begins, AreRising, leads_rise}
-use Rattle.hm_index.proofs.Places.{slice_get-push, slice_get-set}
+use Rattle.hm_index.proofs.Places.{slice_get-push}
 
 -- any mark
 abbrev none : Mark

@@ -98,7 +98,7 @@ rank_at cmp pairs key place = rank cmp (slice_get pairs place) key
 abbrev pub mark_rank : (ℕ → Ordering) → ℕ → Mark → Ordering
 mark_rank ranks hint mark = ordering_then (nat_cmp mark.hint hint) (ranks mark.place)
 
--- the first mark of a block, or any for none
+-- the first mark of a block; for a block with no mark, one that stands for none
 abbrev pub first_mark : List Mark → Mark
 first_mark [] = record { hint = 0; place = 0 }
 first_mark (mark ∷ more) = mark
@@ -108,12 +108,12 @@ abbrev pub lead : {X : Type 0} → (X → Ordering) → List X → Ordering
 lead ranks [] = Less
 lead ranks (mark ∷ more) = ranks mark
 
--- a block that begins below the key while the next begins above it
+-- a block that begins below the key, unless it is the first, while the next, if there is one, begins above it
 pub record IsBetween {X : Type 0} (ranks : X → Ordering) (blocks : List (List X)) (b : ℕ) : Type 0 where
   pub below : 0 < b → lead ranks (block_at blocks b) ≡ Less
   pub above : b + 1 < length blocks → lead ranks (block_at blocks (b + 1)) ≡ Greater
 
--- where ranks don't fall, a block that begins with the key, or that begins below it while the next begins above it
+-- where the ranks of the marks don't fall, a block that begins with the key, or one between whose begin and the next one's it belongs
 abbrev pub IsBlockFor : {X : Type 0} → (X → Ordering) → List (List X) → ℕ → Type 0
 IsBlockFor ranks blocks b = IsNonDecreasingBy (λ mark. ordering_index (ranks mark)) (laid blocks) → (lead ranks (block_at blocks b) ≡ Equal) ⊎ IsBetween ranks blocks b
 

@@ -55,3 +55,8 @@ key_if (Some pair) = Some pair.0
 -- an item stands at a number, and at each other number what stood there
 abbrev pub PutAt : {X : Type 0} → ℕ → X → List X → List X → Type 0
 PutAt number item before after = (n : ℕ) → slice_get after n ≡ (if n == number then Some item else slice_get before n)
+
+-- an item stands at a number, and nothing else changed
+pub record HasPut {X : Type 0} (item : X) (before after : List X) : Type 0 where
+  pub number : ℕ
+  pub put : PutAt number item before after

@@ -1,4 +1,4 @@
-//! Marks of some rows that stand one after another in the order of their keys, in room for as many as a block holds.
+//! Marks of some pairs that stand one after another in the order of their keys, in room for as many as a block holds.
 ghost use Rattle.std.specs.Prelude.{◌≡◌, ◌+◌, ◌^◌, ◌≤◌, ◌<◌, ◌++◌, [], ◌↔◌, length, take, drop, slice_get, slice_index_or, IfOk, IsTrue};
 ghost use Rattle.std.specs.List.{insert as inserted};
 ghost use Rattle.std.specs.List.Sorted.{IsSearchInRange, IsBinarySearchResult};
@@ -17,7 +17,7 @@ pub(crate) const BLOCK: usize = 128;
 // How many of them stay when a full block is split.
 pub(crate) const HALF: usize = 64;
 
-// What stands for a row: the hint of its key, and its place.
+// What stands for a pair: the hint of its key, and its place.
 #[derive(Clone, Copy)]
 pub(crate) struct Mark {
     pub(crate) hint: u64,

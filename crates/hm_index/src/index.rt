@@ -3,7 +3,7 @@ ghost use Rattle.std.specs.Prelude.{◌≡◌, ℕ, ◌+◌, ◌≤◌, [], IfOk
 ghost use Rattle.std.specs.Option.{option_copied};
 ghost use Rattle.std.specs.Ordering.{is_eq};
 ghost use Rattle.std.specs.declared.cmp.Ordering.TheVariants.{Equal};
-ghost use Rattle.hm_index.specs.Index.{IsRising, find, placed, pairs_from, changed, key_if, PutAt};
+ghost use Rattle.hm_index.specs.Index.{IsRising, find, placed, pairs_from, changed, key_if, PutAt, HasPut};
 
 use crate::block::Mark;
 use crate::order::{Order, Spot};
@@ -16,7 +16,8 @@ use std::marker::Model;
 // How many pairs there may be, at most: each place has to fit a u32.
 const LIMIT: usize = 0x1_0000_0000;
 
-/// Values by their keys. Contracts see the pairs in the order of their keys, and for how many more there is room.
+/// Values by their keys. Contracts see the pairs in the order of their keys and in the order in which they came, for how many more
+/// there is room, and how much memory there is.
 #[derive(Drop)]
 pub struct Index<K: Hinted, V> {
     // In the order in which they came.
@@ -102,19 +103,21 @@ impl<K: Hinted + Drop, V: Drop> Index<K, V> {
         requires { 1 ≤ self.old.spare }
         ensures order { self.new.pairs ≡ placed K.cmp self.old.pairs key value }
         ensures pairs { (other : K) → find K.cmp self.new.pairs other ≡ (if is_eq (K.cmp key other) then Some value else find K.cmp self.old.pairs other) }
+        ensures came { HasPut (key, value) self.old.came self.new.came }
         ensures spare { self.old.spare ≤ self.new.spare + 1 }
         ensures room { self.new.room ≡ self.old.room }
     {
         let _number = self.put(key, value);
     }
 
-    /// The same, and tells the pair's number, which it keeps.
+    /// The same, and tells the pair's number: that of the key where it is there, or else how many pairs came before.
     pub fn put(&mut self, key: K, value: V) -> u32
         requires { 1 ≤ self.old.spare }
         ensures order { self.new.pairs ≡ placed K.cmp self.old.pairs key value }
         ensures pairs { (other : K) → find K.cmp self.new.pairs other ≡ (if is_eq (K.cmp key other) then Some value else find K.cmp self.old.pairs other) }
         ensures came { PutAt result (key, value) self.old.came self.new.came }
         ensures same { IfSome (slice_get self.old.came result) (λ pair. K.cmp pair.0 key ≡ Equal) }
+        ensures known { IsSome (find K.cmp self.old.pairs key) → IsSome (slice_get self.old.came result) }
         ensures rising { IsRising K.cmp self.new.pairs }
         ensures spare { self.old.spare ≤ self.new.spare + 1 }
         ensures room { self.new.room ≡ self.old.room }

@@ -1,4 +1,4 @@
-//! Rows that are only added, by their keys and in the order of their keys.
+//! Pairs of a key and a value that are only added, found by their keys and told in the order of their keys.
 #![tactic(auto)]
 
 mod block;

@@ -1,4 +1,4 @@
-//! The order of the rows: marks of them, in blocks.
+//! The order of the pairs: marks of them, in blocks.
 ghost use Rattle.std.specs.Prelude.{◌≡◌, ◌+◌, ◌^◌, ◌≤◌, ◌<◌, [], ◌==◌, if◌then◌else◌, length, vec_len, vec_capacity, slice_get, slice_set, slice_index_or, IfOk, IfErr, OnOk};
 ghost use Rattle.std.specs.List.{All, insert as inserted};
 ghost use Rattle.std.specs.List.Sorted.{IsSearchInRange, IsBinarySearchResult};
@@ -11,7 +11,7 @@ use hm_hints::Hinted;
 use std::alloc::{AllocError, Global};
 use std::marker::Model;
 
-// One of the places of an order: that of a block, and there.
+// Where a mark stands or may be put in: the number of a block among the blocks, and how many marks of the block stand before it.
 #[derive(Clone, Copy)]
 pub(crate) struct Spot {
     pub(crate) block: usize,
@@ -22,7 +22,7 @@ pub(crate) struct Spot {
 pub(crate) struct Order {
     // Never none. Each but the first has a mark.
     blocks: Vec<Block>,
-    // The first mark of each block, side by side, so that a search for a block looks at few blocks.
+    // The first mark of each block, side by side, so that a search for a block needn't look at the blocks. The first of them isn't read.
     leads: Vec<Mark>,
     // Blocks with no mark, for those that will be split.
     pool: Vec<Block>,
@@ -222,7 +222,7 @@ impl Order {
     }
 }
 
-// Keeps the first marks of blocks, when one is put in at a spot.
+// Keeps the first marks of blocks true when a mark is put in at a spot: where that begins a block, the mark is its first.
 fn keep_lead(leads: &mut Vec<Mark>, spot: Spot, mark: Mark)
     requires { spot.block < vec_len leads.old }
     ensures items { leads.new.items ≡ (if spot.at == 0 then slice_set leads.old.items spot.block mark else leads.old.items) }

@@ -9,11 +9,12 @@ use Rattle.hm_locks.specs.Kept.{lock_cmp}
 use Rattle.hm_locks.specs.declared.key.Key.{Key}
 use Rattle.hm_locks.specs.declared.key.Key.TheVariants.{Row, Server}
 
--- that of a row, and above those the first bytes of a host
+-- that of a row, and above all of these the first bytes of a server's host
 abbrev pub lock_hint : Key → ℕ
 lock_hint (Row a) = key_hint a
 lock_hint (Server a) = front 7 3 a.host
 
+-- a resource with a lesser hint is lesser
 pub locks_rise : (a b : Key) → lock_hint a < lock_hint b → lock_cmp a b ≡ Less
 locks_rise (Row a) (Row b) lt = keys_rise a b lt
 locks_rise (Row a) (Server b) lt = refl

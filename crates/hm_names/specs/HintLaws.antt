@@ -62,6 +62,7 @@ first_less x y o lt = let first : nat_cmp x y ≡ Less = grind (arith, nat_tests
 first_same : (x y : ℕ) (o : Ordering) → x ≡ y → ordering_then (nat_cmp x y) o ≡ o
 first_same x y o is = let first : nat_cmp x y ≡ Equal = grind (arith, nat_tests, is) in rw first refl
 
+-- behind the same number, the names with the lesser hint are the lesser
 pub rises : (n a : ℕ) (xs ys : List ℕ) → front n a xs < front n a ys → slice_cmp nat_cmp xs ys ≡ Less
 rises zero a xs ys lt = absurd (omega (arith, lt))
 rises (suc n) a [] [] lt = absurd (omega (arith, lt))
@@ -95,6 +96,7 @@ rises (suc n) a (x ∷ xs) (y ∷ ys) lt = elim (cases_lt x y) [
   ]
 ]
 
+-- a nonce with a lesser hint is lesser
 pub nonces_rise : (a b : Nonce) → nonce_hint a < nonce_hint b → nonce_cmp a b ≡ Less
 nonces_rise a b lt = elim (cases_lt a.group b.group) [
   | inl less ↦ first_less a.group b.group (nat_cmp a.number b.number) less
@@ -120,5 +122,6 @@ nonces_rise a b lt = elim (cases_lt a.group b.group) [
       | inr many ↦ (let large : nat_lt v.group 65536 ≡ false = grind (arith, nat_tests, many) in rw large (omega arith))
     ]
 
+-- a server whose host has a lesser hint is lesser
 pub servers_rise : (n a : ℕ) (s t : Server) → front n a s.host < front n a t.host → server_cmp s t ≡ Less
 servers_rise n a s t lt = let first = rises n a s.host t.host lt in rw first refl
