@@ -53,6 +53,8 @@ impl LockBook {
         requires parent { IfSome parent (λ p. IsEnlisted self.old.rows p.0) }
         ensures ok { OnOk result (AreChanged self.old.rows pid.0 (Some (new_row self.old.rows pid.0 parent asked)) self.new.rows) }
         ensures err { OnErr result (self.new.rows ≡ self.old.rows) }
+        ensures spare { OnOk result (self.old.spare ≤ self.new.spare + 1) }
+        ensures asks { OnOk result (self.old.spare_asks ≤ self.new.spare_asks + length asked) }
     {
         let draft = self.draft(alloc, parent, asked)?;
         self.reserve(alloc, 1, draft.asks().len() as u64)?;

@@ -85,6 +85,7 @@ impl Servers {
         ensures up { IfOk result (λ older. CameUp self.old.servers server older self.new.servers) }
         ensures refused { IfErr result (CannotComeUp self.old.servers server) }
         ensures kept { OnErr result (self.new.servers ≡ self.old.servers) }
+        ensures spare { OnOk result (self.old.spare ≤ self.new.spare + 1) }
     {
         self.may_come_up(&server)?;
         let Ok(older) = self.make_ready(alloc, &server) else {
@@ -119,6 +120,7 @@ impl Servers {
     ) -> Result<Option<ServerName>, AllocError>
         ensures servers { self.new.servers ≡ self.old.servers }
         ensures room { OnOk result (1 ≤ self.new.spare) }
+        ensures spare { self.old.spare ≤ self.new.spare }
         ensures older { IfOk result (λ older. older ≡ first_there (live_servers self.old.servers) server.now) }
         ensures live { IfOk result (λ older. IfSome older (λ name. is_live_in self.new.servers name ≡ true)) }
     {

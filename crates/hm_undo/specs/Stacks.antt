@@ -8,9 +8,11 @@ use Rattle.hm_undo.specs.declared.slot.Step.{Step}
 abbrev pub Stacks : Type 0
 Stacks = List (Pid × List Step)
 
--- the stacks, for how many steps more there is room, and how much memory there is
+-- the stacks, how many nodes no step has (memory that serves steps to come), for how many steps more there is room, and how much
+-- memory there is
 pub record StackView : Type 0 where
   pub stacks : Stacks
+  pub idle : ℕ
   pub spare : ℕ
   pub room : ℕ
 

@@ -40,7 +40,7 @@ impl Model for Stack {
 
     ghost Value = { StackView };
 
-    ghost view = { λ s. record { stacks = stacks_of s.slots.items; spare = min (length s.pool) (min (vec_capacity s.slots - vec_len s.slots) s.places.spare); room = vec_capacity s.slots + s.places.room + s.nodes } };
+    ghost view = { λ s. record { stacks = stacks_of s.slots.items; idle = length s.pool; spare = min (length s.pool) (min (vec_capacity s.slots - vec_len s.slots) s.places.spare); room = vec_capacity s.slots + s.places.room + s.nodes } };
 
     ghost invariant = { λ s. IsKept s.places.pairs (stacks_of s.slots.items) s.pool s.nodes };
 }
@@ -82,6 +82,7 @@ impl Stack {
         requires { 1 ≤ self.old.spare }
         ensures steps { let step : StepOf = record { pid = pid; row = row; edits = edits } in AreWith self.old.stacks root (step ∷ steps_of self.old.stacks root) self.new.stacks }
         ensures held { held self.new.stacks ≡ held self.old.stacks + 1 }
+        ensures idle { self.new.idle + 1 ≡ self.old.idle }
         ensures spare { self.old.spare ≤ self.new.spare + 1 }
         ensures room { self.new.room ≡ self.old.room }
     {
@@ -126,6 +127,7 @@ impl Stack {
         requires { steps_of self.old.stacks root ≢ [] }
         ensures steps { AreWith self.old.stacks root (drop 1 (steps_of self.old.stacks root)) self.new.stacks }
         ensures held { held self.new.stacks + 1 ≡ held self.old.stacks }
+        ensures idle { self.new.idle ≡ self.old.idle + 1 }
         ensures spare { self.old.spare ≤ self.new.spare }
         ensures room { self.new.room ≡ self.old.room }
     {
@@ -141,6 +143,7 @@ impl Stack {
     pub fn forget(&mut self, root: Pid)
         ensures steps { AreWith self.old.stacks root [] self.new.stacks }
         ensures held { held self.new.stacks + length (steps_of self.old.stacks root) ≡ held self.old.stacks }
+        ensures idle { self.new.idle ≡ self.old.idle + length (steps_of self.old.stacks root) }
         ensures spare { self.old.spare ≤ self.new.spare }
         ensures room { self.new.room ≡ self.old.room }
     {

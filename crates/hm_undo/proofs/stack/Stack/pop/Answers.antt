@@ -52,3 +52,9 @@ returns-clause-held c =
     let less = ap length c.move_first.ensures.from ∙ length-drop 1 c.index_mut-slot.result.now.steps in
     let was = ap (λ (v : StackView). held v.stacks) c.self.view_is in
     omega (arith, slot.total, some, less, was)
+
+pub returns-clause-idle : goal.returns-clause-idle
+returns-clause-idle c =
+    let more = ap length c.move_first.ensures.to in
+    let was = ap (λ (v : StackView). v.idle) c.self.view_is in
+    omega (arith, more, was)

@@ -47,3 +47,10 @@ returns-clause-held c =
     let more = ap length c.move_first.ensures.to in
     let was = ap (λ (v : StackView). held v.stacks) c.self.view_is in
     omega (arith, slot.total, more, was, c.place_for-place.ensures.held)
+
+pub returns-clause-idle : goal.returns-clause-idle
+returns-clause-idle c =
+    let less = ap length c.move_first.ensures.from ∙ length-drop 1 c.self.inside.pool in
+    let was = ap (λ (v : StackView). v.idle) c.self.view_is in
+    let room = ap (λ (v : StackView). v.spare) c.self.view_is in
+    omega (arith, less, was, room, c.requires)
