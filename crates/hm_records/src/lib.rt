@@ -2,6 +2,7 @@
 //! procedures of nonces, and the region ids that were drawn. Each entry is taken in at the cost of what it holds and touches.
 #![tactic(auto)]
 
+mod blank;
 mod book;
 mod fleet;
 mod ids;

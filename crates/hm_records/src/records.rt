@@ -14,6 +14,7 @@ ghost use Rattle.hm_records.specs.Book.{AreRows, ListOpen};
 ghost use Rattle.hm_records.specs.Parts.{AreParts, size_of};
 ghost use Rattle.hm_records.specs.Records.{AreForgotten, is_open};
 
+use crate::blank::Blank;
 use crate::book::{enlist_made, release_ended};
 use crate::fleet::set_servers;
 use crate::ids::{count_ids, drawn_in};
@@ -72,16 +73,17 @@ impl Records {
     {
         let mut procedures = Procedures::new(alloc)?;
         procedures.enter(entry, List::of(Vec::new(alloc)), true);
+        let blank = Blank::new(alloc)?;
         Ok(Records {
             procedures,
-            catalog: Catalog::start(alloc)?,
-            stack: Stack::new(alloc)?,
-            places: Places::new(alloc)?,
-            servers: Servers::new(alloc)?,
-            nonces: Index::new(alloc)?,
-            drawn: Index::new(alloc)?,
+            catalog: blank.catalog,
+            stack: blank.stack,
+            places: blank.places,
+            servers: blank.servers,
+            nonces: blank.nonces,
+            drawn: blank.drawn,
             sheets,
-            book: LockBook::new(alloc)?,
+            book: blank.book,
         })
     }
 

@@ -13,14 +13,15 @@ invariant_of-result c =
     let past_is : c.enter.new.self.past ≡ entry_is.Start sheets ∷ [] =
     c.enter.ensures.past ∙ ap (λ (e : Entry). e ∷ c.in_ok-procedures.procedures.past) c.requires.starts ∙ ap (λ (l : Past). entry_is.Start sheets ∷ l) c.in_ok-procedures.ensures in
     let beside : Beside = record {
-      rows = c.in_ok-start.field-0.rows;
-      stacks = c.in_ok-new.field-0.stacks;
-      places = c.in_ok-new-2.field-0.places;
-      servers = c.in_ok-new-3.field-0.servers;
-      nonces = c.in_ok-new-4.field-0.pairs;
-      drawn_ids = c.in_ok-new-5.field-0.pairs;
+      rows = c.in_ok-blank.blank.catalog.rows;
+      stacks = c.in_ok-blank.blank.stack.stacks;
+      places = c.in_ok-blank.blank.places.places;
+      servers = c.in_ok-blank.blank.servers.servers;
+      nonces = c.in_ok-blank.blank.nonces.pairs;
+      drawn_ids = c.in_ok-blank.blank.drawn.pairs;
       sheets = sheets;
-      book = c.in_ok-new-6.field-0.rows;
+      book = c.in_ok-blank.blank.book.rows;
     } in
+    let made = c.in_ok-blank.ensures in
     subst (λ (l : Past). AreRecords l beside) (sym past_is)
-    (starts sheets beside c.in_ok-start.ensures c.in_ok-new.ensures c.in_ok-new-2.ensures c.in_ok-new-3.ensures c.in_ok-new-4.ensures c.in_ok-new-5.ensures refl c.in_ok-new-6.ensures)
+    (starts sheets beside made.rows made.stacks made.places made.servers made.nonces made.drawn refl made.book)
