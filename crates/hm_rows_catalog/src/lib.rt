@@ -1,4 +1,4 @@
-//! Requests and what they do to a catalog, and stacks of steps, in tables. This library is empty but for its tests.
+//! Requests and what they do to a catalog, the rows that it tells, and stacks of steps, in tables. This library is empty but for its tests.
 #![tactic(auto)]
 
 #[cfg(test)]
@@ -7,5 +7,7 @@ mod calls;
 mod deeds;
 #[cfg(test)]
 mod reads;
+#[cfg(test)]
+mod spans;
 #[cfg(test)]
 mod stacks;

@@ -97,13 +97,13 @@ fn add_asks(asks: &mut Vec<Ask>, alloc: Global, pid: u64) -> Result<(), AllocErr
     }
 }
 
-fn asked(alloc: Global, pid: u64) -> Result<List<Ask>, AllocError> {
+pub fn asked(alloc: Global, pid: u64) -> Result<List<Ask>, AllocError> {
     let mut asks = Vec::new(alloc);
     add_asks(&mut asks, alloc, pid)?;
     Ok(List::of(asks))
 }
 
-fn parent_of(pid: u64) -> Option<Pid>
+pub fn parent_of(pid: u64) -> Option<Pid>
     ensures { IfSome result (λ parent. (parent.0 ≡ 1) × (1 < pid)) }
 {
     if pid == 4 { Some(Pid(1)) } else { None }

@@ -1,5 +1,9 @@
-//! Lock books by their calls. This library is empty but for its tests.
+//! Lock books by their calls, and what procedures ask for. This library is empty but for its tests.
 #![tactic(auto)]
 
 #[cfg(test)]
+mod asking;
+#[cfg(test)]
 mod books;
+#[cfg(test)]
+mod drafts;
