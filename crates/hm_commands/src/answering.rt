@@ -106,8 +106,8 @@ impl<D: Disk> Cluster<D> {
     }
 
     /// Answers a command, and gives the cluster that is left. Where memory runs out for it the disk is given back: the journal is
-    /// as before, but for the tasks of a `step` or `settle` that were done, and for a crash that was recorded before a newer server
-    /// of its address met that.
+    /// as before, but for what the command had recorded by then: the tasks of a `step` or `settle`, the moves of a `balance`, or the
+    /// crash of a server before a newer one of its address.
     pub fn answer(
         self,
         alloc: Global,

@@ -19,7 +19,7 @@ abbrev pub AllMet : List (ℕ × ℕ) → Type 0
 AllMet [] = Unit {0}
 AllMet ((kind, entries) ∷ more) = ((J : Past) × IsLegal J × (r : ℕ) × IsMet J r kind entries) × AllMet more
 
--- roots of each kind of request, where tables have one region and a split or a merge is of two; a crash of one region; a
+-- roots of each kind of request, where tables have one region, and two where they are merged; a crash of one region; a
 -- transit and a sweep that an undo made; and a table that is made, enabled and disabled, and a crash, with two regions
 abbrev pub CostsAreMet : Type 0
 CostsAreMet =

@@ -14,7 +14,7 @@ pub fn cost_bound()
 {}
 
 /// Each kind of root costs just what a root of the kind takes in some legal journal: requests of each kind, with one region in
-/// a table and two that are split or merged, a crash of one region, and the transit and the sweep that an undo makes; and where
+/// a table, which is the one that is split, and two that are merged, a crash of one region, and the transit and the sweep that an undo makes; and where
 /// regions are counted one by one, with two of them.
 pub fn costs_are_met()
     ensures { CostsAreMet }

@@ -1,4 +1,5 @@
-//! The executor: each event is one entry that may follow, recorded, or a refusal, which records nothing; a claim is exact.
+//! The executor: each event is one entry that may follow, recorded, or a refusal, which records nothing; a claim is exact. (A server that
+//! comes up puts the older one of its address down first, in an entry of its own.)
 #![tactic(auto)]
 
 mod aborting;
