@@ -7,3 +7,5 @@ mod asking;
 mod books;
 #[cfg(test)]
 mod drafts;
+#[cfg(test)]
+mod work;
