@@ -15,6 +15,7 @@ pub mod Validity
 pub mod Inputs
 pub mod Nonces
 pub mod Serial
+pub mod TreeEdits
 pub mod Rules
 pub mod GoingBack
 pub mod Rest
@@ -45,6 +46,8 @@ pub mod Picks
 pub mod RegionIds
 pub mod Requests
 pub mod Holding
+pub mod Taking
+pub mod Claims
 pub mod Deeds
 pub mod Costs
 pub mod Entries
