@@ -22,7 +22,7 @@ use Rattle.hm_model.specs.Rules.{Allowed}
 use Rattle.hm_model.specs.Sheets.{sheets_of}
 use Rattle.hm_model.specs.Tree.{Node, node_of}
 use Rattle.hm_model.specs.Claims.{IsClaimedToo, Unclaims}
-use Rattle.hm_judge.specs.Choice.{candidate}
+use Rattle.hm_model.specs.Choice.{candidate}
 use Rattle.hm_exec.specs.Moment.{FaultsAt, IsGoing, IsHalted, Moment, past_of}
 
 -- what the next call of a procedure's handler sees now, with this pick

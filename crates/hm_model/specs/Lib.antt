@@ -38,11 +38,14 @@ pub mod Acts
 pub mod Reports
 pub mod Verbs
 pub mod Fleet
+pub mod Standings
 pub mod Places
+pub mod Loads
 pub mod Whereabouts
 pub mod Procedures
 pub mod Evaluation
 pub mod Picks
+pub mod Choice
 pub mod RegionIds
 pub mod Requests
 pub mod Holding
