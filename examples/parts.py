@@ -58,8 +58,8 @@ def need_rt():
         raise Failed("there is no rt on the PATH. It is the command of the kit that hmaster is written with; see README.md, 'What you need'")
 
 
-def example(name, body):
-    """Runs an example to its end. Ended by a signal it says so, and its status is that signal's."""
+def run_to_end(name, body):
+    """Runs a program of this repository to its end. Ended by a signal it says so, and its status is that signal's."""
     for number in SIGNALS:
         if signal.getsignal(number) != signal.SIG_IGN:
             signal.signal(number, end)
