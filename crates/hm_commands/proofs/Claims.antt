@@ -8,8 +8,7 @@ use Rattle.hm_hall.specs.declared.fault.HallFault.TheVariants as fault_is
 use Rattle.hm_model.specs.Journal.{Past}
 use Rattle.hm_model.specs.Locks.{IsIn}
 use Rattle.hm_model.specs.Rest.{IsAtRest, IsAvailable}
-use Rattle.hm_roster.specs.Desk.{IsClaimedToo}
-use Rattle.hm_tied.specs.Calls.{Unclaims}
+use Rattle.hm_model.specs.Claims.{IsClaimedToo, Unclaims}
 
 -- where nobody was claimed, one alone is
 pub one_claimed : (p : ℕ) (old new : List ℕ) → old ≡ [] → IsClaimedToo p old new → (q : ℕ) → IsIn q new ↔ (q ≡ p)

@@ -34,9 +34,9 @@ use Rattle.hm_model.specs.Locks.{IsIn}
 use Rattle.hm_model.specs.Records.{record_at, record_of}
 use Rattle.hm_model.specs.Sheets.{row_in, sheet_for, sheets_of}
 use Rattle.hm_model.specs.Tree.{Node, node_of}
+use Rattle.hm_model.specs.Claims.{Unclaims}
 use Rattle.hm_refusals.specs.declared.aborts.AbortRefused.{AbortRefused}
 use Rattle.hm_refusals.specs.declared.aborts.AbortRefused.TheVariants as abort_is
-use Rattle.hm_tied.specs.Calls.{Unclaims}
 use Rattle.hm_exec.specs.Claiming.{RefusesCommit, entry_by, entry_of}
 use Rattle.hm_exec.specs.Moment.{IsGoing, Moment, past_of}
 use Rattle.hm_exec.specs.Submitting.{AnswersAbort}

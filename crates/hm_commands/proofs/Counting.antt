@@ -9,6 +9,7 @@ use Rattle.hm_data.specs.declared.catalog.CatRow.{CatRow}
 use Rattle.hm_data.specs.declared.place.Place.{Place}
 use Rattle.hm_data.specs.declared.place.RegionState.TheVariants as place_is
 use Rattle.hm_model.specs.Journal.{Past}
+use Rattle.hm_model.specs.Loads.{places_of}
 use Rattle.hm_model.specs.Places.{place_of}
 use Rattle.hm_model.specs.RowsSaid.{Rows}
 use Rattle.hm_model.specs.TransitActs.{is_state}
@@ -16,7 +17,6 @@ use Rattle.hm_model.specs.Tree.{made}
 use Rattle.hm_catalog.specs.Rows.{rows_in}
 use Rattle.hm_catalog.specs.Spans.{in_span, rows_of}
 use Rattle.hm_catalog.specs.declared.span.Span.TheVariants as span_is
-use Rattle.hm_places.specs.Laws.{places_of}
 use Rattle.hm_places.specs.Places.{place_in}
 use Rattle.hm_commands.specs.Census.{census_of, is_opened, region_of_row, regions_among}
 use Rattle.hm_commands.specs.declared.census.Census.{Census}

@@ -44,7 +44,7 @@ use Rattle.hm_serial.proofs.StandAll.{stands_all}
 use Rattle.hm_serial.proofs.Stands.{At, Pending}
 use Rattle.hm_serial.proofs.StandStep.{touches_rows}
 use Rattle.hm_cover.proofs.Deeds.{MayDo, deed_stays}
-use Rattle.hm_cover.proofs.DrawnAll.{DrawnIn, drawn_all}
+use Rattle.hm_ids.proofs.DrawnAll.{DrawnIn, drawn_all}
 use Rattle.hm_cover.proofs.Going.{goes_all}
 use Rattle.hm_cover.proofs.Holding.{holds_or}
 use Rattle.hm_cover.proofs.Local.{asks_regions, covers_new, local_free, stage_ready}

@@ -31,7 +31,7 @@ use Rattle.hm_model.specs.Phase.{or_else}
 use Rattle.hm_model.specs.Requests.{is_pair, rise, wrong_in, wrong_keys}
 use Rattle.hm_model.specs.RowsSaid.{in_state, in_version, is_live_status, status_in}
 use Rattle.hm_model.specs.Tree.{new_ids}
-use Rattle.hm_cover.proofs.Drawn.{AllDrawn, IsFirstDrawn, SeenDrawn, between_fine, merge_fine, remove_fine, split_fine}
+use Rattle.hm_ids.proofs.Drawn.{AllDrawn, IsFirstDrawn, SeenDrawn, between_fine, merge_fine, remove_fine, split_fine}
 use Rattle.hm_cover.proofs.Edits.{neither, unless_ok}
 use Rattle.hm_cover.proofs.MergeDeeds.{Distinct, Each, IsLiveOf, merge_whole}
 use Rattle.hm_cover.proofs.SplitDeeds.{cut_is, enabled_there, live_first, split_whole}

@@ -1,8 +1,6 @@
 pub mod Chains
 pub mod Tally
 pub mod Whole
-pub mod Drawn
-pub mod DrawnAll
 pub mod Edits
 pub mod TableDeeds
 pub mod SplitDeeds
@@ -21,6 +19,3 @@ pub mod Never
 pub mod CatWhole
 pub mod Now
 pub mod Merges
-pub mod Ids
-pub mod UndoneArgs
-pub mod IdsAll

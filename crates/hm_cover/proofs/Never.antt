@@ -40,7 +40,7 @@ use Rattle.hm_model.proofs.Tops.{TopHolds}
 use Rattle.hm_serial.proofs.StandAll.{stands_all}
 use Rattle.hm_cover.proofs.CatWhole.{cat_whole, wide_rows}
 use Rattle.hm_cover.proofs.Deeds.{absent_is, between_length, keys_rise}
-use Rattle.hm_cover.proofs.DrawnAll.{DrawnIn, drawn_all}
+use Rattle.hm_ids.proofs.DrawnAll.{DrawnIn, drawn_all}
 use Rattle.hm_cover.proofs.Edits.{neither}
 use Rattle.hm_cover.proofs.Holding.{covered_or}
 use Rattle.hm_cover.proofs.Local.{asks_regions, local_free}

@@ -56,8 +56,8 @@ use Rattle.hm_model.proofs.Tops.{TopHolds}
 use Rattle.hm_serial.proofs.Standing.{live_child, root_low, waiting_runs}
 use Rattle.hm_model.proofs.LegalSteps.{StepFacts, ready_stops}
 use Rattle.hm_cover.proofs.Deeds.{MayDo, deed_drawn, deed_stays}
-use Rattle.hm_cover.proofs.Drawn.{ArgsDrawn, IsDrawnAt, SeenDrawn}
-use Rattle.hm_cover.proofs.DrawnAll.{DrawnIn, at_more, drawn_all, drawn_more, edited_drawn}
+use Rattle.hm_ids.proofs.Drawn.{ArgsDrawn, IsDrawnAt, SeenDrawn}
+use Rattle.hm_ids.proofs.DrawnAll.{DrawnIn, at_more, drawn_all, drawn_more, edited_drawn}
 use Rattle.hm_cover.proofs.Whole.{Whole, bare_at, covered, none_overlap, whole_none, whole_same}
 use Rattle.hm_cover.specs.Theorem.{DeedsKeepRanges}
 use Rattle.hm_model.specs.Ranges.{IsBare, IsCovered, NoneOverlap}

@@ -1,3 +1,2 @@
 pub mod Theorem
 pub mod Merges
-pub mod Ids

@@ -1,18 +1,16 @@
 -- What holds of the regions of every legal journal.
-use Rattle.std.specs.Prelude.{◌≡◌, ◌≢◌, ℕ, ◌≤◌, None, true}
+use Rattle.std.specs.Prelude.{◌≡◌, ◌≢◌, None, true}
 use Rattle.hm_names.specs.Ranges.{holds}
 use Rattle.hm_names.specs.Region.{Region}
 use Rattle.hm_names.specs.declared.range.KeyRange.{KeyRange}
 use Rattle.hm_names.specs.declared.table.TableName.{TableName}
 use Rattle.hm_data.specs.declared.catalog.CatKey.TheVariants as key_is
 use Rattle.hm_model.specs.Catalog.{Catalog, cat}
-use Rattle.hm_model.specs.Changes.{region_key}
 use Rattle.hm_model.specs.Journal.{Past}
 use Rattle.hm_model.specs.Ranges.{IsBare, IsCovered, IsLiveWith, NoneOverlap}
 use Rattle.hm_model.specs.Reads.{IsBusy}
 use Rattle.hm_model.specs.Rules.{IsLegal}
 use Rattle.hm_model.specs.Serial.{serial}
-use Rattle.hm_model.specs.Tree.{drawn}
 
 -- in the catalog of the deeds live regions of one table never overlap and cover every key, and a table that isn't there has
 -- no region's row
@@ -22,11 +20,6 @@ DeedsKeepRanges =
     → NoneOverlap (serial J) table
     × (serial J (key_is.Table table) ≢ None → IsCovered (serial J) table)
     × (serial J (key_is.Table table) ≡ None → IsBare (serial J) table)
-
--- a region's row has an id that its table has drawn: ids are drawn from 1 on
-abbrev pub RegionIdsAreDrawn : Type 0
-RegionIdsAreDrawn =
-    (J : Past) → IsLegal J → (table : TableName) (id : ℕ) → cat J (region_key table id) ≢ None → (1 ≤ id) × (id ≤ drawn J table)
 
 -- where no unfinished procedure with a step asks for a table alone and the table is there, each key lies in a live region
 abbrev pub LiveRegionsCover : Type 0

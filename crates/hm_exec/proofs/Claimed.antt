@@ -8,10 +8,9 @@ use Rattle.hm_hall.specs.declared.taken.Taken.{Taken}
 use Rattle.hm_model.specs.Journal.{Past, back}
 use Rattle.hm_model.specs.Locks.{IsIn}
 use Rattle.hm_model.specs.Rest.{IsAvailable, MayStepPicked, MayUndo}
-use Rattle.hm_roster.specs.Desk.{IsClaimedToo}
+use Rattle.hm_model.specs.Claims.{IsClaimedToo, Unclaims}
 use Rattle.hm_roster.specs.Roster.{Follows, claims_on}
 use Rattle.hm_roster.specs.declared.desk.Desk.{Desk}
-use Rattle.hm_tied.specs.Calls.{Unclaims}
 use Rattle.hm_tied.specs.Tied.{CanGo}
 use Rattle.hm_exec.specs.Claiming.{AnswersClaim, IsHandedOut}
 use Rattle.hm_exec.specs.View.{IsExec}

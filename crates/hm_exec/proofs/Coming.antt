@@ -8,8 +8,7 @@ use Rattle.hm_names.specs.Server.{Server}
 use Rattle.hm_names.specs.declared.pid.Pid.{Pid}
 use Rattle.hm_data.specs.declared.entry.Entry.{Entry}
 use Rattle.hm_data.specs.declared.entry.Entry.TheVariants as entry_is
-use Rattle.hm_entry.specs.Spelling.{number}
-use Rattle.hm_entry.specs.Spelling.{entry as spelling, server as server_spelled}
+use Rattle.hm_entry.specs.Spelling.{entry as spelling, number, server as server_spelled}
 use Rattle.hm_exec.specs.Adding.{Adds}
 use Rattle.hm_hall.specs.Recording.{Accepts, Passes, halt_of}
 use Rattle.hm_hall.specs.declared.fault.HallFault.{HallFault}
@@ -17,7 +16,8 @@ use Rattle.hm_hall.specs.declared.fault.HallFault.TheVariants as fault_is
 use Rattle.hm_model.specs.Fleet.{has_older_live, is_live, same_address}
 use Rattle.hm_model.specs.Journal.{Past}
 use Rattle.hm_model.specs.Rules.{Allowed, IsLegal}
-use Rattle.hm_places.specs.Laws.{StandingsTell, standings_of}
+use Rattle.hm_model.specs.Standings.{standings_of}
+use Rattle.hm_places.specs.Laws.{StandingsTell}
 use Rattle.hm_places.specs.Servers.{CannotComeUp, CannotGoDown}
 use Rattle.hm_places.specs.declared.refused.DownRefused.{DownRefused}
 use Rattle.hm_places.specs.declared.refused.DownRefused.TheVariants as down_is

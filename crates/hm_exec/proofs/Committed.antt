@@ -20,11 +20,11 @@ use Rattle.hm_model.specs.Locks.{IsIn}
 use Rattle.hm_model.specs.Rules.{Allowed, IsLegal}
 use Rattle.hm_model.specs.Sheets.{sheets_of}
 use Rattle.hm_model.specs.Tree.{made, root_of}
+use Rattle.hm_model.specs.Claims.{Unclaims}
 use Rattle.hm_roster.specs.Behind.{IsUndoOf}
 use Rattle.hm_roster.specs.Roster.{Follows, IsEnlistedFor, IsStepOf, claims_on, number_on, roster_of, rows_on}
 use Rattle.hm_roster.specs.declared.desk.Desk.{Desk}
 use Rattle.hm_tied.specs.Ables.{IsNotBy}
-use Rattle.hm_tied.specs.Calls.{Unclaims}
 use Rattle.hm_tied.specs.Entries.{alters}
 use Rattle.hm_tied.specs.Tied.{IsTied, Roster}
 use Rattle.hm_tied.proofs.Ables.{claimed_stay_able}

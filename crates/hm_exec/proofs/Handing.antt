@@ -18,11 +18,10 @@ use Rattle.hm_model.specs.Tree.{Node, node_of}
 use Rattle.hm_model.specs.Undo.{Undoable, stack}
 use Rattle.hm_model.specs.Wanted.{wanted_of}
 use Rattle.hm_model.proofs.NameTies.{same_server-is}
+use Rattle.hm_model.specs.Choice.{candidate, chosen, place_told, wanted_first}
 use Rattle.hm_single.specs.Picking.{PicksAreThere}
-use Rattle.hm_judge.specs.Choice.{candidate, chosen, wanted_first}
 use Rattle.hm_judge.specs.Inputs.{CanEvaluate, IsInput}
 use Rattle.hm_judge.specs.Laws.{CandidatesFit}
-use Rattle.hm_judge.specs.Picks.{place_told}
 use Rattle.hm_judge.proofs.Picking.{needs_none}
 use Rattle.hm_exec.specs.Claiming.{IsHandedOut}
 

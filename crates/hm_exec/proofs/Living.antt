@@ -12,12 +12,13 @@ use Rattle.hm_data.specs.declared.entry.Entry.TheVariants as entry_is
 use Rattle.hm_model.specs.Fleet.{came_up, has_newer, has_older_live, is_live, same_address, same_server, servers_of}
 use Rattle.hm_model.specs.Journal.{Past}
 use Rattle.hm_model.specs.Rules.{Allowed, IsLegal}
+use Rattle.hm_model.specs.Standings.{MayComeUp, greatest_start, is_live_in, live_servers, standings_of}
 use Rattle.hm_model.proofs.CameUp.{live_came}
 use Rattle.hm_model.proofs.KeyTests.{bytes_eq-is}
 use Rattle.hm_model.proofs.NameTies.{same_server-is, same_server-refl}
-use Rattle.hm_places.specs.Laws.{StandingsTell, standings_of}
-use Rattle.hm_places.specs.Servers.{MayComeUp, first_there, greatest_start, has_newer_in, is_live_in, live_servers}
-use Rattle.hm_places.specs.declared.standing.Standing.{Standing}
+use Rattle.hm_places.specs.Laws.{StandingsTell}
+use Rattle.hm_places.specs.Servers.{first_there, has_newer_in}
+use Rattle.hm_model.specs.declared.standing.Standing.{Standing}
 use Rattle.hm_exec.specs.Fleet.{IsOlder}
 
 -- a server that is among some, and passes a test

@@ -10,7 +10,7 @@ use Rattle.hm_model.specs.Inputs.{input}
 use Rattle.hm_model.specs.Journal.{Past, back}
 use Rattle.hm_model.specs.Picks.{PicksRight}
 use Rattle.hm_model.specs.Tree.{Node, node_of}
-use Rattle.hm_tied.specs.Calls.{Unclaims}
+use Rattle.hm_model.specs.Claims.{Unclaims}
 use Rattle.hm_exec.specs.Claiming.{GivesUp, IsFresh, IsNow, SeesNow}
 
 -- it is there

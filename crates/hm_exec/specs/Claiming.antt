@@ -21,9 +21,8 @@ use Rattle.hm_model.specs.Picks.{PicksRight}
 use Rattle.hm_model.specs.Rules.{Allowed}
 use Rattle.hm_model.specs.Sheets.{sheets_of}
 use Rattle.hm_model.specs.Tree.{Node, node_of}
-use Rattle.hm_judge.specs.Choice.{candidate}
-use Rattle.hm_roster.specs.Desk.{IsClaimedToo}
-use Rattle.hm_tied.specs.Calls.{Unclaims}
+use Rattle.hm_model.specs.Claims.{IsClaimedToo, Unclaims}
+use Rattle.hm_model.specs.Choice.{candidate}
 use Rattle.hm_exec.specs.Moment.{FaultsAt, IsGoing, IsHalted, Moment, past_of}
 
 -- what the next call of a procedure's handler sees now, with this pick

@@ -10,9 +10,8 @@ use Rattle.hm_hall.specs.declared.fault.HallFault.TheVariants as fault_is
 use Rattle.hm_model.specs.Fleet.{came_up, has_older_live, is_live, same_address}
 use Rattle.hm_model.specs.Journal.{Past}
 use Rattle.hm_model.specs.Rules.{Allowed}
+use Rattle.hm_model.specs.Standings.{MayComeUp, greatest_start, standings_of}
 use Rattle.hm_model.specs.Tree.{made}
-use Rattle.hm_places.specs.Laws.{standings_of}
-use Rattle.hm_places.specs.Servers.{MayComeUp, greatest_start}
 use Rattle.hm_places.specs.declared.refused.DownRefused.{DownRefused}
 use Rattle.hm_places.specs.declared.refused.DownRefused.TheVariants as down_is
 use Rattle.hm_places.specs.declared.refused.UpRefused.{UpRefused}

@@ -10,20 +10,18 @@ use Rattle.hm_data.specs.declared.place.RegionState.TheVariants as place_is
 use Rattle.hm_model.specs.Fleet.{has_live, has_other_live, is_live, same_server, servers_of}
 use Rattle.hm_model.specs.Inputs.{step_input, turn_input, undoes}
 use Rattle.hm_model.specs.Journal.{Past}
+use Rattle.hm_model.specs.Loads.{load_in, places_of}
 use Rattle.hm_model.specs.Picks.{fits_input, has_pick, is_another, is_as_wanted, is_pick_right, needs_server, pick_fits}
 use Rattle.hm_model.specs.Places.{is_the_server, tries_of}
 use Rattle.hm_model.specs.Rules.{IsLegal}
+use Rattle.hm_model.specs.Standings.{live_servers, standing_of}
 use Rattle.hm_model.specs.TransitActs.{is_state}
 use Rattle.hm_model.specs.Tree.{Node}
 use Rattle.hm_model.specs.Undo.{stack}
 use Rattle.hm_model.specs.Wanted.{wanted_of}
 use Rattle.hm_model.proofs.NameTies.{same_server-is, same_server-refl}
-use Rattle.hm_places.specs.Laws.{places_of, standing_of}
-use Rattle.hm_places.specs.Places.{load_in}
-use Rattle.hm_places.specs.Servers.{avoids, live_servers, lower, lowest, or_else, without}
-use Rattle.hm_judge.specs.Choice.{chosen, failed_at, least_loaded, live_of, wanted_first}
+use Rattle.hm_model.specs.Choice.{avoids, chosen, failed_at, least_loaded, live_of, lower, lowest, or_else, place_told, wanted_first, without}
 use Rattle.hm_judge.specs.Laws.{CandidatesAreThere, CandidatesFit}
-use Rattle.hm_judge.specs.Picks.{place_told}
 use Rattle.hm_judge.proofs.Living.{some_live}
 use Rattle.hm_judge.proofs.Picking.{needs_none}
 

@@ -4,8 +4,8 @@ use Rattle.std.specs.List.{list_any}
 use Rattle.hm_names.specs.Server.{Server}
 use Rattle.hm_model.specs.Fleet.{has_live, is_live, servers_of}
 use Rattle.hm_model.specs.Journal.{Past}
-use Rattle.hm_places.specs.Laws.{standing_of, standings_of}
-use Rattle.hm_places.specs.Servers.{live_servers, lowest, or_else, without}
+use Rattle.hm_model.specs.Standings.{live_servers, standing_of, standings_of}
+use Rattle.hm_model.specs.Choice.{lowest, or_else, without}
 
 -- there is one
 abbrev pub is_there : List Server → Bool

@@ -18,6 +18,7 @@ use Rattle.hm_model.specs.Catalog.{Catalog, cat, keep, keys_of, row_at, rows_at}
 use Rattle.hm_model.specs.Evaluation.{is_cut_off, is_picking, is_step, picks_at, wants_server}
 use Rattle.hm_model.specs.Inputs.{input, rows_read, sees_fenced, step_input, turn_input, undo_input, undoes}
 use Rattle.hm_model.specs.Answers.{is_aborted, row_of}
+use Rattle.hm_model.specs.Choice.{place_told}
 use Rattle.hm_model.specs.Journal.{Past}
 use Rattle.hm_model.specs.Keys.{same_table}
 use Rattle.hm_model.specs.Phase.{all_stopped, cause}
@@ -35,7 +36,7 @@ use Rattle.hm_model.specs.Views.{region_of}
 use Rattle.hm_model.proofs.KeyTests.{same_region-refl, same_table-refl}
 use Rattle.hm_model.proofs.Rows.{row_read}
 use Rattle.hm_model.proofs.UndoMakes.{AllThere, stacked_all}
-use Rattle.hm_judge.specs.Picks.{can_open, fits_record, place_told, wants, wants_if}
+use Rattle.hm_judge.specs.Picks.{can_open, fits_record, wants, wants_if}
 use Rattle.hm_judge.proofs.Found.{there_of}
 
 -- where nothing is read, no row is

@@ -11,9 +11,8 @@ use Rattle.hm_model.specs.Places.{tries_of}
 use Rattle.hm_model.specs.Rules.{Allowed, IsLegal}
 use Rattle.hm_model.specs.Tree.{Node, node_of, root_of}
 use Rattle.hm_model.specs.Wanted.{wanted_of}
-use Rattle.hm_judge.specs.Choice.{candidate, wanted_first}
+use Rattle.hm_model.specs.Choice.{candidate, place_told, wanted_first}
 use Rattle.hm_judge.specs.Judge.{HoldsBut}
-use Rattle.hm_judge.specs.Picks.{place_told}
 
 -- a step whose other rules hold, and that is as it was evaluated, may follow
 abbrev pub EvaluatedStepsFollow : Type 0

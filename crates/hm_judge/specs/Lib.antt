@@ -1,6 +1,5 @@
 pub mod Judge
 pub mod Picks
-pub mod Choice
 pub mod Reports
 pub mod Aborts
 pub mod Inputs

@@ -5,18 +5,17 @@ use Rattle.hm_names.specs.Server.{Server}
 use Rattle.hm_data.specs.declared.args.Args.{Args}
 use Rattle.hm_data.specs.declared.args.Args.TheVariants as args_are
 use Rattle.hm_data.specs.declared.catalog.CatKey.TheVariants as key_is
-use Rattle.hm_data.specs.declared.place.Place.{Place}
 use Rattle.hm_data.specs.declared.record.Record.{Record}
 use Rattle.hm_data.specs.declared.request.Request.{Request}
 use Rattle.hm_data.specs.declared.request.Request.TheVariants as request_is
 use Rattle.hm_model.specs.Catalog.{cat}
+use Rattle.hm_model.specs.Choice.{place_told}
 use Rattle.hm_model.specs.Fleet.{is_live}
-use Rattle.hm_model.specs.Inputs.{place_if, sees_fenced}
+use Rattle.hm_model.specs.Inputs.{sees_fenced}
 use Rattle.hm_model.specs.Journal.{Past}
 use Rattle.hm_model.specs.Picks.{is_as_wanted, is_another}
-use Rattle.hm_model.specs.TransitActs.{is_open, may_open, told_place}
+use Rattle.hm_model.specs.TransitActs.{is_open, may_open}
 use Rattle.hm_model.specs.Wanted.{wanted_of}
-use Rattle.hm_model.specs.Whereabouts.{moved_by}
 
 -- the region of a request whose steps read the region's row and its table's
 abbrev pub read_by_request : Request → Option Region
@@ -43,10 +42,6 @@ read_by (args_are.CloseCall region server) = None
 read_by (args_are.FenceCall server) = None
 read_by (args_are.LayoutCall root) = None
 read_by (args_are.SweepLayout root) = None
-
--- the place that a step sees, Offline where it sees none
-abbrev pub place_told : Past → Args → Place
-place_told J args = told_place (place_if J (moved_by args))
 
 -- a region may be opened, by its row and its table's
 abbrev pub can_open : Past → Region → Bool

@@ -2,8 +2,7 @@
 ghost use Rattle.std.specs.Prelude.{◌≡◌, None, Some, option_copied};
 ghost use Rattle.hm_model.specs.Tree.{Node, node_of};
 ghost use Rattle.hm_model.specs.Wanted.{wanted_of as wanted};
-ghost use Rattle.hm_judge.specs.Choice.{candidate as picked, failed_at as failed, least_loaded as least, wanted_first as first_wanted};
-ghost use Rattle.hm_judge.specs.Picks.{place_told};
+ghost use Rattle.hm_model.specs.Choice.{candidate as picked, failed_at as failed, least_loaded as least, place_told, wanted_first as first_wanted};
 
 use crate::picks::{needs_server, wanted_of};
 use crate::seen::{find, place_seen};

@@ -2,6 +2,7 @@
 ghost use Rattle.std.specs.Prelude.{◌≡◌, ◌↔◌, ◌&&◌, ◌||◌, not, option_copied, IsTrue, Some};
 ghost use Rattle.hm_catalog.specs.Kept.{key_of};
 ghost use Rattle.hm_model.specs.Catalog.{cat};
+ghost use Rattle.hm_model.specs.Choice.{place_told};
 ghost use Rattle.hm_model.specs.Evaluation.{is_picking};
 ghost use Rattle.hm_model.specs.Picks.{has_pick as pick_there, is_another as another, is_as_wanted as as_wanted, needs_server as needs, PicksRight};
 ghost use Rattle.hm_model.specs.Places.{is_the_server as the_server};
@@ -11,7 +12,7 @@ ghost use Rattle.hm_model.specs.TransitActs.{is_open as opened};
 ghost use Rattle.hm_model.specs.Tree.{Node, node_of};
 ghost use Rattle.hm_model.specs.Inputs.{sees_fenced as fenced_seen};
 ghost use Rattle.hm_model.specs.Wanted.{wanted_by_request as requested, wanted_of as wanted};
-ghost use Rattle.hm_judge.specs.Picks.{can_open, fits_record, place_told, read_by as region_read, wants};
+ghost use Rattle.hm_judge.specs.Picks.{can_open, fits_record, read_by as region_read, wants};
 
 use crate::seen::{find, moved_by, next_row, place_seen, sees_fenced};
 use crate::servers::{has_live, has_other_live, is_live, is_one};

@@ -1,7 +1,8 @@
 //! The rules of servers that come up and go down.
 ghost use Rattle.std.specs.Prelude.{◌≡◌};
 ghost use Rattle.hm_model.specs.Fleet.{has_live as some_live, has_newer as newer, has_older_live as older, has_other_live as other, is_fenced as fenced, is_live as live, same_server};
-ghost use Rattle.hm_places.specs.Laws.{StandingsTell, standings_of};
+ghost use Rattle.hm_model.specs.Standings.{standings_of};
+ghost use Rattle.hm_places.specs.Laws.{StandingsTell};
 
 use hm_names::ServerName;
 use hm_places::{Servers, servers_follow};

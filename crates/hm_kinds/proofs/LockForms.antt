@@ -77,15 +77,6 @@ join one other (key_is.Region region) (inr c) (inl g) = clash_right one other (r
 join one other (key_is.Region region) (inr c) (inr (inl g)) = clash_right one other (resource_is.Table region.table) c.1 g
 join one other (key_is.Region region) (inr c) (inr (inr g)) = clash_left one other (resource_is.Region region) c.0 g.1
 
-pub clash_sym : (one other : List Ask) → Clash one other → Clash other one
-clash_sym one other c = (c.1, c.0, c.3, c.2, sym c.4, flip c.0.exclusive c.1.exclusive c.5)
-  where
-    flip : (a b : Bool) → (a || b) ≡ true → (b || a) ≡ true
-    flip true true h = refl
-    flip true false h = refl
-    flip false true h = refl
-    flip false false h = h
-
 -- the exclusive ask behind what covers
 found : (list : List Ask) (key : CatKey) → list_any (λ ask. ask.exclusive && is_over ask.resource key) list ≡ true → (resource : Resource) × IsIn (exclusive resource) list × (is_over resource key ≡ true)
 found [] key h = absurd (false≢true h)

@@ -7,7 +7,8 @@ use Rattle.hm_model.specs.declared.lock.Ask.{Ask}
 use Rattle.hm_locks.specs.declared.draft.Claim.{Claim}
 use Rattle.hm_locks.specs.declared.entry.Want.{Want}
 use Rattle.hm_locks.specs.declared.key.Key.{Key}
-use Rattle.hm_locks.specs.Kept.{AreAdded, IsClaimed, IsWanted, claim_of, lock_cmp}
+use Rattle.hm_locks.specs.Kept.{AreAdded, IsClaimed, IsWanted, claim_of}
+use Rattle.hm_locks.specs.Keys.{lock_cmp}
 use Rattle.hm_locks.proofs.Places.{slice_get-push}
 
 -- a want is that of its claim, also where more numbers are given

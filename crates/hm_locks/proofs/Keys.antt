@@ -15,7 +15,8 @@ use Rattle.hm_model.specs.declared.lock.Resource.TheVariants as resource_is
 use Rattle.hm_model.proofs.KeyTests.{key_cmp-is, key_cmp-refl}
 use Rattle.hm_locks.specs.declared.key.Key.{Key}
 use Rattle.hm_locks.specs.declared.key.Key.TheVariants as lock_is
-use Rattle.hm_locks.specs.Kept.{key_of, lock_cmp, AreDesks}
+use Rattle.hm_locks.specs.Kept.{AreDesks}
+use Rattle.hm_locks.specs.Keys.{key_of, lock_cmp}
 
 both_equal : (o p : Ordering) → ordering_then o p ≡ Equal → (o ≡ Equal) × (p ≡ Equal)
 both_equal Less p h = cc

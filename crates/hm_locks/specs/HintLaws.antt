@@ -5,9 +5,9 @@ use Rattle.hm_names.specs.Hints.{front}
 use Rattle.hm_names.specs.HintLaws.{servers_rise}
 use Rattle.hm_data.specs.Keys.{key_hint}
 use Rattle.hm_data.specs.HintLaws.{keys_below, keys_rise}
-use Rattle.hm_locks.specs.Kept.{lock_cmp}
 use Rattle.hm_locks.specs.declared.key.Key.{Key}
 use Rattle.hm_locks.specs.declared.key.Key.TheVariants.{Row, Server}
+use Rattle.hm_locks.specs.Keys.{lock_cmp}
 
 -- that of a row, and above all of these the first bytes of a server's host
 abbrev pub lock_hint : Key → ℕ

@@ -3,37 +3,17 @@
 use Rattle.std.specs.Prelude.{◌≡◌, ◌↔◌, ℕ, ◌+◌, ◌<◌, ◌≤◌, ◌^◌, List, [], ◌∷◌, ◌++◌, length, Option, Some, None, Bool, true, false, slice_get}
 use Rattle.std.specs.Option.{option_map, option_and_then, option_flatten}
 use Rattle.std.specs.Ordering.{nat_cmp}
-use Rattle.std.specs.declared.cmp.Ordering.{Ordering}
-use Rattle.std.specs.declared.cmp.Ordering.TheVariants.{Less, Greater}
-use Rattle.hm_names.specs.Order.{server_cmp}
-use Rattle.hm_data.specs.declared.catalog.CatKey.TheVariants as key_is
-use Rattle.hm_data.specs.Keys.{key_cmp}
 use Rattle.hm_index.specs.Index.{find}
 use Rattle.hm_lists.specs.Chains.{IsIn, list_at}
 use Rattle.hm_model.specs.declared.lock.Ask.{Ask}
 use Rattle.hm_model.specs.declared.lock.Resource.{Resource}
-use Rattle.hm_model.specs.declared.lock.Resource.TheVariants as resource_is
 use Rattle.hm_locks.specs.declared.draft.Claim.{Claim}
 use Rattle.hm_locks.specs.declared.entry.Entry.{Entry}
 use Rattle.hm_locks.specs.declared.entry.Standing.{Standing}
 use Rattle.hm_locks.specs.declared.entry.Want.{Want}
 use Rattle.hm_locks.specs.declared.key.Key.{Key}
-use Rattle.hm_locks.specs.declared.key.Key.TheVariants as lock_is
 use Rattle.hm_locks.specs.Book.{Row}
-
--- a resource as it is looked up
-abbrev pub key_of : Resource → Key
-key_of (resource_is.Ns ns) = lock_is.Row (key_is.Ns ns)
-key_of (resource_is.Table table) = lock_is.Row (key_is.Table table)
-key_of (resource_is.Region region) = lock_is.Row (key_is.Region region)
-key_of (resource_is.Server server) = lock_is.Server server
-
--- by kind, then by name
-abbrev pub lock_cmp : Key → Key → Ordering
-lock_cmp (lock_is.Row a) (lock_is.Row b) = key_cmp a b
-lock_cmp (lock_is.Row a) (lock_is.Server b) = Less
-lock_cmp (lock_is.Server a) (lock_is.Row b) = Greater
-lock_cmp (lock_is.Server a) (lock_is.Server b) = server_cmp a b
+use Rattle.hm_locks.specs.Keys.{key_of, lock_cmp}
 
 -- an ask, by the key of its resource
 abbrev pub claim_of : Ask → Claim

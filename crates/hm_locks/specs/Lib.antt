@@ -1,4 +1,5 @@
 pub mod Book
+pub mod Keys
 pub mod Entries
 pub mod Kept
 pub mod HintLaws

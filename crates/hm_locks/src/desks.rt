@@ -2,7 +2,8 @@
 ghost use Rattle.std.specs.Prelude.{◌≡◌, ◌+◌, ◌-◌, ◌<◌, ◌≤◌, ◌^◌, ℕ, [], Some, max, IfOk, OnOk, OnErr};
 ghost use Rattle.hm_index.specs.Index.{find};
 ghost use Rattle.hm_model.specs.declared.lock.Resource.{Resource};
-ghost use Rattle.hm_locks.specs.Kept.{desk_of, lock_cmp};
+ghost use Rattle.hm_locks.specs.Kept.{desk_of};
+ghost use Rattle.hm_locks.specs.Keys.{lock_cmp};
 ghost use Rattle.hm_locks.specs.declared.key.Key.{Key as KeyOf};
 
 use crate::key::{Key, locks_order_by_name};

@@ -1,7 +1,7 @@
 //! Resources as they are looked up.
 ghost use Rattle.std.specs.Prelude.{◌≡◌, IfOk};
-ghost use Rattle.hm_locks.specs.Kept.{key_of, lock_cmp};
 ghost use Rattle.hm_locks.specs.declared.key.Key.{Key};
+ghost use Rattle.hm_locks.specs.Keys.{key_of, lock_cmp};
 
 use hm_data::CatKey;
 use hm_data::laws::keys_order_by_name;

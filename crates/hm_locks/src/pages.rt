@@ -5,7 +5,8 @@ ghost use Rattle.hm_locks.specs.declared.entry.Want.{Want as WantOf};
 ghost use Rattle.hm_locks.specs.declared.key.Key.{Key as KeyOf};
 ghost use Rattle.hm_index.specs.Index.{find};
 ghost use Rattle.hm_locks.specs.Book.{AreChanged, AreHolders, IsFirst, IsFree, above_child, asks_in, drafted, holding, is_holding, row_of};
-ghost use Rattle.hm_locks.specs.Kept.{AreAdded, IsClaimed, entry_of, lock_cmp};
+ghost use Rattle.hm_locks.specs.Kept.{AreAdded, IsClaimed, entry_of};
+ghost use Rattle.hm_locks.specs.Keys.{lock_cmp};
 
 use crate::conflicts::Search;
 use crate::desks::Desks;

@@ -40,6 +40,7 @@ pub mod Distinct
 pub mod Highs
 pub mod Kin
 pub mod Free
+pub mod Taken
 pub mod Running
 mod GoingBack
 pub mod LeadsBack

@@ -15,6 +15,7 @@ pub mod Validity
 pub mod Inputs
 pub mod Nonces
 pub mod Serial
+pub mod TreeEdits
 pub mod Rules
 pub mod GoingBack
 pub mod Rest
@@ -37,14 +38,19 @@ pub mod Acts
 pub mod Reports
 pub mod Verbs
 pub mod Fleet
+pub mod Standings
 pub mod Places
+pub mod Loads
 pub mod Whereabouts
 pub mod Procedures
 pub mod Evaluation
 pub mod Picks
+pub mod Choice
 pub mod RegionIds
 pub mod Requests
 pub mod Holding
+pub mod Taking
+pub mod Claims
 pub mod Deeds
 pub mod Costs
 pub mod Entries

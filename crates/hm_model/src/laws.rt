@@ -6,6 +6,7 @@ ghost use Rattle.hm_model.specs.Forest.{AllForest, AllRooted, NodesStay, RootsWa
 ghost use Rattle.hm_model.specs.Forms.{StepsAreFormed, UndosAreFormed};
 ghost use Rattle.hm_model.specs.GoingBack.{AllIsUndone, EditsGoBack, UndosAreLast, UndosGoBack};
 ghost use Rattle.hm_model.specs.RowLaws.{KeysAreListed, RowsAreRead, RowsFit, RowsReadAlike};
+ghost use Rattle.hm_model.specs.Taking.{NoneConflict, NoneOfLegalConflict};
 ghost use Rattle.hm_model.specs.Touched.{StepsEnd, StepsLetGo};
 ghost use Rattle.hm_model.specs.Waiting.{OpenChildrenTell, OpenChildrenChange, OpenUnderTell, OpenUnderChange};
 
@@ -89,6 +90,13 @@ pub fn rows_are_read()
 pub fn roots_are_told()
     ensures nonces { NoncesActOnceInAll }
     ensures tells { UnfinishedTells }
+{}
+
+/// No two procedures that have a step and haven't ended conflict, nor do any that are taken ahead of their first step, where
+/// whoever is taken was free when it was taken.
+pub fn none_conflict()
+    ensures legal { NoneOfLegalConflict }
+    ensures taken { NoneConflict }
 {}
 
 /// The undos of a tree take back its steps from the latest on, each with its edits turned round, which lead back to what was

@@ -5,6 +5,8 @@
 pub mod laws;
 mod lock;
 mod part;
+mod standing;
 
 pub use lock::{Ask, Resource};
 pub use part::Part;
+pub use standing::Standing;

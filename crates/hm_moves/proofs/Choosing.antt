@@ -16,15 +16,16 @@ use Rattle.hm_balance.specs.declared.shift.Shift.{Shift}
 use Rattle.hm_balance.proofs.Sums.{name_is, self_name, sum_over-append}
 use Rattle.hm_model.proofs.NameTies.{server_cmp-is, servers_total}
 use Rattle.hm_places.specs.Chosen.{IsBelow, Rises}
-use Rattle.hm_places.specs.Laws.{PlacesTell, places_of, standing_of, standings_of}
-use Rattle.hm_places.specs.Servers.{live_servers}
-use Rattle.hm_places.specs.declared.standing.Standing.{Standing}
+use Rattle.hm_places.specs.Laws.{PlacesTell}
+use Rattle.hm_model.specs.declared.standing.Standing.{Standing}
 use Rattle.hm_data.specs.declared.place.Place.{Place}
 use Rattle.hm_data.specs.declared.place.RegionState.TheVariants as place_is
 use Rattle.hm_index.specs.Index.{IsRising}
 use Rattle.hm_model.specs.Fleet.{is_live, servers_of}
 use Rattle.hm_model.specs.Journal.{Past}
+use Rattle.hm_model.specs.Loads.{places_of}
 use Rattle.hm_model.specs.Places.{at_server, place_of}
+use Rattle.hm_model.specs.Standings.{live_servers, standing_of, standings_of}
 use Rattle.hm_model.specs.TransitActs.{is_state}
 use Rattle.hm_moves.specs.Planned.{chosen, loads_of, move_if, opened_on}
 use Rattle.hm_moves.specs.Opened.{AreOpened, opened_at, region_in}

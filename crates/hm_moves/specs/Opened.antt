@@ -8,8 +8,9 @@ use Rattle.hm_balance.specs.Loads.{Loads}
 use Rattle.hm_data.specs.declared.place.Place.{Place}
 use Rattle.hm_data.specs.declared.place.RegionState.TheVariants as place_is
 use Rattle.hm_model.specs.TransitActs.{is_state}
+use Rattle.hm_model.specs.Loads.{regions_at}
 use Rattle.hm_places.specs.Chosen.{Rises}
-use Rattle.hm_places.specs.Places.{place_in, regions_at}
+use Rattle.hm_places.specs.Places.{place_in}
 use Rattle.hm_moves.specs.Planned.{loads_of}
 
 -- the regions that are open on a server, in name order

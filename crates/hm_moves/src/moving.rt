@@ -7,10 +7,10 @@ ghost use Rattle.hm_names.specs.Server.{Server};
 ghost use Rattle.hm_balance.specs.Loads.{AreAmong, IsNamed};
 ghost use Rattle.hm_data.specs.declared.place.RegionState.TheVariants as place_is;
 ghost use Rattle.hm_model.specs.Journal.{back};
+ghost use Rattle.hm_model.specs.Standings.{live_servers};
 ghost use Rattle.hm_model.specs.TransitActs.{is_state};
 ghost use Rattle.hm_places.specs.Chosen.{Rises};
 ghost use Rattle.hm_places.specs.Places.{place_in};
-ghost use Rattle.hm_places.specs.Servers.{live_servers};
 ghost use Rattle.hm_moves.specs.Planned.{ArePlanned, chosen};
 ghost use Rattle.hm_moves.specs.Opened.{AreOpened, opened_at, region_in};
 

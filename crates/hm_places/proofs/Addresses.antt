@@ -12,8 +12,9 @@ use Rattle.hm_names.specs.Order.{bytes_cmp, server_cmp}
 use Rattle.hm_names.specs.Server.{Server}
 use Rattle.hm_index.specs.Index.{IsRising, pairs_from, or_more}
 use Rattle.hm_model.specs.Fleet.{same_address}
-use Rattle.hm_places.specs.Servers.{address_cmp, greatest_start}
-use Rattle.hm_places.specs.declared.standing.Standing.{Standing}
+use Rattle.hm_model.specs.Standings.{greatest_start}
+use Rattle.hm_places.specs.Servers.{address_cmp}
+use Rattle.hm_model.specs.declared.standing.Standing.{Standing}
 use Rattle.hm_model.proofs.NameTies.{servers_total}
 use Rattle.hm_places.proofs.Sorted.{is_equal}
 

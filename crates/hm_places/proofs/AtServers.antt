@@ -12,11 +12,12 @@ use Rattle.hm_names.specs.Server.{Server}
 use Rattle.hm_data.specs.declared.place.Place.{Place}
 use Rattle.hm_index.specs.Index.{IsRising, find, key_if, PutAt}
 use Rattle.hm_model.specs.Fleet.{same_server}
+use Rattle.hm_model.specs.Loads.{regions_at}
 use Rattle.hm_model.specs.Places.{is_at, is_the_server}
 use Rattle.hm_model.specs.TransitActs.{is_placed}
 use Rattle.hm_model.proofs.KeyTests.{region_cmp-is}
 use Rattle.hm_places.specs.Chosen.{cmp_if, HasGap, HasAt, with_spot}
-use Rattle.hm_places.specs.Places.{held_cmp, held_at, held_by, key_of, holder, is_at_if, is_held, is_held_but, names_of, HaveNames, regions_at, side, AreHeld, AreHeldBut, IsSpotFor}
+use Rattle.hm_places.specs.Places.{held_cmp, held_at, held_by, key_of, holder, is_at_if, is_held, is_held_but, names_of, HaveNames, side, AreHeld, AreHeldBut, IsSpotFor}
 use Rattle.hm_model.proofs.NameTies.{regions_total, servers_total}
 use Rattle.hm_places.proofs.NameOrder.{held_total, server_ties_back, total_if}
 use Rattle.hm_places.proofs.Sorted.{is_equal, at-has, gap-has, unique}

@@ -16,13 +16,14 @@ use Rattle.hm_index.specs.Index.{changed, find}
 use Rattle.hm_model.specs.Fleet.{came_up, fences_by, fences_if, has_live, has_newer, has_older_live, has_other_live, is_fenced, is_live, same_address, same_server, servers_of, with_server, with_server_at}
 use Rattle.hm_model.specs.Journal.{Past}
 use Rattle.hm_model.specs.Rules.{IsLegal}
+use Rattle.hm_model.specs.Standings.{is_live_in, live_if, live_servers, standing_of, standings_of}
 use Rattle.hm_model.specs.Tree.{Node, node_of}
 use Rattle.hm_model.proofs.CameUp.{fence_names, fenced_came, live_came, named_came}
 use Rattle.hm_model.proofs.NameTies.{same_server-is, same_server-refl, server_cmp-is, servers_total}
-use Rattle.hm_places.specs.declared.standing.Standing.{Standing}
+use Rattle.hm_model.specs.declared.standing.Standing.{Standing}
 use Rattle.hm_places.specs.Chosen.{Rises, has}
-use Rattle.hm_places.specs.Laws.{AllStandingsTell, EntriesStand, FencedCameUp, fence_of, shown_fenced, standing_of, standings_of, with_fence}
-use Rattle.hm_places.specs.Servers.{has_live_in, has_newer_in, has_older_in, has_other_live_in, live_servers, fenced_if, fresh, is_live_in, live_if}
+use Rattle.hm_places.specs.Laws.{AllStandingsTell, EntriesStand, FencedCameUp, fence_of, shown_fenced, with_fence}
+use Rattle.hm_places.specs.Servers.{has_live_in, has_newer_in, has_older_in, has_other_live_in, fenced_if, fresh}
 use Rattle.hm_places.proofs.ByKey.{IsSetAt, Joins, changed_by, find_by, placed_by, rises_join, rows_by}
 use Rattle.hm_places.proofs.NameOrder.{server_ties_back}
 

@@ -9,14 +9,16 @@ use Rattle.hm_names.specs.Order.{server_cmp}
 use Rattle.hm_names.specs.Server.{Server}
 use Rattle.hm_index.specs.Index.{IsRising, find, changed, key_if, PutAt}
 use Rattle.hm_model.specs.Fleet.{same_address}
+use Rattle.hm_model.specs.Standings.{MayComeUp, greatest_start, is_live_in, live_if, live_servers}
 use Rattle.hm_places.specs.Chosen.{cmp_if, AreChosen, HasGap, has}
-use Rattle.hm_places.specs.Servers.{address_cmp, fresh, live_if, is_live_in, live_servers, greatest_start, has_older_in, first_there, MayComeUp, name_of, is_live_key, is_live_but, AreLiveBut, AreServers, lowest, or_else, without}
-use Rattle.hm_places.specs.declared.standing.Standing.{Standing}
+use Rattle.hm_places.specs.Servers.{address_cmp, fresh, has_older_in, first_there, name_of, is_live_key, is_live_but, AreLiveBut, AreServers}
+use Rattle.hm_model.specs.declared.standing.Standing.{Standing}
 use Rattle.hm_places.proofs.Addresses.{addresses_total, address_ties}
 use Rattle.hm_places.proofs.Choice.{rewanted, added}
 use Rattle.hm_places.proofs.Kept.{kept_has}
 use Rattle.hm_places.proofs.Live.{test_live}
 use Rattle.hm_model.proofs.NameTies.{servers_total, server_cmp-is}
+use Rattle.hm_model.specs.Choice.{lowest, or_else, without}
 use Rattle.hm_places.proofs.Sorted.{is_equal}
 
 map_alike : {X : Type 0} (f g : ℕ → X) (ns : List ℕ) → ((n : ℕ) → f n ≡ g n) → map f ns ≡ map g ns

@@ -13,14 +13,15 @@ use Rattle.hm_data.specs.declared.place.Place.{Place}
 use Rattle.hm_data.specs.declared.place.RegionState.TheVariants as place_is
 use Rattle.hm_model.specs.Journal.{Past}
 use Rattle.hm_model.specs.Keys.{same_region}
+use Rattle.hm_model.specs.Loads.{places_of, regions_at}
 use Rattle.hm_model.specs.Places.{is_at, joined_at, joined_by, joined_if, place_of, placed, placed_by as place_given, region_if}
 use Rattle.hm_model.specs.TransitActs.{nowhere, told_place}
 use Rattle.hm_model.specs.Tree.{node_of}
 use Rattle.hm_model.proofs.KeyTests.{region_cmp-is}
 use Rattle.hm_model.proofs.NameTies.{region_ties, regions_total}
 use Rattle.hm_places.specs.Chosen.{Rises, has}
-use Rattle.hm_places.specs.Laws.{EntriesPlace, PlacesTell, given_to, places_of, with_place}
-use Rattle.hm_places.specs.Places.{place_in, regions_at}
+use Rattle.hm_places.specs.Laws.{EntriesPlace, PlacesTell, given_to, with_place}
+use Rattle.hm_places.specs.Places.{place_in}
 use Rattle.hm_places.proofs.ByKey.{IsSetAt, Joins, find_by, has_join, placed_by, rises_join, rows_by}
 
 joins : Joins region_cmp joined_by

@@ -8,9 +8,10 @@ use Rattle.hm_names.specs.Order.{server_cmp}
 use Rattle.hm_names.specs.Server.{Server}
 use Rattle.hm_index.specs.Index.{IsRising, find, key_if}
 use Rattle.hm_places.specs.Chosen.{cmp_if, IsBelow, Rises, has, HasGap, HasAt}
-use Rattle.hm_places.specs.Servers.{has_live_in, live_if, is_live_in, live_servers, name_of, is_live_key, is_live_but, AreLive, AreLiveBut}
-use Rattle.hm_places.specs.declared.standing.Standing.{Standing}
+use Rattle.hm_places.specs.Servers.{has_live_in, name_of, is_live_key, is_live_but, AreLive, AreLiveBut}
+use Rattle.hm_model.specs.declared.standing.Standing.{Standing}
 use Rattle.hm_model.proofs.NameTies.{servers_total, server_cmp-is}
+use Rattle.hm_model.specs.Standings.{is_live_in, live_if, live_servers}
 use Rattle.hm_places.proofs.NameOrder.{total_if}
 use Rattle.hm_places.proofs.Sorted.{is_equal, gap-has, unique}
 use Rattle.hm_places.proofs.Kept.{test_if, kept_rise, kept_has}

@@ -1,7 +1,7 @@
 -- The first server of the lowest load, as servers are met.
 use Rattle.std.proofs.Common.{◌≡◌, ℕ, zero, suc, ◌≤◌, List, [], ◌∷◌, length, drop, Option, Some, None, refl, arith}
 use Rattle.hm_names.specs.Server.{Server}
-use Rattle.hm_places.specs.Servers.{lower}
+use Rattle.hm_model.specs.Choice.{lower}
 use Rattle.hm_places.specs.declared.picking.Loaded.{Loaded}
 
 -- the best so far with the best of those that are left

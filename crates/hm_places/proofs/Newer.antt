@@ -9,10 +9,11 @@ use Rattle.hm_names.specs.Order.{server_cmp}
 use Rattle.hm_names.specs.Server.{Server}
 use Rattle.hm_index.specs.Index.{IsRising, or_more, pairs_from}
 use Rattle.hm_model.specs.Fleet.{same_address, same_server}
+use Rattle.hm_model.specs.Standings.{live_servers}
 use Rattle.hm_model.proofs.NameTies.{server_cmp-is}
-use Rattle.hm_places.specs.declared.standing.Standing.{Standing}
+use Rattle.hm_model.specs.declared.standing.Standing.{Standing}
 use Rattle.hm_places.specs.Chosen.{has}
-use Rattle.hm_places.specs.Servers.{AreServers, first_there, has_newer_in, has_older_in, live_servers}
+use Rattle.hm_places.specs.Servers.{AreServers, first_there, has_newer_in, has_older_in}
 use Rattle.hm_places.proofs.Addresses.{AreFrom, above_all, from_all, from_rising, not_older, older}
 use Rattle.hm_places.proofs.Fleets.{first_is, older_one}
 use Rattle.hm_places.proofs.Live.{live_names}

@@ -9,7 +9,7 @@ use Rattle.std.proofs.lemmas.Option.{none-some, same_Some}
 use Rattle.hm_names.specs.Order.{server_cmp}
 use Rattle.hm_names.specs.Server.{Server}
 use Rattle.hm_model.specs.Fleet.{same_address}
-use Rattle.hm_places.specs.declared.standing.Standing.{Standing}
+use Rattle.hm_model.specs.declared.standing.Standing.{Standing}
 use Rattle.hm_places.specs.Chosen.{cmp_if, IsBelow, Rises}
 use Rattle.hm_places.specs.Servers.{address_cmp, first_there, name_of}
 use Rattle.hm_places.proofs.Addresses.{address_ties, addresses_total, by_parts, still_above}

@@ -1,5 +1,5 @@
 -- What places and servers say of a journal, and what keeps that.
-use Rattle.std.specs.Prelude.{◌≡◌, ℕ, ◌∷◌, List, map, Option, Some, None, true, if◌then◌else◌, ◌==◌}
+use Rattle.std.specs.Prelude.{◌≡◌, ℕ, ◌∷◌, List, Option, Some, None, true, if◌then◌else◌, ◌==◌}
 use Rattle.hm_names.specs.Order.{region_cmp, server_cmp}
 use Rattle.hm_names.specs.Region.{Region}
 use Rattle.hm_names.specs.Server.{Server}
@@ -12,26 +12,16 @@ use Rattle.hm_data.specs.declared.entry.Entry.{Entry}
 use Rattle.hm_data.specs.declared.entry.Entry.TheVariants as entry_is
 use Rattle.hm_data.specs.declared.place.Place.{Place}
 use Rattle.hm_index.specs.Index.{placed as placed_in}
-use Rattle.hm_model.specs.Fleet.{came_up, has_live, has_newer, has_older_live, has_other_live, is_fenced, is_live, servers_of}
+use Rattle.hm_model.specs.Fleet.{came_up, has_live, has_newer, has_older_live, has_other_live, is_fenced, is_live}
 use Rattle.hm_model.specs.Journal.{Past}
-use Rattle.hm_model.specs.Places.{at_server, load, place_of, placed, region_if}
+use Rattle.hm_model.specs.Loads.{load_in, places_of, regions_at}
+use Rattle.hm_model.specs.Places.{at_server, load, place_of, region_if}
 use Rattle.hm_model.specs.Rules.{IsLegal}
+use Rattle.hm_model.specs.Standings.{is_live_in, standings_of}
 use Rattle.hm_model.specs.Tree.{Node, node_of}
-use Rattle.hm_places.specs.declared.standing.Standing.{Standing}
-use Rattle.hm_places.specs.Places.{load_in, place_in, regions_at}
-use Rattle.hm_places.specs.Servers.{came_up_in, fenced, fresh, has_live_in, has_newer_in, has_older_in, has_other_live_in, is_fenced_in, is_live_in, put_down}
-
--- the regions that a journal gave a place, in name order, with their places
-abbrev pub places_of : Past → List (Region × Place)
-places_of J = map (λ region. (region, place_of J region)) (placed J)
-
--- how a server stands in a journal
-abbrev pub standing_of : Past → Server → Standing
-standing_of J server = record { live = is_live J server; fenced = is_fenced J server }
-
--- the servers that ever came up in a journal, in name order, and how they stand
-abbrev pub standings_of : Past → List (Server × Standing)
-standings_of J = map (λ server. (server, standing_of J server)) (servers_of J)
+use Rattle.hm_model.specs.declared.standing.Standing.{Standing}
+use Rattle.hm_places.specs.Places.{place_in}
+use Rattle.hm_places.specs.Servers.{came_up_in, fenced, fresh, has_live_in, has_newer_in, has_older_in, has_other_live_in, is_fenced_in, put_down}
 
 -- a place that is given to a region, if both are there
 abbrev pub given_to : Option Region → Option Place → Option (Region × Place)

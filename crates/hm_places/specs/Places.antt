@@ -1,6 +1,6 @@
 -- The places of regions, as callers see them.
 use Rattle.std.specs.Prelude.{◌≡◌, ℕ, List, length, map, Option, Some, None, Bool, false, not, ◌&&◌, if◌then◌else◌, slice_get}
-use Rattle.std.specs.List.{filter, filter_map}
+use Rattle.std.specs.List.{filter_map}
 use Rattle.std.specs.Ordering.{is_eq, on, then_cmp}
 use Rattle.std.specs.declared.cmp.Ordering.{Ordering}
 use Rattle.std.specs.declared.cmp.Ordering.TheVariants.{Less}
@@ -23,14 +23,6 @@ pub record PlacesView : Type 0 where
 -- the place of a region: Offline without a server where none was set
 abbrev pub place_in : List (Region × Place) → Region → Place
 place_in places region = told_place (find region_cmp places region)
-
--- the regions at a server, in name order: those that are being opened or closed there, or are open
-abbrev pub regions_at : List (Region × Place) → Server → List Region
-regions_at places server = map (λ row. row.0) (filter (λ row. is_at server row.1) places)
-
--- how many regions are at a server
-abbrev pub load_in : List (Region × Place) → Server → ℕ
-load_in places server = length (regions_at places server)
 
 -- by server, then by region
 abbrev pub held_cmp : Server × Region → Server × Region → Ordering

@@ -1,14 +1,15 @@
 -- The servers that ever came up, as callers see them.
-use Rattle.std.specs.Prelude.{◌≡◌, ℕ, ◌<◌, ◌≤◌, List, [], ◌∷◌, map, max, Option, Some, None, Bool, true, false, not, ◌&&◌, if◌then◌else◌, nat_lt, is_some, slice_get}
-use Rattle.std.specs.List.{filter, list_any}
+use Rattle.std.specs.Prelude.{◌≡◌, ℕ, ◌≤◌, List, [], ◌∷◌, Option, Some, None, Bool, true, false, not, ◌&&◌, if◌then◌else◌, nat_lt, is_some, slice_get}
+use Rattle.std.specs.List.{list_any}
 use Rattle.std.specs.Ordering.{is_eq, nat_cmp, on, then_cmp}
 use Rattle.std.specs.declared.cmp.Ordering.{Ordering}
 use Rattle.hm_names.specs.Order.{bytes_cmp, server_cmp}
 use Rattle.hm_names.specs.Server.{Server}
 use Rattle.hm_index.specs.Index.{IsRising, find, placed, changed, key_if}
 use Rattle.hm_model.specs.Fleet.{same_address, same_server}
+use Rattle.hm_model.specs.Standings.{MayComeUp, greatest_start, is_live_in, live_servers}
 use Rattle.hm_places.specs.Chosen.{AreChosen}
-use Rattle.hm_places.specs.declared.standing.Standing.{Standing}
+use Rattle.hm_model.specs.declared.standing.Standing.{Standing}
 use Rattle.hm_places.specs.declared.refused.UpRefused.{UpRefused}
 use Rattle.hm_places.specs.declared.refused.UpRefused.TheVariants as up_is
 use Rattle.hm_places.specs.declared.refused.DownRefused.{DownRefused}
@@ -24,23 +25,16 @@ pub record ServersView : Type 0 where
 abbrev pub fresh : Standing
 fresh = record { live = true; fenced = false }
 
--- it is there, and live
-abbrev pub live_if : Option Standing → Bool
-live_if None = false
-live_if (Some standing) = standing.live
-
 -- it is there, and fenced
 abbrev pub fenced_if : Option Standing → Bool
 fenced_if None = false
 fenced_if (Some standing) = standing.fenced
 
--- a server is live, is fenced, ever came up
-abbrev pub is_live_in : List (Server × Standing) → Server → Bool
-is_live_in servers server = live_if (find server_cmp servers server)
-
+-- a server is fenced
 abbrev pub is_fenced_in : List (Server × Standing) → Server → Bool
 is_fenced_in servers server = fenced_if (find server_cmp servers server)
 
+-- a server ever came up
 abbrev pub came_up_in : List (Server × Standing) → Server → Bool
 came_up_in servers server = is_some (find server_cmp servers server)
 
@@ -51,16 +45,6 @@ has_live_in servers = list_any (λ row. row.1.live) servers
 -- by host, then by port
 abbrev pub address_cmp : Server → Server → Ordering
 address_cmp = then_cmp (on (λ s. s.host) bytes_cmp) (on (λ s. s.port) nat_cmp)
-
--- the live ones, in name order
-abbrev pub live_servers : List (Server × Standing) → List Server
-live_servers servers = map (λ row. row.0) (filter (λ row. row.1.live) servers)
-
--- the greatest start code that came up at the address of a server, and 0 where none did
-abbrev pub greatest_start : List (Server × Standing) → Server → ℕ
-greatest_start [] server = 0
-greatest_start (row ∷ more) server =
-    if same_address server row.0 then max row.0.start (greatest_start more server) else greatest_start more server
 
 -- an older server of the address is live
 abbrev pub has_older_in : List (Server × Standing) → Server → Bool
@@ -89,11 +73,6 @@ abbrev pub put_down : List (Server × Standing) → Option Server → List (Serv
 put_down servers None = servers
 put_down servers (Some server) = changed server_cmp servers server (gone (find server_cmp servers server))
 
--- a server may come up: it isn't live, and none of its address ever came up with its start code or a greater one
-pub record MayComeUp (servers : List (Server × Standing)) (server : Server) : Type 0 where
-  pub unknown : is_live_in servers server ≡ false
-  pub newest : greatest_start servers server < server.start
-
 -- why a server can't come up; memory runs out only where it may
 abbrev pub CannotComeUp : List (Server × Standing) → Server → UpRefused → Type 0
 CannotComeUp servers server up_is.Known = is_live_in servers server ≡ true
@@ -116,30 +95,6 @@ CannotGoDown servers server down_is.AlreadyDown = (came_up_in servers server ≡
 pub record WentDown (before : List (Server × Standing)) (server : Server) (after : List (Server × Standing)) : Type 0 where
   pub was : is_live_in before server ≡ true
   pub now : after ≡ put_down before (Some server)
-
--- a server is the one to avoid, if there is one
-abbrev pub avoids : Option Server → Server → Bool
-avoids None server = false
-avoids (Some other) server = same_server other server
-
--- servers without the one to avoid
-abbrev pub without : Option Server → List Server → List Server
-without avoid servers = filter (λ server. not (avoids avoid server)) servers
-
--- these, or where there is none those
-abbrev pub or_else : List Server → List Server → List Server
-or_else [] others = others
-or_else (server ∷ more) others = server ∷ more
-
--- the first of some servers with the lowest number
-abbrev pub lower : (Server → ℕ) → Server → Option Server → Server
-lower number server None = server
-lower number server (Some other) = if nat_lt (number other) (number server) then other else server
-
--- the server of the lowest number, the first of those that share it
-abbrev pub lowest : (Server → ℕ) → List Server → Option Server
-lowest number [] = None
-lowest number (server ∷ more) = Some (lower number server (lowest number more))
 
 -- the servers with one fenced
 abbrev pub fenced : List (Server × Standing) → Server → List (Server × Standing)

@@ -5,8 +5,9 @@ ghost use Rattle.std.specs.List.Sorted.{IsSearchInRange, IsBinarySearchResult};
 ghost use Rattle.std.specs.Option.{option_copied};
 ghost use Rattle.hm_names.specs.Order.{region_cmp};
 ghost use Rattle.hm_index.specs.Index.{IsRising};
+ghost use Rattle.hm_model.specs.Loads.{regions_at};
 ghost use Rattle.hm_places.specs.Chosen.{cmp_if, Splits};
-ghost use Rattle.hm_places.specs.Places.{held_at, held_cmp, held_by, holder, key_of, names_of, regions_at, side, AreHeld, AreHeldBut, HaveNames, IsSpotFor};
+ghost use Rattle.hm_places.specs.Places.{held_at, held_cmp, held_by, holder, key_of, names_of, side, AreHeld, AreHeldBut, HaveNames, IsSpotFor};
 
 use hm_data::{Place, RegionState};
 use hm_index::Index;

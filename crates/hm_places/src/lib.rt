@@ -8,7 +8,6 @@ mod picking;
 mod places;
 mod refused;
 mod servers;
-mod standing;
 mod up;
 
 pub use held::OnServer;
@@ -16,4 +15,3 @@ pub use laws::{places_follow, servers_follow};
 pub use places::Places;
 pub use refused::{DownRefused, UpRefused};
 pub use servers::Servers;
-pub use standing::Standing;

@@ -3,8 +3,10 @@ ghost use Rattle.std.specs.Prelude.{◌≡◌, MatchOption, if◌then◌else◌,
 ghost use Rattle.std.specs.Option.{option_copied};
 ghost use Rattle.hm_names.specs.Order.{server_cmp};
 ghost use Rattle.hm_index.specs.Index.{IsRising};
-ghost use Rattle.hm_places.specs.Places.{load_in};
-ghost use Rattle.hm_places.specs.Servers.{live_servers, avoids, without, lowest, AreLive};
+ghost use Rattle.hm_model.specs.Loads.{load_in};
+ghost use Rattle.hm_model.specs.Standings.{live_servers};
+ghost use Rattle.hm_model.specs.Choice.{avoids, lowest, without};
+ghost use Rattle.hm_places.specs.Servers.{AreLive};
 
 use crate::places::Places;
 use crate::up::{Rows, at_address};

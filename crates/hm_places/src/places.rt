@@ -5,7 +5,8 @@ ghost use Rattle.hm_names.specs.Order.{region_cmp};
 ghost use Rattle.hm_names.specs.Region.{Region};
 ghost use Rattle.hm_index.specs.Index.{find, placed};
 ghost use Rattle.hm_model.specs.Keys.{same_region};
-ghost use Rattle.hm_places.specs.Places.{place_in, load_in, regions_at};
+ghost use Rattle.hm_model.specs.Loads.{load_in, regions_at};
+ghost use Rattle.hm_places.specs.Places.{place_in};
 
 use crate::chosen::add_at;
 use crate::held::{OnServer, Rows, let_go, run_of, spot_for};

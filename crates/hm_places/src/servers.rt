@@ -4,17 +4,19 @@ ghost use Rattle.std.specs.Option.{option_copied};
 ghost use Rattle.hm_names.specs.Order.{server_cmp};
 ghost use Rattle.hm_names.specs.Server.{Server};
 ghost use Rattle.hm_index.specs.Index.{placed};
-ghost use Rattle.hm_places.specs.Places.{load_in};
-ghost use Rattle.hm_places.specs.Servers.{fresh, is_live_in, is_fenced_in, came_up_in, live_servers, greatest_start, has_live_in, has_newer_in, has_older_in, has_other_live_in, MayComeUp, CannotComeUp, CameUp, CannotGoDown, WentDown, put_down, first_there, fenced, without, or_else, lowest};
+ghost use Rattle.hm_model.specs.Loads.{load_in};
+ghost use Rattle.hm_model.specs.Standings.{MayComeUp, greatest_start, is_live_in, live_servers};
+ghost use Rattle.hm_model.specs.Choice.{lowest, or_else, without};
+ghost use Rattle.hm_places.specs.Servers.{fresh, is_fenced_in, came_up_in, has_live_in, has_newer_in, has_older_in, has_other_live_in, CannotComeUp, CameUp, CannotGoDown, WentDown, put_down, first_there, fenced};
 
 use crate::picking::lowest_of;
 use crate::places::Places;
 use crate::refused::{DownRefused, UpRefused};
-use crate::standing::Standing;
 use crate::up::{
     Rows, greatest_from, let_go, live_there, newer_there, older_there, other_live, spot_for,
 };
 use hm_index::{Index, View, put_at};
+use hm_model::Standing;
 use hm_names::{Copied, ServerName};
 use std::alloc::{AllocError, Global};
 use std::marker::Model;

@@ -7,11 +7,12 @@ ghost use Rattle.std.specs.Ordering.{is_lt};
 ghost use Rattle.hm_names.specs.Order.{server_cmp};
 ghost use Rattle.hm_index.specs.Index.{IsRising, key_if, pairs_from};
 ghost use Rattle.hm_model.specs.Fleet.{same_address, same_server};
+ghost use Rattle.hm_model.specs.Standings.{greatest_start, is_live_in, live_servers};
 ghost use Rattle.hm_places.specs.Chosen.{cmp_if, HasGap};
-ghost use Rattle.hm_places.specs.Servers.{address_cmp, name_of, is_live_in, live_servers, first_there, greatest_start, has_newer_in, has_older_in, has_other_live_in, AreLive, AreLiveBut, AreServers};
+ghost use Rattle.hm_places.specs.Servers.{address_cmp, name_of, first_there, has_newer_in, has_older_in, has_other_live_in, AreLive, AreLiveBut, AreServers};
 
-use crate::standing::Standing;
 use hm_index::Index;
+use hm_model::Standing;
 use hm_names::ServerName;
 use std::cmp::Ordering;
 

@@ -12,12 +12,13 @@ use Rattle.hm_data.specs.declared.entry.Entry.TheVariants as entry_is
 use Rattle.hm_index.specs.Index.{find}
 use Rattle.hm_model.specs.Fleet.{has_newer, is_live, same_address}
 use Rattle.hm_model.specs.Journal.{Past}
+use Rattle.hm_model.specs.Standings.{MayComeUp, greatest_start, live_if, standings_of}
 use Rattle.hm_model.proofs.NameTies.{same_server-is, same_server-refl, server_ties}
-use Rattle.hm_places.specs.Laws.{StandingsTell, stand_behind, standings_of}
-use Rattle.hm_places.specs.Servers.{CannotGoDown, MayComeUp, greatest_start, has_newer_in, live_if}
+use Rattle.hm_places.specs.Laws.{StandingsTell, stand_behind}
+use Rattle.hm_places.specs.Servers.{CannotGoDown, has_newer_in}
 use Rattle.hm_places.specs.declared.refused.DownRefused.{DownRefused}
 use Rattle.hm_places.specs.declared.refused.DownRefused.TheVariants as down_is
-use Rattle.hm_places.specs.declared.standing.Standing.{Standing}
+use Rattle.hm_model.specs.declared.standing.Standing.{Standing}
 use Rattle.hm_records.specs.Parts.{comes_up}
 
 -- the entry by which a server comes up

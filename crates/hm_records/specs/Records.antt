@@ -10,16 +10,17 @@ use Rattle.hm_names.specs.declared.table.TableName.{TableName}
 use Rattle.hm_data.specs.declared.place.Place.{Place}
 use Rattle.hm_data.specs.declared.sheet.Sheet.{Sheet}
 use Rattle.hm_model.specs.Journal.{Past}
+use Rattle.hm_model.specs.Loads.{places_of}
 use Rattle.hm_model.specs.Nonces.{by_nonce}
 use Rattle.hm_model.specs.Phase.{ended}
 use Rattle.hm_model.specs.RegionIds.{AreNamed}
 use Rattle.hm_model.specs.RowsSaid.{Rows}
 use Rattle.hm_model.specs.Sheets.{sheets_of}
+use Rattle.hm_model.specs.Standings.{standings_of}
 use Rattle.hm_model.specs.Tree.{drawn, pid_of}
 use Rattle.hm_index.specs.Index.{find}
 use Rattle.hm_catalog.specs.Rows.{rows_in}
-use Rattle.hm_places.specs.Laws.{places_of, standings_of}
-use Rattle.hm_places.specs.declared.standing.Standing.{Standing}
+use Rattle.hm_model.specs.declared.standing.Standing.{Standing}
 use Rattle.hm_locks.specs.Book.{Row}
 use Rattle.hm_undo.specs.Laws.{Tells}
 use Rattle.hm_undo.specs.Stacks.{Stacks, steps_of}

@@ -4,8 +4,9 @@ ghost use Rattle.std.specs.Option.{option_copied};
 ghost use Rattle.hm_names.specs.Server.{Server};
 ghost use Rattle.hm_data.specs.declared.entry.Entry.TheVariants as entry_is;
 ghost use Rattle.hm_model.specs.Rules.{IsLegal};
+ghost use Rattle.hm_model.specs.Standings.{standings_of};
 ghost use Rattle.hm_model.specs.Tree.{node_of};
-ghost use Rattle.hm_places.specs.Laws.{shown_fenced as fenced_by, standings_of, with_fence};
+ghost use Rattle.hm_places.specs.Laws.{shown_fenced as fenced_by, with_fence};
 ghost use Rattle.hm_records.specs.Parts.{comes_up as up_by};
 
 use hm_data::{Args, Entry, Told};

@@ -4,7 +4,8 @@ ghost use Rattle.std.specs.Option.{option_copied};
 ghost use Rattle.hm_model.specs.Places.{region_if};
 ghost use Rattle.hm_model.specs.Tree.{node_of};
 ghost use Rattle.hm_model.specs.Views.{region_of as region_in, region_of_request as requested_region};
-ghost use Rattle.hm_places.specs.Laws.{placed_now as placed_by, places_of};
+ghost use Rattle.hm_model.specs.Loads.{places_of};
+ghost use Rattle.hm_places.specs.Laws.{placed_now as placed_by};
 
 use hm_data::{Args, Entry, Place, Request};
 use hm_names::{Copied, Pid, RegionName};

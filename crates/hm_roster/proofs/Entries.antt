@@ -16,11 +16,11 @@ use Rattle.hm_model.specs.Rules.{IsLatest, IsLegal}
 use Rattle.hm_model.specs.Tree.{Node, made, node_of, root_of}
 use Rattle.hm_model.proofs.Forest.{forest_all, top_is, top_is_own}
 use Rattle.hm_model.proofs.Grown.{grown_all, nodes_stay}
-use Rattle.hm_tied.specs.Calls.{Unclaims}
 use Rattle.hm_tied.specs.Entries.{Enlists, alters, is_new, root_debts, touched, undo_debts}
 use Rattle.hm_tied.specs.Tied.{IsTied, IsTiedBut}
 use Rattle.hm_tied.specs.Uses.{AreAmong}
 use Rattle.hm_model.proofs.Running.{undo_facts}
+use Rattle.hm_model.specs.Claims.{Unclaims}
 use Rattle.hm_tied.proofs.Others.{down_owes, submit_owes}
 use Rattle.hm_tied.proofs.Stepping.{step_owes}
 use Rattle.hm_tied.proofs.Undoing.{undo_owes}

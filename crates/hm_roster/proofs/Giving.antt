@@ -7,6 +7,7 @@ use Rattle.hm_names.specs.Server.{Server}
 use Rattle.hm_data.specs.declared.answer.Answer.{Answer}
 use Rattle.hm_locks.specs.Book.{AreChanged, IsEnlisted, Row, holding, row_of}
 use Rattle.hm_model.specs.Answers.{last_answer}
+use Rattle.hm_model.specs.Claims.{Unclaims}
 use Rattle.hm_model.specs.Holding.{IsFree as IsClear}
 use Rattle.hm_model.specs.Journal.{Past}
 use Rattle.hm_model.specs.Locks.{IsIn}
@@ -18,7 +19,7 @@ use Rattle.hm_sched.specs.Effects.{Joins, Passes, Wakes}
 use Rattle.hm_sched.specs.Queues.{IsWith, StandsNowhere, is_ready, is_same, members, ready_count}
 use Rattle.hm_sched.specs.declared.queue.Queue.{Queue}
 use Rattle.hm_sched.specs.declared.queue.Queue.TheVariants.{Held, Servers, Suspended, Tables, Waits}
-use Rattle.hm_tied.specs.Calls.{Unclaims, owing}
+use Rattle.hm_tied.specs.Calls.{owing}
 use Rattle.hm_tied.specs.Tied.{CanGo, IsOpen, IsTied, IsTiedBut, Roster}
 use Rattle.hm_tied.proofs.Calls.{exact, give_up_owes, join_owes, keep_on_owes, next_owes}
 use Rattle.hm_tied.proofs.Paid.{one_pays}

@@ -11,9 +11,9 @@ use Rattle.hm_names.specs.Server.{Server}
 use Rattle.hm_model.specs.Fleet.{came_up, has_newer, same_address, same_server, servers_of}
 use Rattle.hm_model.specs.Journal.{Past}
 use Rattle.hm_model.specs.Locks.{IsIn}
+use Rattle.hm_model.specs.Standings.{standing_of, standings_of}
 use Rattle.hm_model.proofs.NameTies.{same_server-is, same_server-refl, server_ties}
-use Rattle.hm_places.specs.Laws.{standing_of, standings_of}
-use Rattle.hm_places.specs.declared.standing.Standing.{Standing}
+use Rattle.hm_model.specs.declared.standing.Standing.{Standing}
 use Rattle.hm_roster.specs.Desk.{IsNumbered, NumbersStay, given_number}
 use Rattle.hm_roster.specs.Roster.{HasLists, number_if, number_on, servers_on}
 use Rattle.hm_roster.specs.declared.desk.Desk.{Desk}

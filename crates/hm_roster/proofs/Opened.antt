@@ -22,7 +22,7 @@ use Rattle.hm_model.specs.Rules.{IsLegal}
 use Rattle.hm_model.specs.Tree.{Node, made, node_of, parent_in, pid_of}
 use Rattle.hm_model.proofs.Grown.{grown_all, made_up_to}
 use Rattle.hm_model.proofs.Trees.{some_of}
-use Rattle.hm_serial.proofs.Taken.{legal_apart}
+use Rattle.hm_model.proofs.Taken.{legal_apart}
 use Rattle.hm_tied.specs.Tied.{IsOpen}
 use Rattle.hm_roster.specs.Opening.{IsBookBelow}
 use Rattle.hm_roster.proofs.Changed.{changed_here, changed_there, holding_row, row_some, some_row}

@@ -3,7 +3,7 @@ use Rattle.std.proofs.Common.{◌≡◌, ◌≢◌, ◌↔◌, ◌⊎◌, ℕ, s
 use Rattle.std.proofs.lemmas.Bool.{cases_eq}
 use Rattle.std.proofs.lemmas.Option.{none-some, same_Some}
 use Rattle.hm_model.specs.Locks.{IsIn}
-use Rattle.hm_tied.specs.Calls.{Unclaims}
+use Rattle.hm_model.specs.Claims.{Unclaims}
 
 -- who is another one stays
 pub others_stay : (xs : List ℕ) (i p q : ℕ) → slice_get xs i ≡ Some p → q ≢ p → IsIn q (remove xs i) ↔ IsIn q xs

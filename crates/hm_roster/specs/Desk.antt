@@ -1,5 +1,5 @@
 -- Room on a desk, and what of it stays where other parts change.
-use Rattle.std.specs.Prelude.{◌≡◌, ℕ, ◌+◌, ◌<◌, ◌≤◌, ◌^◌, List, Option, Some, None, ◌⊎◌, ◌↔◌, vec_len, vec_capacity}
+use Rattle.std.specs.Prelude.{◌≡◌, ℕ, ◌+◌, ◌<◌, ◌≤◌, ◌^◌, List, Option, Some, None, vec_len, vec_capacity}
 use Rattle.hm_names.specs.Order.{server_cmp}
 use Rattle.hm_names.specs.Server.{Server}
 use Rattle.hm_names.specs.declared.pid.Pid.{Pid}
@@ -9,7 +9,6 @@ use Rattle.hm_data.specs.declared.entry.Entry.TheVariants as entry_is
 use Rattle.hm_index.specs.Index.{find}
 use Rattle.hm_locks.specs.Book.{IsEnlisted, Row, row_of}
 use Rattle.hm_model.specs.Journal.{Past}
-use Rattle.hm_model.specs.Locks.{IsIn}
 use Rattle.hm_model.specs.Rules.{Allowed}
 use Rattle.hm_model.specs.Tree.{made}
 use Rattle.hm_procedures.specs.Kept.{args_made}
@@ -27,10 +26,6 @@ HasClaimRoom desk = let claimed = desk.claimed in vec_len claimed < vec_capacity
 abbrev pub room_on : Desk → ℕ
 room_on desk =
     let claimed = desk.claimed in (let sched = desk.sched in (let book = desk.book in (let numbers = desk.numbers in vec_capacity claimed + sched.room + book.room + numbers.room)))
-
--- one is claimed too
-abbrev pub IsClaimedToo : ℕ → List ℕ → List ℕ → Type 0
-IsClaimedToo p old new = (q : ℕ) → IsIn q new ↔ ((q ≡ p) ⊎ IsIn q old)
 
 -- the same claims, and the same are enlisted and stand where they stood, with as much room or more
 pub record IsRoomier (old new : Desk) : Type 0 where

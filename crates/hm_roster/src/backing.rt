@@ -1,10 +1,11 @@
 //! Claims that are given up.
 ghost use Rattle.std.specs.Prelude.{◌≡◌, ◌≤◌, ℕ, List};
 ghost use Rattle.hm_model.specs.Locks.{IsIn};
+ghost use Rattle.hm_model.specs.Claims.{Unclaims};
 ghost use Rattle.hm_roster.specs.Desk.{room_on};
 ghost use Rattle.hm_roster.specs.Roster.{Follows, IsSameBut, number_on};
 ghost use Rattle.hm_sched.specs.Queues.{StandsNowhere};
-ghost use Rattle.hm_tied.specs.Calls.{Unclaims, owing};
+ghost use Rattle.hm_tied.specs.Calls.{owing};
 ghost use Rattle.hm_tied.specs.Tied.{IsTiedBut};
 
 use crate::abilities::is_of_crash;

@@ -1,7 +1,8 @@
 //! A procedure that was given is claimed, or let be.
 ghost use Rattle.std.specs.Prelude.{◌≡◌, ◌++◌, ◌∷◌, [], length};
+ghost use Rattle.hm_model.specs.Claims.{IsClaimedToo};
 ghost use Rattle.hm_locks.specs.Book.{NoneClash, is_holding, row_of};
-ghost use Rattle.hm_roster.specs.Desk.{HasClaimRoom, IsClaimedToo};
+ghost use Rattle.hm_roster.specs.Desk.{HasClaimRoom};
 ghost use Rattle.hm_roster.specs.Roster.{Follows, IsGiven, IsSameBut, claims_on, is_of_crash as of_crash};
 ghost use Rattle.hm_sched.specs.Queues.{IsWith, members, ready_list};
 ghost use Rattle.hm_tied.specs.Tied.{CanGo};

@@ -1,7 +1,7 @@
 //! The claims.
 ghost use Rattle.std.specs.Prelude.{◌≡◌, ◌↔◌, IfNone, IfSome, IsTrue, Some, slice_get, vec_capacity};
 ghost use Rattle.hm_model.specs.Locks.{IsIn};
-ghost use Rattle.hm_tied.specs.Calls.{Unclaims};
+ghost use Rattle.hm_model.specs.Claims.{Unclaims};
 
 // The place of a claim.
 fn place_of(claimed: &[u64], pid: u64) -> Option<usize>

@@ -3,10 +3,10 @@ ghost use Rattle.std.specs.Prelude.{◌≡◌, ◌≢◌, ◌≤◌, ◌<◌, If
 ghost use Rattle.hm_locks.specs.Book.{IsEnlisted};
 ghost use Rattle.hm_model.specs.Phase.{ended};
 ghost use Rattle.hm_model.specs.Tree.{Node, node_of, parent_in};
+ghost use Rattle.hm_model.specs.Claims.{Unclaims};
 ghost use Rattle.hm_roster.specs.Behind.{IsEntered, IsUndoOf};
 ghost use Rattle.hm_roster.specs.Roster.{Follows, HasLists, IsSameBut, IsStepOf, Owes, finished, paid, paid_if};
 ghost use Rattle.hm_sched.specs.Moves.{pid_in};
-ghost use Rattle.hm_tied.specs.Calls.{Unclaims};
 ghost use Rattle.hm_tied.specs.Tied.{Debts};
 
 use crate::claims::unclaim;

@@ -24,11 +24,11 @@ use Rattle.hm_model.specs.Journal.{Past, back}
 use Rattle.hm_model.specs.Locks.{IsIn}
 use Rattle.hm_model.specs.Sheets.{sheets_of}
 use Rattle.hm_model.proofs.Prefixes.{back-push}
+use Rattle.hm_model.specs.Claims.{Unclaims}
 use Rattle.hm_refusals.specs.declared.aborts.AbortRefused.{AbortRefused}
 use Rattle.hm_refusals.specs.declared.aborts.AbortRefused.TheVariants as abort_is
 use Rattle.hm_refusals.specs.declared.submissions.Refused.{Refused}
 use Rattle.hm_refusals.specs.declared.submissions.Refused.TheVariants as refused_is
-use Rattle.hm_tied.specs.Calls.{Unclaims}
 use Rattle.hm_exec.specs.Claiming.{AnswersClaim, AnswersCommit, PutsBack, RefusesCommit, entry_by}
 use Rattle.hm_exec.specs.Fleet.{AnswersDown, AnswersUp, FaultsCopying, FaultsFirst, PutsDown}
 use Rattle.hm_exec.specs.Hearing.{AnswersReport, report_entry}

@@ -17,9 +17,10 @@ use Rattle.hm_model.specs.Rules.{IsLegal}
 use Rattle.hm_model.proofs.Free.{step_free}
 use Rattle.hm_model.proofs.LegalSteps.{StepFacts, ready_stops}
 use Rattle.hm_model.proofs.StepDoes.{Does}
+use Rattle.hm_model.proofs.Taken.{clash_sym}
 use Rattle.hm_model.proofs.Trees.{Grown, IsWaiting, le_or_lt, new_child, node_same}
 use Rattle.hm_kinds.proofs.Covering.{rows_table}
-use Rattle.hm_kinds.proofs.LockForms.{IsRight, clash_sym, lock_law}
+use Rattle.hm_kinds.proofs.LockForms.{IsRight, lock_law}
 use Rattle.hm_serial.proofs.Fallen.{some_cons}
 use Rattle.hm_model.proofs.Tops.{TopHolds, TopIs, holds_with, tops_conflict}
 use Rattle.hm_serial.proofs.Standing.{holds_left, live_child, step_left, step_open}

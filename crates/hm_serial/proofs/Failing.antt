@@ -17,10 +17,11 @@ use Rattle.hm_model.specs.Rules.{IsLegal}
 use Rattle.hm_model.specs.Tree.{Node, node_of, root_in, root_of}
 use Rattle.hm_model.specs.Undo.{Undoable, is_empty, stack}
 use Rattle.hm_model.proofs.Trees.{Grown, IsRooted, does_of, down_rooted, grown_all, old_or_new, step_of, still, still_there, submit_rooted, undo_rooted}
-use Rattle.hm_serial.specs.Theorem.{EditsAreCovered, FailureLeavesAll, HasKey, TreeEdits}
+use Rattle.hm_serial.specs.Theorem.{EditsAreCovered, FailureLeavesAll}
 use Rattle.hm_serial.proofs.FallAll.{falls_all, step_aside, top, top_is, undo_holds, undo_unwinds, undo_within}
 use Rattle.hm_serial.proofs.FallStep.{own_root, unwinds_now, within_now}
 use Rattle.hm_model.specs.Apart.{tree_of}
+use Rattle.hm_model.specs.TreeEdits.{HasKey, TreeEdits}
 use Rattle.hm_model.proofs.Apart.{others_stay}
 use Rattle.hm_model.proofs.Grown.{nodes_stay}
 use Rattle.hm_serial.proofs.Apart.{step_top}

@@ -16,4 +16,3 @@ pub mod StandStep
 pub mod StandKid
 pub mod StandAll
 pub mod Serial
-pub mod Taken

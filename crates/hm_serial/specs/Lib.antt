@@ -1,2 +1,1 @@
 pub mod Theorem
-pub mod Taking

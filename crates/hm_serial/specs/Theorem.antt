@@ -11,7 +11,8 @@ use Rattle.hm_data.specs.declared.entry.Entry.TheVariants as entry_is
 use Rattle.hm_data.specs.declared.step.StepOut.{StepOut}
 use Rattle.hm_model.specs.GoingBack.{Tells}
 use Rattle.hm_model.specs.Journal.{Past}
-use Rattle.hm_model.specs.Tree.{Node, node_of, root_of}
+use Rattle.hm_model.specs.Tree.{Node, node_of}
+use Rattle.hm_model.specs.TreeEdits.{TreeEdits}
 use Rattle.hm_model.specs.Phase.{cause, root_ended}
 use Rattle.hm_model.specs.Catalog.{cat, was, keys_of}
 use Rattle.hm_model.specs.Reads.{covers, IsBusy}
@@ -35,25 +36,6 @@ DeedsApply =
     → (node : Node) → node_of before pid.0 ≡ Some node → node.above ≡ []
     → (told : Told) → out.answer ≡ answer_is.Done told
     → (edits : List Edit) × (deed_of node.args (keys_of before) (serial before) ≡ Ok edits)
-
--- one of the edits is of the key
-abbrev pub HasKey : List Edit → CatKey → Type 0
-HasKey [] key = ⊥
-HasKey (edit ∷ edits) key = (edit.key ≡ key) ⊎ HasKey edits key
-
--- the tree of the root edited the key
-abbrev pub TreeEdits : Past → ℕ → CatKey → Type 0
-TreeEdits [] r key = ⊥
-TreeEdits (entry_is.Start sheets ∷ before) r key = TreeEdits before r key
-TreeEdits (entry_is.Submit nonce request ∷ before) r key = TreeEdits before r key
-TreeEdits (entry_is.Step pid pick out ∷ before) r key =
-    ((root_of before pid.0 ≡ r) × HasKey out.edits key) ⊎ TreeEdits before r key
-TreeEdits (entry_is.Undo pid row out ∷ before) r key =
-    ((root_of before pid.0 ≡ r) × HasKey out.edits key) ⊎ TreeEdits before r key
-TreeEdits (entry_is.Report call told ∷ before) r key = TreeEdits before r key
-TreeEdits (entry_is.Up server ∷ before) r key = TreeEdits before r key
-TreeEdits (entry_is.Down server ∷ before) r key = TreeEdits before r key
-TreeEdits (entry_is.Abort pid ∷ before) r key = TreeEdits before r key
 
 -- what the steps and undos of a tree edit, its root covers
 abbrev pub EditsAreCovered : Type 0

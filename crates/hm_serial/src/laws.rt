@@ -1,6 +1,5 @@
 //! The laws.
 ghost use Rattle.hm_serial.specs.Theorem.{CatalogIsSerial, SettledCatalogIsSerial, DeedsApply, EditsAreCovered, FailureLeavesAll, UndosTell};
-ghost use Rattle.hm_serial.specs.Taking.{NoneConflict, NoneOfLegalConflict};
 
 /// On every key that no unfinished procedure with a step covers, the catalog is that of the deeds.
 pub fn catalog_is_serial()
@@ -25,13 +24,6 @@ pub fn edits_are_covered()
 /// A failed root leaves each key that it covers, and so each that its tree edited, as it was before its first step.
 pub fn failure_leaves_all()
     ensures { FailureLeavesAll }
-{}
-
-/// No two procedures that have a step and haven't ended conflict, nor do any that are taken ahead of their first step, where
-/// whoever is taken was free when it was taken.
-pub fn none_conflict()
-    ensures legal { NoneOfLegalConflict }
-    ensures taken { NoneConflict }
 {}
 
 /// The edits of an undo tell the rows that they find.

@@ -5,6 +5,6 @@
 mod laws;
 
 pub use laws::{
-    catalog_is_serial, deeds_apply, edits_are_covered, failure_leaves_all, none_conflict,
-    settled_catalog_is_serial, undos_tell,
+    catalog_is_serial, deeds_apply, edits_are_covered, failure_leaves_all, settled_catalog_is_serial,
+    undos_tell,
 };

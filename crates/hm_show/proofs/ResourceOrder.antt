@@ -6,9 +6,9 @@ use Rattle.std.specs.declared.cmp.Ordering.TheVariants.{Less, Equal}
 use Rattle.std.proofs.lemmas.Cmp.{on_total}
 use Rattle.hm_data.proofs.KeyOrder.{keys_total}
 use Rattle.hm_model.proofs.NameTies.{servers_total}
-use Rattle.hm_locks.specs.Kept.{key_of, lock_cmp}
 use Rattle.hm_locks.specs.declared.key.Key.{Key}
 use Rattle.hm_locks.specs.declared.key.Key.TheVariants.{Row, Server}
+use Rattle.hm_locks.specs.Keys.{key_of, lock_cmp}
 use Rattle.hm_show.specs.Locks.{resource_cmp}
 
 antisymm : (x y : Key) → lock_cmp x y ≡ ordering_reverse (lock_cmp y x)

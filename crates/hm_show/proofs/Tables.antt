@@ -4,9 +4,9 @@ use Rattle.hm_names.specs.Region.{Region}
 use Rattle.hm_names.specs.Server.{Server}
 use Rattle.hm_data.specs.declared.place.Place.{Place}
 use Rattle.hm_model.specs.Journal.{Past}
+use Rattle.hm_model.specs.Loads.{load_in}
 use Rattle.hm_model.specs.Places.{load}
-use Rattle.hm_places.specs.Laws.{standing_of}
-use Rattle.hm_places.specs.Places.{load_in}
+use Rattle.hm_model.specs.Standings.{standing_of}
 use Rattle.hm_show.specs.Lines.{AreLines}
 use Rattle.hm_show.specs.Servers.{line_of, lines_by, server_line}
 use Rattle.hm_show.specs.Tables.{Line, head_text, table_of}

@@ -5,13 +5,13 @@ use Rattle.std.specs.List.{flat_map}
 use Rattle.std.specs.declared.cmp.Ordering.{Ordering}
 use Rattle.std.specs.declared.cmp.Ordering.TheVariants.{Less, Equal, Greater}
 use Rattle.hm_data.specs.declared.record.Record.{Record}
+use Rattle.hm_locks.specs.Keys.{key_of, lock_cmp}
 use Rattle.hm_model.specs.Answers.{last_answer}
 use Rattle.hm_model.specs.Journal.{Past}
 use Rattle.hm_model.specs.Locks.{asks}
 use Rattle.hm_model.specs.Phase.{ended}
 use Rattle.hm_model.specs.declared.lock.Ask.{Ask}
 use Rattle.hm_model.specs.declared.lock.Resource.{Resource}
-use Rattle.hm_locks.specs.Kept.{key_of, lock_cmp}
 use Rattle.hm_show.specs.Procs.{pids, shown}
 use Rattle.hm_show.specs.Tables.{Line, table_of}
 use Rattle.hm_show.specs.Words.{mode_text, resource_words}

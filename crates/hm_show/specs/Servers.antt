@@ -7,10 +7,10 @@ use Rattle.hm_names.specs.Servers.{server_text}
 use Rattle.hm_data.specs.declared.place.Place.{Place}
 use Rattle.hm_model.specs.Fleet.{servers_of}
 use Rattle.hm_model.specs.Journal.{Past}
+use Rattle.hm_model.specs.Loads.{load_in}
 use Rattle.hm_model.specs.Places.{load}
-use Rattle.hm_places.specs.Laws.{standing_of}
-use Rattle.hm_places.specs.Places.{load_in}
-use Rattle.hm_places.specs.declared.standing.Standing.{Standing}
+use Rattle.hm_model.specs.Standings.{standing_of}
+use Rattle.hm_model.specs.declared.standing.Standing.{Standing}
 use Rattle.hm_show.specs.Tables.{Line, table_of}
 use Rattle.hm_show.specs.Words.{standing_text}
 

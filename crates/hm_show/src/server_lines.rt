@@ -5,8 +5,9 @@ ghost use Rattle.hm_show.specs.Servers.{line_of, lines_by, servers_table};
 
 use crate::lines::Lines;
 use crate::words::standing_name;
+use hm_model::Standing;
 use hm_names::ServerName;
-use hm_places::{Places, Servers, Standing, places_follow};
+use hm_places::{Places, Servers, places_follow};
 use hm_records::Records;
 use std::alloc::{AllocError, Global};
 

@@ -19,7 +19,7 @@ use Rattle.hm_model.proofs.Trees.{Grown, grown_all}
 use Rattle.hm_kinds.proofs.Covering.{rows_table}
 use Rattle.hm_kinds.proofs.LockForms.{IsRight, lock_law}
 use Rattle.hm_serial.proofs.FallAll.{falls_all}
-use Rattle.hm_serial.proofs.Taken.{legal_apart}
+use Rattle.hm_model.proofs.Taken.{legal_apart}
 use Rattle.hm_single.specs.Calls.{Moves}
 use Rattle.hm_single.proofs.All.{kept_all}
 use Rattle.hm_single.proofs.Kept.{IsGoing}

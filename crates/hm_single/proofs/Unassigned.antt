@@ -44,9 +44,10 @@ use Rattle.hm_model.proofs.KeyTests.{same_region-refl}
 use Rattle.hm_model.proofs.LegalSteps.{StepFacts, ready_stops}
 use Rattle.hm_model.proofs.StepDoes.{Does}
 use Rattle.hm_model.proofs.Free.{step_free}
+use Rattle.hm_model.proofs.Taken.{clash_sym}
 use Rattle.hm_model.proofs.Trees.{Grown, IsRooted, answer_now, does_of, down_rooted, grown_all, is_there, le_or_lt, node_same, old_or_new, other_answer, still_there, step_of, submit_rooted, undo_rooted}
 use Rattle.hm_kinds.proofs.Covering.{rows_table}
-use Rattle.hm_kinds.proofs.LockForms.{clash_sym, lock_law}
+use Rattle.hm_kinds.proofs.LockForms.{lock_law}
 use Rattle.hm_model.proofs.Tops.{holds_open, TopHolds, TopIs}
 use Rattle.hm_serial.proofs.Apart.{step_top}
 use Rattle.hm_serial.proofs.FallAll.{All, falls_all, none_at, stack_off, step_aside, undo_holds}

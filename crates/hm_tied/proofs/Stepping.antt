@@ -11,6 +11,7 @@ use Rattle.hm_data.specs.declared.step.StepOut.{StepOut}
 use Rattle.hm_model.specs.Answers.{is_stopped, last_answer}
 use Rattle.hm_model.specs.Apart.{tree_of}
 use Rattle.hm_model.specs.Catalog.{cat, edited, keys_of, rows_at, with_keys}
+use Rattle.hm_model.specs.Claims.{Unclaims}
 use Rattle.hm_model.specs.Fleet.{has_live}
 use Rattle.hm_model.specs.Inputs.{rows_read, undoes}
 use Rattle.hm_model.specs.Journal.{Past}
@@ -26,7 +27,6 @@ use Rattle.hm_model.proofs.Forest.{forest_all, rooted_all, top_is, top_is_own}
 use Rattle.hm_model.proofs.Grown.{nodes_stay, not_stepped, stepped}
 use Rattle.hm_model.proofs.Touched.{ends_by, let_go}
 use Rattle.hm_model.proofs.Trees.{grown_all, some_of}
-use Rattle.hm_tied.specs.Calls.{Unclaims}
 use Rattle.hm_tied.specs.Tied.{CanGo, IsCalm, IsOpen, LacksPick}
 use Rattle.hm_tied.specs.Entries.{StepOwes, alters, has_edits, is_new, step_debts, touched}
 use Rattle.hm_tied.proofs.Entering.{Changes, changed}

@@ -1,9 +1,10 @@
 -- Who is ready in a tied state, and what each call of the scheduler and of the lock book leaves to do: laws.
-use Rattle.std.specs.Prelude.{◌≡◌, ◌≢◌, ℕ, List, [], ◌∷◌, Option, Some, None, Bool, true, false, not, ◌==◌, ◌&&◌, ◌↔◌, is_some}
+use Rattle.std.specs.Prelude.{◌≡◌, ◌≢◌, ℕ, List, [], ◌∷◌, Option, Some, None, Bool, true, false, not, ◌==◌, ◌&&◌, is_some}
 use Rattle.std.specs.Option.{option_map}
 use Rattle.hm_names.specs.Server.{Server}
 use Rattle.hm_locks.specs.Book.{AreChanged, Row, holding, row_of}
 use Rattle.hm_model.specs.Answers.{last_answer}
+use Rattle.hm_model.specs.Claims.{Unclaims}
 use Rattle.hm_model.specs.Holding.{IsFree}
 use Rattle.hm_model.specs.Journal.{Past}
 use Rattle.hm_model.specs.Locks.{IsIn}
@@ -26,10 +27,6 @@ ReadyAreAvailable =
 -- all that pass a test but one
 abbrev pub without : (ℕ → Bool) → ℕ → ℕ → Bool
 without test p q = test q && not (q == p)
-
--- a list of claims without one
-abbrev pub Unclaims : ℕ → List ℕ → List ℕ → Type 0
-Unclaims p old new = (q : ℕ) → IsIn q new ↔ (IsIn q old × (q ≢ p))
 
 -- one alone is owed
 abbrev pub owing : ℕ → Debts

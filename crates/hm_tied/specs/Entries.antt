@@ -15,8 +15,8 @@ use Rattle.hm_model.specs.Locks.{IsIn, asks}
 use Rattle.hm_model.specs.Phase.{is_parent}
 use Rattle.hm_model.specs.Rules.{IsLegal}
 use Rattle.hm_model.specs.Tree.{Node, node_of, root_of}
+use Rattle.hm_model.specs.Claims.{Unclaims}
 use Rattle.hm_tied.specs.Tied.{Debts, IsTied, IsTiedBut, Roster, called_in, no_debts}
-use Rattle.hm_tied.specs.Calls.{Unclaims}
 
 -- the row of a procedure, if it is there, as it is new
 abbrev pub row_made : ℕ → Option Node → Option Row

@@ -16,7 +16,7 @@ use Rattle.hm_model.proofs.Nonces.{nonces_once}
 use Rattle.hm_model.proofs.Prefixes.{legal_before, legal_cut}
 use Rattle.hm_serial.proofs.Failing.{failure_leaves_all}
 use Rattle.hm_serial.proofs.Serial.{catalog_is, deeds_apply_is}
-use Rattle.hm_serial.proofs.Taken.{legal_apart}
+use Rattle.hm_model.proofs.Taken.{legal_apart}
 use Rattle.hm_cover.proofs.Never.{never_overlap}
 use Rattle.hm_cover.proofs.Now.{live_cover, missing_bare}
 use Rattle.hm_single.proofs.SingleLive.{single_over}

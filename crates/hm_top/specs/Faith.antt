@@ -23,7 +23,7 @@ use Rattle.hm_model.specs.Deeds.{deed_of}
 use Rattle.hm_model.specs.Serial.{serial}
 use Rattle.hm_model.specs.Single.{Single}
 use Rattle.hm_model.specs.Tree.{Node, node_of}
-use Rattle.hm_serial.specs.Theorem.{TreeEdits}
+use Rattle.hm_model.specs.TreeEdits.{TreeEdits}
 
 -- at each step among these that ended a root well, its deed was a list of edits, and no cause stood against it
 abbrev pub DeedsApplied : Past → Type 0

@@ -19,7 +19,7 @@ use Rattle.hm_data.specs.declared.record.Record.{Record}
 use Rattle.hm_judge.proofs.Found.{there_of}
 use Rattle.hm_model.specs.Rules.{IsLegal}
 use Rattle.hm_model.proofs.Prefixes.{back-push}
-use Rattle.hm_serial.proofs.Taken.{open_before}
+use Rattle.hm_model.proofs.Taken.{open_before}
 use Rattle.hm_world_model.specs.Measure.{calls_made}
 use Rattle.hm_world_model.specs.Outside.{Outside, runs}
 use Rattle.hm_world_model.proofs.Facts.{node_called, parts_of, peer_same}

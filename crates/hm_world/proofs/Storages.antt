@@ -17,12 +17,12 @@ use Rattle.hm_model.specs.Layouts.{laid_by, laid_if, layout_called}
 use Rattle.hm_model.specs.Records.{record_of}
 use Rattle.hm_model.specs.Reports.{verb_of}
 use Rattle.hm_model.specs.Rules.{IsLegal}
+use Rattle.hm_model.specs.Standings.{standing_of, standings_of}
 use Rattle.hm_model.specs.Tree.{Node, made}
 use Rattle.hm_model.specs.Verbs.{verb_in}
 use Rattle.hm_model.proofs.CameUp.{fenced_came}
 use Rattle.hm_model.proofs.Trees.{grown_all}
-use Rattle.hm_places.specs.Laws.{standing_of, standings_of}
-use Rattle.hm_places.specs.declared.standing.Standing.{Standing}
+use Rattle.hm_model.specs.declared.standing.Standing.{Standing}
 use Rattle.hm_server.specs.Actors.{IsStorage}
 use Rattle.hm_world_model.specs.Layouts.{LayoutsTell, laid_below, laid_told}
 use Rattle.hm_world_model.specs.World.{shown_storage}

@@ -5,7 +5,7 @@ use Rattle.hm_names.specs.Server.{Server}
 use Rattle.hm_model.specs.Storages.{Storage, fence_in}
 use Rattle.hm_model.specs.Fleet.{is_fenced, same_server}
 use Rattle.hm_model.specs.Journal.{Past}
-use Rattle.hm_places.specs.declared.standing.Standing.{Standing}
+use Rattle.hm_model.specs.declared.standing.Standing.{Standing}
 use Rattle.hm_world_model.specs.Layouts.{laid_below}
 
 -- a server is fenced, if that is wanted

@@ -10,9 +10,9 @@ ghost use Rattle.hm_world.specs.Shown.{fence_if, shown_below};
 ghost use Rattle.hm_world_model.specs.World.{shown_storage};
 
 use hm_data::{Args, Told};
+use hm_model::Standing;
 use hm_model::laws::calls_are_own;
 use hm_names::{Pid, ServerName};
-use hm_places::Standing;
 use hm_server::StorageActor;
 use hm_state::State;
 use hm_world_model::layouts_tell;

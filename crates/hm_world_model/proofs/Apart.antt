@@ -17,8 +17,8 @@ use Rattle.hm_model.specs.Undo.{is_empty, stack}
 use Rattle.hm_model.proofs.Forest.{roots_wait, rooted_all}
 use Rattle.hm_model.proofs.Grown.{nodes_stay}
 use Rattle.hm_model.proofs.Trees.{all_below_at, grown_all, is_there}
-use Rattle.hm_serial.specs.Taking.{StepsFree}
-use Rattle.hm_serial.proofs.Taken.{after, clash_taken, clash_within, legal_apart, some_node}
+use Rattle.hm_model.specs.Taking.{StepsFree}
+use Rattle.hm_model.proofs.Taken.{after, clash_taken, clash_within, legal_apart, some_node}
 use Rattle.hm_world_model.specs.Claims.{AreOnce, IsApart}
 
 pub ended_below : (J : Past) (p : ℕ) (x : Node) → node_of J p ≡ Some x → x.above ≢ [] → ended J p ≡ is_stopped (last_answer J p)

@@ -15,7 +15,7 @@ use Rattle.hm_world_model.specs.Claims.{AreOnce, IsApart}
 use Rattle.hm_world_model.specs.Events.{Claim, Commit, GiveUp, Works, happens, unclaimed, untaken}
 use Rattle.hm_world_model.specs.Runs.{IsWork, May}
 use Rattle.hm_world_model.specs.World.{Claimed, World, claimed_pids}
-use Rattle.hm_serial.specs.Taking.{StepsFree}
+use Rattle.hm_model.specs.Taking.{StepsFree}
 use Rattle.hm_world_model.proofs.Apart.{apart_on, apart_taken, apart_within}
 
 -- who may go on is there

@@ -22,7 +22,7 @@ use Rattle.hm_world_model.specs.Outside.{Outside, runs}
 use Rattle.hm_world_model.specs.Runs.{GoesOn, May, MayEnter, MayHear}
 use Rattle.hm_world_model.specs.Safe.{IsKept}
 use Rattle.hm_world_model.specs.World.{World, durable_part}
-use Rattle.hm_serial.proofs.Taken.{open_before}
+use Rattle.hm_model.proofs.Taken.{open_before}
 use Rattle.hm_world_model.proofs.Facts.{node_called, peer_same, verb_was}
 use Rattle.hm_world_model.proofs.Measure.{deliver_nearer, hear_nearer, ignore_nearer, send_nearer}
 use Rattle.hm_world_model.proofs.Progress.{reports_heard}

@@ -37,7 +37,7 @@ use Rattle.hm_model.proofs.StepDoes.{bears_by}
 use Rattle.hm_model.proofs.Trees.{IsWaiting, grown_all}
 use Rattle.hm_world_model.specs.Rest.{AllHaveEnded, CallsAreSettled, StillIsEnded, can_answer}
 use Rattle.hm_model.proofs.Tops.{ended_top}
-use Rattle.hm_serial.proofs.Taken.{legal_apart, some_node}
+use Rattle.hm_model.proofs.Taken.{legal_apart, some_node}
 use Rattle.hm_world_model.proofs.Apart.{ended_below, root_open}
 use Rattle.hm_world_model.proofs.Births.{BornOf, Over}
 use Rattle.hm_world_model.proofs.Clashing.{askless, crash_clash, crashing, locker, moved_crash, moving, over_clash, requesting}

@@ -2,7 +2,7 @@ use Rattle.std.proofs.Common.{◌≡◌, Some, subst}
 use Rattle.std.specs.Option.{option_copied}
 use Rattle.hm_model.specs.Journal.{Past}
 use Rattle.hm_model.specs.Tree.{Node, node_of}
-use Rattle.hm_judge.specs.Choice.{candidate}
+use Rattle.hm_model.specs.Choice.{candidate}
 use Rattle.hm_exec.proofs.Handing.{handed}
 use Rattle.hm_exec.proofs.claiming.hand_out.Goals as goal
 

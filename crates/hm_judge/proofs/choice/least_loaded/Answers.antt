@@ -1,8 +1,8 @@
 use Rattle.std.proofs.Common.{ap, ◌∙◌}
 use Rattle.std.specs.Option.{option_copied}
-use Rattle.hm_places.specs.Laws.{places_of}
-use Rattle.hm_places.specs.Places.{load_in}
-use Rattle.hm_places.specs.Servers.{live_servers, lowest, or_else, without}
+use Rattle.hm_model.specs.Loads.{load_in, places_of}
+use Rattle.hm_model.specs.Standings.{live_servers}
+use Rattle.hm_model.specs.Choice.{lowest, or_else, without}
 use Rattle.hm_judge.proofs.choice.least_loaded.Goals as goal
 
 pub returns : goal.returns

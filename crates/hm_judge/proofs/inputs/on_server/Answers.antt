@@ -1,6 +1,6 @@
 use Rattle.std.proofs.Common.{◌≡◌, List, IfOk, take, ap, subst, ◌∙◌}
 use Rattle.hm_names.specs.Region.{Region}
-use Rattle.hm_places.specs.Places.{regions_at}
+use Rattle.hm_model.specs.Loads.{regions_at}
 use Rattle.hm_judge.proofs.inputs.on_server.Goals as goal
 
 pub returns : goal.returns

@@ -1,5 +1,5 @@
 use Rattle.std.proofs.Common.{ap, ◌∙◌}
-use Rattle.hm_places.specs.Servers.{is_live_in}
+use Rattle.hm_model.specs.Standings.{is_live_in}
 use Rattle.hm_judge.proofs.servers.is_live.Goals as goal
 
 pub returns : goal.returns

@@ -1,6 +1,7 @@
 use Rattle.std.proofs.Common.{◌≡◌, ◌+◌, ◌≤◌, ℕ, length, Some, vec_len, vec_capacity}
 use Rattle.hm_index.specs.Index.{find}
-use Rattle.hm_locks.specs.Kept.{AreAdded, lock_cmp}
+use Rattle.hm_locks.specs.Kept.{AreAdded}
+use Rattle.hm_locks.specs.Keys.{lock_cmp}
 use Rattle.hm_locks.specs.declared.key.Key.{Key}
 use Rattle.hm_locks.proofs.pages.add_wants.Given as goal
 

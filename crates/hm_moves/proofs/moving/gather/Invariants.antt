@@ -1,5 +1,5 @@
 use Rattle.std.proofs.Common.{◌≡◌, ◌++◌, map}
-use Rattle.hm_places.specs.Servers.{live_servers}
+use Rattle.hm_model.specs.Standings.{live_servers}
 use Rattle.hm_moves.specs.Planned.{loads_of}
 use Rattle.hm_moves.specs.Opened.{opened_at}
 use Rattle.hm_moves.proofs.moving.gather.Given as goal

@@ -7,8 +7,8 @@ use Rattle.hm_balance.specs.Loads.{AreAmong, Loads, NamesDiffer}
 use Rattle.hm_balance.specs.Plan.{IsPlan}
 use Rattle.hm_data.specs.declared.place.Place.{Place}
 use Rattle.hm_model.specs.Journal.{back}
-use Rattle.hm_places.specs.declared.standing.Standing.{Standing}
-use Rattle.hm_places.specs.Servers.{live_servers}
+use Rattle.hm_model.specs.Standings.{live_servers}
+use Rattle.hm_model.specs.declared.standing.Standing.{Standing}
 use Rattle.hm_moves.specs.Opened.{AreOpened, opened_at}
 use Rattle.hm_moves.proofs.Choosing.{names_differ, names_rise, opened_by}
 use Rattle.hm_moves.proofs.moving.moves.Goals as goal

@@ -1,7 +1,7 @@
 use Rattle.std.proofs.Common.{◌∙◌, ap}
 use Rattle.std.specs.Option.{option_copied}
-use Rattle.hm_places.specs.Places.{load_in}
-use Rattle.hm_places.specs.Servers.{without, lowest}
+use Rattle.hm_model.specs.Loads.{load_in}
+use Rattle.hm_model.specs.Choice.{lowest, without}
 use Rattle.hm_places.proofs.Live.{live_are}
 use Rattle.hm_places.proofs.Lowest.{none_left}
 use Rattle.hm_places.proofs.picking.lowest_of.Goals as goal

@@ -1,7 +1,7 @@
 use Rattle.std.proofs.Common.{◌≡◌, drop}
 use Rattle.std.specs.Option.{option_copied}
-use Rattle.hm_places.specs.Places.{load_in}
-use Rattle.hm_places.specs.Servers.{without, lowest}
+use Rattle.hm_model.specs.Loads.{load_in}
+use Rattle.hm_model.specs.Choice.{lowest, without}
 use Rattle.hm_places.proofs.Live.{live_names}
 use Rattle.hm_places.proofs.Lowest.{with_best, server_of, IsLoaded}
 use Rattle.hm_places.proofs.picking.lowest_of.Given as goal

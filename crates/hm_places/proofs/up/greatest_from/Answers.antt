@@ -2,7 +2,7 @@ use Rattle.std.proofs.Common.{ap, sym, arith}
 use Rattle.hm_names.specs.Order.{server_cmp}
 use Rattle.hm_names.specs.Server.{Server}
 use Rattle.hm_index.specs.Index.{pairs_from}
-use Rattle.hm_places.specs.Servers.{greatest_start}
+use Rattle.hm_model.specs.Standings.{greatest_start}
 use Rattle.hm_places.proofs.Addresses.{from_all, from_rising, rising_tail, further, all_met}
 use Rattle.hm_places.proofs.up.greatest_from.Goals as goal
 

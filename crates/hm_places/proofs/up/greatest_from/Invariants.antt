@@ -1,7 +1,7 @@
 use Rattle.std.proofs.Common.{◌≡◌, max}
 use Rattle.hm_names.specs.Order.{server_cmp}
 use Rattle.hm_index.specs.Index.{IsRising, pairs_from}
-use Rattle.hm_places.specs.Servers.{greatest_start}
+use Rattle.hm_model.specs.Standings.{greatest_start}
 use Rattle.hm_places.proofs.Addresses.{AreFrom}
 use Rattle.hm_places.proofs.up.greatest_from.Given as goal
 

@@ -4,7 +4,7 @@ use Rattle.hm_data.specs.declared.entry.Entry.{Entry}
 use Rattle.hm_data.specs.declared.entry.Entry.TheVariants as entry_is
 use Rattle.hm_model.specs.Journal.{Past}
 use Rattle.hm_model.specs.Rules.{IsLegal}
-use Rattle.hm_places.specs.Laws.{standings_of}
+use Rattle.hm_model.specs.Standings.{standings_of}
 use Rattle.hm_places.specs.Servers.{CannotGoDown, put_down}
 use Rattle.hm_places.specs.declared.refused.DownRefused.{DownRefused}
 use Rattle.hm_records.proofs.Servers.{can_go_down}

@@ -8,8 +8,8 @@ use Rattle.hm_data.specs.declared.entry.Entry.TheVariants as entry_is
 use Rattle.hm_index.specs.Index.{placed}
 use Rattle.hm_model.specs.Journal.{Past}
 use Rattle.hm_model.specs.Rules.{IsLegal}
-use Rattle.hm_places.specs.Laws.{standings_of}
-use Rattle.hm_places.specs.Servers.{MayComeUp, fresh, has_older_in}
+use Rattle.hm_model.specs.Standings.{MayComeUp, standings_of}
+use Rattle.hm_places.specs.Servers.{fresh, has_older_in}
 use Rattle.hm_records.proofs.Servers.{may_come_up, others_stand, up_is}
 use Rattle.hm_records.proofs.fleet.set_servers.Goals as goal
 

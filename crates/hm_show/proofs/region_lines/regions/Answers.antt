@@ -2,7 +2,7 @@ use Rattle.std.proofs.Common.{codes, ap, ◌∙◌}
 use Rattle.std.specs.List.{filter_map}
 use Rattle.hm_catalog.specs.Rows.{rows_in}
 use Rattle.hm_model.specs.Places.{place_of}
-use Rattle.hm_places.specs.Laws.{places_of}
+use Rattle.hm_model.specs.Loads.{places_of}
 use Rattle.hm_places.specs.Places.{place_in}
 use Rattle.hm_show.specs.Regions.{key_line}
 use Rattle.hm_show.proofs.RegionRows.{line_by}

@@ -1,6 +1,6 @@
 use Rattle.std.proofs.Common.{codes, ap, ◌∙◌}
 use Rattle.hm_model.specs.Fleet.{servers_of}
-use Rattle.hm_places.specs.Laws.{places_of}
+use Rattle.hm_model.specs.Loads.{places_of}
 use Rattle.hm_show.specs.Servers.{lines_by}
 use Rattle.hm_show.proofs.Tables.{lines_told, table_said}
 use Rattle.hm_show.proofs.server_lines.servers.Goals as goal

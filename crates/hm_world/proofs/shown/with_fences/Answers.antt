@@ -1,7 +1,7 @@
 use Rattle.std.proofs.Common.{List, ◌∙◌, subst, sym}
 use Rattle.hm_names.specs.Server.{Server}
 use Rattle.hm_model.specs.Journal.{back}
-use Rattle.hm_places.specs.declared.standing.Standing.{Standing}
+use Rattle.hm_model.specs.declared.standing.Standing.{Standing}
 use Rattle.hm_server.specs.Actors.{storage_of}
 use Rattle.hm_world.specs.Shown.{IsFencedBut}
 use Rattle.hm_world.proofs.Storages.{fences_first, fences_next}

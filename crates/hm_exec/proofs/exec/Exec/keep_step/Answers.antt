@@ -7,9 +7,9 @@ use Rattle.hm_hall.specs.Recording.{CanBeRecorded, Records}
 use Rattle.hm_model.specs.Journal.{Past, back}
 use Rattle.hm_model.specs.Locks.{IsIn}
 use Rattle.hm_model.specs.Rules.{Allowed}
+use Rattle.hm_model.specs.Claims.{Unclaims}
 use Rattle.hm_roster.specs.Desk.{parent_made}
 use Rattle.hm_roster.specs.Roster.{Follows, IsEnlistedFor, IsStepOf, claims_on}
-use Rattle.hm_tied.specs.Calls.{Unclaims}
 use Rattle.hm_exec.specs.Adding.{Adds}
 use Rattle.hm_exec.specs.Claiming.{Commits, RefusesCommit}
 use Rattle.hm_exec.specs.View.{ExecView, moment_of}

@@ -5,9 +5,9 @@ use Rattle.hm_data.specs.declared.entry.Entry.TheVariants as entry_is
 use Rattle.hm_entry.specs.Fits.{EntryFits}
 use Rattle.hm_model.specs.Journal.{Past}
 use Rattle.hm_model.specs.Locks.{IsIn}
+use Rattle.hm_model.specs.Claims.{Unclaims}
 use Rattle.hm_roster.specs.Behind.{IsUndoOf}
 use Rattle.hm_roster.specs.Roster.{Follows, claims_on}
-use Rattle.hm_tied.specs.Calls.{Unclaims}
 use Rattle.hm_exec.specs.Claiming.{Commits, RefusesCommit}
 use Rattle.hm_exec.specs.View.{ExecView, moment_of}
 use Rattle.hm_exec.proofs.Committed.{CanCommit, commits_now, goes_on_by, refuses_now, undo_behind, undo_is, undo_now}

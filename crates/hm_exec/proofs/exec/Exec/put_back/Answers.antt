@@ -1,7 +1,7 @@
 use Rattle.std.proofs.Common.{◌≡◌, refl, subst}
 use Rattle.hm_model.specs.Journal.{Past}
+use Rattle.hm_model.specs.Claims.{Unclaims}
 use Rattle.hm_roster.specs.Roster.{Follows, claims_on}
-use Rattle.hm_tied.specs.Calls.{Unclaims}
 use Rattle.hm_exec.specs.View.{ExecView}
 use Rattle.hm_exec.proofs.Claimed.{claims_less}
 use Rattle.hm_exec.proofs.exec.Exec.put_back.Goals as goal

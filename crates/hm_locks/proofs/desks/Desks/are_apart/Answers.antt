@@ -1,5 +1,6 @@
 use Rattle.std.proofs.Common.{ap, ◌∙◌}
-use Rattle.hm_locks.specs.Kept.{DesksView, desk_of, key_of}
+use Rattle.hm_locks.specs.Kept.{DesksView, desk_of}
+use Rattle.hm_locks.specs.Keys.{key_of}
 use Rattle.hm_locks.proofs.Keys.{key_of-same}
 use Rattle.hm_locks.proofs.desks.Desks.are_apart.Goals as goal
 

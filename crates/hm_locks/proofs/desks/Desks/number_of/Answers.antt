@@ -1,7 +1,8 @@
 use Rattle.std.proofs.Common.{◌∙◌, sym, ap, arith}
 use Rattle.std.specs.Option.{option_copied}
 use Rattle.hm_index.specs.Index.{find}
-use Rattle.hm_locks.specs.Kept.{DesksView, lock_cmp}
+use Rattle.hm_locks.specs.Kept.{DesksView}
+use Rattle.hm_locks.specs.Keys.{lock_cmp}
 use Rattle.hm_locks.proofs.Keys.{desks_after, kept, numbered}
 use Rattle.hm_locks.proofs.desks.Desks.number_of.Goals as goal
 

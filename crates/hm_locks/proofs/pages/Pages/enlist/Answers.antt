@@ -3,7 +3,8 @@ use Rattle.std.specs.Ordering.{is_eq}
 use Rattle.hm_index.specs.Index.{find}
 use Rattle.hm_locks.specs.Book.{AreChanged, drafted}
 use Rattle.hm_locks.specs.Entries.{rows_of}
-use Rattle.hm_locks.specs.Kept.{IsWanted, key_of, rows_in}
+use Rattle.hm_locks.specs.Kept.{IsWanted, rows_in}
+use Rattle.hm_locks.specs.Keys.{key_of}
 use Rattle.hm_model.specs.declared.lock.Ask.{Ask}
 use Rattle.hm_locks.specs.declared.entry.Entry.{Entry}
 use Rattle.hm_locks.proofs.Adding.{wants_asked}

@@ -1,7 +1,9 @@
 use Rattle.std.proofs.Common.{◌∙◌, ap}
 use Rattle.std.specs.Option.{option_copied}
-use Rattle.hm_places.specs.Places.{load_in}
-use Rattle.hm_places.specs.Servers.{ServersView, live_servers, without, lowest}
+use Rattle.hm_model.specs.Loads.{load_in}
+use Rattle.hm_model.specs.Standings.{live_servers}
+use Rattle.hm_model.specs.Choice.{lowest, without}
+use Rattle.hm_places.specs.Servers.{ServersView}
 use Rattle.hm_places.proofs.Fleets.{none_lowest, without_none}
 use Rattle.hm_places.proofs.servers.Servers.pick.Goals as goal
 

@@ -1,6 +1,6 @@
 use Rattle.std.proofs.Common.{List, ℕ, ap, subst, sym}
 use Rattle.hm_data.specs.declared.entry.Entry.TheVariants as entry_is
-use Rattle.hm_tied.specs.Calls.{Unclaims}
+use Rattle.hm_model.specs.Claims.{Unclaims}
 use Rattle.hm_roster.proofs.Entries.{undo_enters}
 use Rattle.hm_roster.proofs.desk.Desk.behind_undo.Goals as goal
 

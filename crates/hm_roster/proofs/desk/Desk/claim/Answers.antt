@@ -1,7 +1,7 @@
 use Rattle.std.proofs.Common.{◌∷◌, List, ℕ, subst, sym}
+use Rattle.hm_model.specs.Claims.{IsClaimedToo}
 use Rattle.hm_tied.specs.Tied.{no_debts}
 use Rattle.hm_tied.proofs.Calls.{claim_ties}
-use Rattle.hm_roster.specs.Desk.{IsClaimedToo}
 use Rattle.hm_roster.specs.Roster.{claims_on, lists_on, number_on, roster_with, rows_on}
 use Rattle.hm_roster.proofs.Claimed.{claims_alike, in_push}
 use Rattle.hm_roster.proofs.desk.Desk.claim.Goals as goal

@@ -1,7 +1,7 @@
 use Rattle.std.proofs.Common.{List, inl, inr, subst, ◌∙◌}
 use Rattle.hm_names.specs.Server.{Server}
 use Rattle.hm_model.specs.Locks.{IsIn}
-use Rattle.hm_places.specs.declared.standing.Standing.{Standing}
+use Rattle.hm_model.specs.declared.standing.Standing.{Standing}
 use Rattle.hm_roster.proofs.Alike.{roomier_on}
 use Rattle.hm_roster.proofs.Numbered.{all_numbered, number_turn}
 use Rattle.hm_roster.proofs.desk.Desk.number_all.Goals as goal

@@ -1,8 +1,8 @@
 use Rattle.std.proofs.Common.{◌≡◌, ◌⊎◌}
 use Rattle.hm_names.specs.Server.{Server}
 use Rattle.hm_model.specs.Locks.{IsIn}
-use Rattle.hm_places.specs.Laws.{standings_of}
-use Rattle.hm_places.specs.declared.standing.Standing.{Standing}
+use Rattle.hm_model.specs.Standings.{standings_of}
+use Rattle.hm_model.specs.declared.standing.Standing.{Standing}
 use Rattle.hm_roster.specs.Desk.{IsNumbered, IsRoomier}
 use Rattle.hm_roster.specs.Roster.{HasLists}
 use Rattle.hm_roster.proofs.desk.Desk.number_all.Given as goal

@@ -1,6 +1,7 @@
 use Rattle.std.proofs.Common.{◌<◌, ℕ, List, arith, refl, ap, subst, sym, ◌∙◌}
 use Rattle.hm_model.specs.Tree.{made}
-use Rattle.hm_tied.specs.Calls.{Unclaims, owing}
+use Rattle.hm_model.specs.Claims.{Unclaims}
+use Rattle.hm_tied.specs.Calls.{owing}
 use Rattle.hm_tied.proofs.Paid.{one_pays}
 use Rattle.hm_roster.specs.Roster.{number_on, roster_of}
 use Rattle.hm_roster.proofs.Desks.{below_still, enlisted_known}

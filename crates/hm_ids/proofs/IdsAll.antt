@@ -35,10 +35,10 @@ use Rattle.hm_model.specs.Rules.{IsLegal}
 use Rattle.hm_model.specs.Tree.{Node, args_in, first_of, made, node_of, root_node, submitted}
 use Rattle.hm_model.specs.Views.{first_id_of}
 use Rattle.hm_model.specs.Whereabouts.{crashed_in}
-use Rattle.hm_cover.proofs.DrawnAll.{DrawnIn, args_more, drawn_all, from_one}
-use Rattle.hm_cover.proofs.Ids.{AreRegions, ChildrenNameIds, SeesIds, Small, all_filter, all_take, followers_name, join_one, made_names, none_of_none, opens_new, read_ids, region_named, row_names}
-use Rattle.hm_cover.proofs.UndoneArgs.{undone_of}
-use Rattle.hm_cover.specs.Ids.{IdsAreNamed, NoneAskForZero}
+use Rattle.hm_ids.proofs.DrawnAll.{DrawnIn, args_more, drawn_all, from_one}
+use Rattle.hm_ids.proofs.Ids.{AreRegions, ChildrenNameIds, SeesIds, Small, all_filter, all_take, followers_name, join_one, made_names, none_of_none, opens_new, read_ids, region_named, row_names}
+use Rattle.hm_ids.proofs.UndoneArgs.{undone_of}
+use Rattle.hm_ids.specs.Ids.{IdsAreNamed, NoneAskForZero}
 use Rattle.hm_model.specs.RegionIds.{AreNamed, NamesIds}
 
 pub record IdsKept (J : Past) : Type 0 where

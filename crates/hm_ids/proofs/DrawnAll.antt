@@ -31,8 +31,8 @@ use Rattle.hm_model.specs.Rules.{IsLegal}
 use Rattle.hm_model.specs.Tree.{Node, args_in, drawn, first_of, ids_for, made, new_ids, node_of, root_node, root_of, submitted}
 use Rattle.hm_model.specs.Undo.{Undoable, pushed, rest_of, stack}
 use Rattle.hm_kinds.proofs.Kids.{AllMade, made_at}
-use Rattle.hm_cover.proofs.Drawn.{AllDrawn, ArgsDrawn, IsDrawnAt, IsFine, SeenDrawn, fine_row, followers_fine, undo_drawn}
-use Rattle.hm_cover.specs.Theorem.{RegionIdsAreDrawn}
+use Rattle.hm_ids.proofs.Drawn.{AllDrawn, ArgsDrawn, IsDrawnAt, IsFine, SeenDrawn, fine_row, followers_fine, undo_drawn}
+use Rattle.hm_ids.specs.Drawn.{RegionIdsAreDrawn}
 
 abbrev pub StackDrawn : (TableName → ℕ → Type 0) → List Undoable → Type 0
 StackDrawn d [] = Unit {0}

@@ -1,5 +1,5 @@
-use Rattle.hm_cover.proofs.IdsAll.{ids_named, none_ask}
-use Rattle.hm_cover.proofs.laws.ids_are_named.Goals as goal
+use Rattle.hm_ids.proofs.IdsAll.{ids_named, none_ask}
+use Rattle.hm_ids.proofs.laws.ids_are_named.Goals as goal
 
 pub returns-clause-procedures : goal.returns-clause-procedures
 returns-clause-procedures c = ids_named

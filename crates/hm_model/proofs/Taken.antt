@@ -1,5 +1,5 @@
 -- No two that hold conflict, where whoever is taken was free when it was taken.
-use Rattle.std.proofs.Common.{◌≡◌, ◌≢◌, ℕ, List, [], ◌∷◌, true, false, Option, Some, None, refl, ap, sym, ◌∙◌, subst, inl, inr, ◌⊎◌}
+use Rattle.std.proofs.Common.{◌≡◌, ◌≢◌, ℕ, List, [], ◌∷◌, Bool, true, false, ◌||◌, Option, Some, None, refl, ap, sym, ◌∙◌, subst, inl, inr, ◌⊎◌}
 use Rattle.std.proofs.lemmas.Bool.{cases_Bool, cases_eq, cond-false, cond-true, true≢false}
 use Rattle.std.proofs.lemmas.Option.{none-some}
 use Rattle.hm_names.specs.Server.{Server}
@@ -10,17 +10,17 @@ use Rattle.hm_data.specs.declared.step.StepOut.{StepOut}
 use Rattle.hm_model.specs.Answers.{is_stopped, last_answer}
 use Rattle.hm_model.specs.Holding.{HoldsWith, InConflict, IsFree, NoneClash}
 use Rattle.hm_model.specs.Journal.{Past}
-use Rattle.hm_model.specs.Locks.{AsksClash, IsAbove, IsIn, asks}
+use Rattle.hm_model.specs.Locks.{AsksClash, Clash, IsAbove, IsIn, asks}
 use Rattle.hm_model.specs.Phase.{ended, ended_node, root_ended}
 use Rattle.hm_model.specs.Rules.{IsLegal}
 use Rattle.hm_model.specs.Tree.{Node, is_top, node_of}
+use Rattle.hm_model.specs.declared.lock.Ask.{Ask}
 use Rattle.hm_model.proofs.Free.{step_free}
 use Rattle.hm_model.proofs.Grown.{nodes_stay}
 use Rattle.hm_model.proofs.LegalSteps.{ready_stops}
 use Rattle.hm_model.proofs.Tops.{root_stays}
 use Rattle.hm_model.proofs.Trees.{grown_all, other_answer, step_of}
-use Rattle.hm_kinds.proofs.LockForms.{clash_sym}
-use Rattle.hm_serial.specs.Taking.{IsTaken, NoneConflict, NoneOfLegalConflict, StepsFree, lets_go, nobody, records, takes}
+use Rattle.hm_model.specs.Taking.{IsTaken, NoneConflict, NoneOfLegalConflict, StepsFree, lets_go, nobody, records, takes}
 
 pub some_node : (J : Past) (p : ℕ) → node_of J p ≢ None → (x : Node) × (node_of J p ≡ Some x)
 some_node J p there = by (node_of J p) refl
@@ -28,6 +28,15 @@ some_node J p there = by (node_of J p) refl
     by : (o : Option Node) → node_of J p ≡ o → (x : Node) × (node_of J p ≡ Some x)
     by None e = absurd (there e)
     by (Some x) e = (x, e)
+
+pub clash_sym : (one other : List Ask) → Clash one other → Clash other one
+clash_sym one other c = (c.1, c.0, c.3, c.2, sym c.4, flip c.0.exclusive c.1.exclusive c.5)
+  where
+    flip : (a b : Bool) → (a || b) ≡ true → (b || a) ≡ true
+    flip true true h = refl
+    flip true false h = refl
+    flip false true h = refl
+    flip false false h = h
 
 clash_back : (one other : Option Node) → AsksClash one other → AsksClash other one
 clash_back None other h = absurd h

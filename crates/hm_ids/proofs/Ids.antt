@@ -59,7 +59,7 @@ use Rattle.hm_model.specs.Tree.{args_in}
 use Rattle.hm_model.specs.Undoing.{closed_by, closed_by_request, undo_followers}
 use Rattle.hm_model.specs.Views.{asked_of, bounds_of, first_id_of, namespace_of, region_of, region_of_request, regions_in, table_of}
 use Rattle.hm_model.specs.Wanted.{goal_in, ids_of, layout_of, server_of}
-use Rattle.hm_cover.proofs.Drawn.{ArgsDrawn, bounds_fit}
+use Rattle.hm_ids.proofs.Drawn.{ArgsDrawn, bounds_fit}
 use Rattle.hm_model.specs.RegionIds.{AreIds, NamesIds, is_zero_transit}
 
 -- regions with their ids

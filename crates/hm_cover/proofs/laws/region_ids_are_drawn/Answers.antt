@@ -1,5 +1,0 @@
-use Rattle.hm_cover.proofs.DrawnAll.{ids_are_drawn}
-use Rattle.hm_cover.proofs.laws.region_ids_are_drawn.Goals as goal
-
-pub returns : goal.returns
-returns c = ids_are_drawn

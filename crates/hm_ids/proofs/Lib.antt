@@ -1,0 +1,5 @@
+pub mod Drawn
+pub mod DrawnAll
+mod Ids
+mod UndoneArgs
+pub mod IdsAll
