@@ -25,9 +25,16 @@ pub struct Arming {
 
 /// A disk that can be told to stop. Neither call changes what it reads, its images or its faults.
 pub trait Arm: Disk {
+    /// What `arm` with these numbers makes of the disk before.
+    ghost arms: { ℕ → ℕ → Self → Self → Type 0 };
+
+    /// What `disarm` makes of it.
+    ghost disarms: { Self → Self → Type 0 };
+
     /// From now on it passes so many calls of `write_at` and `cut`. Of the next one, if it is a write,
     /// it passes so many bytes from its start. That call and every later one of any kind fail.
     fn arm(&mut self, changes: u64, bytes: u64)
+        ensures arms { arms changes bytes self.old self.new }
         ensures seen { Self.seen self.new ≡ Self.seen self.old }
         ensures images { (c : List ℕ) → Self.image self.new c ↔ Self.image self.old c }
         ensures moment { Self.moment self.new ≡ Self.moment self.old }
@@ -37,6 +44,7 @@ pub trait Arm: Disk {
 
     /// From now on it passes each call.
     fn disarm(&mut self)
+        ensures disarms { disarms self.old self.new }
         ensures seen { Self.seen self.new ≡ Self.seen self.old }
         ensures images { (c : List ℕ) → Self.image self.new c ↔ Self.image self.old c }
         ensures moment { Self.moment self.new ≡ Self.moment self.old }
@@ -100,6 +108,10 @@ fn is_cut(arming: &Arming, changes: u64) -> bool
 }
 
 impl<D: Disk> Arm for CutDisk<D> {
+    ghost arms = { λ changes bytes old new. new ≡ armed changes bytes old };
+
+    ghost disarms = { λ old new. new ≡ disarmed old };
+
     fn arm(&mut self, changes: u64, bytes: u64)
         ensures set { self.new ≡ armed changes bytes self.old }
         ensures seen { D.seen self.new.inner ≡ D.seen self.old.inner }
@@ -166,12 +178,14 @@ impl<D: Disk> Disk for CutDisk<D> {
             self.new ≡ record self.old { inner = self.new.inner } }
 
         ensures seen { D.seen self.new.inner ≡ D.seen self.old.inner }
-        ensures crash { (c : List ℕ) → D.image self.new.inner c → D.image self.old.inner c }
+        ensures images { (c : List ℕ) → D.image self.new.inner c ↔ D.image self.old.inner c }
+        ensures moment { D.moment self.new.inner ≡ D.moment self.old.inner }
         ensures time { Elapses (D.moment self.old.inner) (D.moment self.new.inner)
             (D.left_since self.old.inner) (D.left_since self.new.inner) (D.image self.new.inner) }
         ensures fault { OnErr result (Rose (D.faults self.old.inner + self.old.faults)
             (D.faults self.new.inner + self.new.faults)) }
         ensures faults { D.faults self.old.inner + self.old.faults ≤ D.faults self.new.inner + self.new.faults }
+        ensures no_fault { OnOk result (D.faults self.new.inner + self.new.faults ≡ D.faults self.old.inner + self.old.faults) }
         ensures changes { self.new.changes ≡ self.old.changes }
         ensures setting { self.new.arming ≡ self.old.arming }
     {
@@ -193,12 +207,14 @@ impl<D: Disk> Disk for CutDisk<D> {
             self.new ≡ record self.old { inner = self.new.inner } }
 
         ensures seen { D.seen self.new.inner ≡ D.seen self.old.inner }
-        ensures crash { (c : List ℕ) → D.image self.new.inner c → D.image self.old.inner c }
+        ensures images { (c : List ℕ) → D.image self.new.inner c ↔ D.image self.old.inner c }
+        ensures moment { D.moment self.new.inner ≡ D.moment self.old.inner }
         ensures time { Elapses (D.moment self.old.inner) (D.moment self.new.inner)
             (D.left_since self.old.inner) (D.left_since self.new.inner) (D.image self.new.inner) }
         ensures fault { OnErr result (Rose (D.faults self.old.inner + self.old.faults)
             (D.faults self.new.inner + self.new.faults)) }
         ensures faults { D.faults self.old.inner + self.old.faults ≤ D.faults self.new.inner + self.new.faults }
+        ensures no_fault { OnOk result (D.faults self.new.inner + self.new.faults ≡ D.faults self.old.inner + self.old.faults) }
         ensures changes { self.new.changes ≡ self.old.changes }
         ensures setting { self.new.arming ≡ self.old.arming }
     {
@@ -237,6 +253,7 @@ impl<D: Disk> Disk for CutDisk<D> {
         ensures fault { OnErr result (Rose (D.faults self.old.inner + self.old.faults)
             (D.faults self.new.inner + self.new.faults)) }
         ensures faults { D.faults self.old.inner + self.old.faults ≤ D.faults self.new.inner + self.new.faults }
+        ensures no_fault { OnOk result (D.faults self.new.inner + self.new.faults ≡ D.faults self.old.inner + self.old.faults) }
         ensures changes { RisesBy 1 self.old.changes self.new.changes }
         ensures setting { self.new.arming ≡ self.old.arming }
     {
@@ -269,6 +286,7 @@ impl<D: Disk> Disk for CutDisk<D> {
         ensures fault { OnErr result (Rose (D.faults self.old.inner + self.old.faults)
             (D.faults self.new.inner + self.new.faults)) }
         ensures faults { D.faults self.old.inner + self.old.faults ≤ D.faults self.new.inner + self.new.faults }
+        ensures no_fault { OnOk result (D.faults self.new.inner + self.new.faults ≡ D.faults self.old.inner + self.old.faults) }
         ensures changes { RisesBy 1 self.old.changes self.new.changes }
         ensures setting { self.new.arming ≡ self.old.arming }
     {
@@ -295,6 +313,7 @@ impl<D: Disk> Disk for CutDisk<D> {
         ensures fault { OnErr result (Rose (D.faults self.old.inner + self.old.faults)
             (D.faults self.new.inner + self.new.faults)) }
         ensures faults { D.faults self.old.inner + self.old.faults ≤ D.faults self.new.inner + self.new.faults }
+        ensures no_fault { OnOk result (D.faults self.new.inner + self.new.faults ≡ D.faults self.old.inner + self.old.faults) }
         ensures changes { self.new.changes ≡ self.old.changes }
         ensures setting { self.new.arming ≡ self.old.arming }
     {

@@ -1,5 +1,5 @@
 //! What every disk promises.
-ghost use Rattle.std.specs.Prelude.{◌≡◌, ◌+◌, ◌≤◌, ◌<◌, List, ℕ, length, take, drop, IfOk, OnOk, OnErr};
+ghost use Rattle.std.specs.Prelude.{◌≡◌, ◌+◌, ◌≤◌, ◌<◌, ◌↔◌, List, ℕ, length, take, drop, IfOk, OnOk, OnErr};
 ghost use Rattle.hm_ports.specs.Faults.{Rose};
 ghost use Rattle.hm_disk.specs.Disk.{written, Torn, CutOrWhole, Follows, Only, Elapses, RisesBy};
 
@@ -9,9 +9,9 @@ use hm_ports::Failed;
 /// past the old end, and either size after a cut. After a sync that succeeds it leaves what a read
 /// gives.
 ///
-/// A call that fails may have done any part of its work, and is counted. Where a kind of disk
-/// doesn't tell its content, nothing is said of `seen` but that some calls leave it, and it may have
-/// no image.
+/// A call that fails may have done any part of its work, and is counted; one that succeeds isn't. A
+/// call that only reads leaves all that a stop may leave. Where a kind of disk doesn't tell its
+/// content, nothing is said of `seen` but that some calls leave it, and it may have no image.
 pub trait Disk: Drop {
     /// The type of the disk's setting, `()` where it has none.
     type Setting;
@@ -45,11 +45,13 @@ pub trait Disk: Drop {
         ensures size { tells → IfOk result (λ n. n ≡ length (seen self.old)) }
 
         ensures seen { seen self.new ≡ seen self.old }
-        ensures crash { (c : List ℕ) → image self.new c → image self.old c }
+        ensures images { (c : List ℕ) → image self.new c ↔ image self.old c }
+        ensures moment { moment self.new ≡ moment self.old }
         ensures time { Elapses (moment self.old) (moment self.new)
             (left_since self.old) (left_since self.new) (image self.new) }
         ensures fault { OnErr result (Rose (faults self.old) (faults self.new)) }
         ensures faults { faults self.old ≤ faults self.new }
+        ensures no_fault { OnOk result (faults self.new ≡ faults self.old) }
         ensures changes { changes self.new ≡ changes self.old }
         ensures setting { setting self.new ≡ setting self.old };
 
@@ -60,11 +62,13 @@ pub trait Disk: Drop {
             OnOk result (into.new ≡ take (length into.old) (drop at (seen self.old))) }
 
         ensures seen { seen self.new ≡ seen self.old }
-        ensures crash { (c : List ℕ) → image self.new c → image self.old c }
+        ensures images { (c : List ℕ) → image self.new c ↔ image self.old c }
+        ensures moment { moment self.new ≡ moment self.old }
         ensures time { Elapses (moment self.old) (moment self.new)
             (left_since self.old) (left_since self.new) (image self.new) }
         ensures fault { OnErr result (Rose (faults self.old) (faults self.new)) }
         ensures faults { faults self.old ≤ faults self.new }
+        ensures no_fault { OnOk result (faults self.new ≡ faults self.old) }
         ensures changes { changes self.new ≡ changes self.old }
         ensures setting { setting self.new ≡ setting self.old };
 
@@ -81,6 +85,7 @@ pub trait Disk: Drop {
             (left_since self.old) (left_since self.new) (image self.new) }
         ensures fault { OnErr result (Rose (faults self.old) (faults self.new)) }
         ensures faults { faults self.old ≤ faults self.new }
+        ensures no_fault { OnOk result (faults self.new ≡ faults self.old) }
         ensures changes { RisesBy 1 (changes self.old) (changes self.new) }
         ensures setting { setting self.new ≡ setting self.old };
 
@@ -95,6 +100,7 @@ pub trait Disk: Drop {
             (left_since self.old) (left_since self.new) (image self.new) }
         ensures fault { OnErr result (Rose (faults self.old) (faults self.new)) }
         ensures faults { faults self.old ≤ faults self.new }
+        ensures no_fault { OnOk result (faults self.new ≡ faults self.old) }
         ensures changes { RisesBy 1 (changes self.old) (changes self.new) }
         ensures setting { setting self.new ≡ setting self.old };
 
@@ -108,6 +114,7 @@ pub trait Disk: Drop {
             (left_since self.old) (left_since self.new) (image self.new) }
         ensures fault { OnErr result (Rose (faults self.old) (faults self.new)) }
         ensures faults { faults self.old ≤ faults self.new }
+        ensures no_fault { OnOk result (faults self.new ≡ faults self.old) }
         ensures changes { changes self.new ≡ changes self.old }
         ensures setting { setting self.new ≡ setting self.old };
 

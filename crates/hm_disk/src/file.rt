@@ -250,6 +250,7 @@ impl Disk for FileDisk {
             record self.old { faults = raised self.old.faults }) }
         ensures fault { OnErr result (Rose self.old.faults self.new.faults) }
         ensures faults { self.old.faults ≤ self.new.faults }
+        ensures no_fault { OnOk result (self.new.faults ≡ self.old.faults) }
         ensures changes { self.new.changes ≡ self.old.changes }
     {
         let found = self.file.metadata();
@@ -262,6 +263,7 @@ impl Disk for FileDisk {
             record self.old { faults = raised self.old.faults }) }
         ensures fault { OnErr result (Rose self.old.faults self.new.faults) }
         ensures faults { self.old.faults ≤ self.new.faults }
+        ensures no_fault { OnOk result (self.new.faults ≡ self.old.faults) }
         ensures changes { self.new.changes ≡ self.old.changes }
     {
         let answer = self.file.read_exact_at(into, at);
@@ -275,6 +277,7 @@ impl Disk for FileDisk {
             record { faults = raised self.old.faults; changes = raised self.old.changes }) }
         ensures fault { OnErr result (Rose self.old.faults self.new.faults) }
         ensures faults { self.old.faults ≤ self.new.faults }
+        ensures no_fault { OnOk result (self.new.faults ≡ self.old.faults) }
         ensures changes { RisesBy 1 self.old.changes self.new.changes }
     {
         raise(&mut self.changes);
@@ -293,6 +296,7 @@ impl Disk for FileDisk {
             record { faults = raised self.old.faults; changes = raised self.old.changes }) }
         ensures fault { OnErr result (Rose self.old.faults self.new.faults) }
         ensures faults { self.old.faults ≤ self.new.faults }
+        ensures no_fault { OnOk result (self.new.faults ≡ self.old.faults) }
         ensures changes { RisesBy 1 self.old.changes self.new.changes }
     {
         raise(&mut self.changes);
@@ -307,6 +311,7 @@ impl Disk for FileDisk {
             record self.old { faults = raised self.old.faults }) }
         ensures fault { OnErr result (Rose self.old.faults self.new.faults) }
         ensures faults { self.old.faults ≤ self.new.faults }
+        ensures no_fault { OnOk result (self.new.faults ≡ self.old.faults) }
         ensures changes { self.new.changes ≡ self.old.changes }
     {
         let answer = if self.remade {

@@ -164,10 +164,12 @@ impl Disk for MemDisk {
         ensures err { OnErr result (self.new ≡ after_failure self.old) }
 
         ensures seen { self.new.bytes ≡ self.old.bytes }
-        ensures crash { (c : List ℕ) → mem_image self.new c → mem_image self.old c }
+        ensures images { (c : List ℕ) → mem_image self.new c ↔ mem_image self.old c }
+        ensures moment { length self.new.events ≡ length self.old.events }
         ensures time { MemElapses self.old self.new }
         ensures fault { OnErr result (Rose self.old.faults self.new.faults) }
         ensures faults { self.old.faults ≤ self.new.faults }
+        ensures no_fault { OnOk result (self.new.faults ≡ self.old.faults) }
         ensures changes { self.new.changes ≡ self.old.changes }
     {
         if next_call_fails(&mut self.calls, &self.fails) {
@@ -187,10 +189,12 @@ impl Disk for MemDisk {
         ensures err { OnErr result (self.new ≡ after_failure self.old) }
 
         ensures seen { self.new.bytes ≡ self.old.bytes }
-        ensures crash { (c : List ℕ) → mem_image self.new c → mem_image self.old c }
+        ensures images { (c : List ℕ) → mem_image self.new c ↔ mem_image self.old c }
+        ensures moment { length self.new.events ≡ length self.old.events }
         ensures time { MemElapses self.old self.new }
         ensures fault { OnErr result (Rose self.old.faults self.new.faults) }
         ensures faults { self.old.faults ≤ self.new.faults }
+        ensures no_fault { OnOk result (self.new.faults ≡ self.old.faults) }
         ensures changes { self.new.changes ≡ self.old.changes }
     {
         if next_call_fails(&mut self.calls, &self.fails) {
@@ -218,6 +222,7 @@ impl Disk for MemDisk {
         ensures time { MemElapses self.old self.new }
         ensures fault { OnErr result (Rose self.old.faults self.new.faults) }
         ensures faults { self.old.faults ≤ self.new.faults }
+        ensures no_fault { OnOk result (self.new.faults ≡ self.old.faults) }
         ensures changes { RisesBy 1 self.old.changes self.new.changes }
     {
         raise(&mut self.changes);
@@ -244,6 +249,7 @@ impl Disk for MemDisk {
         ensures time { MemElapses self.old self.new }
         ensures fault { OnErr result (Rose self.old.faults self.new.faults) }
         ensures faults { self.old.faults ≤ self.new.faults }
+        ensures no_fault { OnOk result (self.new.faults ≡ self.old.faults) }
         ensures changes { RisesBy 1 self.old.changes self.new.changes }
     {
         raise(&mut self.changes);
@@ -270,6 +276,7 @@ impl Disk for MemDisk {
         ensures time { MemElapses self.old self.new }
         ensures fault { OnErr result (Rose self.old.faults self.new.faults) }
         ensures faults { self.old.faults ≤ self.new.faults }
+        ensures no_fault { OnOk result (self.new.faults ≡ self.old.faults) }
         ensures changes { self.new.changes ≡ self.old.changes }
     {
         if next_call_fails(&mut self.calls, &self.fails) {

@@ -2,27 +2,28 @@
 use Rattle.std.proofs.Common.{◌≡◌, inl, ℕ, ◌+◌, ◌++◌, ◌∷◌, [], List, length, sym, ◌∙◌, ap, subst}
 use Rattle.hm_disk.specs.Disk.{written, Torn, LeavesOnly}
 use Rattle.hm_disk.proofs.Moments.{weaker, joined}
-use Rattle.hm_log.specs.Format.{laid, log_of, IsFrame, IsWhole, BeforeOrAfter}
+use Rattle.hm_log.specs.Format.{log_of, IsWhole}
+use Rattle.hm_log.specs.Run.{IsRun, BeforeOrAll}
 use Rattle.hm_log.proofs.Stages.{staged, torn_behind, written_behind, torn_gate, written_log, written_gate}
 
-module _ (at : ℕ) (frames : List (List ℕ)) (file : List ℕ) (whole : IsWhole file at frames) (frame : List ℕ) (fits : IsFrame frame) where
-  -- the frame is there, behind its closed gate
-  pub staged_is : (seen bytes : List ℕ) → bytes ≡ laid frame ++ 45 ∷ [] → seen ≡ written (at + 1) bytes file → seen ≡ staged at frames file whole frame
-  staged_is seen bytes is on_disk = on_disk ∙ ap (λ (b : List ℕ). written (at + 1) b file) is ∙ written_behind at frames file whole frame
+module _ (at : ℕ) (frames : List (List ℕ)) (file : List ℕ) (whole : IsWhole file at frames) (run : List ℕ) (more : List (List ℕ)) (is_run : IsRun run more) where
+  -- the run is there, behind its closed gate
+  pub staged_is : (seen : List ℕ) → seen ≡ written (at + 1) run file → seen ≡ staged at frames file whole run
+  staged_is seen on_disk = on_disk ∙ written_behind at frames file whole run
 
   -- the gate is open
-  pub opened : (seen new : List ℕ) → seen ≡ staged at frames file whole frame → new ≡ written at (43 ∷ []) seen → (new ≡ log_of (frames ++ frame ∷ [])) × IsWhole new (at + 5 + length frame) (frames ++ frame ∷ [])
+  pub opened : (seen new : List ℕ) → seen ≡ staged at frames file whole run → new ≡ written at (43 ∷ []) seen → (new ≡ log_of (frames ++ more)) × IsWhole new (at + length run) (frames ++ more)
   opened seen new is on_disk =
-      let wrote : new ≡ written at (43 ∷ []) (staged at frames file whole frame) = on_disk ∙ ap (λ (f : List ℕ). written at (43 ∷ []) f) is in (
-        wrote ∙ written_log at frames file whole frame,
-        subst (λ (f : List ℕ). IsWhole f (at + 5 + length frame) (frames ++ frame ∷ [])) (sym wrote) (written_gate at frames file whole frame fits),
+      let wrote : new ≡ written at (43 ∷ []) (staged at frames file whole run) = on_disk ∙ ap (λ (f : List ℕ). written at (43 ∷ []) f) is in (
+        wrote ∙ written_log at frames file whole run more is_run,
+        subst (λ (f : List ℕ). IsWhole f (at + length run) (frames ++ more)) (sym wrote) (written_gate at frames file whole run more is_run),
       )
 
   module _ {D : Type 0} (moment : D → ℕ) (left_since : D → ℕ → List ℕ → Type 0) (old mid new : D) (n : ℕ) (first : LeavesOnly moment left_since old mid (λ c. Torn (at + 1) n file c)) where
-    pub writes_behind : LeavesOnly moment left_since old mid (BeforeOrAfter frames frame)
-    writes_behind = weaker moment left_since old mid (λ c. Torn (at + 1) n file c) (BeforeOrAfter frames frame) (λ c torn. inl (torn_behind at frames file whole n c torn)) first
+    pub writes_behind : LeavesOnly moment left_since old mid (BeforeOrAll frames more)
+    writes_behind = weaker moment left_since old mid (λ c. Torn (at + 1) n file c) (BeforeOrAll frames more) (λ c torn. inl (torn_behind at frames file whole n c torn)) first
 
-    pub writes_both : (seen : List ℕ) → seen ≡ staged at frames file whole frame → LeavesOnly moment left_since mid new (λ c. Torn at 1 seen c) → LeavesOnly moment left_since old new (BeforeOrAfter frames frame)
+    pub writes_both : (seen : List ℕ) → seen ≡ staged at frames file whole run → LeavesOnly moment left_since mid new (λ c. Torn at 1 seen c) → LeavesOnly moment left_since old new (BeforeOrAll frames more)
     writes_both seen is second =
-        joined moment left_since old mid new (BeforeOrAfter frames frame) writes_behind
-        (weaker moment left_since mid new (λ c. Torn at 1 seen c) (BeforeOrAfter frames frame) (λ c torn. torn_gate at frames file whole frame fits c (subst (λ (s : List ℕ). Torn at 1 s c) is torn)) second)
+        joined moment left_since old mid new (BeforeOrAll frames more) writes_behind
+        (weaker moment left_since mid new (λ c. Torn at 1 seen c) (BeforeOrAll frames more) (λ c torn. torn_gate at frames file whole run more is_run c (subst (λ (s : List ℕ). Torn at 1 s c) is torn)) second)

@@ -5,7 +5,8 @@ use Rattle.std.proofs.lemmas.List.Elements.{All-head, All-tail}
 use Rattle.std.proofs.lemmas.Nat.{from_le_bytes-to_le_bytes_4}
 use Rattle.std.proofs.lemmas.Bool.Decides.{nat_tests}
 use Rattle.std.specs.Prelude.{All}
-use Rattle.hm_log.specs.Format.{header, size_bytes, laid, spelled, IsFrame, Reads, IsWhole, BeforeOrAfter, size_of, frames_from, frames_of}
+use Rattle.hm_log.specs.Format.{header, size_bytes, laid, spelled, IsFrame, Reads, IsWhole, size_of, frames_from, frames_of}
+use Rattle.hm_log.specs.Run.{BeforeOrAll}
 use Rattle.hm_log.proofs.Spelling.{length-size_bytes, spelled_fewer}
 use Rattle.hm_log.proofs.Stages.{whole_reads}
 
@@ -45,9 +46,9 @@ whole_as seen at frames whole = subst (λ (fs : List (List ℕ)). IsWhole seen a
 pub reads_as : (seen : List ℕ) (frames : List (List ℕ)) → Reads seen frames → Reads seen (frames_of seen)
 reads_as seen frames reads = subst (λ (fs : List (List ℕ)). Reads seen fs) (sym (frames_of-reads seen frames reads)) reads
 
-pub reads_either : (frames : List (List ℕ)) (frame seen : List ℕ) → BeforeOrAfter frames frame seen → Reads seen (frames_of seen)
-reads_either frames frame seen (inl before) = reads_as seen frames before
-reads_either frames frame seen (inr after) = reads_as seen (frames ++ frame ∷ []) after
+pub reads_either : (frames more : List (List ℕ)) (seen : List ℕ) → BeforeOrAll frames more seen → Reads seen (frames_of seen)
+reads_either frames more seen (inl before) = reads_as seen frames before
+reads_either frames more seen (inr after) = reads_as seen (frames ++ more) after
 
 -- one more frame, in the words of what it reads as
 pub next_whole : (seen : List ℕ) (gate to : ℕ) (frames : List (List ℕ)) → IsWhole seen gate frames → gate ≡ to → IsWhole seen to (frames_of seen)

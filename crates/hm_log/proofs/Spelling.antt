@@ -3,7 +3,9 @@ use Rattle.std.proofs.Common.{◌≡◌, ℕ, ◌+◌, ◌≤◌, List, [], ◌�
 use Rattle.std.proofs.lemmas.List.{append-nil}
 use Rattle.std.proofs.lemmas.List.Sums.{sum_by-cons}
 use Rattle.std.specs.Prelude.{sum_by}
-use Rattle.hm_log.specs.Format.{header, size_bytes, laid, spelled, log_of}
+use Rattle.hm_log.specs.Format.{header, size_bytes, laid, spelled, log_of, IsFrame}
+use Rattle.hm_log.specs.Run.{IsRun}
+use Rattle.std.proofs.lemmas.List.Elements.{All-nil, All-push}
 
 pub length-size_bytes : (n : ℕ) → length (size_bytes n) ≡ 4
 unfolding size_bytes
@@ -51,9 +53,29 @@ goes_on bytes frames rest tail frame next so_far is_open is =
     ∙ ap (λ (l : List ℕ). header ++ l) (sym (spelled-push frames frame next))
     ∙ sym (append_assoc header (spelled (frames ++ frame ∷ [])) next)
 
--- the gate of the last frame, once it is open
-pub opened_log : (frames : List (List ℕ)) (frame : List ℕ) → header ++ spelled frames ++ 43 ∷ [] ++ (laid frame ++ 45 ∷ []) ≡ log_of (frames ++ frame ∷ [])
-opened_log frames frame =
-    let tail = laid frame ++ 45 ∷ [] in
-    append_assoc (header ++ spelled frames) (43 ∷ []) tail
-    ∙ goes_on (header ++ spelled frames ++ 43 ∷ tail) frames (43 ∷ tail) tail frame (45 ∷ []) refl refl refl
+-- some frames stand behind others
+pub spelled-append : (frames more : List (List ℕ)) → spelled (frames ++ more) ≡ spelled frames ++ spelled more
+spelled-append [] more = refl
+spelled-append (f ∷ frames) more =
+    ap (λ (l : List ℕ). 43 ∷ laid f ++ l) (spelled-append frames more) ∙ sym (append_assoc (43 ∷ laid f) (spelled frames) (spelled more))
+
+-- a run has as many bytes as its frames with their gates
+pub length-run : (run : List ℕ) (more : List (List ℕ)) → IsRun run more → length run ≡ length (spelled more)
+length-run run more is = omega (arith, ap length is.spelling, length-append (spelled more) (45 ∷ []))
+
+-- one frame, with the closed gate behind it, is a run
+pub run_of_one : (run frame : List ℕ) → run ≡ laid frame ++ 45 ∷ [] → IsFrame frame → IsRun run (frame ∷ [])
+run_of_one run frame is fits = record {
+  some = omega arith;
+  each = All-push IsFrame [] frame (All-nil IsFrame) fits;
+  spelling = ap (λ (l : List ℕ). 43 ∷ l) is ∙ ap (λ (l : List ℕ). 43 ∷ (l ++ 45 ∷ [])) (sym (append-nil (laid frame)));
+}
+
+-- the gate before a run, once it is open
+pub opened_log : (frames : List (List ℕ)) (run : List ℕ) (more : List (List ℕ)) → IsRun run more → header ++ spelled frames ++ 43 ∷ [] ++ run ≡ log_of (frames ++ more)
+opened_log frames run more is =
+    append_assoc (header ++ spelled frames) (43 ∷ []) run
+    ∙ ap (λ (l : List ℕ). header ++ spelled frames ++ l) is.spelling
+    ∙ sym (append_assoc (header ++ spelled frames) (spelled more) (45 ∷ []))
+    ∙ ap (λ (l : List ℕ). l ++ 45 ∷ []) (append_assoc header (spelled frames) (spelled more))
+    ∙ ap (λ (l : List ℕ). header ++ l ++ 45 ∷ []) (sym (spelled-append frames more))

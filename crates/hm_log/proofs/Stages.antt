@@ -1,11 +1,12 @@
 -- What a stop leaves in each of the two steps of an append.
 use Rattle.std.proofs.Common.{◌≡◌, inl, inr, ℕ, ◌+◌, List, [], ◌∷◌, ◌++◌, length, refl, sym, ◌∙◌, ap, subst, arith, append_assoc, length-append}
-use Rattle.std.proofs.lemmas.List.Elements.{All-push}
+use Rattle.std.proofs.lemmas.List.Elements.{All-append}
 use Rattle.std.proofs.lemmas.Bool.{cases_eq}
 use Rattle.hm_disk.specs.Disk.{written, Torn}
 use Rattle.hm_disk.proofs.Splice.{torn_end, torn_over, written_end, written_over}
-use Rattle.hm_log.specs.Format.{header, laid, spelled, log_of, IsFrame, Reads, IsWhole, BeforeOrAfter}
-use Rattle.hm_log.proofs.Spelling.{length-spelled-push, opened_log}
+use Rattle.hm_log.specs.Format.{header, spelled, log_of, IsFrame, Reads, IsWhole}
+use Rattle.hm_log.specs.Run.{IsRun, BeforeOrAll}
+use Rattle.hm_log.proofs.Spelling.{length-run, opened_log, spelled-append}
 
 module _ (at : ℕ) (frames : List (List ℕ)) (file : List ℕ) (whole : IsWhole file at frames) where
   abbrev front : List ℕ
@@ -29,51 +30,47 @@ module _ (at : ℕ) (frames : List (List ℕ)) (file : List ℕ) (whole : IsWhol
         each = whole.each;
       }
 
-  module _ (frame : List ℕ) where
-    -- a frame and a closed gate
-    abbrev pub tail : List ℕ
-    tail = laid frame ++ 45 ∷ []
-
-    -- the file with a frame behind its closed gate
+  module _ (run : List ℕ) where
+    -- the file with a run behind its closed gate
     abbrev pub staged : List ℕ
-    staged = header ++ spelled frames ++ whole.gate ∷ [] ++ tail
+    staged = header ++ spelled frames ++ whole.gate ∷ [] ++ run
 
-    pub written_behind : written (at + 1) tail file ≡ staged
-    written_behind = written_end (at + 1) file tail (sym length_whole) ∙ ap (λ (l : List ℕ). l ++ tail) whole.spelling
+    pub written_behind : written (at + 1) run file ≡ staged
+    written_behind = written_end (at + 1) file run (sym length_whole) ∙ ap (λ (l : List ℕ). l ++ run) whole.spelling
 
-    pub written_log : written at (43 ∷ []) staged ≡ log_of (frames ++ frame ∷ [])
-    written_log = written_over at front (whole.gate ∷ []) (43 ∷ []) tail whole.place refl ∙ opened_log frames frame
+    module _ (more : List (List ℕ)) (is : IsRun run more) where
+      pub written_log : written at (43 ∷ []) staged ≡ log_of (frames ++ more)
+      written_log = written_over at front (whole.gate ∷ []) (43 ∷ []) run whole.place refl ∙ opened_log frames run more is
 
-    module _ (fits : IsFrame frame) where
-      -- a gate of any value in front of the frame
-      with_gate : (gate : ℕ) → BeforeOrAfter frames frame (front ++ gate ∷ [] ++ tail)
+      -- a gate of any value in front of the run
+      with_gate : (gate : ℕ) → BeforeOrAll frames more (front ++ gate ∷ [] ++ run)
       with_gate gate = elim (cases_eq gate 43) [
-        | inl is ↦ inr (record {
+        | inl open_is ↦ inr (record {
           gate = 45;
           free = [];
           shut = omega arith;
-          spelling = ap (λ (g : ℕ). front ++ g ∷ [] ++ tail) is ∙ opened_log frames frame;
-          each = All-push IsFrame frames frame whole.each fits;
+          spelling = ap (λ (g : ℕ). front ++ g ∷ [] ++ run) open_is ∙ opened_log frames run more is;
+          each = All-append IsFrame frames more whole.each is.each;
         })
-        | inr shut ↦ inl (record { gate = gate; free = tail; shut = shut; spelling = append_assoc front (gate ∷ []) tail; each = whole.each })
+        | inr shut ↦ inl (record { gate = gate; free = run; shut = shut; spelling = append_assoc front (gate ∷ []) run; each = whole.each })
       ]
 
       -- the gate may be torn, and nothing else
-      pub torn_gate : (c : List ℕ) → Torn at 1 staged c → BeforeOrAfter frames frame c
+      pub torn_gate : (c : List ℕ) → Torn at 1 staged c → BeforeOrAll frames more c
       torn_gate c torn =
-          let split = torn_over at 1 front (whole.gate ∷ []) tail c whole.place refl torn in
+          let split = torn_over at 1 front (whole.gate ∷ []) run c whole.place refl torn in
           one split.0 split.1 split.2
         where
-          one : (new : List ℕ) → length new ≡ 1 → c ≡ front ++ new ++ tail → BeforeOrAfter frames frame c
+          one : (new : List ℕ) → length new ≡ 1 → c ≡ front ++ new ++ run → BeforeOrAll frames more c
           one [] is so = absurd (cc)
-          one (g ∷ []) is so = subst (BeforeOrAfter frames frame) (sym so) (with_gate g)
+          one (g ∷ []) is so = subst (BeforeOrAll frames more) (sym so) (with_gate g)
           one (g ∷ h ∷ new) is so = absurd (omega arith)
 
-      pub written_gate : IsWhole (written at (43 ∷ []) staged) (at + 5 + length frame) (frames ++ frame ∷ [])
+      pub written_gate : IsWhole (written at (43 ∷ []) staged) (at + length run) (frames ++ more)
       written_gate = record {
         gate = 45;
         shut = omega arith;
         spelling = written_log;
-        place = omega (arith, whole.place, length-append header (spelled frames), length-append header (spelled (frames ++ frame ∷ [])), length-spelled-push frames frame);
-        each = All-push IsFrame frames frame whole.each fits;
+        place = omega (arith, whole.place, length-append header (spelled frames), length-append header (spelled (frames ++ more)), ap length (spelled-append frames more), length-append (spelled frames) (spelled more), length-run run more is);
+        each = All-append IsFrame frames more whole.each is.each;
       }

@@ -25,8 +25,16 @@ pub record IsUntouched {D : Type 0} (seen : D → List ℕ) (image : D → List 
   pub images : (c : List ℕ) → image new c → image old c
   pub count : changes new ≡ changes old
 
--- the disk was only read: nothing was changed, and a stop leaves what it might have left before
+-- nothing was changed, and a stop leaves what it might have left before
+pub record ChangesNothing {D Setting : Type 0} (disk : Disk.Ghosts D Setting) (old new : D) : Type 0 where
+  pub untouched : IsUntouched disk.seen disk.image disk.changes old new
+  pub leaves : LeavesOnly disk.moment disk.left_since old new (disk.image old)
+  pub called : IsCalled disk 0 old new
+
+-- the disk was only read: nothing was changed, each image from before is still one, and it is the same moment
 pub record OnlyReads {D Setting : Type 0} (disk : Disk.Ghosts D Setting) (old new : D) : Type 0 where
   pub untouched : IsUntouched disk.seen disk.image disk.changes old new
+  pub stays : (c : List ℕ) → disk.image old c → disk.image new c
+  pub moment : disk.moment new ≡ disk.moment old
   pub leaves : LeavesOnly disk.moment disk.left_since old new (disk.image old)
   pub called : IsCalled disk 0 old new

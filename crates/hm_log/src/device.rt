@@ -22,6 +22,7 @@ pub(crate) fn write_through<D: Disk>(disk: &mut D, at: u64, bytes: &[u8]) -> Res
     ensures any_moment { LeavesOnly D.moment D.left_since disk.old disk.new
         (λ c. Torn at (length bytes.now) (D.seen disk.old) c) }
     ensures fault { OnErr result (Rose (D.faults disk.old) (D.faults disk.new)) }
+    ensures no_fault { OnOk result (D.faults disk.new ≡ D.faults disk.old) }
     ensures changes { RisesBy 1 (D.changes disk.old) (D.changes disk.new) }
     ensures called { IsCalled D.Disk 1 disk.old disk.new }
 {
@@ -39,6 +40,7 @@ pub(crate) fn trim<D: Disk>(disk: &mut D, size: u64) -> Result<(), Failed>
     ensures any_moment { LeavesOnly D.moment D.left_since disk.old disk.new
         (λ c. CutOrWhole size (D.seen disk.old) c) }
     ensures fault { OnErr result (Rose (D.faults disk.old) (D.faults disk.new)) }
+    ensures no_fault { OnOk result (D.faults disk.new ≡ D.faults disk.old) }
     ensures changes { RisesBy 1 (D.changes disk.old) (D.changes disk.new) }
     ensures called { IsCalled D.Disk 1 disk.old disk.new }
 {

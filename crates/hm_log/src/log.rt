@@ -1,17 +1,19 @@
 //! The log itself.
-ghost use Rattle.std.specs.Prelude.{◌≡◌, ◌≢◌, ◌⊎◌, ◌+◌, ◌^◌, ◌≤◌, ◌<◌, ◌++◌, ◌∷◌, [], List, ℕ, length, take, vec_len, vec_capacity, false, true, All, IfOk, IfErr, OnOk, OnErr, MatchResult, IsErrOf};
+ghost use Rattle.std.specs.Prelude.{◌≡◌, ◌≢◌, ◌⊎◌, ◌+◌, ◌^◌, ◌≤◌, ◌<◌, ◌↔◌, ◌++◌, ◌∷◌, [], List, ℕ, length, take, vec_len, vec_capacity, false, true, All, IfOk, IfErr, OnOk, OnErr, MatchResult, IsErrOf};
 ghost use Rattle.hm_ports.specs.Faults.{Rose};
 ghost use Rattle.hm_disk.specs.Called.{IsCalled};
 ghost use Rattle.hm_disk.specs.Disk.{Only, RisesBy, LeavesOnly, LeavesThen};
 ghost use Rattle.hm_log.specs.Format.{laid, log_of, size_with, IsFrame, IsWhole, Reads, HoldsFrames, BeforeOrAfter, IsClean, IsNotALog, IsBadFrame};
 ghost use Rattle.hm_log.specs.Opening.{IsMaking, Reopens, IsUntouched, OnlyReads};
+ghost use Rattle.hm_log.specs.Run.{IsRun, BeforeOrAll};
 ghost use Rattle.hm_log.specs.declared.why.OpenWhy.TheVariants.{Fault, NotALog, BadFrame, Memory};
 
 use crate::device::write_through;
 use crate::open::{Ready, prepare};
 use crate::pieces::fetch;
+use crate::run::lay_frame;
 use crate::{Frames, OpenWhy};
-use hm_disk::{Anchor, Disk};
+use hm_disk::{Anchor, Arm, Disk};
 use hm_ports::Failed;
 use std::alloc::Global;
 use std::marker::Model;
@@ -81,6 +83,7 @@ impl<D: Disk> Log<D> {
         ensures bad_frame { D.tells → (place : ℕ) →
             IfErr result (λ e. e.1 ≡ BadFrame place → IsBadFrame (D.seen disk) place) }
         ensures fault { IfErr result (λ e. e.1 ≡ Fault → Rose (D.faults disk) (D.faults e.0)) }
+        ensures no_fault { IfOk result (λ r. D.faults r.0.disk ≡ D.faults disk) }
         ensures memory { D.tells → (place : ℕ) →
             IfErr result (λ e. e.1 ≡ Memory → IsNotALog (D.seen disk) place → ⊥) }
         ensures untouched { IfErr result (λ e. e.1 ≢ Fault → IsUntouched D.seen D.image D.changes disk e.0) }
@@ -117,8 +120,8 @@ impl<D: Disk> Log<D> {
         }
     }
 
-    /// Judges a disk as `open` does, and gives the frames that it holds. It only reads. A disk of size 0
-    /// holds none.
+    /// Judges a disk as `open` does, and gives the frames that it holds. It only reads: what a stop may
+    /// leave stays as it was. A disk of size 0 holds none.
     pub fn scan(alloc: Global, disk: &mut D) -> Result<Frames, OpenWhy>
         ensures reads { D.tells → IfOk result (HoldsFrames (D.seen disk.old)) }
         ensures each { IfOk result (All IsFrame) }
@@ -127,6 +130,7 @@ impl<D: Disk> Log<D> {
         ensures bad_frame { D.tells → (place : ℕ) →
             IsErrOf result (BadFrame place) → IsBadFrame (D.seen disk.old) place }
         ensures fault { IsErrOf result Fault → Rose (D.faults disk.old) (D.faults disk.new) }
+        ensures no_fault { OnOk result (D.faults disk.new ≡ D.faults disk.old) }
         ensures memory { D.tells → (place : ℕ) →
             IsErrOf result Memory → IsNotALog (D.seen disk.old) place → ⊥ }
         ensures only_reads { OnlyReads D.Disk disk.old disk.new }
@@ -160,6 +164,7 @@ impl<D: Disk> Log<D> {
 
         // When it fails, and what that leaves.
         ensures fault { OnErr result (Rose (D.faults self.old.disk) (D.faults self.new.disk)) }
+        ensures no_fault { OnOk result (D.faults self.new.disk ≡ D.faults self.old.disk) }
         ensures stalled { OnErr result (self.new.stalled ≡ true) }
 
         // The disk's counts and its setting.
@@ -176,6 +181,51 @@ impl<D: Disk> Log<D> {
         Ok(number)
     }
 
+    /// Adds a run of so many frames, and gives the number of the first. At `Ok` all of them are on the disk.
+    /// A stop on the way leaves none of them or all. After an error the log is stalled, as after one of
+    /// `append`.
+    pub fn append_run(&mut self, run: &[u8], count: u64) -> Result<u64, Failed>
+        requires live { self.old.stalled ≡ false }
+        requires run { (more : List (List ℕ)) × IsRun run.now more × (count ≡ length more) }
+        requires room { self.old.bytes + length run.now < 2 ^ 64 }
+
+        // What it adds.
+        ensures number { D.tells → IfOk result (λ n. n ≡ length self.old.frames) }
+        ensures added { D.tells → (more : List (List ℕ)) → IsRun run.now more →
+            OnOk result (self.new.frames ≡ self.old.frames ++ more) }
+        ensures bytes { OnOk result (self.new.bytes ≡ self.old.bytes + length run.now) }
+        ensures live_on { OnOk result (self.new.stalled ≡ false) }
+
+        // It takes no memory.
+        ensures room { self.new.room ≡ self.old.room }
+
+        // What the disk reads as, now and behind each stop.
+        ensures written { D.tells → OnOk result (D.seen self.new.disk ≡ log_of self.new.frames) }
+        ensures on_disk { D.tells → (more : List (List ℕ)) → IsRun run.now more →
+            BeforeOrAll self.old.frames more (D.seen self.new.disk) }
+        ensures durable { D.tells →
+            OnOk result ((c : List ℕ) → D.image self.new.disk c → Reads c self.new.frames) }
+        ensures any_moment { D.tells → (more : List (List ℕ)) → IsRun run.now more →
+            LeavesOnly D.moment D.left_since self.old.disk self.new.disk (BeforeOrAll self.old.frames more) }
+
+        // When it fails, and what that leaves.
+        ensures fault { OnErr result (Rose (D.faults self.old.disk) (D.faults self.new.disk)) }
+        ensures no_fault { OnOk result (D.faults self.new.disk ≡ D.faults self.old.disk) }
+        ensures stalled { OnErr result (self.new.stalled ≡ true) }
+
+        // The disk's counts and its setting.
+        ensures changes { OnOk result (RisesBy 2 (D.changes self.old.disk) (D.changes self.new.disk)) }
+        ensures called { IsCalled D.Disk 2 self.old.disk self.new.disk }
+    {
+        self.stalled = true;
+        add(&mut self.disk, self.gate, run)?;
+        let number = self.count;
+        self.gate += run.len() as u64;
+        self.count += count;
+        self.stalled = false;
+        Ok(number)
+    }
+
     /// The size of the log on the disk.
     pub fn bytes(&self) -> u64
         ensures { result ≡ self.now.bytes }
@@ -183,16 +233,27 @@ impl<D: Disk> Log<D> {
         self.gate + 1
     }
 
-    /// Whether a call of `append` has failed.
+    /// How many frames it has.
+    pub fn count(&self) -> u64
+        ensures { D.tells → self.now.stalled ≡ false → result ≡ length self.now.frames }
+    {
+        self.count
+    }
+
+    /// Whether a call that adds frames has failed.
     pub fn stalled(&self) -> bool
         ensures { result ≡ self.now.stalled }
     {
         self.stalled
     }
 
-    /// Its disk as it is now, for proofs alone.
+    /// Its disk as it is now, for proofs alone: it reads as the log's frames, and so does what a stop leaves
+    /// while the log isn't stalled.
     pub fn anchor(&self) -> Anchor<D>
-        ensures { result.disk ≡ self.now.disk }
+        ensures disk { result.disk ≡ self.now.disk }
+        ensures reads { D.tells → Reads (D.seen self.now.disk) self.now.frames }
+        ensures durable { D.tells → self.now.stalled ≡ false →
+            (c : List ℕ) → D.image self.now.disk c → Reads c self.now.frames }
     {
         Anchor::at(&self.disk)
     }
@@ -215,29 +276,47 @@ impl<D: Disk> Log<D> {
     }
 }
 
-// Writes a frame, in the buffer, behind the closed gate, and opens the gate once it is on the disk.
-fn add<D: Disk>(disk: &mut D, gate: u64, bytes: &[u8]) -> Result<(), Failed>
+impl<D: Arm> Log<D> {
+    /// Tells its disk after how many changes to stop. Nothing else of the log changes.
+    pub fn arm(&mut self, changes: u64, bytes: u64)
+        ensures log { self.new ≡ record self.old { disk = self.new.disk } }
+        ensures set { D.Arm.arms changes bytes self.old.disk self.new.disk }
+        ensures seen { D.seen self.new.disk ≡ D.seen self.old.disk }
+        ensures images { (c : List ℕ) → D.image self.new.disk c ↔ D.image self.old.disk c }
+        ensures moment { D.moment self.new.disk ≡ D.moment self.old.disk }
+        ensures since { (t : ℕ) (c : List ℕ) →
+            D.left_since self.new.disk t c ↔ D.left_since self.old.disk t c }
+        ensures faults { D.faults self.new.disk ≡ D.faults self.old.disk }
+        ensures changes { D.changes self.new.disk ≡ 0 }
+    {
+        self.disk.arm(changes, bytes);
+    }
+}
+
+// Writes a run behind the closed gate, and opens the gate once it is on the disk.
+fn add<D: Disk>(disk: &mut D, gate: u64, run: &[u8]) -> Result<(), Failed>
     requires place { D.tells → length (D.seen disk.old) ≡ gate + 1 }
     requires room { gate + 1 < 2 ^ 64 }
-    requires some { 0 < length bytes.now }
+    requires some { 0 < length run.now }
     requires only { Only (D.seen disk.old) (D.image disk.old) }
-    ensures added { D.tells → (frames : List (List ℕ)) (frame : List ℕ) →
-        IsWhole (D.seen disk.old) gate frames → IsFrame frame → bytes.now ≡ laid frame ++ 45 ∷ [] →
-        OnOk result ((D.seen disk.new ≡ log_of (frames ++ frame ∷ []))
-        × IsWhole (D.seen disk.new) (gate + 5 + length frame) (frames ++ frame ∷ [])) }
+    ensures added { D.tells → (frames more : List (List ℕ)) →
+        IsWhole (D.seen disk.old) gate frames → IsRun run.now more →
+        OnOk result ((D.seen disk.new ≡ log_of (frames ++ more))
+        × IsWhole (D.seen disk.new) (gate + length run.now) (frames ++ more)) }
     ensures durable { OnOk result (Only (D.seen disk.new) (D.image disk.new)) }
-    ensures any_moment { D.tells → (frames : List (List ℕ)) (frame : List ℕ) →
-        IsWhole (D.seen disk.old) gate frames → IsFrame frame → bytes.now ≡ laid frame ++ 45 ∷ [] →
-        LeavesOnly D.moment D.left_since disk.old disk.new (BeforeOrAfter frames frame) }
+    ensures any_moment { D.tells → (frames more : List (List ℕ)) →
+        IsWhole (D.seen disk.old) gate frames → IsRun run.now more →
+        LeavesOnly D.moment D.left_since disk.old disk.new (BeforeOrAll frames more) }
     ensures fault { OnErr result (Rose (D.faults disk.old) (D.faults disk.new)) }
+    ensures no_fault { OnOk result (D.faults disk.new ≡ D.faults disk.old) }
     ensures changes { OnOk result (RisesBy 2 (D.changes disk.old) (D.changes disk.new)) }
     ensures called { IsCalled D.Disk 2 disk.old disk.new }
 {
-    write_through(disk, gate + 1, bytes)?;
+    write_through(disk, gate + 1, run)?;
     write_through(disk, gate, b"+")
 }
 
-// Writes the length, the frame and a closed gate to the buffer.
+// Lays a frame out in the buffer.
 fn lay(buffer: &mut Vec<u8>, frame: &[u8])
     requires size { IsFrame frame.now }
     requires room { 65541 ≤ vec_capacity buffer.old }
@@ -245,18 +324,5 @@ fn lay(buffer: &mut Vec<u8>, frame: &[u8])
     ensures laid { buffer.new.items ≡ laid frame.now ++ 45 ∷ [] }
 {
     buffer.clear();
-    put(buffer, &(frame.len() as u32).to_le_bytes());
-    put(buffer, frame);
-    put(buffer, b"-");
-}
-
-// Appends within the spare room, and takes no memory.
-fn put(out: &mut Vec<u8>, bytes: &[u8])
-    requires { vec_len out.old + length bytes.now ≤ vec_capacity out.old }
-    ensures capacity { vec_capacity out.new ≡ vec_capacity out.old }
-    ensures items { out.new.items ≡ out.old.items ++ bytes.now }
-{
-    for byte in bytes {
-        out.push_reserved(*byte);
-    }
+    lay_frame(buffer, frame);
 }

@@ -50,6 +50,7 @@ pub(crate) fn prepare<D: Disk>(alloc: Global, disk: &mut D) -> Result<Ready, Ope
     ensures bad_frame { D.tells → (place : ℕ) →
         IsErrOf result (BadFrame place) → IsBadFrame (D.seen disk.old) place }
     ensures fault { IsErrOf result Fault → Rose (D.faults disk.old) (D.faults disk.new) }
+    ensures no_fault { OnOk result (D.faults disk.new ≡ D.faults disk.old) }
     ensures memory { D.tells → (place : ℕ) →
         IsErrOf result Memory → IsNotALog (D.seen disk.old) place → ⊥ }
     ensures called { IsCalled D.Disk 1 disk.old disk.new }

@@ -3,7 +3,7 @@ ghost use Rattle.std.specs.Prelude.{◌≡◌, ◌≢◌, ◌+◌, ◌-◌, ◌^
 ghost use Rattle.hm_ports.specs.Faults.{Rose};
 ghost use Rattle.hm_disk.specs.Disk.{Only, LeavesThen};
 ghost use Rattle.hm_log.specs.Format.{size_with, IsFrame, IsNotALog, IsBadFrame};
-ghost use Rattle.hm_log.specs.Opening.{OnlyReads};
+ghost use Rattle.hm_log.specs.Opening.{ChangesNothing, OnlyReads};
 ghost use Rattle.hm_log.specs.Pieces.{EndsAt, StandsTo, IsShut, IsFound};
 ghost use Rattle.hm_log.specs.declared.why.OpenWhy.TheVariants.{Fault, NotALog, BadFrame, Memory};
 
@@ -37,6 +37,7 @@ fn measure<D: Disk>(disk: &mut D) -> Result<u64, Failed>
     ensures size { D.tells → IfOk result (λ size. size ≡ length (D.seen disk.old)) }
     ensures only_reads { OnlyReads D.Disk disk.old disk.new }
     ensures fault { OnErr result (Rose (D.faults disk.old) (D.faults disk.new)) }
+    ensures no_fault { OnOk result (D.faults disk.new ≡ D.faults disk.old) }
 {
     disk.size()
 }
@@ -48,6 +49,7 @@ fn read<D: Disk>(disk: &mut D, at: u64, into: &mut [u8]) -> Result<(), Failed>
         OnOk result (into.new ≡ take (length into.old) (drop at (D.seen disk.old))) }
     ensures only_reads { OnlyReads D.Disk disk.old disk.new }
     ensures fault { OnErr result (Rose (D.faults disk.old) (D.faults disk.new)) }
+    ensures no_fault { OnOk result (D.faults disk.new ≡ D.faults disk.old) }
 {
     disk.read_at(at, into)
 }
@@ -62,6 +64,7 @@ fn first_gate<D: Disk>(disk: &mut D, size: u64) -> Result<Gate, OpenWhy>
         gate.is_open ≡ false → IsShut (D.seen disk.old) gate.place) }
     ensures only_reads { OnlyReads D.Disk disk.old disk.new }
     ensures fault { IsErrOf result Fault → Rose (D.faults disk.old) (D.faults disk.new) }
+    ensures no_fault { OnOk result (D.faults disk.new ≡ D.faults disk.old) }
     ensures not_a_log { D.tells → (place : ℕ) →
         IsErrOf result (NotALog place) → IsNotALog (D.seen disk.old) place }
     ensures bad_frame { (place : ℕ) → IsErrOf result (BadFrame place) → ⊥ }
@@ -100,6 +103,7 @@ fn read_piece<D: Disk>(
         gate.is_open ≡ false → IsShut (D.seen disk.old) gate.place) }
     ensures only_reads { OnlyReads D.Disk disk.old disk.new }
     ensures fault { IsErrOf result Fault → Rose (D.faults disk.old) (D.faults disk.new) }
+    ensures no_fault { OnOk result (D.faults disk.new ≡ D.faults disk.old) }
     ensures not_a_log { (at : ℕ) → IsErrOf result (NotALog at) → ⊥ }
     ensures bad_frame { D.tells → (at : ℕ) →
         IsErrOf result (BadFrame at) → IsBadFrame (D.seen disk.old) at }
@@ -143,6 +147,7 @@ fn read_frames<D: Disk>(
     ensures small { IfOk result (λ f. (f.gate + 1 < 2 ^ 63) × (length f.frames ≤ f.gate)) }
     ensures only_reads { OnlyReads D.Disk disk.old disk.new }
     ensures fault { IsErrOf result Fault → Rose (D.faults disk.old) (D.faults disk.new) }
+    ensures no_fault { OnOk result (D.faults disk.new ≡ D.faults disk.old) }
     ensures not_a_log { (place : ℕ) → IsErrOf result (NotALog place) → ⊥ }
     ensures bad_frame { D.tells → (place : ℕ) →
         IsErrOf result (BadFrame place) → IsBadFrame (D.seen disk.old) place }
@@ -172,6 +177,7 @@ pub(crate) fn fetch<D: Disk>(alloc: Global, disk: &mut D) -> Result<Found, OpenW
     ensures small { IfOk result (λ f. (f.gate + 1 < 2 ^ 63) × (length f.frames ≤ f.gate)) }
     ensures only_reads { OnlyReads D.Disk disk.old disk.new }
     ensures fault { IsErrOf result Fault → Rose (D.faults disk.old) (D.faults disk.new) }
+    ensures no_fault { OnOk result (D.faults disk.new ≡ D.faults disk.old) }
     ensures not_a_log { D.tells → (place : ℕ) →
         IsErrOf result (NotALog place) → IsNotALog (D.seen disk.old) place }
     ensures bad_frame { D.tells → (place : ℕ) →
@@ -200,8 +206,9 @@ pub(crate) fn load<D: Disk>(alloc: Global, disk: &mut D) -> Result<Found, OpenWh
     ensures only { OnOk result (Only (D.seen disk.new) (D.image disk.new)) }
     ensures from_then_on { OnOk result (LeavesThen D.moment D.left_since disk.old disk.new
         (D.image disk.old) (λ c. c ≡ D.seen disk.old)) }
-    ensures only_reads { OnlyReads D.Disk disk.old disk.new }
+    ensures only_reads { ChangesNothing D.Disk disk.old disk.new }
     ensures fault { IsErrOf result Fault → Rose (D.faults disk.old) (D.faults disk.new) }
+    ensures no_fault { OnOk result (D.faults disk.new ≡ D.faults disk.old) }
     ensures not_a_log { D.tells → (place : ℕ) →
         IsErrOf result (NotALog place) → IsNotALog (D.seen disk.old) place }
     ensures bad_frame { D.tells → (place : ℕ) →

@@ -7,6 +7,7 @@ use Rattle.hm_log.proofs.pieces.read_frames.Given as goal
 abbrev pub invariant-loop-gate : goal.invariant-loop-gate
 invariant-loop-gate g l = record {
   reads : OnlyReads g.D.Disk l.fn.disk l.disk;
+  no_fault : g.D.Disk.faults l.disk ≡ g.D.Disk.faults l.fn.disk;
   ends : EndsAt l.frames l.gate.place l.size;
   stands : g.D.Disk.tells → StandsTo (g.D.Disk.seen l.fn.disk) l.gate.place l.frames;
   shut : g.D.Disk.tells → l.gate.is_open ≡ false → IsShut (g.D.Disk.seen l.fn.disk) l.gate.place;

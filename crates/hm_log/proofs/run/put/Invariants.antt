@@ -1,6 +1,6 @@
 use Rattle.std.proofs.Common.{◌≡◌, ◌++◌, take}
 use Rattle.std.specs.Prelude.{vec_capacity}
-use Rattle.hm_log.proofs.log.put.Given as goal
+use Rattle.hm_log.proofs.run.put.Given as goal
 
 abbrev pub invariant-loop-byte : goal.invariant-loop-byte
 invariant-loop-byte l = record {
