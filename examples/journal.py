@@ -196,13 +196,18 @@ class Reader:
             return [Made(kind, self.number())]
         raise BadLog(f"there is no child of kind {kind}")
 
+    def cause(self):
+        self.one_of(CAUSES)
+        return self.frame[self.at - 1]
+
     def call(self):
         verb = self.one_of(VERBS)
         return f"{verb} " + {"open": lambda: str(self.region()), "close": lambda: str(self.region()), "fence": self.server}.get(
             verb, lambda: f"the files of procedure {self.number()}")()
 
     def out(self):
-        answer, value = self.one_of(range(6)), self.byte()
+        answer = self.one_of(range(6))
+        value = {3: lambda: self.one_of(range(len(TOLD))), 4: self.cause}.get(answer, self.byte)()
         edits, children = self.list(self.edit), sum(self.list(self.child), [])
         call = self.option(self.call)
         place = self.option(lambda: (self.one_of(STATES), self.option(self.server)))
