@@ -1,4 +1,18 @@
--- What a run says where the outside tells its content, and how each status comes.
+-- What a run says where the outside tells its content, and how each status comes. Which clause of `run` is where, in this
+-- folder where no crate is named:
+--   words and their forms             Words
+--   `check`, `gen`                    Checking, Generating
+--   a session, from its end           Session
+--   the opening, each server in turn  Opening
+--   commands in turn, what remains    Answering
+--   one command, its answer, its mark Transcript
+--   what becomes of a command         Commands, Tasks, Balancing of hm_commands
+--   how an answer is told             Telling, Answer of hm_commands
+--   what the journal keeps to         Faith
+--   what is left of the disk          Left
+--   why a log is refused              Verdict of hm_journal
+--   codes of statuses                 Status
+--   ports and registries              Ports, Hands of hm_commands
 use Rattle.std.specs.Prelude.{◌≡◌, ◌⊎◌, ℕ, List, [], None, Ok, Err}
 use Rattle.hm_ports.specs.declared.source.Source as Source
 use Rattle.hm_ports.specs.declared.sink.Sink as Sink
