@@ -1,38 +1,53 @@
-//! The stacks of two roots.
-use hm_names::{List, Pid};
+//! The stacks of roots.
+use hm_names::{List, NameFault, Pid, parse_decimal};
 use hm_undo::Stack;
-use std::alloc::Global;
-use std::test::Fail;
+use std::alloc::{AllocError, Global};
 
-// A step without edits.
-fn push(stack: &mut Stack, alloc: Global, root: u64, pid: u64, row: u8) -> Result<(), Fail> {
+// Pushes a step without edits.
+fn push(
+    alloc: Global,
+    stack: &mut Stack,
+    (root, pid): (Pid, Pid),
+    row: u8,
+) -> Result<(), AllocError> {
     stack.reserve(alloc, 1)?;
-    stack.push(Pid(root), Pid(pid), row, List::of(Vec::new(alloc)));
+    stack.push(root, pid, row, List::of(Vec::new(alloc)));
     Ok(())
 }
 
-#[test]
-fn new_reserve_push_next_undo_edits_pop_and_forget_of_two_roots(
-    rt: HostRuntime,
-) -> Result<(), Fail> {
-    let alloc = rt.alloc();
-    let mut stack = Stack::new(alloc)?;
-    push(&mut stack, alloc, 1, 1, 1)?;
-    push(&mut stack, alloc, 7, 7, 2)?;
-    push(&mut stack, alloc, 1, 3, 0)?;
-    assert_eq!(rt; stack.next_undo(Pid(1)), Some((Pid(3), 0)));
-    assert_eq!(rt; stack.next_undo(Pid(7)), Some((Pid(7), 2)));
-    assert_eq!(rt; stack.next_undo(Pid(2)), None);
-    if stack.next_undo(Pid(1)).is_some() {
-        assert!(rt; stack.edits(Pid(1)).is_empty());
-        stack.pop(Pid(1));
+// Pops a step, if there is one. Answers how many edits it has.
+fn pop(stack: &mut Stack, root: Pid) -> Option<usize> {
+    stack.next_undo(root)?;
+    let count = stack.edits(root).len();
+    stack.pop(root);
+    Some(count)
+}
+
+fn number(word: &str) -> Result<u64, NameFault> {
+    parse_decimal(word.as_bytes()).ok_or(NameFault::BadNumber(0))
+}
+
+/// Puts what a stack is answered: a step that is pushed, popped or told, or a root that is forgotten.
+pub fn put_stack(
+    alloc: Global,
+    stack: &mut Stack,
+    rest: &str,
+    out: &mut String,
+) -> Result<(), NameFault> {
+    let words: Vec<&str> = rest.split(' ').collect(alloc)?;
+    match words.as_slice() {
+        ["push", root, pid, row] => {
+            let row = u8::try_from(number(row)?).unwrap_or(255);
+            push(alloc, stack, (Pid(number(root)?), Pid(number(pid)?)), row)?;
+            out.push_str("done")?;
+        }
+        ["next", root] => write!(out, "{:?}", stack.next_undo(Pid(number(root)?)))?,
+        ["pop", root] => write!(out, "{:?}", pop(stack, Pid(number(root)?)))?,
+        ["forget", root] => {
+            stack.forget(Pid(number(root)?));
+            out.push_str("done")?;
+        }
+        _ => out.push_str("no such line")?,
     }
-    assert_eq!(rt; stack.next_undo(Pid(1)), Some((Pid(1), 1)));
-    assert_eq!(rt; stack.next_undo(Pid(7)), Some((Pid(7), 2)));
-    push(&mut stack, alloc, 1, 4, 5)?;
-    stack.forget(Pid(1));
-    stack.forget(Pid(2));
-    assert_eq!(rt; stack.next_undo(Pid(1)), None);
-    assert_eq!(rt; stack.next_undo(Pid(7)), Some((Pid(7), 2)));
     Ok(())
 }

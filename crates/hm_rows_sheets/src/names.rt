@@ -1,87 +1,65 @@
-//! Names of a case, and lists of them.
-use crate::words::number;
-use hm_names::{List, Ns, RegionName, RowKey, ServerName, TableName, parse_decimal};
+//! Names and numbers of a case, and lists of them.
+use hm_names::{RegionName, RowKey, ServerName, TableName, parse_decimal};
+use hm_script::Why;
 use std::alloc::Global;
-use std::test::Fail;
+use std::fmt::Debug;
 
-pub fn ns(alloc: Global, word: &str) -> Result<Ns, Fail> {
-    Ok(Ns::parse(alloc, word.as_bytes())?)
+pub fn number(word: &str) -> Result<u64, Why> {
+    parse_decimal(word.as_bytes()).ok_or(Why::Number)
 }
 
-pub fn table(alloc: Global, word: &str) -> Result<TableName, Fail> {
+/// A number of one byte.
+pub fn small(word: &str) -> Result<u8, Why> {
+    u8::try_from(number(word)?).or(Err(Why::Number))
+}
+
+/// The value of any number of one byte that is printed as a word.
+pub fn named<T: Debug + Drop, F: Fn(u8) -> Option<T> + Drop>(
+    alloc: Global,
+    of: F,
+    word: &str,
+) -> Result<T, Why>
+    requires { F.IsAlwaysCallable of }
+{
+    for number in 0..=255 {
+        if let Some(value) = of(number) {
+            let text = format!(in alloc; "{value:?}")?;
+            if text.as_str() == word {
+                return Ok(value);
+            }
+        }
+    }
+    Err(Why::Missing)
+}
+
+pub fn table(alloc: Global, word: &str) -> Result<TableName, Why> {
     Ok(TableName::parse(alloc, word.as_bytes())?)
 }
 
-pub fn region(alloc: Global, word: &str) -> Result<RegionName, Fail> {
+pub fn region(alloc: Global, word: &str) -> Result<RegionName, Why> {
     Ok(RegionName::parse(alloc, word.as_bytes())?)
 }
 
-pub fn server(alloc: Global, word: &str) -> Result<ServerName, Fail> {
+pub fn server(alloc: Global, word: &str) -> Result<ServerName, Why> {
     Ok(ServerName::parse(alloc, word.as_bytes())?)
 }
 
-/// A key, and the empty one for a lone star.
-pub fn key(alloc: Global, word: &str) -> Result<RowKey, Fail> {
-    let text = if word == "*" { r"\-" } else { word };
-    Ok(RowKey::parse(alloc, text.as_bytes())?)
+pub fn key(alloc: Global, word: &str) -> Result<RowKey, Why> {
+    Ok(RowKey::parse(alloc, word.as_bytes())?)
 }
 
-/// The first of some words as a server, if there is one.
-pub fn perhaps_server(alloc: Global, words: &[&str]) -> Result<Option<ServerName>, Fail> {
-    match words {
-        [word, ..] => Ok(Some(server(alloc, word)?)),
-        [] => Ok(None),
-    }
-}
-
-/// The ends of a run of numbers, as `1..64`.
-fn run(word: &str) -> Option<(u64, u64)> {
-    let (first, last) = word.split_once("..")?;
-    Some((
-        parse_decimal(first.as_bytes())?,
-        parse_decimal(last.as_bytes())?,
-    ))
-}
-
-/// Keys, where a run stands for numbers of three digits.
-pub fn keys(alloc: Global, words: &[&str]) -> Result<List<RowKey>, Fail> {
+pub fn keys(alloc: Global, words: &[&str]) -> Result<Vec<RowKey>, Why> {
     let mut keys = Vec::new(alloc);
     for word in words {
-        match run(word) {
-            Some((first, last)) => push_numbers(alloc, &mut keys, first, last)?,
-            None => keys.push(key(alloc, word)?)?,
-        }
+        keys.push(key(alloc, word)?)?;
     }
-    Ok(List::of(keys))
+    Ok(keys)
 }
 
-fn push_numbers(alloc: Global, keys: &mut Vec<RowKey>, first: u64, last: u64) -> Result<(), Fail> {
-    for number in first..=last {
-        let text = format!(in alloc; "{number:03}")?;
-        keys.push(key(alloc, &text)?)?;
-    }
-    Ok(())
-}
-
-pub fn regions(alloc: Global, words: &[&str]) -> Result<List<RegionName>, Fail> {
-    let mut regions = Vec::new(alloc);
+pub fn numbers(alloc: Global, words: &[&str]) -> Result<Vec<u64>, Why> {
+    let mut numbers = Vec::new(alloc);
     for word in words {
-        regions.push(region(alloc, word)?)?;
+        numbers.push(number(word)?)?;
     }
-    Ok(List::of(regions))
-}
-
-/// Numbers, and runs of them.
-pub fn ids(alloc: Global, words: &[&str]) -> Result<List<u64>, Fail> {
-    let mut ids = Vec::new(alloc);
-    for word in words {
-        let (first, last) = match run(word) {
-            Some(ends) => ends,
-            None => (number(word)?, number(word)?),
-        };
-        for id in first..=last {
-            ids.push(id)?;
-        }
-    }
-    Ok(List::of(ids))
+    Ok(numbers)
 }

@@ -1,0 +1,44 @@
+//! Which sheets are valid, and where others break a rule first.
+use crate::names::{named, small};
+use hm_data::{Act, Back, Row, Sheet};
+use hm_names::List;
+use hm_script::Why;
+use hm_sheet::check_sheet;
+use std::alloc::Global;
+
+// A row: its act, the next row, its side of the point, and what undoes it.
+fn row(alloc: Global, words: &[&str]) -> Result<Row, Why> {
+    match words {
+        [act, next, side, undo] => Ok(Row {
+            act: named(alloc, Act::of, act)?,
+            next: small(next)?,
+            after: *side == "after",
+            undo: named(alloc, Back::of, undo)?,
+        }),
+        _ => Err(Why::Missing),
+    }
+}
+
+// Rows, each behind a semicolon.
+fn rows(alloc: Global, text: &str) -> Result<Vec<Row>, Why> {
+    let mut rows = Vec::new(alloc);
+    for item in text.split("; ") {
+        let words: Vec<&str> = item.split(' ').collect(alloc)?;
+        if !item.is_empty() {
+            rows.push(row(alloc, &words)?)?;
+        }
+    }
+    Ok(rows)
+}
+
+/// Puts the first fault of a sheet.
+pub fn put_fault(alloc: Global, text: &str, out: &mut String) -> Result<(), Why> {
+    let (kind, items) = text.split_once(" ").unwrap_or((text, ""));
+    let kind = small(kind)?;
+    let rows = List::of(rows(alloc, items)?);
+    match check_sheet(&Sheet { kind, rows }) {
+        Ok(()) => out.push_str("valid")?,
+        Err(fault) => write!(out, "{fault}")?,
+    }
+    Ok(())
+}
