@@ -2,9 +2,8 @@
 use crate::names::{named, number, region, server};
 use crate::parts::{args, edit, row};
 use hm_data::{Args, CatKey, CatRow, Edit, Place, RegionState, StepIn, Told, Turn};
-use hm_names::{List, Pid, RegionName, ServerName};
-use hm_script::Why;
-use std::alloc::Global;
+use hm_names::{List, NameFault, Pid, RegionName, ServerName};
+use std::alloc::{AllocError, Global};
 
 // What stands in an item behind a word, if the item begins with it.
 fn behind<'a>(item: &'a str, word: &str) -> Option<&'a str> {
@@ -28,55 +27,60 @@ fn has(text: &str, word: &str) -> bool {
     text.split("; ").any(|item| item == word)
 }
 
-fn rows(alloc: Global, text: &str) -> Result<Vec<(CatKey, CatRow)>, Why> {
+fn rows(alloc: Global, text: &str) -> Result<Vec<(CatKey, CatRow)>, NameFault> {
     let mut rows = Vec::new(alloc);
     for item in text.split("; ") {
         if let Some(("ns" | "table" | "region", _)) = item.split_once(" ") {
-            rows.push(row(alloc, item)?)?;
+            rows.push(row(alloc, item)?).map_err(AllocError::from)?;
         }
     }
     Ok(rows)
 }
 
-fn edits(alloc: Global, text: &str) -> Result<Vec<Edit>, Why> {
+fn edits(alloc: Global, text: &str) -> Result<Vec<Edit>, NameFault> {
     let mut edits = Vec::new(alloc);
     for item in text.split("; ") {
         if let Some((verb @ ("add" | "drop" | "set"), rest)) = item.split_once(" ") {
-            edits.push(edit(alloc, verb, rest)?)?;
+            edits
+                .push(edit(alloc, verb, rest)?)
+                .map_err(AllocError::from)?;
         }
     }
     Ok(edits)
 }
 
-fn ends(alloc: Global, text: &str) -> Result<Vec<(Pid, Told)>, Why> {
+fn ends(alloc: Global, text: &str) -> Result<Vec<(Pid, Told)>, NameFault> {
     let mut ends = Vec::new(alloc);
     for item in text.split("; ") {
         if let Some(("end", rest)) = item.split_once(" ") {
-            let (pid, told) = rest.split_once(" ").ok_or(Why::Missing)?;
-            ends.push((Pid(number(pid)?), named(alloc, Told::of, told)?))?;
+            let (pid, told) = rest.split_once(" ").ok_or(NameFault::Empty)?;
+            ends.push((Pid(number(pid)?), named(alloc, Told::of, told)?))
+                .map_err(AllocError::from)?;
         }
     }
     Ok(ends)
 }
 
-fn regions_on(alloc: Global, text: &str) -> Result<Vec<RegionName>, Why> {
+fn regions_on(alloc: Global, text: &str) -> Result<Vec<RegionName>, NameFault> {
     let mut regions = Vec::new(alloc);
     for item in text.split("; ") {
         if let Some(("on", name)) = item.split_once(" ") {
-            regions.push(region(alloc, name)?)?;
+            regions
+                .push(region(alloc, name)?)
+                .map_err(AllocError::from)?;
         }
     }
     Ok(regions)
 }
 
-fn pick(alloc: Global, text: &str) -> Result<Option<ServerName>, Why> {
+fn pick(alloc: Global, text: &str) -> Result<Option<ServerName>, NameFault> {
     match first_behind(text, "pick") {
         Some(name) => Ok(Some(server(alloc, name)?)),
         None => Ok(None),
     }
 }
 
-fn report(alloc: Global, text: &str) -> Result<Option<Told>, Why> {
+fn report(alloc: Global, text: &str) -> Result<Option<Told>, NameFault> {
     match first_behind(text, "report") {
         Some(told) => Ok(Some(named(alloc, Told::of, told)?)),
         None => Ok(None),
@@ -84,7 +88,7 @@ fn report(alloc: Global, text: &str) -> Result<Option<Told>, Why> {
 }
 
 // Where the region is: its state, and the server if there is one.
-fn place(alloc: Global, text: &str) -> Result<Option<Place>, Why> {
+fn place(alloc: Global, text: &str) -> Result<Option<Place>, NameFault> {
     let Some(place) = first_behind(text, "place") else {
         return Ok(None);
     };
@@ -119,7 +123,7 @@ fn bare(alloc: Global, (kind, row): (u8, u8), args: Args) -> StepIn {
     }
 }
 
-fn see_lists(alloc: Global, text: &str, at: &mut StepIn) -> Result<(), Why> {
+fn see_lists(alloc: Global, text: &str, at: &mut StepIn) -> Result<(), NameFault> {
     at.rows = List::of(rows(alloc, text)?);
     at.ends = List::of(ends(alloc, text)?);
     at.on_server = List::of(regions_on(alloc, text)?);
@@ -131,7 +135,7 @@ fn see_lists(alloc: Global, text: &str, at: &mut StepIn) -> Result<(), Why> {
     Ok(())
 }
 
-fn see_rest(alloc: Global, text: &str, at: &mut StepIn) -> Result<(), Why> {
+fn see_rest(alloc: Global, text: &str, at: &mut StepIn) -> Result<(), NameFault> {
     at.report = report(alloc, text)?;
     at.place = place(alloc, text)?;
     at.pick = pick(alloc, text)?;
@@ -144,7 +148,7 @@ fn see_rest(alloc: Global, text: &str, at: &mut StepIn) -> Result<(), Why> {
 }
 
 /// What a step of procedure 7 of root 5 sees: its args, and then items, each behind a semicolon.
-pub fn input(alloc: Global, at: (u8, u8), text: &str) -> Result<StepIn, Why> {
+pub fn input(alloc: Global, at: (u8, u8), text: &str) -> Result<StepIn, NameFault> {
     let (first, items) = text.split_once("; ").unwrap_or((text, ""));
     let mut at = bare(alloc, at, args(alloc, first)?);
     see_lists(alloc, items, &mut at)?;

@@ -17,8 +17,8 @@ fn put_keys(keys: &[RowKey], out: &mut String) -> Result<(), AllocError> {
     Ok(())
 }
 
-// A row with its key, in the spelling in which it is read.
-fn put_row(key: &CatKey, row: &CatRow, out: &mut String) -> Result<(), AllocError> {
+/// Puts a row with its key, in the spelling in which it is read.
+pub fn put_row(key: &CatKey, row: &CatRow, out: &mut String) -> Result<(), AllocError> {
     match key {
         CatKey::Ns(ns) => write!(out, "ns {ns}")?,
         CatKey::Table(table) => write!(out, "table {table}")?,

@@ -1,57 +1,17 @@
 //! Parts of what a step sees: args, rows and edits.
 use crate::names::{key, keys, named, number, numbers, region, server, table};
+use crate::requests::request;
 use hm_data::{Args, CatKey, CatRow, Edit, Goal, Request, Status, TableState};
-use hm_names::{KeyRange, List, Ns, Pid};
-use hm_script::{Command, Why, parse};
+use hm_names::{KeyRange, List, NameFault, Ns, Pid};
 use std::alloc::Global;
 
-// What a command asks for.
-fn request_of(command: Command) -> Option<Request> {
-    match command {
-        Command::Namespace { nonce: _, ns } => Some(Request::CreateNamespace { ns }),
-        Command::DropNamespace { nonce: _, ns } => Some(Request::DropNamespace { ns }),
-        Command::Create {
-            nonce: _,
-            table,
-            keys,
-        } => Some(Request::CreateTable { table, keys }),
-        Command::Delete { nonce: _, table } => Some(Request::DeleteTable { table }),
-        Command::Enable { nonce: _, table } => Some(Request::EnableTable { table }),
-        Command::Disable { nonce: _, table } => Some(Request::DisableTable { table }),
-        Command::Modify {
-            nonce: _,
-            table,
-            version,
-        } => Some(Request::ModifyTable { table, version }),
-        Command::Split {
-            nonce: _,
-            region,
-            key,
-        } => Some(Request::SplitRegion { region, key }),
-        Command::Merge { nonce: _, regions } => Some(Request::MergeRegions { regions }),
-        Command::Move {
-            nonce: _,
-            region,
-            to,
-        } => Some(Request::Move { region, to }),
-        _ => None,
-    }
-}
-
-// A root: its first id, and the command that asks for it.
-fn root(alloc: Global, text: &str) -> Result<Args, Why> {
-    let (first, line) = text.split_once(" ").ok_or(Why::Missing)?;
+fn root(alloc: Global, first: &str, words: &[&str]) -> Result<Args, NameFault> {
     let first = number(first)?;
-    let Ok(mut commands) = parse(alloc, line.as_bytes()) else {
-        return Err(Why::Missing);
-    };
-    match commands.pop().and_then(request_of) {
-        Some(request) => Ok(Args::Root { request, first }),
-        None => Err(Why::Missing),
-    }
+    let request = request(alloc, words)?;
+    Ok(Args::Root { request, first })
 }
 
-fn region_call(alloc: Global, kind: &str, name: &str, at: &str) -> Result<Args, Why> {
+fn region_call(alloc: Global, kind: &str, name: &str, at: &str) -> Result<Args, NameFault> {
     let region = region(alloc, name)?;
     Ok(match kind {
         "transit" => Args::Transit {
@@ -70,7 +30,7 @@ fn region_call(alloc: Global, kind: &str, name: &str, at: &str) -> Result<Args, 
     })
 }
 
-fn short_args(alloc: Global, kind: &str, word: &str) -> Result<Args, Why> {
+fn short_args(alloc: Global, kind: &str, word: &str) -> Result<Args, NameFault> {
     Ok(match kind {
         "crash" => Args::Crash {
             server: server(alloc, word)?,
@@ -87,7 +47,12 @@ fn short_args(alloc: Global, kind: &str, word: &str) -> Result<Args, Why> {
     })
 }
 
-fn add_regions(alloc: Global, name: &str, first: &str, keys_at: &[&str]) -> Result<Args, Why> {
+fn add_regions(
+    alloc: Global,
+    name: &str,
+    first: &str,
+    keys_at: &[&str],
+) -> Result<Args, NameFault> {
     let first = number(first)?;
     let table = table(alloc, name)?;
     let bounds = List::of(keys(alloc, keys_at)?);
@@ -98,29 +63,27 @@ fn add_regions(alloc: Global, name: &str, first: &str, keys_at: &[&str]) -> Resu
     })
 }
 
-fn drop_regions(alloc: Global, name: &str, ids: &[&str]) -> Result<Args, Why> {
+fn drop_regions(alloc: Global, name: &str, ids: &[&str]) -> Result<Args, NameFault> {
     let table = table(alloc, name)?;
     let ids = List::of(numbers(alloc, ids)?);
     Ok(Args::DropRegions { table, ids })
 }
 
-/// What a procedure works on: `root FIRST COMMAND`, or the name of a kind that isn't submitted and its fields.
-pub fn args(alloc: Global, text: &str) -> Result<Args, Why> {
-    if let Some(("root", rest)) = text.split_once(" ") {
-        return root(alloc, rest);
-    }
+/// What a procedure works on: `root FIRST REQUEST`, or the name of a kind that isn't submitted and its fields.
+pub fn args(alloc: Global, text: &str) -> Result<Args, NameFault> {
     let words: Vec<&str> = text.split(' ').collect(alloc)?;
     match words.as_slice() {
+        ["root", first, words @ ..] => root(alloc, first, words),
         ["add-regions", name, first, bounds @ ..] => add_regions(alloc, name, first, bounds),
         ["drop-regions", name, ids @ ..] => drop_regions(alloc, name, ids),
         [kind, word] => short_args(alloc, kind, word),
         [kind, name, at] => region_call(alloc, kind, name, at),
-        _ => Err(Why::Missing),
+        _ => Err(NameFault::Empty),
     }
 }
 
-// The key of a row.
-fn row_key(alloc: Global, kind: &str, name: &str) -> Result<CatKey, Why> {
+/// The key of a namespace, a table or a region.
+pub fn row_key(alloc: Global, kind: &str, name: &str) -> Result<CatKey, NameFault> {
     Ok(match kind {
         "ns" => CatKey::Ns(Ns::parse(alloc, name.as_bytes())?),
         "table" => CatKey::Table(table(alloc, name)?),
@@ -133,7 +96,7 @@ fn region_row(
     status: &str,
     (start, end): (&str, &str),
     parents: &[&str],
-) -> Result<CatRow, Why> {
+) -> Result<CatRow, NameFault> {
     let status = named(alloc, Status::of, status)?;
     let parents = List::of(numbers(alloc, parents)?);
     let start = key(alloc, start)?;
@@ -146,7 +109,7 @@ fn region_row(
 }
 
 // What stands at a key.
-fn row_at(alloc: Global, fields: &[&str]) -> Result<CatRow, Why> {
+fn row_at(alloc: Global, fields: &[&str]) -> Result<CatRow, NameFault> {
     match fields {
         [] => Ok(CatRow::Ns),
         [state, version] => Ok(CatRow::Table {
@@ -154,25 +117,25 @@ fn row_at(alloc: Global, fields: &[&str]) -> Result<CatRow, Why> {
             version: number(version)?,
         }),
         [status, start, end, parents @ ..] => region_row(alloc, status, (start, end), parents),
-        _ => Err(Why::Missing),
+        _ => Err(NameFault::Empty),
     }
 }
 
 /// A row of the catalog: `ns NAME`, `table NAME STATE VERSION` or `region NAME STATUS START END PARENTS`.
-pub fn row(alloc: Global, text: &str) -> Result<(CatKey, CatRow), Why> {
+pub fn row(alloc: Global, text: &str) -> Result<(CatKey, CatRow), NameFault> {
     let words: Vec<&str> = text.split(' ').collect(alloc)?;
     match words.as_slice() {
         [kind, name, fields @ ..] => {
             let row = row_at(alloc, fields)?;
             Ok((row_key(alloc, kind, name)?, row))
         }
-        _ => Err(Why::Missing),
+        _ => Err(NameFault::Empty),
     }
 }
 
 // A row that another takes the place of: both of them, with an arrow between.
-fn changed(alloc: Global, text: &str) -> Result<Edit, Why> {
-    let (before, after) = text.split_once(" > ").ok_or(Why::Missing)?;
+fn changed(alloc: Global, text: &str) -> Result<Edit, NameFault> {
+    let (before, after) = text.split_once(" > ").ok_or(NameFault::Empty)?;
     let (key, before) = row(alloc, before)?;
     let (_, after) = row(alloc, after)?;
     Ok(Edit {
@@ -183,7 +146,7 @@ fn changed(alloc: Global, text: &str) -> Result<Edit, Why> {
 }
 
 /// A row that is added, dropped or set.
-pub fn edit(alloc: Global, verb: &str, text: &str) -> Result<Edit, Why> {
+pub fn edit(alloc: Global, verb: &str, text: &str) -> Result<Edit, NameFault> {
     if verb == "set" {
         return changed(alloc, text);
     }

@@ -1,6 +1,6 @@
 //! Which handlers make a registry, and which sheets it lists.
 use hm_crash::CrashHands;
-use hm_script::Why;
+use hm_names::NameFault;
 use hm_sheet::{Handler, Registry, all_kinds};
 use hm_split::SplitHands;
 use hm_tables::TableHands;
@@ -42,14 +42,14 @@ fn put_kinds(registry: &Registry, out: &mut String) -> Result<(), AllocError> {
 }
 
 /// Puts what handlers make.
-pub fn put_registry(alloc: Global, words: &str, out: &mut String) -> Result<(), Why> {
+pub fn put_registry(alloc: Global, words: &str, out: &mut String) -> Result<(), NameFault> {
     let mut handlers: Vec<Box<dyn Handler>> = Vec::new(alloc);
     for word in words.split(' ') {
         match word {
-            "tables" => handlers.push(tables(alloc)?)?,
-            "splits" => handlers.push(splits(alloc)?)?,
-            "transits" => handlers.push(transits(alloc)?)?,
-            "crashes" => handlers.push(crashes(alloc)?)?,
+            "tables" => handlers.push(tables(alloc)?).map_err(AllocError::from)?,
+            "splits" => handlers.push(splits(alloc)?).map_err(AllocError::from)?,
+            "transits" => handlers.push(transits(alloc)?).map_err(AllocError::from)?,
+            "crashes" => handlers.push(crashes(alloc)?).map_err(AllocError::from)?,
             _ => {}
         }
     }

@@ -1,13 +1,12 @@
 //! Which sheets are valid, and where others break a rule first.
 use crate::names::{named, small};
 use hm_data::{Act, Back, Row, Sheet};
-use hm_names::List;
-use hm_script::Why;
+use hm_names::{List, NameFault};
 use hm_sheet::check_sheet;
-use std::alloc::Global;
+use std::alloc::{AllocError, Global};
 
 // A row: its act, the next row, its side of the point, and what undoes it.
-fn row(alloc: Global, words: &[&str]) -> Result<Row, Why> {
+fn row(alloc: Global, words: &[&str]) -> Result<Row, NameFault> {
     match words {
         [act, next, side, undo] => Ok(Row {
             act: named(alloc, Act::of, act)?,
@@ -15,24 +14,24 @@ fn row(alloc: Global, words: &[&str]) -> Result<Row, Why> {
             after: *side == "after",
             undo: named(alloc, Back::of, undo)?,
         }),
-        _ => Err(Why::Missing),
+        _ => Err(NameFault::Empty),
     }
 }
 
 // Rows, each behind a semicolon.
-fn rows(alloc: Global, text: &str) -> Result<Vec<Row>, Why> {
+fn rows(alloc: Global, text: &str) -> Result<Vec<Row>, NameFault> {
     let mut rows = Vec::new(alloc);
     for item in text.split("; ") {
         let words: Vec<&str> = item.split(' ').collect(alloc)?;
         if !item.is_empty() {
-            rows.push(row(alloc, &words)?)?;
+            rows.push(row(alloc, &words)?).map_err(AllocError::from)?;
         }
     }
     Ok(rows)
 }
 
 /// Puts the first fault of a sheet.
-pub fn put_fault(alloc: Global, text: &str, out: &mut String) -> Result<(), Why> {
+pub fn put_fault(alloc: Global, text: &str, out: &mut String) -> Result<(), NameFault> {
     let (kind, items) = text.split_once(" ").unwrap_or((text, ""));
     let kind = small(kind)?;
     let rows = List::of(rows(alloc, items)?);

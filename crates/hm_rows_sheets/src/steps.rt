@@ -4,8 +4,7 @@ use crate::inputs::input;
 use crate::names::small;
 use crate::outputs::put_output;
 use hm_data::StepIn;
-use hm_names::{Copied, Same};
-use hm_script::Why;
+use hm_names::{Copied, NameFault, Same};
 use hm_sheet::{is_kind, own_sheet, plain_step};
 use std::alloc::{AllocError, Global};
 
@@ -16,9 +15,9 @@ fn copies<T: Copied + Same + Drop>(alloc: Global, value: &T) -> Result<bool, All
 }
 
 // What a step sees: the kind and the row, a bar, and the rest.
-fn seen(alloc: Global, text: &str) -> Result<StepIn, Why> {
-    let (at, items) = text.split_once(" | ").ok_or(Why::Missing)?;
-    let (kind, row) = at.split_once(" ").ok_or(Why::Missing)?;
+fn seen(alloc: Global, text: &str) -> Result<StepIn, NameFault> {
+    let (at, items) = text.split_once(" | ").ok_or(NameFault::Empty)?;
+    let (kind, row) = at.split_once(" ").ok_or(NameFault::Empty)?;
     input(alloc, (small(kind)?, small(row)?), items)
 }
 
@@ -39,7 +38,7 @@ fn put_answer(alloc: Global, at: &StepIn, out: &mut String) -> Result<(), AllocE
 }
 
 /// Puts what a step answers.
-pub fn put_step(alloc: Global, text: &str, out: &mut String) -> Result<(), Why> {
+pub fn put_step(alloc: Global, text: &str, out: &mut String) -> Result<(), NameFault> {
     let at = seen(alloc, text)?;
     if !copies(alloc, &at)? {
         out.push_str("its copy is another ")?;
@@ -49,8 +48,8 @@ pub fn put_step(alloc: Global, text: &str, out: &mut String) -> Result<(), Why> 
 }
 
 /// Puts whether the second of two inputs is told from the first.
-pub fn put_apart(alloc: Global, text: &str, out: &mut String) -> Result<(), Why> {
-    let (one, other) = text.split_once(" || ").ok_or(Why::Missing)?;
+pub fn put_apart(alloc: Global, text: &str, out: &mut String) -> Result<(), NameFault> {
+    let (one, other) = text.split_once(" || ").ok_or(NameFault::Empty)?;
     let one = seen(alloc, one)?;
     let other = seen(alloc, other)?;
     write!(out, "{}", !one.same(&other))?;
