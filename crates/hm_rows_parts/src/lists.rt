@@ -1,76 +1,88 @@
 //! Linked lists by index.
-ghost use Rattle.std.specs.Prelude.{◌≡◌, ◌≤◌, ◌<◌, length};
-
+use crate::numbers::{number, two_numbers};
 use hm_lists::{Lists, Steps};
-use std::alloc::Global;
-use std::marker::Brand;
-use std::process::Abort;
-use std::sync::ledger::{Blank, Ledger};
-use std::test::Fail;
+use hm_names::NameFault;
+use std::alloc::{AllocError, Global};
+use std::sync::ledger::Ledger;
 
-fn two_lists<L: Ledger>(rt: &impl Abort, alloc: Global, blank: Blank) -> Result<(), Fail>
-    requires name { blank.name ≡ L.name }
-    requires parts { blank.parts ≡ L.parts }
-    requires some { 1 ≤ L.parts }
-{
-    let mut steps = Steps::<L>::new(blank);
-    let mut lists = Lists::new(alloc, 1)?;
-    lists.reserve_lists(alloc, 2)?;
-    lists.reserve_nodes(alloc, 5)?;
-    lists.push_back(0, 0, &mut steps);
-    lists.push_back(0, 1, &mut steps);
-    lists.push_back(0, 2, &mut steps);
-    lists.unlink(1, &mut steps);
-    assert_eq!(rt; lists.pop_front(0, &mut steps), Some(0));
-    assert_eq!(rt; lists.list_of(2), Some(0));
-    assert_eq!(rt; lists.list_of(1), None);
-    lists.push_back(1, 1, &mut steps);
-    assert_eq!(rt; lists.pop_front(0, &mut steps), Some(2));
-    assert_eq!(rt; lists.pop_front(0, &mut steps), None);
-    Ok(())
-}
-
-#[test]
-fn new_reserve_push_pop_unlink_and_list_of_two_lists(rt: HostRuntime) -> Result<(), Fail> {
-    two_lists::<Brand>(&rt, rt.alloc(), Blank::new(1))
-}
-
-// Whether these are the nodes of a list, in this order.
-fn are_nodes(lists: &Lists, list: u32, wanted: &[u32]) -> bool
-    requires { list < length lists.now.lists }
-{
-    let mut count = 0;
-    for node in lists.iter(list) {
-        if wanted.get(count) != Some(&node) {
-            return false;
-        }
-        count = count.wrapping_add(1);
+// Puts a node that is in no list behind the last of a list.
+fn push<L: Ledger>(
+    alloc: Global,
+    lists: &mut Lists,
+    (list, node): (u8, u8),
+    steps: &mut Steps<L>,
+) -> Result<bool, AllocError> {
+    let (list, node) = (u32::from(list), u32::from(node));
+    lists.reserve_lists(alloc, list + 1)?;
+    lists.reserve_nodes(alloc, node + 1)?;
+    if lists.list_of(node).is_some() {
+        return Ok(false);
     }
-    count == wanted.len()
+    lists.push_back(list, node, steps);
+    Ok(true)
 }
 
-fn three_lists<L: Ledger>(rt: &impl Abort, alloc: Global, blank: Blank) -> Result<(), Fail>
-    requires name { blank.name ≡ L.name }
-    requires parts { blank.parts ≡ L.parts }
-    requires some { 1 ≤ L.parts }
-{
-    let mut steps = Steps::<L>::new(blank);
-    let mut lists = Lists::new(alloc, 3)?;
-    lists.reserve_nodes(alloc, 4)?;
-    lists.push_back(0, 3, &mut steps);
-    lists.push_back(0, 0, &mut steps);
-    lists.push_back(0, 2, &mut steps);
-    lists.push_back(2, 1, &mut steps);
-    assert!(rt; are_nodes(&lists, 0, &[3, 0, 2]));
-    assert!(rt; are_nodes(&lists, 1, &[]));
-    assert!(rt; are_nodes(&lists, 2, &[1]));
-    lists.unlink(0, &mut steps);
-    assert!(rt; are_nodes(&lists, 0, &[3, 2]));
+fn pop<L: Ledger>(
+    alloc: Global,
+    lists: &mut Lists,
+    list: u8,
+    steps: &mut Steps<L>,
+) -> Result<Option<u32>, AllocError> {
+    let list = u32::from(list);
+    lists.reserve_lists(alloc, list + 1)?;
+    Ok(lists.pop_front(list, steps))
+}
+
+// Takes a node out of its list, if it is in one.
+fn unlink<L: Ledger>(lists: &mut Lists, node: u8, steps: &mut Steps<L>) -> bool {
+    let node = u32::from(node);
+    let held = lists.list_of(node).is_some();
+    if held {
+        lists.unlink(node, steps);
+    }
+    held
+}
+
+// Puts the nodes of a list, from the first on.
+fn put_nodes(
+    alloc: Global,
+    lists: &mut Lists,
+    list: u8,
+    out: &mut String,
+) -> Result<(), AllocError> {
+    let list = u32::from(list);
+    lists.reserve_lists(alloc, list + 1)?;
+    for node in lists.iter(list) {
+        write!(out, "{node};")?;
+    }
     Ok(())
 }
 
-// The nodes of a list come in the order in which they were put there, without those that left.
-#[test]
-fn iter_of_three_lists(rt: HostRuntime) -> Result<(), Fail> {
-    three_lists::<Brand>(&rt, rt.alloc(), Blank::new(1))
+fn small(number: u64) -> Result<u8, NameFault> {
+    u8::try_from(number).or(Err(NameFault::BadNumber(2)))
+}
+
+/// Puts what lists answer.
+pub fn put_list<L: Ledger>(
+    alloc: Global,
+    lists: &mut Lists,
+    text: &str,
+    steps: &mut Steps<L>,
+    out: &mut String,
+) -> Result<(), NameFault> {
+    let (verb, rest) = text.split_once(" ").unwrap_or((text, ""));
+    if verb == "push" {
+        let (list, node) = two_numbers(rest)?;
+        let place = (small(list)?, small(node)?);
+        write!(out, "{}", push(alloc, lists, place, steps)?)?;
+        return Ok(());
+    }
+    let number = small(number(rest)?)?;
+    match verb {
+        "pop" => write!(out, "{:?}", pop(alloc, lists, number, steps)?)?,
+        "unlink" => write!(out, "{}", unlink(lists, number, steps))?,
+        "nodes" => put_nodes(alloc, lists, number, out)?,
+        _ => write!(out, "{:?}", lists.list_of(u32::from(number)))?,
+    }
+    Ok(())
 }
