@@ -12,7 +12,8 @@ fn number(word: &str) -> Result<u64, NameFault> {
 
 /// Puts the hint of a byte and the first bytes of a text.
 pub fn put_front_hint(byte: &str, text: &str, out: &mut String) -> Result<(), NameFault> {
-    let hint = front_hint(number(byte)?, text.as_bytes());
+    let byte = u8::try_from(number(byte)?).or(Err(NameFault::BadNumber(1)))?;
+    let hint = front_hint(u64::from(byte), text.as_bytes());
     write!(out, "{hint:016x}")?;
     Ok(())
 }

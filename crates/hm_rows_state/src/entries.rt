@@ -80,6 +80,7 @@ fn add(alloc: Global, state: &mut State, entry: &Entry) -> Result<Option<NotAllo
 }
 
 // What became of bytes: they spell an entry that was added, one that isn't allowed, one whose copy is another, or none.
+#[derive(Drop)]
 enum Added {
     Yes,
     No(NotAllowed),

@@ -37,9 +37,16 @@ fn put_own(record: &Record, ended: bool, out: &mut String) -> Result<(), AllocEr
     let parent = record.parent.map_or(0, |parent| parent.0);
     let row = if ended { 255 } else { record.row };
     let Record {
-        kind, tries, phase, ..
+        kind,
+        tries,
+        phase,
+        ..
     } = record;
-    write!(out, "{} {parent} {kind} {row} {tries} {phase:?}", record.pid.0)
+    write!(
+        out,
+        "{} {parent} {kind} {row} {tries} {phase:?}",
+        record.pid.0
+    )
 }
 
 // Puts a procedure, whether its call is settled, and its children's numbers.
