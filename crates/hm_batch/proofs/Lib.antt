@@ -1,0 +1,4 @@
+mod Gathering
+mod Growing
+mod Runs
+mod Steps

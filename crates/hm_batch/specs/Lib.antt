@@ -1,0 +1,3 @@
+pub mod Flushing
+pub mod Pieces
+pub mod View
