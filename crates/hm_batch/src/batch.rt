@@ -106,7 +106,9 @@ impl Batch {
         ensures slots { self.new.slots ≡ self.old.slots }
         ensures log_room { log.new.room ≡ log.old.room }
 
-        // What the disk reads as behind each stop.
+        // What the disk reads as, now and behind each stop.
+        ensures on_disk { D.tells →
+            ReadsWithFirst log.old.frames (pieces_of self.old.frames) (D.seen log.new.disk) }
         ensures durable { D.tells → OnOk result ((c : List ℕ) → D.image log.new.disk c → Reads c log.new.frames) }
         ensures any_moment { D.tells → LeavesOnly D.moment D.left_since log.old.disk log.new.disk
             (ReadsWithFirst log.old.frames (pieces_of self.old.frames)) }

@@ -57,3 +57,19 @@ returns-clause-changes g c =
     let inside = c.self.inside in
     let count = ap length c.deref.ensures.value ∙ note_count inside.notes.items inside.bytes.items c.self.invariant.0 c.self.invariant.1 ∙ ap (λ (b : BatchView). length (pieces_of b.frames)) c.self.view_is in
     subst (λ (n : ℕ). RisesBy (2 * n) (g.D.Disk.changes c.args.log.now.disk) (g.D.Disk.changes c.add_runs.new.log.disk)) count c.in_ok-count.ensures.changes
+
+pub returns-in_err-count-clause-on_disk : goal.returns-in_err-count-clause-on_disk
+returns-in_err-count-clause-on_disk g c tells =
+    let d = g.D.Disk in
+    let laws = g.met.D.Disk in
+    let new = c.add_runs.new.log.disk in
+    let left = returns-in_err-count-clause-any_moment g c tells in
+    left.each (d.seen new) (laws.counts_now new (d.moment c.args.log.now.disk) (d.seen new) left.later (laws.reads_now new tells))
+
+pub returns-clause-on_disk : goal.returns-clause-on_disk
+returns-clause-on_disk g c tells =
+    let d = g.D.Disk in
+    let laws = g.met.D.Disk in
+    let new = c.add_runs.new.log.disk in
+    let left = returns-clause-any_moment g c tells in
+    left.each (d.seen new) (laws.counts_now new (d.moment c.args.log.now.disk) (d.seen new) left.later (laws.reads_now new tells))
