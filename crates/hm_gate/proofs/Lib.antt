@@ -4,3 +4,4 @@ pub mod Prefixes
 pub mod Owed
 pub mod Keeps
 pub mod Ends
+pub mod Weighing

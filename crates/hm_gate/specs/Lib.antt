@@ -7,3 +7,4 @@ pub mod Plays
 pub mod Seats
 pub mod Laws
 pub mod Ready
+pub mod Weights

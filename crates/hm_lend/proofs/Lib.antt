@@ -1,0 +1,4 @@
+pub mod Stopping
+pub mod Lending
+pub mod Tied
+pub mod Calls

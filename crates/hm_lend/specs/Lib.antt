@@ -1,0 +1,5 @@
+pub mod Outs
+pub mod Recording
+pub mod Hall
+pub mod Ties
+pub mod Stays
