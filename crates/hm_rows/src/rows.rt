@@ -34,7 +34,7 @@ fn play_run(
 }
 
 // A call of the disk that a run makes, or doesn't make, other than its row wants it.
-#[derive(Debug)]
+#[derive(Debug, Drop)]
 struct Calls(u64);
 
 // A run makes fewer calls of its disk than this number: the one of this number doesn't fail.
