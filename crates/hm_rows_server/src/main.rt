@@ -21,45 +21,86 @@ use standing::put_standing;
 use std::alloc::{AllocError, Global};
 use std::io::{self, BufRead, BufReader};
 
-// Two servers and the storage, each by itself and in a fleet, with no calls; no places, and no servers that came up.
+// Two servers, with no calls.
 #[derive(Drop)]
-struct World {
+struct Pair {
     first: Actor,
     second: Actor,
+}
+
+// Those who are called: two servers and the storage, each by itself.
+#[derive(Drop)]
+struct Called {
+    pair: Pair,
     storage: StorageActor,
-    fleet: Fleet,
+}
+
+// Where regions are, and which servers came up.
+#[derive(Drop)]
+struct Known {
     places: Places,
     servers: Servers,
 }
 
-fn new_world(alloc: Global) -> Result<World, NameFault> {
-    let first = Actor::new(alloc, server(alloc, "h1,1,1")?);
-    let second = Actor::new(alloc, server(alloc, "h2,1,1")?);
+// A fleet, and what is known beside it.
+#[derive(Drop)]
+struct Outside {
+    fleet: Fleet,
+    known: Known,
+}
+
+// What the lines speak of: each as it is before anything was done.
+#[derive(Drop)]
+struct World {
+    called: Called,
+    outside: Outside,
+}
+
+fn new_actor(alloc: Global, name: &str) -> Result<Actor, NameFault> {
+    Ok(Actor::new(alloc, server(alloc, name)?))
+}
+
+fn new_pair(alloc: Global) -> Result<Pair, NameFault> {
+    let first = new_actor(alloc, "h1,1,1")?;
+    let second = new_actor(alloc, "h2,1,1")?;
+    Ok(Pair { first, second })
+}
+
+fn new_called(alloc: Global) -> Result<Called, NameFault> {
     let storage = StorageActor::new(alloc)?;
-    let fleet = new_fleet(alloc)?;
+    let pair = new_pair(alloc)?;
+    Ok(Called { pair, storage })
+}
+
+fn new_known(alloc: Global) -> Result<Known, AllocError> {
     let places = Places::new(alloc)?;
     let servers = Servers::new(alloc)?;
-    Ok(World {
-        first,
-        second,
-        storage,
-        fleet,
-        places,
-        servers,
-    })
+    Ok(Known { places, servers })
+}
+
+fn new_outside(alloc: Global) -> Result<Outside, NameFault> {
+    let known = new_known(alloc)?;
+    let fleet = new_fleet(alloc)?;
+    Ok(Outside { fleet, known })
+}
+
+fn new_world(alloc: Global) -> Result<World, NameFault> {
+    let outside = new_outside(alloc)?;
+    let called = new_called(alloc)?;
+    Ok(World { called, outside })
 }
 
 // Puts what is answered of who is live, or of where regions are.
 fn put_rest(
     alloc: Global,
-    world: &mut World,
+    known: &mut Known,
     words: &[&str],
     out: &mut String,
 ) -> Result<(), NameFault> {
     match words {
-        ["servers"] => world.servers = Servers::new(alloc)?,
-        ["place", words @ ..] => put_placed(alloc, &mut world.places, words, out)?,
-        words => put_standing(alloc, &mut world.servers, &world.places, words, out)?,
+        ["servers"] => known.servers = Servers::new(alloc)?,
+        ["place", words @ ..] => put_placed(alloc, &mut known.places, words, out)?,
+        words => put_standing(alloc, &mut known.servers, &known.places, words, out)?,
     }
     Ok(())
 }
@@ -73,11 +114,11 @@ fn put_answer(
 ) -> Result<(), NameFault> {
     match words {
         ["anew"] => *world = new_world(alloc)?,
-        ["first", words @ ..] => put_actor(alloc, &mut world.first, words, out)?,
-        ["second", words @ ..] => put_actor(alloc, &mut world.second, words, out)?,
-        ["storage", words @ ..] => put_storage(alloc, &mut world.storage, words, out)?,
-        ["fleet", words @ ..] => put_fleet(alloc, &mut world.fleet, words, out)?,
-        words => put_rest(alloc, world, words, out)?,
+        ["first", words @ ..] => put_actor(alloc, &mut world.called.pair.first, words, out)?,
+        ["second", words @ ..] => put_actor(alloc, &mut world.called.pair.second, words, out)?,
+        ["storage", words @ ..] => put_storage(alloc, &mut world.called.storage, words, out)?,
+        ["fleet", words @ ..] => put_fleet(alloc, &mut world.outside.fleet, words, out)?,
+        words => put_rest(alloc, &mut world.outside.known, words, out)?,
     }
     Ok(())
 }
@@ -103,16 +144,20 @@ fn put_case(
     write!(out, ": {answer}")
 }
 
-fn main(rt: HostRuntime) -> io::Result<()> {
-    let alloc = rt.alloc();
-    let Ok(mut world) = new_world(alloc) else {
-        return println!(rt; "no world");
-    };
+fn put_cases(rt: &(impl Input + Print), alloc: Global, world: &mut World) -> io::Result<()> {
     for line in BufReader::new(alloc, rt.reader())?.lines(alloc) {
         let line = line?;
         let mut out = String::new(alloc);
-        put_case(alloc, &mut world, &line, &mut out)?;
+        put_case(alloc, world, &line, &mut out)?;
         println!(rt; "{line}{out}")?;
     }
     Ok(())
+}
+
+fn main(rt: HostRuntime) -> io::Result<()> {
+    let alloc = rt.alloc();
+    match new_world(alloc) {
+        Ok(mut world) => put_cases(&rt, alloc, &mut world),
+        Err(_) => println!(rt; "no world"),
+    }
 }
