@@ -88,29 +88,20 @@ fn put_case<L: Ledger>(
     write!(out, ": {answer}")
 }
 
-fn put_cases<L: Ledger>(
-    rt: &(impl Input + Print),
-    alloc: Global,
-    world: &mut World,
-    steps: &mut Steps<L>,
-) -> io::Result<()> {
-    for line in BufReader::new(alloc, rt.reader())?.lines(alloc) {
-        let line = line?;
-        let mut out = String::new(alloc);
-        put_case(alloc, world, &line, steps, &mut out)?;
-        println!(rt; "{line}{out}")?;
-    }
-    Ok(())
-}
-
 fn run<L: Ledger>(rt: &(impl Input + Print), alloc: Global, blank: Blank) -> io::Result<()>
     requires name { blank.name ≡ L.name }
     requires parts { blank.parts ≡ L.parts }
     requires some { 1 ≤ L.parts }
 {
-    let mut world = new_world(alloc)?;
     let mut steps = Steps::<L>::new(blank);
-    put_cases(rt, alloc, &mut world, &mut steps)
+    let mut world = new_world(alloc)?;
+    for line in BufReader::new(alloc, rt.reader())?.lines(alloc) {
+        let line = line?;
+        let mut out = String::new(alloc);
+        put_case(alloc, &mut world, &line, &mut steps, &mut out)?;
+        println!(rt; "{line}{out}")?;
+    }
+    Ok(())
 }
 
 fn main(rt: HostRuntime) -> io::Result<()> {
