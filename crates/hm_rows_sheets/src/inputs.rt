@@ -1,157 +1,146 @@
 //! What a step of a case sees, read from its text.
-use crate::names::{named, number, region, server};
-use crate::parts::{args, edit, row};
-use hm_data::{Args, CatKey, CatRow, Edit, Place, RegionState, StepIn, Told, Turn};
-use hm_names::{List, NameFault, Pid, RegionName, ServerName};
-use std::alloc::{AllocError, Global};
+use crate::names::{region, server};
+use crate::parts::{added, args, changed, gaps, place, removed, row};
+use crate::words::{number, told};
+use hm_data::{Args, CatKey, CatRow, Edit, Place, StepIn, Told, Turn};
+use hm_names::{List, Pid, RegionName, ServerName};
+use std::alloc::Global;
+use std::test::Fail;
 
-// What stands in an item behind a word, if the item begins with it.
-fn behind<'a>(item: &'a str, word: &str) -> Option<&'a str> {
-    match item.split_once(" ") {
-        Some((first, rest)) if first == word => Some(rest),
-        _ => None,
-    }
+/// What was read so far of what a step sees.
+#[derive(Drop)]
+struct Seen {
+    args: Vec<Args>,
+    rows: Vec<(CatKey, CatRow)>,
+    ends: Vec<(Pid, Told)>,
+    places: Vec<Place>,
+    on_server: Vec<RegionName>,
+    picks: Vec<ServerName>,
+    edits: Vec<Edit>,
+    tries: u32,
+    report: Option<Told>,
+    fenced: bool,
+    aborted: bool,
+    undoes: bool,
 }
 
-// What stands behind a word in the first item that begins with it.
-fn first_behind<'a>(text: &'a str, word: &str) -> Option<&'a str> {
-    for item in text.split("; ") {
-        if let Some(rest) = behind(item, word) {
-            return Some(rest);
+impl Seen {
+    fn new(alloc: Global) -> Seen {
+        Seen {
+            args: Vec::new(alloc),
+            rows: Vec::new(alloc),
+            ends: Vec::new(alloc),
+            places: Vec::new(alloc),
+            on_server: Vec::new(alloc),
+            picks: Vec::new(alloc),
+            edits: Vec::new(alloc),
+            tries: 0,
+            report: None,
+            fenced: false,
+            aborted: false,
+            undoes: false,
         }
     }
-    None
-}
 
-fn has(text: &str, word: &str) -> bool {
-    text.split("; ").any(|item| item == word)
-}
-
-fn rows(alloc: Global, text: &str) -> Result<Vec<(CatKey, CatRow)>, NameFault> {
-    let mut rows = Vec::new(alloc);
-    for item in text.split("; ") {
-        if let Some(("ns" | "table" | "region", _)) = item.split_once(" ") {
-            rows.push(row(alloc, item)?).map_err(AllocError::from)?;
+    // An item of numbers and marks.
+    fn take_mark(&mut self, words: &[&str]) -> Result<(), Fail> {
+        match words {
+            ["tries", count] => self.tries = u32::try_from(number(count)?)?,
+            ["report", word] => self.report = Some(told(word).ok_or("a report")?),
+            ["fenced"] => self.fenced = true,
+            ["aborted"] => self.aborted = true,
+            ["undo"] => self.undoes = true,
+            _ => Err("an item")?,
         }
+        Ok(())
     }
-    Ok(rows)
-}
 
-fn edits(alloc: Global, text: &str) -> Result<Vec<Edit>, NameFault> {
-    let mut edits = Vec::new(alloc);
-    for item in text.split("; ") {
-        if let Some((verb @ ("add" | "drop" | "set"), rest)) = item.split_once(" ") {
-            edits
-                .push(edit(alloc, verb, rest)?)
-                .map_err(AllocError::from)?;
+    // An item of the edits of the step that is undone.
+    fn take_edit(&mut self, alloc: Global, words: &[&str]) -> Result<(), Fail> {
+        match words {
+            ["add", words @ ..] => self.edits.push(added(alloc, words)?)?,
+            ["drop", words @ ..] => self.edits.push(removed(alloc, words)?)?,
+            ["set", words @ ..] => self.edits.push(changed(alloc, words)?)?,
+            _ => self.take_mark(words)?,
         }
+        Ok(())
     }
-    Ok(edits)
-}
 
-fn ends(alloc: Global, text: &str) -> Result<Vec<(Pid, Told)>, NameFault> {
-    let mut ends = Vec::new(alloc);
-    for item in text.split("; ") {
-        if let Some(("end", rest)) = item.split_once(" ") {
-            let (pid, told) = rest.split_once(" ").ok_or(NameFault::Empty)?;
-            ends.push((Pid(number(pid)?), named(alloc, Told::of, told)?))
-                .map_err(AllocError::from)?;
+    fn take_row(&mut self, alloc: Global, words: &[&str]) -> Result<(), Fail> {
+        match words {
+            ["ns" | "table" | "region", ..] => self.rows.push(row(alloc, words)?)?,
+            _ => self.take_edit(alloc, words)?,
         }
+        Ok(())
     }
-    Ok(ends)
-}
 
-fn regions_on(alloc: Global, text: &str) -> Result<Vec<RegionName>, NameFault> {
-    let mut regions = Vec::new(alloc);
-    for item in text.split("; ") {
-        if let Some(("on", name)) = item.split_once(" ") {
-            regions
-                .push(region(alloc, name)?)
-                .map_err(AllocError::from)?;
+    // Any item.
+    fn take(&mut self, alloc: Global, words: &[&str]) -> Result<(), Fail> {
+        match words {
+            ["end", pid, word] => {
+                let end = (Pid(number(pid)?), told(word).ok_or("an end")?);
+                self.ends.push(end)?;
+            }
+            ["place", words @ ..] => self.places.push(place(alloc, words)?)?,
+            ["on", name] => self.on_server.push(region(alloc, name)?)?,
+            ["pick", name] => self.picks.push(server(alloc, name)?)?,
+            ["regions", words @ ..] => self.rows.append(&mut gaps(alloc, words)?)?,
+            _ => self.take_row(alloc, words)?,
         }
+        Ok(())
     }
-    Ok(regions)
-}
 
-fn pick(alloc: Global, text: &str) -> Result<Option<ServerName>, NameFault> {
-    match first_behind(text, "pick") {
-        Some(name) => Ok(Some(server(alloc, name)?)),
-        None => Ok(None),
+    fn input(self, kind: u8, row: u8) -> Result<StepIn, Fail> {
+        let Seen {
+            mut args,
+            rows,
+            ends,
+            mut places,
+            on_server,
+            mut picks,
+            edits,
+            tries,
+            report,
+            fenced,
+            aborted,
+            undoes,
+        } = self;
+        Ok(StepIn {
+            pid: Pid(7),
+            root: Pid(5),
+            kind,
+            row,
+            args: args.pop().ok_or("args")?,
+            tries,
+            rows: List::of(rows),
+            ends: List::of(ends),
+            report,
+            place: places.pop(),
+            fenced,
+            on_server: List::of(on_server),
+            pick: picks.pop(),
+            aborted,
+            turn: if undoes {
+                Turn::Undo {
+                    edits: List::of(edits),
+                }
+            } else {
+                Turn::Step
+            },
+        })
     }
-}
-
-fn report(alloc: Global, text: &str) -> Result<Option<Told>, NameFault> {
-    match first_behind(text, "report") {
-        Some(told) => Ok(Some(named(alloc, Told::of, told)?)),
-        None => Ok(None),
-    }
-}
-
-// Where the region is: its state, and the server if there is one.
-fn place(alloc: Global, text: &str) -> Result<Option<Place>, NameFault> {
-    let Some(place) = first_behind(text, "place") else {
-        return Ok(None);
-    };
-    let (state, at) = match place.split_once(" ") {
-        Some((state, name)) => (state, Some(server(alloc, name)?)),
-        None => (place, None),
-    };
-    Ok(Some(Place {
-        state: named(alloc, RegionState::of, state)?,
-        server: at,
-    }))
-}
-
-// What a step sees at least: nothing but its args.
-fn bare(alloc: Global, (kind, row): (u8, u8), args: Args) -> StepIn {
-    StepIn {
-        pid: Pid(7),
-        root: Pid(5),
-        kind,
-        row,
-        args,
-        tries: 0,
-        rows: List::of(Vec::new(alloc)),
-        ends: List::of(Vec::new(alloc)),
-        report: None,
-        place: None,
-        fenced: false,
-        on_server: List::of(Vec::new(alloc)),
-        pick: None,
-        aborted: false,
-        turn: Turn::Step,
-    }
-}
-
-fn see_lists(alloc: Global, text: &str, at: &mut StepIn) -> Result<(), NameFault> {
-    at.rows = List::of(rows(alloc, text)?);
-    at.ends = List::of(ends(alloc, text)?);
-    at.on_server = List::of(regions_on(alloc, text)?);
-    if has(text, "undo") {
-        at.turn = Turn::Undo {
-            edits: List::of(edits(alloc, text)?),
-        };
-    }
-    Ok(())
-}
-
-fn see_rest(alloc: Global, text: &str, at: &mut StepIn) -> Result<(), NameFault> {
-    at.report = report(alloc, text)?;
-    at.place = place(alloc, text)?;
-    at.pick = pick(alloc, text)?;
-    at.fenced = has(text, "fenced");
-    at.aborted = has(text, "aborted");
-    if let Some(count) = first_behind(text, "tries") {
-        at.tries = u32::try_from(number(count)?).unwrap_or(0);
-    }
-    Ok(())
 }
 
 /// What a step of procedure 7 of root 5 sees: its args, and then items, each behind a semicolon.
-pub fn input(alloc: Global, at: (u8, u8), text: &str) -> Result<StepIn, NameFault> {
-    let (first, items) = text.split_once("; ").unwrap_or((text, ""));
-    let mut at = bare(alloc, at, args(alloc, first)?);
-    see_lists(alloc, items, &mut at)?;
-    see_rest(alloc, items, &mut at)?;
-    Ok(at)
+pub fn input(alloc: Global, kind: u8, row: u8, text: &str) -> Result<StepIn, Fail> {
+    let mut seen = Seen::new(alloc);
+    for item in text.split("; ") {
+        let words: Vec<&str> = item.split(' ').collect(alloc)?;
+        if seen.args.is_empty() {
+            seen.args.push(args(alloc, &words)?)?;
+        } else {
+            seen.take(alloc, &words)?;
+        }
+    }
+    seen.input(kind, row)
 }

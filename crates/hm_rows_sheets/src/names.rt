@@ -1,64 +1,87 @@
-//! Names and numbers of a case, and lists of them.
-use hm_names::{NameFault, RegionName, RowKey, ServerName, TableName, parse_decimal};
-use std::alloc::{AllocError, Global};
-use std::fmt::Debug;
+//! Names of a case, and lists of them.
+use crate::words::number;
+use hm_names::{List, Ns, RegionName, RowKey, ServerName, TableName, parse_decimal};
+use std::alloc::Global;
+use std::test::Fail;
 
-pub fn number(word: &str) -> Result<u64, NameFault> {
-    parse_decimal(word.as_bytes()).ok_or(NameFault::BadNumber(0))
+pub fn ns(alloc: Global, word: &str) -> Result<Ns, Fail> {
+    Ok(Ns::parse(alloc, word.as_bytes())?)
 }
 
-/// A number of one byte.
-pub fn small(word: &str) -> Result<u8, NameFault> {
-    u8::try_from(number(word)?).or(Err(NameFault::BadNumber(0)))
-}
-
-/// The value of any number of one byte that is printed as a word.
-pub fn named<T: Debug + Drop, F: Fn(u8) -> Option<T> + Drop>(
-    alloc: Global,
-    of: F,
-    word: &str,
-) -> Result<T, NameFault>
-    requires { F.IsAlwaysCallable of }
-{
-    for number in 0..=255 {
-        if let Some(value) = of(number) {
-            let text = format!(in alloc; "{value:?}")?;
-            if text.as_str() == word {
-                return Ok(value);
-            }
-        }
-    }
-    Err(NameFault::Empty)
-}
-
-pub fn table(alloc: Global, word: &str) -> Result<TableName, NameFault> {
+pub fn table(alloc: Global, word: &str) -> Result<TableName, Fail> {
     Ok(TableName::parse(alloc, word.as_bytes())?)
 }
 
-pub fn region(alloc: Global, word: &str) -> Result<RegionName, NameFault> {
+pub fn region(alloc: Global, word: &str) -> Result<RegionName, Fail> {
     Ok(RegionName::parse(alloc, word.as_bytes())?)
 }
 
-pub fn server(alloc: Global, word: &str) -> Result<ServerName, NameFault> {
+pub fn server(alloc: Global, word: &str) -> Result<ServerName, Fail> {
     Ok(ServerName::parse(alloc, word.as_bytes())?)
 }
 
-pub fn key(alloc: Global, word: &str) -> Result<RowKey, NameFault> {
-    Ok(RowKey::parse(alloc, word.as_bytes())?)
+/// A key, and the empty one for a lone star.
+pub fn key(alloc: Global, word: &str) -> Result<RowKey, Fail> {
+    let text = if word == "*" { r"\-" } else { word };
+    Ok(RowKey::parse(alloc, text.as_bytes())?)
 }
 
-pub fn keys(alloc: Global, words: &[&str]) -> Result<Vec<RowKey>, NameFault> {
+/// The first of some words as a server, if there is one.
+pub fn perhaps_server(alloc: Global, words: &[&str]) -> Result<Option<ServerName>, Fail> {
+    match words {
+        [word, ..] => Ok(Some(server(alloc, word)?)),
+        [] => Ok(None),
+    }
+}
+
+/// The ends of a run of numbers, as `1..64`.
+fn run(word: &str) -> Option<(u64, u64)> {
+    let (first, last) = word.split_once("..")?;
+    Some((
+        parse_decimal(first.as_bytes())?,
+        parse_decimal(last.as_bytes())?,
+    ))
+}
+
+/// Keys, where a run stands for numbers of three digits.
+pub fn keys(alloc: Global, words: &[&str]) -> Result<List<RowKey>, Fail> {
     let mut keys = Vec::new(alloc);
     for word in words {
-        keys.push(key(alloc, word)?).map_err(AllocError::from)?;
+        match run(word) {
+            Some((first, last)) => push_numbers(alloc, &mut keys, first, last)?,
+            None => keys.push(key(alloc, word)?)?,
+        }
     }
-    Ok(keys)
+    Ok(List::of(keys))
 }
 
-pub fn numbers(alloc: Global, words: &[&str]) -> Result<Vec<u64>, NameFault> {
-    let mut numbers = Vec::new(alloc);
-    for word in words {
-        numbers.push(number(word)?).map_err(AllocError::from)?;
+fn push_numbers(alloc: Global, keys: &mut Vec<RowKey>, first: u64, last: u64) -> Result<(), Fail> {
+    for number in first..=last {
+        let text = format!(in alloc; "{number:03}")?;
+        keys.push(key(alloc, &text)?)?;
     }
-    Ok(numbers)
+    Ok(())
+}
+
+pub fn regions(alloc: Global, words: &[&str]) -> Result<List<RegionName>, Fail> {
+    let mut regions = Vec::new(alloc);
+    for word in words {
+        regions.push(region(alloc, word)?)?;
+    }
+    Ok(List::of(regions))
+}
+
+/// Numbers, and runs of them.
+pub fn ids(alloc: Global, words: &[&str]) -> Result<List<u64>, Fail> {
+    let mut ids = Vec::new(alloc);
+    for word in words {
+        let (first, last) = match run(word) {
+            Some(ends) => ends,
+            None => (number(word)?, number(word)?),
+        };
+        for id in first..=last {
+            ids.push(id)?;
+        }
+    }
+    Ok(List::of(ids))
 }

@@ -1,139 +1,108 @@
-//! What a step answers and does, as text.
-use hm_data::{Args, CatKey, CatRow, Child, Edit, Place, StepOut, Verb};
-use hm_names::{RegionName, RowKey};
-use std::alloc::AllocError;
+//! What a step of a case answers and does, read from its text.
+use crate::parts::{added, changed, child, gaps, place, removed, verb};
+use crate::words::{cause, small, told};
+use hm_data::{Answer, Child, Edit, Place, StepOut, Verb};
+use hm_names::List;
+use std::alloc::Global;
+use std::test::Fail;
 
-fn put_numbers(numbers: &[u64], out: &mut String) -> Result<(), AllocError> {
-    for number in numbers {
-        write!(out, " {number}")?;
+/// What was read so far of what a step does.
+#[derive(Drop)]
+struct Done {
+    answers: Vec<Answer>,
+    edits: Vec<Edit>,
+    children: Vec<Child>,
+    calls: Vec<Verb>,
+    places: Vec<Place>,
+    followers: Vec<Child>,
+}
+
+fn answer(words: &[&str]) -> Result<Answer, Fail> {
+    Ok(match words {
+        ["more", row] => Answer::More(small(row)?),
+        ["wait", row] => Answer::Wait(small(row)?),
+        ["await", row] => Answer::Await(small(row)?),
+        ["done", word] => Answer::Done(told(word).ok_or("what is told")?),
+        ["fail", word] => Answer::Fail(cause(word).ok_or("a cause")?),
+        ["undone"] => Answer::Undone,
+        _ => Err("an item")?,
+    })
+}
+
+// Rows of adjacent live regions that are added, or removed.
+fn push_gaps(edits: &mut Vec<Edit>, alloc: Global, words: &[&str], adds: bool) -> Result<(), Fail> {
+    for (key, row) in gaps(alloc, words)? {
+        let (before, after) = if adds {
+            (None, Some(row))
+        } else {
+            (Some(row), None)
+        };
+        edits.push(Edit { key, before, after })?;
     }
     Ok(())
 }
 
-fn put_keys(keys: &[RowKey], out: &mut String) -> Result<(), AllocError> {
-    for key in keys {
-        write!(out, " {key}")?;
-    }
-    Ok(())
-}
-
-/// Puts a row with its key, in the spelling in which it is read.
-pub fn put_row(key: &CatKey, row: &CatRow, out: &mut String) -> Result<(), AllocError> {
-    match key {
-        CatKey::Ns(ns) => write!(out, "ns {ns}")?,
-        CatKey::Table(table) => write!(out, "table {table}")?,
-        CatKey::Region(region) => write!(out, "region {region}")?,
-    }
-    match row {
-        CatRow::Ns => Ok(()),
-        CatRow::Table { state, version } => write!(out, " {state:?} {version}"),
-        CatRow::Region {
-            range,
-            status,
-            parents,
-        } => {
-            let start = &range.start;
-            let end = &range.end;
-            write!(out, " {status:?} {start} {end}")?;
-            put_numbers(parents.as_slice(), out)
+impl Done {
+    fn new(alloc: Global) -> Done {
+        Done {
+            answers: Vec::new(alloc),
+            edits: Vec::new(alloc),
+            children: Vec::new(alloc),
+            calls: Vec::new(alloc),
+            places: Vec::new(alloc),
+            followers: Vec::new(alloc),
         }
     }
-}
 
-fn put_edit(edit: &Edit, out: &mut String) -> Result<(), AllocError> {
-    match (&edit.before, &edit.after) {
-        (None, Some(after)) => {
-            out.push_str("; add ")?;
-            put_row(&edit.key, after, out)
+    fn take_edit(&mut self, alloc: Global, words: &[&str]) -> Result<(), Fail> {
+        match words {
+            ["add", words @ ..] => self.edits.push(added(alloc, words)?)?,
+            ["drop", words @ ..] => self.edits.push(removed(alloc, words)?)?,
+            ["set", words @ ..] => self.edits.push(changed(alloc, words)?)?,
+            ["adds", words @ ..] => push_gaps(&mut self.edits, alloc, words, true)?,
+            ["drops", words @ ..] => push_gaps(&mut self.edits, alloc, words, false)?,
+            _ => self.answers.push(answer(words)?)?,
         }
-        (Some(before), None) => {
-            out.push_str("; drop ")?;
-            put_row(&edit.key, before, out)
+        Ok(())
+    }
+
+    fn take(&mut self, alloc: Global, words: &[&str]) -> Result<(), Fail> {
+        match words {
+            ["child", words @ ..] => self.children.push(child(alloc, words)?)?,
+            ["call", words @ ..] => self.calls.push(verb(alloc, words)?)?,
+            ["place", words @ ..] => self.places.push(place(alloc, words)?)?,
+            ["follower", words @ ..] => self.followers.push(child(alloc, words)?)?,
+            _ => self.take_edit(alloc, words)?,
         }
-        (Some(before), Some(after)) => {
-            out.push_str("; set ")?;
-            put_row(&edit.key, before, out)?;
-            out.push_str(" > ")?;
-            put_row(&edit.key, after, out)
-        }
-        (None, None) => out.push_str("; no edit"),
+        Ok(())
+    }
+
+    fn output(self) -> Result<StepOut, Fail> {
+        let Done {
+            mut answers,
+            edits,
+            children,
+            mut calls,
+            mut places,
+            followers,
+        } = self;
+        Ok(StepOut {
+            answer: answers.pop().ok_or("an answer")?,
+            edits: List::of(edits),
+            children: List::of(children),
+            call: calls.pop(),
+            place: places.pop(),
+            followers: List::of(followers),
+        })
     }
 }
 
-fn put_args(args: &Args, out: &mut String) -> Result<(), AllocError> {
-    match args {
-        Args::Root { .. } => out.push_str("root"),
-        Args::Transit { region, goal, .. } => write!(out, "transit {region} {goal:?}"),
-        Args::Crash { server } => write!(out, "crash {server}"),
-        Args::AddRegions {
-            table,
-            first,
-            bounds,
-        } => {
-            write!(out, "add-regions {table} {first}")?;
-            put_keys(bounds.as_slice(), out)
-        }
-        Args::DropRegions { table, ids } => {
-            write!(out, "drop-regions {table}")?;
-            put_numbers(ids.as_slice(), out)
-        }
-        Args::AssignCall { region, server } => write!(out, "assign-call {region} {server}"),
-        Args::CloseCall { region, server } => write!(out, "close-call {region} {server}"),
-        Args::FenceCall { server } => write!(out, "fence-call {server}"),
-        Args::LayoutCall { root } => write!(out, "layout-call {}", root.0),
-        Args::SweepLayout { root } => write!(out, "sweep-layout {}", root.0),
+/// What a step answers and does: items, each behind a semicolon.
+pub fn output(alloc: Global, text: &str) -> Result<StepOut, Fail> {
+    let mut done = Done::new(alloc);
+    for item in text.split("; ") {
+        let words: Vec<&str> = item.split(' ').collect(alloc)?;
+        done.take(alloc, &words)?;
     }
-}
-
-fn put_children(word: &str, children: &[Child], out: &mut String) -> Result<(), AllocError> {
-    for child in children {
-        write!(out, "; {word} ")?;
-        match child {
-            Child::Transits { table, ids, goal } => {
-                write!(out, "transits {table} {goal:?}")?;
-                put_numbers(ids.as_slice(), out)?;
-            }
-            Child::One(args) => put_args(args, out)?,
-        }
-    }
-    Ok(())
-}
-
-fn put_verb(verb: &Verb, out: &mut String) -> Result<(), AllocError> {
-    match verb {
-        Verb::AssignRegion(region) => put_call("assign", region, out),
-        Verb::CloseRegion(region) => put_call("close", region, out),
-        Verb::Fence(server) => write!(out, "; call fence {server}"),
-        Verb::Layout(root) => write!(out, "; call layout {}", root.0),
-        Verb::Sweep(root) => write!(out, "; call sweep {}", root.0),
-    }
-}
-
-fn put_call(verb: &str, region: &RegionName, out: &mut String) -> Result<(), AllocError> {
-    write!(out, "; call {verb} {region}")
-}
-
-fn put_place(place: &Place, out: &mut String) -> Result<(), AllocError> {
-    let state = place.state;
-    match &place.server {
-        Some(server) => write!(out, "; place {state:?} {server}"),
-        None => write!(out, "; place {state:?}"),
-    }
-}
-
-/// Puts what a step answers, and then its edits, children, call, place and followers, each behind a semicolon.
-pub fn put_output(step: &StepOut, out: &mut String) -> Result<(), AllocError> {
-    let answer = step.answer;
-    write!(out, "{answer:?}")?;
-    for edit in step.edits.as_slice() {
-        put_edit(edit, out)?;
-    }
-    put_children("child", step.children.as_slice(), out)?;
-    if let Some(verb) = &step.call {
-        put_verb(verb, out)?;
-    }
-    if let Some(place) = &step.place {
-        put_place(place, out)?;
-    }
-    put_children("follower", step.followers.as_slice(), out)
+    done.output()
 }

@@ -1,0 +1,11 @@
+//! Lock books by their calls, and what procedures ask for. This library is empty but for its tests.
+#![tactic(auto)]
+
+#[cfg(test)]
+mod asking;
+#[cfg(test)]
+mod books;
+#[cfg(test)]
+mod drafts;
+#[cfg(test)]
+mod work;
