@@ -5,9 +5,27 @@ use crate::words::{
 };
 use hm_data::{Peer, ReportMsg, Request, Told};
 use hm_names::{List, Nonce, Pid, RowKey, ServerName, TableName};
-use hm_play::{Fault, number};
 use hm_script::{Command, parse};
 use std::alloc::{AllocError, Global};
+
+/// An event.
+#[derive(Clone, Copy, Debug)]
+pub(crate) enum Event {
+    /// A submission, an abort, or a server that comes up or is held to be dead, as a line of a script.
+    Line(&'static str),
+    Claim,
+    /// A claim whose answer is committed at once.
+    Step,
+    Commit(u64),
+    PutBack(u64),
+    /// A report of this call, by the storage or a server.
+    Report(u64, &'static str, Told),
+    /// A table is to be created, cut at so many keys.
+    Wide(u16),
+}
+
+/// An event, and what it says: its answer, and then what was recorded.
+pub(crate) type Row = (Event, &'static str);
 
 // What a command that submits asks for. Another command is given back.
 fn asked(command: Command) -> Result<(Nonce, Request), Command> {
@@ -22,22 +40,21 @@ fn asked(command: Command) -> Result<(Nonce, Request), Command> {
 }
 
 // The one command of a line.
-fn command(alloc: Global, line: &str) -> Result<Command, Fault> {
+fn command(alloc: Global, line: &str) -> Result<Command, AllocError> {
     let Ok(mut commands) = parse(alloc, line.as_bytes()) else {
-        return Err(Fault::Unread);
+        return Err(AllocError);
     };
-    commands.pop().ok_or(Fault::Unread)
+    commands.pop().ok_or(AllocError)
 }
 
-fn say_line(alloc: Global, run: &mut Run, line: &str, text: &mut String) -> Result<(), Fault> {
+fn say_line(alloc: Global, run: &mut Run, line: &str, text: &mut String) -> Result<(), AllocError> {
     match asked(command(alloc, line)?) {
-        Ok((nonce, request)) => add_submit(text, run.submit(alloc, nonce, request))?,
-        Err(Command::Abort { pid }) => add_abort(text, run.abort(alloc, pid))?,
-        Err(Command::Server { server }) => add_up(text, run.up(alloc, server))?,
-        Err(Command::Expire { server }) => add_down(text, run.down(alloc, &server))?,
-        Err(_) => return Err(Fault::Unread),
+        Ok((nonce, request)) => add_submit(text, run.submit(alloc, nonce, request)),
+        Err(Command::Abort { pid }) => add_abort(text, run.abort(alloc, pid)),
+        Err(Command::Server { server }) => add_up(text, run.up(alloc, server)),
+        Err(Command::Expire { server }) => add_down(text, run.down(alloc, &server)),
+        Err(_) => Err(AllocError),
     }
-    Ok(())
 }
 
 // A table that is cut at so many keys.
@@ -58,52 +75,14 @@ fn wide(alloc: Global, count: u16) -> Result<Request, AllocError> {
     })
 }
 
-fn say_wide(alloc: Global, run: &mut Run, count: &str, text: &mut String) -> Result<(), Fault> {
-    let Ok(count) = count.parse::<u16>() else {
-        return Err(Fault::Unread);
-    };
-    let nonce = Nonce {
-        group: 0,
-        number: 0,
-    };
-    add_submit(text, run.submit(alloc, nonce, wide(alloc, count)?))?;
-    Ok(())
-}
-
-fn peer(alloc: Global, from: &str) -> Result<Peer, Fault> {
+fn peer(alloc: Global, from: &str) -> Result<Peer, AllocError> {
     if from == "storage" {
         return Ok(Peer::Storage);
     }
     match ServerName::parse(alloc, from.as_bytes()) {
         Ok(server) => Ok(Peer::Server(server)),
-        Err(_) => Err(Fault::Unread),
+        Err(_) => Err(AllocError),
     }
-}
-
-fn told(word: &str) -> Result<Told, Fault> {
-    match word {
-        "Opened" => Ok(Told::Opened),
-        "LaidOut" => Ok(Told::LaidOut),
-        "Refused" => Ok(Told::Refused),
-        "Swept" => Ok(Told::Swept),
-        "Fenced" => Ok(Told::Fenced),
-        _ => Err(Fault::Unread),
-    }
-}
-
-// A report by its words: the call, who answers it, and what.
-fn message(alloc: Global, words: &str) -> Result<ReportMsg, Fault> {
-    let Some((call, rest)) = words.split_once(' ') else {
-        return Err(Fault::Unread);
-    };
-    let Some((from, word)) = rest.split_once(' ') else {
-        return Err(Fault::Unread);
-    };
-    Ok(ReportMsg {
-        call: Pid(number(call)?),
-        from: peer(alloc, from)?,
-        told: told(word)?,
-    })
 }
 
 // Claims, and says so. False where nothing was claimed.
@@ -134,24 +113,41 @@ fn say_put_back(run: &mut Run, pid: u64, text: &mut String) -> Result<(), AllocE
     }
 }
 
-fn say_event(alloc: Global, run: &mut Run, event: &str, text: &mut String) -> Result<(), Fault> {
-    let (word, rest) = event.split_once(' ').unwrap_or((event, ""));
-    match word {
-        "claim" => {
+fn say_event(
+    alloc: Global,
+    run: &mut Run,
+    event: Event,
+    text: &mut String,
+) -> Result<(), AllocError> {
+    match event {
+        Event::Line(line) => say_line(alloc, run, line, text),
+        Event::Claim => {
             say_claim(alloc, run, text)?;
+            Ok(())
         }
-        "step" => say_step(alloc, run, text)?,
-        "commit" => add_commit(text, run.commit(alloc, number(rest)?))?,
-        "put-back" => say_put_back(run, number(rest)?, text)?,
-        "report" => add_report(text, run.report(alloc, message(alloc, rest)?))?,
-        "wide" => say_wide(alloc, run, rest, text)?,
-        _ => say_line(alloc, run, event, text)?,
+        Event::Step => say_step(alloc, run, text),
+        Event::Commit(pid) => add_commit(text, run.commit(alloc, pid)),
+        Event::PutBack(pid) => say_put_back(run, pid, text),
+        Event::Report(call, from, told) => {
+            let message = ReportMsg {
+                call: Pid(call),
+                from: peer(alloc, from)?,
+                told,
+            };
+            add_report(text, run.report(alloc, message))
+        }
+        Event::Wide(count) => {
+            let nonce = Nonce {
+                group: 0,
+                number: 0,
+            };
+            add_submit(text, run.submit(alloc, nonce, wide(alloc, count)?))
+        }
     }
-    Ok(())
 }
 
-/// What an event says: its answer, and then what was recorded.
-pub(crate) fn say(alloc: Global, run: &mut Run, event: &str) -> Result<String, Fault> {
+/// What an event says.
+pub(crate) fn say(alloc: Global, run: &mut Run, event: Event) -> Result<String, AllocError> {
     let mut text = String::new(alloc);
     let before = run.recorder().entries().len();
     say_event(alloc, run, event, &mut text)?;

@@ -23,6 +23,13 @@ pub(crate) struct Bounds {
     pub(crate) left: u64,
 }
 
+/// Bounds that are never met.
+pub(crate) const WIDE: Bounds = Bounds {
+    soft: u64::MAX,
+    hard: u64::MAX,
+    left: u64::MAX,
+};
+
 /// Entries in a list, and how many bytes a log of them would have. Contracts see what was recorded.
 pub(crate) struct Kept {
     entries: Vec<Entry>,

@@ -180,11 +180,6 @@ impl Run {
         self.exec.claims()
     }
 
-    /// Whether a procedure is claimed.
-    pub(crate) fn is_out(&self, pid: u64) -> bool {
-        place_of(&self.outs, pid).is_some()
-    }
-
     /// What was claimed last and is claimed still.
     pub(crate) fn last(&self) -> Option<&Out> {
         self.outs.last()

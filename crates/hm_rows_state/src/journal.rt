@@ -1,0 +1,159 @@
+//! A journal with a table that is created, a split that is undone, and a server that is lost. An independent implementation wrote it.
+ghost use Rattle.std.specs.Prelude.{IfOk};
+ghost use Rattle.hm_model.specs.Rules.{AreSheets};
+
+use hm_crash::CrashHands;
+use hm_data::{Entry, Sheet};
+use hm_entry::decode;
+use hm_judge::NotAllowed;
+use hm_names::{Copied, List};
+use hm_sheet::{Handler, Registry};
+use hm_split::SplitHands;
+use hm_state::State;
+use hm_tables::TableHands;
+use hm_transit::TransitHands;
+use std::alloc::{AllocError, Global};
+use std::test::Fail;
+
+// The entries behind its start.
+const JOURNAL: [&[u8]; 65] = [
+    // A server comes up.
+    b"\x05\x02\0h1\x94>\x01\0\0\0\0\0\0\0",
+    // A table is created, cut at f and m.
+    b"\x01\x01\0\0\0\0\0\0\0\x01\0\0\0\0\0\0\0\x03\x07\0default\x01\0t\x02\0\x01\0f\x01\0m",
+    b"\x02\x01\0\0\0\0\0\0\0\0\0\x01\0\0\0\0\0\0\0\0",
+    b"\x02\x01\0\0\0\0\0\0\0\0\0\x02\x01\0\x01\x07\0default\x01\0t\0\x01\x01\x03\x01\0\0\0\0\0\0\0\0\0\0\0\0\0",
+    b"\x02\x01\0\0\0\0\0\0\0\0\x01\x03\0\0\x01\0\x1a\x01\0\0\0\0\0\0\0\0\0\0\0",
+    b"\x02\x02\0\0\0\0\0\0\0\0\x02\x01\0\0\0\0\x01\x03\x01\0\0\0\0\0\0\0\0\0\0",
+    b"\x04\x02\0\0\0\0\0\0\0\x06",
+    b"\x02\x02\0\0\0\0\0\0\0\0\x03\x06\0\0\0\0\0\0\0\0",
+    b"\x02\x01\0\0\0\0\0\0\0\0\x01\x04\0\0\x01\0\x14\x07\0default\x01\0t\x01\0\0\0\0\0\0\0\x04\0\0\0\x01\0f\x01\0m\0\0\0\0\0\0",
+    b"\x02\x03\0\0\0\0\0\0\0\0\x03\0\x03\0\x02\x07\0default\x01\0t\x01\0\0\0\0\0\0\0\0\x01\x02\0\0\x01\0f\0\0\0\x02\x07\0default\x01\0t\x02\0\0\0\0\0\0\0\0\x01\x02\x01\0f\x01\0m\0\0\0\x02\x07\0default\x01\0t\x03\0\0\0\0\0\0\0\0\x01\x02\x01\0m\0\0\0\0\0\0\0\0\0\0\0",
+    b"\x02\x01\0\0\0\0\0\0\0\0\0\x05\x01\0\x01\x07\0default\x01\0t\x01\x01\x03\x01\0\0\0\0\0\0\0\x01\x01\0\x01\0\0\0\0\0\0\0\0\0\0\0\0\0",
+    b"\x02\x01\0\0\0\0\0\0\0\0\x01\x06\0\0\x01\0\0\x07\0default\x01\0t\x03\0\x01\0\0\0\0\0\0\0\x02\0\0\0\0\0\0\0\x03\0\0\0\0\0\0\0\0\0\0\0\0",
+    b"\x02\x04\0\0\0\0\0\0\0\x01\x02\0h1\x94>\x01\0\0\0\0\0\0\0\0\x01\0\0\0\0\0\x01\x01\x01\x02\0h1\x94>\x01\0\0\0\0\0\0\0\0\0",
+    b"\x02\x05\0\0\0\0\0\0\0\x01\x02\0h1\x94>\x01\0\0\0\0\0\0\0\0\x01\0\0\0\0\0\x01\x01\x01\x02\0h1\x94>\x01\0\0\0\0\0\0\0\0\0",
+    b"\x02\x06\0\0\0\0\0\0\0\x01\x02\0h1\x94>\x01\0\0\0\0\0\0\0\0\x01\0\0\0\0\0\x01\x01\x01\x02\0h1\x94>\x01\0\0\0\0\0\0\0\0\0",
+    b"\x02\x04\0\0\0\0\0\0\0\0\x01\x02\0\0\x01\0\x17\x07\0default\x01\0t\x01\0\0\0\0\0\0\0\x02\0h1\x94>\x01\0\0\0\0\0\0\0\0\0\0\0",
+    b"\x02\x05\0\0\0\0\0\0\0\0\x01\x02\0\0\x01\0\x17\x07\0default\x01\0t\x02\0\0\0\0\0\0\0\x02\0h1\x94>\x01\0\0\0\0\0\0\0\0\0\0\0",
+    b"\x02\x06\0\0\0\0\0\0\0\0\x01\x02\0\0\x01\0\x17\x07\0default\x01\0t\x03\0\0\0\0\0\0\0\x02\0h1\x94>\x01\0\0\0\0\0\0\0\0\0\0\0",
+    b"\x02\x07\0\0\0\0\0\0\0\0\x02\x01\0\0\0\0\x01\0\x07\0default\x01\0t\x01\0\0\0\0\0\0\0\0\0\0",
+    b"\x02\x08\0\0\0\0\0\0\0\0\x02\x01\0\0\0\0\x01\0\x07\0default\x01\0t\x02\0\0\0\0\0\0\0\0\0\0",
+    b"\x02\t\0\0\0\0\0\0\0\0\x02\x01\0\0\0\0\x01\0\x07\0default\x01\0t\x03\0\0\0\0\0\0\0\0\0\0",
+    b"\x04\x07\0\0\0\0\0\0\0\x01",
+    b"\x02\x07\0\0\0\0\0\0\0\0\x03\x01\0\0\0\0\0\0\0\0",
+    b"\x02\x04\0\0\0\0\0\0\0\0\x03\x01\0\0\0\0\0\x01\x02\x01\x02\0h1\x94>\x01\0\0\0\0\0\0\0\0\0",
+    b"\x04\x08\0\0\0\0\0\0\0\x01",
+    b"\x02\x08\0\0\0\0\0\0\0\0\x03\x01\0\0\0\0\0\0\0\0",
+    b"\x02\x05\0\0\0\0\0\0\0\0\x03\x01\0\0\0\0\0\x01\x02\x01\x02\0h1\x94>\x01\0\0\0\0\0\0\0\0\0",
+    b"\x04\t\0\0\0\0\0\0\0\x01",
+    b"\x02\t\0\0\0\0\0\0\0\0\x03\x01\0\0\0\0\0\0\0\0",
+    b"\x02\x06\0\0\0\0\0\0\0\0\x03\x01\0\0\0\0\0\x01\x02\x01\x02\0h1\x94>\x01\0\0\0\0\0\0\0\0\0",
+    b"\x02\x01\0\0\0\0\0\0\0\0\x03\0\x01\0\x01\x07\0default\x01\0t\x01\x01\0\x01\0\0\0\0\0\0\0\x01\x01\x01\x01\0\0\0\0\0\0\0\0\0\0\0\0\0",
+    // Its second region is split, of which the storage lays nothing out: two undos, and what follows them.
+    b"\x01\x01\0\0\0\0\0\0\0\x02\0\0\0\0\0\0\0\x08\x07\0default\x01\0t\x02\0\0\0\0\0\0\0\x01\0h",
+    b"\x02\n\0\0\0\0\0\0\0\0\0\x01\0\0\0\0\0\0\0\0",
+    b"\x02\n\0\0\0\0\0\0\0\0\x01\x02\0\0\x01\0\0\x07\0default\x01\0t\x01\0\x02\0\0\0\0\0\0\0\x01\0\0\0\0",
+    b"\x02\x0b\0\0\0\0\0\0\0\0\x01\x04\0\0\x01\0\x18\x07\0default\x01\0t\x02\0\0\0\0\0\0\0\x02\0h1\x94>\x01\0\0\0\0\0\0\0\0\x01\x03\x01\x02\0h1\x94>\x01\0\0\0\0\0\0\0\0\0",
+    b"\x02\x0c\0\0\0\0\0\0\0\0\x02\x01\0\0\0\0\x01\x01\x07\0default\x01\0t\x02\0\0\0\0\0\0\0\0\0\0",
+    b"\x04\x0c\0\0\0\0\0\0\0\x03",
+    b"\x02\x0c\0\0\0\0\0\0\0\0\x03\x03\0\0\0\0\0\0\0\0",
+    b"\x02\x0b\0\0\0\0\0\0\0\0\x03\x03\0\0\0\0\0\x01\x04\0\0\0",
+    b"\x02\n\0\0\0\0\0\0\0\0\x01\x03\0\0\x01\0\x1a\n\0\0\0\0\0\0\0\0\0\0\0",
+    b"\x02\r\0\0\0\0\0\0\0\0\x02\x01\0\0\0\0\x01\x03\n\0\0\0\0\0\0\0\0\0\0",
+    b"\x04\r\0\0\0\0\0\0\0\x07",
+    b"\x02\r\0\0\0\0\0\0\0\0\x04\x0c\0\0\0\0\0\0\0\0",
+    b"\x03\n\0\0\0\0\0\0\0\x02\x05\0\0\0\0\0\0\0\x01\0\x1b\n\0\0\0\0\0\0\0",
+    b"\x02\x0e\0\0\0\0\0\0\0\0\x02\x01\0\0\0\0\x01\x04\n\0\0\0\0\0\0\0\0\0\0",
+    b"\x03\n\0\0\0\0\0\0\0\x01\x05\0\0\0\0\0\0\0\x01\0\0\x07\0default\x01\0t\x01\0\x02\0\0\0\0\0\0\0\0",
+    b"\x02\x0f\0\0\0\0\0\0\0\x01\x02\0h1\x94>\x01\0\0\0\0\0\0\0\0\x01\0\0\0\0\0\x01\x01\x01\x02\0h1\x94>\x01\0\0\0\0\0\0\0\0\0",
+    b"\x02\x0f\0\0\0\0\0\0\0\0\x01\x02\0\0\x01\0\x17\x07\0default\x01\0t\x02\0\0\0\0\0\0\0\x02\0h1\x94>\x01\0\0\0\0\0\0\0\0\0\0\0",
+    b"\x02\x10\0\0\0\0\0\0\0\0\x02\x01\0\0\0\0\x01\0\x07\0default\x01\0t\x02\0\0\0\0\0\0\0\0\0\0",
+    b"\x04\x0e\0\0\0\0\0\0\0\x08",
+    b"\x02\x0e\0\0\0\0\0\0\0\0\x03\x08\0\0\0\0\0\0\0\0",
+    b"\x04\x10\0\0\0\0\0\0\0\x01",
+    b"\x02\x10\0\0\0\0\0\0\0\0\x03\x01\0\0\0\0\0\0\0\0",
+    b"\x02\x0f\0\0\0\0\0\0\0\0\x03\x01\0\0\0\0\0\x01\x02\x01\x02\0h1\x94>\x01\0\0\0\0\0\0\0\0\0",
+    // Another server comes up, the first is held to be dead, is fenced, and its regions are opened on the other.
+    b"\x05\x02\0h2\x94>\x01\0\0\0\0\0\0\0",
+    b"\x06\x02\0h1\x94>\x01\0\0\0\0\0\0\0",
+    b"\x02\x11\0\0\0\0\0\0\0\0\x01\x01\0\0\x01\0\x19\x02\0h1\x94>\x01\0\0\0\0\0\0\0\0\0\0\0",
+    b"\x02\x12\0\0\0\0\0\0\0\0\x02\x01\0\0\0\0\x01\x02\x02\0h1\x94>\x01\0\0\0\0\0\0\0\0\0\0",
+    b"\x04\x12\0\0\0\0\0\0\0\x05",
+    b"\x02\x12\0\0\0\0\0\0\0\0\x03\x05\0\0\0\0\0\0\0\0",
+    b"\x02\x11\0\0\0\0\0\0\0\0\x01\x01\0\0\x01\0\0\x07\0default\x01\0t\x03\0\x01\0\0\0\0\0\0\0\x02\0\0\0\0\0\0\0\x03\0\0\0\0\0\0\0\0\0\0\0\0",
+    b"\x02\x13\0\0\0\0\0\0\0\x01\x02\0h2\x94>\x01\0\0\0\0\0\0\0\0\x01\0\0\0\0\0\x01\x01\x01\x02\0h2\x94>\x01\0\0\0\0\0\0\0\0\0",
+    b"\x02\x14\0\0\0\0\0\0\0\x01\x02\0h2\x94>\x01\0\0\0\0\0\0\0\0\x01\0\0\0\0\0\x01\x01\x01\x02\0h2\x94>\x01\0\0\0\0\0\0\0\0\0",
+    b"\x02\x15\0\0\0\0\0\0\0\x01\x02\0h2\x94>\x01\0\0\0\0\0\0\0\0\x01\0\0\0\0\0\x01\x01\x01\x02\0h2\x94>\x01\0\0\0\0\0\0\0\0\0",
+    b"\x02\x13\0\0\0\0\0\0\0\0\x01\x02\0\0\x01\0\x17\x07\0default\x01\0t\x01\0\0\0\0\0\0\0\x02\0h2\x94>\x01\0\0\0\0\0\0\0\0\0\0\0",
+];
+
+// The sheets with which a journal begins.
+pub(crate) fn sheets(alloc: Global) -> Result<List<Sheet>, AllocError>
+    ensures valid { IfOk result AreSheets }
+{
+    let tables = Box::new(alloc, TableHands::new(alloc)?)?;
+    let splits = Box::new(alloc, SplitHands::new(alloc)?)?;
+    let transits = Box::new(alloc, TransitHands::new(alloc)?)?;
+    let crashes = Box::new(alloc, CrashHands::new(alloc)?)?;
+    let handlers: [Box<dyn Handler>; 4] = [tables, splits, transits, crashes];
+    let Ok(registry) = Registry::new(alloc, Vec::from_array(alloc, handlers)?) else {
+        return Err(AllocError);
+    };
+    registry.sheets().copy(alloc)
+}
+
+// Adds an entry, if the rules allow it.
+pub(crate) fn add(
+    alloc: Global,
+    state: &mut State,
+    entry: &Entry,
+) -> Result<Option<NotAllowed>, AllocError> {
+    if let Err(why) = state.allowed(alloc, entry) {
+        return Ok(Some(why));
+    }
+    let ready = state.prepare(alloc, entry)?;
+    state.apply(ready);
+    Ok(None)
+}
+
+// Adds the entry that is spelled so, if the rules allow it.
+pub(crate) fn add_spelled(
+    alloc: Global,
+    state: &mut State,
+    bytes: &[u8],
+) -> Result<Option<NotAllowed>, AllocError> {
+    let Ok(entry) = decode(alloc, bytes) else {
+        return Err(AllocError);
+    };
+    let added = add(alloc, state, &entry);
+    drop(entry);
+    added
+}
+
+// Adds the first of some entries, so many at most. False where one isn't allowed.
+fn add_first(
+    alloc: Global,
+    state: &mut State,
+    entries: &[&[u8]],
+    most: usize,
+) -> Result<bool, AllocError> {
+    for bytes in entries.iter().take(most) {
+        if add_spelled(alloc, state, bytes)?.is_some() {
+            return Ok(false);
+        }
+    }
+    Ok(true)
+}
+
+// The state of so many entries of the journal, and of some more behind them.
+pub(crate) fn state_at(alloc: Global, count: usize, more: &[&[u8]]) -> Result<State, Fail> {
+    let mut state = State::start(alloc, sheets(alloc)?)?;
+    let first = add_first(alloc, &mut state, &JOURNAL, count.saturating_sub(1));
+    let then = add_first(alloc, &mut state, more, more.len());
+    if first == Ok(true) && then == Ok(true) {
+        return Ok(state);
+    }
+    drop(state);
+    Err(Fail::from("an entry isn't allowed"))
+}
