@@ -1,89 +1,72 @@
-//! Two servers and the storage: whom calls are delivered to, what they are answered, and who holds the region then. The
-//! answers were given by an independent implementation.
-use crate::calls::{Ask, LOWER, call, region, server};
-use hm_data::{Call, ReportMsg, Told};
-use hm_server::{Actor, StorageActor};
-use std::alloc::{AllocError, AllocGlobal, Global};
-use std::process::Abort;
-use std::test::Fail;
+//! A fleet, and what travels to it and back.
+use crate::calls::{call, peer, put_told, region, server};
+use hm_data::{Call, ReportMsg};
+use hm_fleet::Fleet;
+use hm_names::{Copied, NameFault};
+use hm_server::StorageActor;
+use std::alloc::{AllocError, Global};
 
-// Who serves.
-#[derive(Drop)]
-struct Fleet {
-    first: Actor,
-    second: Actor,
-    storage: StorageActor,
+// Starts a server.
+fn start(alloc: Global, fleet: &mut Fleet, name: &str) -> Result<(), NameFault> {
+    let server = server(alloc, name)?;
+    let newcomer = fleet.ready(alloc, &server)?;
+    fleet.start(newcomer);
+    Ok(())
 }
 
-// Whom a call is delivered to.
-#[derive(Clone, Copy)]
-enum To {
-    First,
-    Second,
-    Storage,
+/// Two servers and the storage.
+pub fn new_fleet(alloc: Global) -> Result<Fleet, NameFault> {
+    let mut fleet = Fleet::of(alloc, StorageActor::new(alloc)?)?;
+    start(alloc, &mut fleet, "h1,1,1")?;
+    start(alloc, &mut fleet, "h2,1,1")?;
+    Ok(fleet)
 }
 
-// Whom a call is delivered to, the call, and what it is answered.
-type Delivery = (To, u64, Ask, Option<Told>);
+// Sends a call, delivers it, and hears its report.
+fn carry(alloc: Global, fleet: &mut Fleet, call: Call) -> Result<Option<ReportMsg>, AllocError> {
+    fleet.send(call)?;
+    fleet.deliver(alloc)?;
+    let report = match fleet.oldest() {
+        Some(report) => Some(report.copy(alloc)?),
+        None => None,
+    };
+    fleet.hear();
+    Ok(report)
+}
 
-// The region is opened, its server is fenced but goes on, and the region is opened at the other one.
-const RESCUED: [Delivery; 4] = [
-    (To::Storage, 2, Ask::Layout, Some(Told::LaidOut)),
-    (To::First, 5, Ask::Open(LOWER), Some(Told::Opened)),
-    (To::Storage, 7, Ask::Fence, Some(Told::Fenced)),
-    (To::Second, 9, Ask::Open(LOWER), Some(Told::Opened)),
-];
-
-// The region is opened and moved, and then each call comes again.
-const MOVED: [Delivery; 8] = [
-    (To::Storage, 2, Ask::Layout, Some(Told::LaidOut)),
-    (To::First, 5, Ask::Open(LOWER), Some(Told::Opened)),
-    (To::First, 7, Ask::Close(LOWER), Some(Told::Closed)),
-    (To::Second, 8, Ask::Open(LOWER), Some(Told::Opened)),
-    (To::Storage, 2, Ask::Layout, Some(Told::LaidOut)),
-    (To::First, 5, Ask::Open(LOWER), None),
-    (To::First, 7, Ask::Close(LOWER), Some(Told::Closed)),
-    (To::Second, 8, Ask::Open(LOWER), Some(Told::Opened)),
-];
-
-impl Fleet {
-    fn serve(
-        &mut self,
-        alloc: Global,
-        to: To,
-        call: &Call,
-    ) -> Result<Option<ReportMsg>, AllocError> {
-        match to {
-            To::First => self.first.serve(call),
-            To::Second => self.second.serve(call),
-            To::Storage => self.storage.serve(alloc, call),
+// Delivers the calls on the wire: how many there were.
+fn deliver_all(alloc: Global, fleet: &mut Fleet) -> Result<u64, AllocError> {
+    let mut count: u64 = 0;
+    for _ in 0..fleet.on_wire() {
+        if fleet.deliver(alloc)? {
+            count = count.wrapping_add(1);
         }
     }
+    Ok(count)
 }
 
-// Delivers calls, one after another. Answers whether both servers hold the region then, and whether the first is fenced.
-fn delivered<R: Abort + AllocGlobal>(rt: &R, deliveries: &[Delivery]) -> [bool; 3] {
-    let mut fleet = Fleet {
-        first: Actor::new(rt.alloc(), server(rt, b"h1,1,1")),
-        second: Actor::new(rt.alloc(), server(rt, b"h2,1,1")),
-        storage: StorageActor::new(rt.alloc()).expect(rt, "memory"),
-    };
-    for (to, id, ask, wanted) in deliveries {
-        let report = fleet
-            .serve(rt.alloc(), *to, &call(rt, *id, *ask))
-            .expect(rt, "memory");
-        assert_eq!(rt; report.map(|report| report.told), *wanted);
+/// Puts what a fleet is asked: by words alone, or whether a server holds a region, or what a call is answered.
+pub fn put_fleet(
+    alloc: Global,
+    fleet: &mut Fleet,
+    words: &[&str],
+    out: &mut String,
+) -> Result<(), NameFault> {
+    match words {
+        ["repeat"] => write!(out, "{}", fleet.repeat()?)?,
+        ["deliver"] => write!(out, "{}", deliver_all(alloc, fleet)?)?,
+        ["waits"] => write!(out, "{}", fleet.waits())?,
+        ["holds", at, name] => {
+            let at = server(alloc, at)?;
+            write!(out, "{}", fleet.holds(&at, &region(alloc, name)?))?;
+        }
+        [to, id, asks, name] => {
+            let call = call(alloc, peer(alloc, to)?, id, (asks, name))?;
+            let sent = call.copy(alloc)?;
+            let report = carry(alloc, fleet, sent)?;
+            put_told(alloc, &call, report.as_ref(), out)?;
+        }
+        _ => out.push_str("no such line")?,
     }
-    [
-        fleet.first.holds(&region(rt, LOWER)),
-        fleet.second.holds(&region(rt, LOWER)),
-        fleet.storage.has_fenced(&server(rt, b"h1,1,1")),
-    ]
-}
-
-#[test]
-fn holds_behind_a_rescue_and_behind_a_move(rt: HostRuntime) -> Result<(), Fail> {
-    assert_eq!(rt; delivered(&rt, &RESCUED), [true, true, true]);
-    assert_eq!(rt; delivered(&rt, &MOVED), [false, true, false]);
     Ok(())
 }
