@@ -58,7 +58,7 @@ def clock_of(child):
 
 def timed(program, log, script, last):
     """A run whose last line has to be `last`, with the time of its answers by itself: each line is written as it is made, the first
-    behind the opening."""
+    after the opening."""
     with tempfile.TemporaryFile() as words:
         words.write(script)
         words.seek(0)

@@ -38,7 +38,7 @@ first_of key next row more rise =
     let parts = and_parts (is_lt (key_cmp key next)) (keys_rise_from next more) rise in
     (less_if (key_cmp key next) parts.0, parts.1)
 
--- a key is below each of those behind it
+-- a key is below each of those after it
 below_all : (key : CatKey) (rows : Rows) (i : ℕ) (d : CatKey × CatRow) → keys_rise_from key rows ≡ true → i < length rows → key_cmp key (get_or rows i d).0 ≡ Less
 below_all key [] i d rise lt = absurd (omega (arith, lt))
 below_all key ((next, row) ∷ more) zero d rise lt = (first_of key next row more rise).0

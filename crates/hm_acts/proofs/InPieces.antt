@@ -15,7 +15,7 @@ use Rattle.hm_model.specs.Views.{regions_in}
 use Rattle.hm_acts.proofs.Ordered.{rising_ordered}
 use Rattle.hm_acts.specs.Runs.{leading}
 
--- one more was put behind those so far
+-- one more was put after those so far
 pub one_more : {X : Type 0} (so_far new : List X) (one : X) (left rest all : List X) → new ≡ so_far ++ one ∷ [] → left ≡ one ∷ rest → so_far ++ left ≡ all → new ++ rest ≡ all
 one_more so_far new one left rest all grown is kept = ap (λ l. l ++ rest) grown ∙ append_assoc so_far (one ∷ []) rest ∙ ap (λ l. so_far ++ l) (sym is) ∙ kept
 

@@ -1,4 +1,4 @@
--- What a stable sort makes of a list is what putting each element among those behind it makes of it.
+-- What a stable sort makes of a list is what putting each element among those after it makes of it.
 use Rattle.std.proofs.Common.{◌≡◌, ℕ, zero, suc, ◌<◌, ◌≤◌, List, [], ◌∷◌, length, get_or, Bool, true, false, cond, refl, ap, sym, ◌∙◌, subst, arith}
 use Rattle.std.proofs.lemmas.Bool.{cond-true, cond-false}
 use Rattle.std.proofs.lemmas.List.Sorted.{sorted_far}

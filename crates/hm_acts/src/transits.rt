@@ -177,7 +177,7 @@ pub(crate) fn confirm_opened(
     }
 }
 
-// Behind a close: the end for a region that is to be unassigned, and for others the way to another server.
+// After a close: the end for a region that is to be unassigned, and for others the way to another server.
 fn behind_close(goal: Goal, told: Told) -> Answer
     ensures { result ≡ behind goal told }
 {

@@ -7,7 +7,7 @@ use crate::shift::Shift;
 use hm_names::{Copied, ServerName};
 use std::alloc::{AllocError, Global};
 
-/// Puts a name behind others, so many times.
+/// Puts a name after others, so many times.
 fn push_times(
     alloc: Global,
     names: &mut Vec<ServerName>,

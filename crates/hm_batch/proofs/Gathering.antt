@@ -30,7 +30,7 @@ pub record Ends (pieces : List (List (List ℕ))) (with_more : List ℕ → List
   pub joins : (frame : List ℕ) → bytes_of last + size_of_frame frame ≤ 65541 → with_more frame ≡ front ++ (last ++ frame ∷ []) ∷ []
   pub begins : (frame : List ℕ) → 65541 < bytes_of last + size_of_frame frame → with_more frame ≡ pieces ++ (frame ∷ []) ∷ []
 
--- the same behind a piece that is full
+-- the same after a piece that is full
 ends_behind : (piece : List (List ℕ)) (pieces all : List (List (List ℕ))) (with_more more : List ℕ → List (List (List ℕ))) → all ≡ piece ∷ pieces → ((frame : List ℕ) → more frame ≡ piece ∷ with_more frame) → Ends pieces with_more → Ends all more
 ends_behind piece pieces all with_more more all_is more_is ends = record {
   front = piece ∷ ends.front;

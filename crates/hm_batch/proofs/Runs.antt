@@ -14,7 +14,7 @@ use Rattle.hm_batch.specs.View.{noted, frames_in, AreLaid}
 use Rattle.hm_batch.specs.declared.pieces.Piece.{Piece}
 use Rattle.hm_batch.proofs.Gathering.{bytes_of-push, in_order-pieces_of}
 
--- a run behind an open gate is the frames with theirs, and a closed gate
+-- a run after an open gate is the frames with theirs, and a closed gate
 pub run_spelling : (piece : List (List ℕ)) → 1 ≤ length piece → 43 ∷ run_of piece ≡ spelled piece ++ 45 ∷ []
 run_spelling [] some = absurd (omega arith)
 run_spelling (frame ∷ frames) some = ap (λ (l : List ℕ). 43 ∷ l) (sym (append_assoc (laid frame) (spelled frames) (45 ∷ [])))

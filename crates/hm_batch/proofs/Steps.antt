@@ -49,7 +49,7 @@ next notes bytes pieces laid i d rest low left =
       behind = ap (λ (l : List ℕ). drop note.bytes l) whole ∙ drop_at (run_of piece) (runs_of (drop (i + 1) pieces)) note.bytes size;
     }
 
--- the frames behind one piece more
+-- the frames after one piece more
 pub frames_more : (old mid new : List (List ℕ)) (pieces : List (List (List ℕ))) (i : ℕ) (piece : List (List ℕ)) → take (i + 1) pieces ≡ take i pieces ++ piece ∷ [] → mid ≡ old ++ in_order (take i pieces) → new ≡ mid ++ piece
     → new ≡ old ++ in_order (take (i + 1) pieces)
 frames_more old mid new pieces i piece so_far before after =

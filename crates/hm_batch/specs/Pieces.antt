@@ -11,7 +11,7 @@ size_of_frame frame = length frame + 5
 abbrev pub bytes_of : List (List ℕ) → ℕ
 bytes_of frames = sum_by size_of_frame frames
 
--- the pieces of a first one that may still grow, and of the frames behind it: as many of the next go to each as fit into 65,541 bytes
+-- the pieces of a first one that may still grow, and of the frames after it: as many of the next go to each as fit into 65,541 bytes
 unfoldable pub grown : List (List ℕ) → List (List ℕ) → List (List (List ℕ))
 grown piece [] = piece ∷ []
 grown piece (frame ∷ frames) =
@@ -40,6 +40,6 @@ abbrev pub run_of : List (List ℕ) → List ℕ
 run_of [] = []
 run_of (frame ∷ frames) = laid frame ++ (spelled frames ++ 45 ∷ [])
 
--- the runs of pieces, one behind the other
+-- the runs of pieces, one after the other
 abbrev pub runs_of : List (List (List ℕ)) → List ℕ
 runs_of pieces = flat_map run_of pieces

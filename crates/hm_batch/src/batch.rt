@@ -20,7 +20,7 @@ use std::marker::Model;
 pub struct Batch {
     // What is noted of each piece.
     notes: Vec<Piece>,
-    // Their runs, one behind the other.
+    // Their runs, one after the other.
     bytes: Vec<u8>,
 }
 
@@ -62,7 +62,7 @@ impl Batch {
         self.bytes.reserve(size)
     }
 
-    /// Adds a frame behind the others.
+    /// Adds a frame after the others.
     pub fn put(&mut self, frame: &[u8])
         requires size { IsFrame frame.now }
         requires room { HasRoomFor (length frame.now) self.old }
@@ -106,7 +106,7 @@ impl Batch {
         ensures slots { self.new.slots ≡ self.old.slots }
         ensures log_room { log.new.room ≡ log.old.room }
 
-        // What the disk reads as, now and behind each stop.
+        // What the disk reads as, now and after each stop.
         ensures on_disk { D.tells →
             ReadsWithFirst log.old.frames (pieces_of self.old.frames) (D.seen log.new.disk) }
         ensures durable { D.tells → OnOk result ((c : List ℕ) → D.image log.new.disk c → Reads c log.new.frames) }

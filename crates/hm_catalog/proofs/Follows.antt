@@ -56,7 +56,7 @@ order_with : (key : CatKey) (keys : List CatKey) → AreInOrder keys → AreInOr
 order_with key [] order = (tt, tt)
 order_with key (first ∷ more) order = order_at (key_cmp key first) key first more refl order.0 order.1 (order_with key more order.1)
 
--- rows of keys behind one
+-- rows of keys after one
 behind_rows : (there : Catalog) (k : CatKey) (keys : List CatKey) → AllBehind k keys → AllBehind k (keys_in (rows_at every there keys))
 behind_rows there k [] behind = tt
 behind_rows there k (first ∷ more) behind = behind_keep k first (there first) (rows_at every there more) behind.0 (behind_rows there k more behind.1)

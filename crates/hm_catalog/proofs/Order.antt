@@ -228,7 +228,7 @@ some_copied : {X : Type 0} (o : Option (Bor X)) → is_some (option_copied o) �
 some_copied None = refl
 some_copied (Some x) = refl
 
--- the count of what is there behind a row that was set
+-- the count of what is there after a row that was set
 module _ (pairs new : Pairs) (key : CatKey) (after : Option CatRow) (got : Option (Bor CatRow)) (count : ℕ) (had has : Bool) (order : AreInOrder (keys_kept pairs)) (set_is : present new ≡ with_row key after (present pairs)) (got_is : option_copied got ≡ row_at (present pairs) key) (had_is : had ≡ is_some got) (has_is : has ≡ is_some after) (count_is : length (present pairs) ≡ count) where
   pub counted : length (present new) + one_if had ≡ count + one_if has
   counted =

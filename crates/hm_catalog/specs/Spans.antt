@@ -1,4 +1,4 @@
--- Keys that stand together: one behind another, with no other key between two of them.
+-- Keys that stand together: one after another, with no other key between two of them.
 use Rattle.std.specs.Prelude.{ℕ, ◌+◌, List, [], ◌∷◌, Bool, ◌&&◌, filter, nat_lt, nat_le}
 use Rattle.hm_names.specs.Region.{Region}
 use Rattle.hm_data.specs.declared.catalog.CatKey.{CatKey}

@@ -68,7 +68,7 @@ act_none J p row is = act_kept J p row (node_of J p) ∙ ap (kept_act J row) is
 pub act_some : (J : Past) (p row : ℕ) (it : Record) → record_of J p ≡ Some it → act_at J p row ≡ act_of_row (row_in (sheet_for (sheets_of J) it.kind) row)
 act_some J p row it is = act_kept J p row (node_of J p) ∙ ap (kept_act J row) is
 
--- an abort is told alike by the journal before it and behind it
+-- an abort is told alike by the journal before it and after it
 pub abort_told : (old new : Moment) (pid : Pid) (result : Result Bool AbortRefused) → AnswersAbort old pid result new → told_abort (past_of new) pid result ≡ told_abort (past_of old) pid result
 abort_told old new pid (Ok true) a = refl
 abort_told old new pid (Ok false) a = refl

@@ -57,7 +57,7 @@ use Rattle.hm_commands.specs.declared.answer.Answer.TheVariants as answer_is
 use Rattle.hm_commands.specs.declared.tasks.Worked.{Worked}
 use Rattle.hm_commands.specs.declared.tasks.Worked.TheVariants as worked_is
 
--- behind some entries, which have so many bytes, an entry passes the mark
+-- after some entries, which have so many bytes, an entry passes the mark
 abbrev pub IsPassed : ℕ → ℕ → Type 0
 IsPassed hard bytes = (journal : List Entry) × (entry : Entry) × (bytes ≡ bytes_of journal) × Passes hard journal entry
 
@@ -106,7 +106,7 @@ recorded_grows P old new entry number p r =
       full = λ bytes going full. absurd (none-some (halt_is.JournalFull bytes) (sym going ∙ sym (ap (λ (k : Recording). k.halted) is) ∙ full));
     }
 
--- behind it nothing halts
+-- after it nothing halts
 pub recorded_going : (old new : Recording) (entry : Entry) (number : ℕ) → Records old entry (Ok number) new → new.halted ≡ None
 recorded_going old new entry number r = ap (λ (k : Recording). k.halted) r.3 ∙ r.0
 
@@ -300,7 +300,7 @@ report_grows report old new (Err fault_is.LogFault) a = faults_grow IsWork old n
 report_grows report old new (Err (fault_is.JournalFull b)) a = faults_grow IsWork old new (report_entry report) (fault_is.JournalFull b) a.1
 report_grows report old new (Err fault_is.Memory) a = faults_grow IsWork old new (report_entry report) fault_is.Memory a.1
 
--- behind a report that was heard nothing halts
+-- after a report that was heard nothing halts
 heard_going : (report : ReportMsg) (old new : Moment) (heard : Heard) → AnswersReport old report (Ok heard) new → new.kept.halted ≡ None
 heard_going report old new (heard_is.Accepted number) a = recorded_going old.kept new.kept (report_entry report) a.1.2.0 a.1.2.1
 heard_going report old new (heard_is.Ignored why) a = ap (λ (m : Moment). m.kept.halted) a.2 ∙ a.0
@@ -322,7 +322,7 @@ carries_grows old new result = by old.waiting old.wire result
     by [] [] (Ok true) c = exec_grows IsWork old new (ap (λ (s : Scene). s.exec) c.3)
     by [] [] (Ok false) c = scene_grows IsWork old new c.2
 
--- behind what is carried nothing halts
+-- after what is carried nothing halts
 carried_going : (old new : Scene) → Carries old (Ok true) new → halt_at new ≡ None
 carried_going old new = by old.waiting old.wire
   where
@@ -360,7 +360,7 @@ works_grows old (worked_is.Halted why) new (inl steps) = steps_grows old (worked
 works_grows old (worked_is.Halted why) new (inr carried) = carries_grows old new (Err carried.1.0) carried.1.1
 works_grows old worked_is.Idle new idle = scene_grows IsWork old new idle.1
 
--- behind a task that was done nothing halts
+-- after a task that was done nothing halts
 pub done_going : (old new : Scene) → Works old worked_is.Done new → halt_at new ≡ None
 done_going old new (inl steps) = recorded_going (kept_at steps.mid) (kept_at new) (entry_of steps.taken steps.runs.0) steps.runs.2.0 steps.runs.2.1.0.3
 done_going old new (inr carried) = carried_going old new carried.1

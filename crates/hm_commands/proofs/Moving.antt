@@ -58,7 +58,7 @@ recorded_more : (moved : List (Move × ℕ)) (move : Move) (pid : ℕ) (old mid 
 recorded_more [] move pid old mid new same submits = (new, subst (λ (s : Scene). SubmitsMove move s (answer_is.Pid pid) new) same submits, refl)
 recorded_more (one ∷ moved) move pid old mid new (between, first, rest) submits = (between, first, recorded_more moved move pid between mid new rest submits)
 
--- pieces behind a text, one after another
+-- pieces after a text, one after another
 abbrev left : List ℕ → List (List ℕ) → List ℕ
 left text [] = text
 left text (piece ∷ more) = left (text ++ piece) more

@@ -106,7 +106,7 @@ sheets_all P leaves journal (entry ∷ added) all =
 grown_sheets : (P : Entry → Type 0) → ((entry : Entry) → P entry → LeavesSheets entry) → (old new : Recording) → Grows P old new → sheets_of (back new.entries) ≡ sheets_of (back old.entries)
 grown_sheets P leaves old new grows = ap (λ (j : List Entry). sheets_of (back j)) grows.grown ∙ sheets_all P leaves old.entries grows.added grows.each
 
--- the sheets behind a command, and behind tasks
+-- the sheets after a command, and after tasks
 pub comes_sheets : (command : Command) (old : Scene) (answer : Option Answer) (new : Scene) → Comes command old answer new → sheets_of (back (journal_at new)) ≡ sheets_of (back (journal_at old))
 comes_sheets command old answer new c = grown_sheets (MayAdd command) (may_leaves command) (kept_at old) (kept_at new) (comes_grows old new command answer c)
 

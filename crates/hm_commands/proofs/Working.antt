@@ -58,7 +58,7 @@ few_calls (turn_is.Undo edits) p was out = omega arith
 less_by : (hard before after size left more : ℕ) → after ≡ before + size + 5 → before + size + 5 ≤ hard → more ≤ left + 3 → 4 * (hard - after) + more + 1 ≤ 4 * (hard - before) + left
 less_by hard before after size left more is within few = omega arith
 
--- behind a step less is left to do
+-- after a step less is left to do
 pub step_less : (old new : Scene) → IsKept (world_of old) → Steps old worked_is.Done new → left_to_do new + 1 ≤ left_to_do old
 step_less old new kept s =
     let taken = s.taken in
@@ -85,7 +85,7 @@ step_less old new kept s =
     not_over : (hard sum : ℕ) → (hard < sum → ⊥) → sum ≤ hard
     not_over hard sum not = omega (arith, not)
 
--- so it is behind a message that is nearer
+-- so it is after a message that is nearer
 pub carry_less : (old new : Scene) → Grows IsWork (kept_at old) (kept_at new) → IsNearer old new → left_to_do new + 1 ≤ left_to_do old
 carry_less old new grows nearer =
     let later : bytes_of (kept_at old).entries ≤ bytes_of (kept_at new).entries = subst (λ (l : List Entry). bytes_of (kept_at old).entries ≤ bytes_of l) (sym grows.grown) (bytes_later (kept_at old).entries grows.added) in

@@ -32,13 +32,13 @@ refusal_word refusal_is.Known = codes "Known"
 refusal_word refusal_is.AlreadyDown = codes "AlreadyDown"
 refusal_word refusal_is.NoServer = codes "NoServer"
 
--- the word behind it
+-- the word after it
 abbrev pub refusal_detail : Refusal → List ℕ
 refusal_detail (refusal_is.Finished phase) = state_text phase
 refusal_detail (refusal_is.TooLate act) = row_text_if act
 refusal_detail why = []
 
--- the number behind it
+-- the number after it
 abbrev pub refusal_number : Refusal → Option ℕ
 refusal_number (refusal_is.BadArgs number) = Some number
 refusal_number (refusal_is.NonceClash pid) = Some pid

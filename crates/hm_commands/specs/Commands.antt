@@ -87,7 +87,7 @@ WorksFor most old (Some (answer_is.Halted why)) new = (count : ℕ) × (mid : Sc
 WorksFor most old (Some answer) new = ⊥
 WorksFor most old None new = (count : ℕ) × (mid : Scene) × Tasks count old mid × (count < most) × LacksMemory mid new
 
--- nothing is left to do behind some tasks, and so many roots haven't ended
+-- nothing is left to do after some tasks, and so many roots haven't ended
 abbrev pub Rests : Scene → ℕ → Scene → Type 0
 Rests old roots new = ((count : ℕ) × Tasks count old new) × IsDone new × (roots ≡ unfinished (past_in new))
 

@@ -50,7 +50,7 @@ abbrev pub told_accepted : Pid → Bool → Option Answer
 told_accepted pid true = Some (answer_is.Repeated pid.0)
 told_accepted pid false = Some (answer_is.Pid pid.0)
 
--- a submission, behind which the run is halted so
+-- a submission, after which the run is halted so
 abbrev pub told_submit : Option Halt → Result Accepted Refused → Option Answer
 told_submit halted (Ok accepted) = told_accepted accepted.pid accepted.repeated
 told_submit halted (Err (refused_is.NonceClash pid)) = refused (refusal_is.NonceClash pid.0)

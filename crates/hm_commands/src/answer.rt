@@ -111,7 +111,7 @@ impl Refusal {
         }
     }
 
-    // The word behind it.
+    // The word after it.
     fn detail(&self) -> &str
         ensures { result.now ≡ refusal_detail self.now }
     {
@@ -122,7 +122,7 @@ impl Refusal {
         }
     }
 
-    // The number behind it.
+    // The number after it.
     fn number(self) -> Option<u64>
         ensures { result ≡ refusal_number self }
     {

@@ -59,7 +59,7 @@ fn tell_accepted(accepted: Accepted) -> Answer
     }
 }
 
-/// A submission, behind which the run is halted so.
+/// A submission, after which the run is halted so.
 pub(crate) fn tell_submit(
     halted: Option<Halt>,
     outcome: Result<Accepted, Refused>,

@@ -82,7 +82,7 @@ asked_closes (request_is.MergeRegions regions) first fine = by regions (paired (
     by (one ∷ other ∷ third ∷ more) h = absurd (false≢true h)
 asked_closes request first fine = tt
 
--- one list of edits behind another
+-- one list of edits after another
 edits_append : (table : Option TableName) (one other : List Edit) → AreEditsOf table one → AreEditsOf table other → AreEditsOf table (one ++ other)
 edits_append table [] other all more = more
 edits_append table (edit ∷ one) other all more = (all.0, edits_append table one other all.1 more)

@@ -175,7 +175,7 @@ module _ (pid : Pid) (pick : Option Server) (out : StepOut) (J : Past) (legal : 
       omega (arith, one, other)
   within_count n line lines (inr c) = spend_within line.act me.args sees n (bounds_of me.args) refl c.counted.0
 
-  -- and so it stays for the lines behind
+  -- and so it stays for the lines after
   known_on : (n : ℕ) (line : Line) (lines : List Line) → (reading me.args (line ∷ lines) ≡ false) ⊎ Counting J pid.0 me n (line ∷ lines) → line_step.row.act ≡ line.act → is_stopped (last_answer (entry_is.Step pid pick out ∷ J) pid.0) ≡ false → (reading me.args lines ≡ false) ⊎ Counting (entry_is.Step pid pick out ∷ J) pid.0 me n lines
   known_on n line lines (inl off) act runs = inl (or_parts (reads_rows line.act (bounds_of me.args)) (reading me.args lines) off).1
   known_on n line lines (inr c) act runs = elim (cases_Bool (reading me.args lines)) [

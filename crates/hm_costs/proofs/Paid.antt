@@ -148,7 +148,7 @@ module _ (At : Past → ℕ → Node → ℕ → Type 0) (Fresh : Past → ℕ �
         sum_none zero f zeros = refl
         sum_none (suc n) f zeros = let here = zeros n in let on = sum_none n f zeros in omega (arith, here, on)
 
-  -- a tree before a step of it: what its procedures may still cost is within the cost that holds behind the step
+  -- a tree before a step of it: what its procedures may still cost is within the cost that holds after the step
   pub record Ready (pid : Pid) (pick : Option Server) (out : StepOut) (J : Past) (r : ℕ) (top : Node) : Type 0 where
     pub going : Going J r top
     pub first : (last_answer J r ≢ None) ⊎ (((q : ℕ) (x : Node) → node_of J q ≡ Some x → x.root ≡ r → q ≡ r) × (stack J r ≡ []))

@@ -106,7 +106,7 @@ own_follower x is = let b = by x.args is in record { closes = b.0; top = b.1 }
     by (args_are.SweepLayout root) is = (tt, (λ e. is))
     by args is = absurd is
 
--- what is left to undo behind a step and behind an undo
+-- what is left to undo after a step and after an undo
 rest_undone : (table : Option TableName) (steps : List Undoable) → AllUndoOf table steps → AllUndoOf table (rest_of steps)
 rest_undone table [] all = tt
 rest_undone table (step ∷ below) all = all.1

@@ -211,7 +211,7 @@ module _ (pid : Pid) (pick : Option Server) (out : StepOut) (J : Past) (legal : 
   confirm_paid : row_of J pid.0 me ≡ 2 → out ≡ opened_or_not 0 (place_of J region).server true → Paid
   confirm_paid here is = ends_paid told_is.Opened (ap (λ (o : StepOut). o.answer) is) (ap (λ (o : StepOut). o.children) is) (let due = due_here 2 here in omega (arith, due))
 
-  -- behind a close, or where there is nothing to close
+  -- after a close, or where there is nothing to close
   behind_paid : (goal : Goal) → goal_in me.args ≡ goal → (told : Told) → out.answer ≡ behind_close goal told → out.children ≡ [] → closed_due goal ≤ budget → Paid
   behind_paid goal_is.Assign g told e none enough = on_paid 0 e none (λ e. absurd (omega (arith, e))) (λ e. omega (arith, e)) (λ e. omega (arith, e)) (omega (arith, enough))
   behind_paid goal_is.Unassign g told e none enough = ends_paid told e none (omega (arith, enough))

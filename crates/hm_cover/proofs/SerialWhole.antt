@@ -307,7 +307,7 @@ module _ (n : ℕ) (big : 4096 < n) (pid : Pid) (pick : Option Server) (out : St
       ]
 
   module _ (is : IsDeed) where
-    -- its root has ended behind it
+    -- its root has ended after it
     ends_it : root_ended (entry_is.Step pid pick out ∷ J) step.node.root ≡ true
     ends_it =
         let own : step.node.root ≡ pid.0 = grown.tops pid.0 step.node step.node_is is.4 in

@@ -142,7 +142,7 @@ merge_edit act_is.OpenMerged l e = absurd (false≢true e)
 merge_edit act_is.Finish l e = absurd (false≢true e)
 merge_edit act l e = absurd (false≢true l)
 
--- what follows is behind the point
+-- what follows is after the point
 late_row : (sheet : Sheet) → IsValid sheet → (lines : List Line) (place : ℕ) → is_late_next lines ≡ true → Leads sheet.rows place lines → (row : Row) → slice_get sheet.rows place ≡ Some row → row.after ≡ true
 late_row sheet valid [] place late leads row is = absurd (valid_end sheet valid row (ap (slice_get sheet.rows) (sym leads) ∙ is))
 late_row sheet valid (line ∷ lines) place late leads row is = ap (λ (r : Row). r.after) (sym (same_Some leads.0 row (sym leads.1 ∙ is))) ∙ leads.2.1 ∙ late
@@ -351,11 +351,11 @@ module _ (pid : Pid) (pick : Option Server) (out : StepOut) (J : Past) (grown : 
   could : MayFall J' step.node.root top → MayFall J step.node.root top × EditsSpare top.args out.edits
   could may = elim (kid_or_root pid pick out J grown falls step d aside) [ inl e ↦ root_could e may | inr kid ↦ (kid_back kid may, kid_spares kid) ]
 
-  -- a tree that may be undone behind the step might before
+  -- a tree that may be undone after the step might before
   pub could_fall : MayFall J' step.node.root top → MayFall J step.node.root top
   could_fall may = (could may).0
 
-  -- behind a root's row past the point it may not
+  -- after a root's row past the point it may not
   pub late_stands : exact_rows (kind_of step.node.args) ≡ [] → step.node.above ≡ [] → step.row.after ≡ true → MayFall J' step.node.root top → ⊥
   late_stands exact e late may = let l = (edits_now exact).late late in past_not e (lined_top exact e) l.0 l.1 may
 

@@ -28,7 +28,7 @@ torn_end at n old c is torn =
       sym (take-append-drop at c) ∙ ap (λ (l : List ℕ). l ++ drop at c) front,
     )
 
--- a torn write within leaves what stood before it and behind it
+-- a torn write within leaves what stood before it and after it
 pub torn_over : (at n : ℕ) (front mid behind c : List ℕ) → at ≡ length front → n ≡ length mid → Torn at n (front ++ mid ++ behind) c
     → (new : List ℕ) × (length new ≡ n) × (c ≡ front ++ new ++ behind)
 torn_over at n front mid behind c is_front is_mid torn =
@@ -57,7 +57,7 @@ written_over at front mid bytes behind is same =
     ap (λ (l : List ℕ). l ++ bytes ++ drop (at + length bytes) (front ++ mid ++ behind)) (ap (λ (l : List ℕ). take at l) (append_assoc front mid behind) ∙ take_at front (mid ++ behind) at (sym is))
     ∙ ap (λ (l : List ℕ). front ++ bytes ++ l) (drop_at (front ++ mid) behind (at + length bytes) (omega (arith, length-append front mid)))
 
--- a cut behind what stays leaves it
+-- a cut after what stays leaves it
 pub cut_end : (at : ℕ) (front tail c : List ℕ) → at ≡ length front → CutOrWhole at (front ++ tail) c → (rest : List ℕ) × (c ≡ front ++ rest)
 cut_end at front tail c is (inl same) = (tail, same)
 cut_end at front tail c is (inr cut) = ([], cut ∙ take_at front tail at (sym is) ∙ sym (append-nil front))

@@ -7,7 +7,7 @@ use Rattle.hm_disk.specs.Disk.{Torn, CutOrWhole}
 abbrev pub Event : Type 0
 Event = ((ℕ × List ℕ) ⊎ ℕ) ⊎ List ℕ
 
--- what a stop may leave behind these events
+-- what a stop may leave after these events
 abbrev pub Reaches : List Event → List ℕ → Type 0
 Reaches [] c = ⊥
 Reaches (inl (inl write) ∷ earlier) c = (d : List ℕ) × Reaches earlier d × Torn write.0 (length write.1) d c

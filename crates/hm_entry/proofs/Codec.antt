@@ -29,7 +29,7 @@ pub bind_ok : {A B : Type 0} (r : Result A EntryFault) (f : A → Result B Entry
 bind_ok (Ok x) f y e = (x, refl, e)
 bind_ok (Err d) f y e = absurd cc
 
--- a field in front of others: its value, what it took, and what is read behind it
+-- a field in front of others: its value, what it took, and what is read after it
 pub first : {A R : Type 0} {read : ReaderOf A} {spell : A → List ℕ} {fits : A → Type 0} → IsCodec read spell fits
     → (f : A × Input → Result (R × Input) EntryFault) (i : Input) (y : R × Input) → IsBytes i.rest → (read i >>= f) ≡ Ok y
     → (x : A × Input) × Takes i (spell x.0) x.1 × fits x.0 × IsBytes x.1.rest × (f x ≡ Ok y)

@@ -16,7 +16,7 @@ use Rattle.hm_entry.specs.Reading.{◌>>=◌, ReaderOf, of_one, of_two, of_three
 use Rattle.hm_entry.proofs.Codec.{IsCodec, Again, input, done, ok_is, bind_ok, first, takes_one, takes_two, takes_three, again_one}
 use Rattle.hm_entry.proofs.FieldCodecs.{byte_codec, byte_again, u16_codec}
 
--- what is read behind a kind is a value of that kind
+-- what is read after a kind is a value of that kind
 pub record IsArm {R : Type 0} (kind : ℕ) (spell : R → List ℕ) (fits : R → Type 0) (i : Input) (read : Result (R × Input) EntryFault) : Type 0 where
   pub takes : (y : R × Input) → read ≡ Ok y → (text : List ℕ) × (spell y.0 ≡ byte kind ++ text) × Takes i text y.1 × fits y.0
 

@@ -46,7 +46,7 @@ use Rattle.hm_data.specs.declared.step.StepOut.{StepOut}
 use Rattle.hm_entry.specs.declared.fault.EntryFault.{EntryFault}
 use Rattle.hm_entry.specs.declared.fault.EntryFault.TheVariants.{Short, Field, Rest, Memory}
 
--- what is read behind a value, unless the value is a fault
+-- what is read after a value, unless the value is a fault
 infixl 10 ◌>>=◌
 abbrev pub ◌>>=◌ : {A B : Type 0} → Result A EntryFault → (A → Result B EntryFault) → Result B EntryFault
 (Ok x) >>= f = f x
@@ -63,7 +63,7 @@ Fails (Short p) read = read ≡ Err (Short p)
 Fails (Field p) read = read ≡ Err (Field p)
 Fails (Rest p) read = read ≡ Err (Rest p)
 
--- a call gave what reading gives, and left the input behind it, unless memory ran out
+-- a call gave what reading gives, and left the input after it, unless memory ran out
 abbrev pub Gives : {A : Type 0} → Result A EntryFault → Result (A × Input) EntryFault → Input → Type 0
 Gives (Ok x) read new = read ≡ Ok (x, new)
 Gives (Err e) read new = Fails e read
@@ -164,12 +164,12 @@ by_kind fields i = do
   kind ← byte_at i
   fields i.at kind.0 kind.1
 
--- nothing behind a 0, or a value behind a 1
+-- nothing after a 0, or a value after a 1
 abbrev pub option_of : {A : Type 0} → ReaderOf A → ℕ → ℕ → Input → Result (Option A × Input) EntryFault
 option_of item place flag i =
     if flag == 0 then Ok (None, i) else (if flag == 1 then of_one Some item i else Err (Field place))
 
--- nothing, or a value behind a byte
+-- nothing, or a value after a byte
 unfoldable pub option_at : {A : Type 0} → ReaderOf A → Input → Result (Option A × Input) EntryFault
 option_at item = by_kind (option_of item)
 
@@ -181,7 +181,7 @@ items_at item (suc n) i = do
   others ← items_at item n first.1
   Ok (first.0 ∷ others.0, others.1)
 
--- the items behind their count
+-- the items after their count
 unfoldable pub list_at : {A : Type 0} → ReaderOf A → Input → Result (List A × Input) EntryFault
 list_at item i = do
   count ← u16_at i
@@ -343,7 +343,7 @@ args_of place kind i =
     else (if kind == 27 then of_one args_are.SweepLayout pid_at i
     else Err (Field place))))))))
 
--- transits of a table's regions behind a 0, or one procedure of a kind
+-- transits of a table's regions after a 0, or one procedure of a kind
 unfoldable pub child_of : ℕ → ℕ → ReaderOf Child
 child_of place kind i =
     if kind == 0 then of_three child_is.Transits table_at (list_at u64_at) goal_at i

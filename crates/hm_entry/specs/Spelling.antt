@@ -45,12 +45,12 @@ abbrev pub flag : Bool → List ℕ
 flag true = byte 1
 flag false = byte 0
 
--- nothing, or a value behind a byte
+-- nothing, or a value after a byte
 abbrev pub option : {A : Type 0} → (A → List ℕ) → Option A → List ℕ
 option spell None = byte 0
 option spell (Some x) = byte 1 ++ spell x
 
--- the items behind their count
+-- the items after their count
 abbrev pub list : {A : Type 0} → (A → List ℕ) → List A → List ℕ
 list spell xs = little_bytes 2 (length xs) ++ flat_map spell xs
 
@@ -116,7 +116,7 @@ catalog_row (row_is.Region bounds status parents) =
 unfoldable pub edit : Edit → List ℕ
 edit e = key e.key ++ (option catalog_row e.before ++ option catalog_row e.after)
 
--- what a procedure that another one makes works on, behind its kind. A request and a transit by itself have no
+-- what a procedure that another one makes works on, after its kind. A request and a transit by itself have no
 -- spelling.
 unfoldable pub args : Args → List ℕ
 args (args_are.Root asked first) = []

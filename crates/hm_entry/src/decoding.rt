@@ -78,7 +78,7 @@ fn all(alloc: Global, bytes: &[u8]) -> Result<Entry, EntryFault>
 
 /// The entry that the bytes spell, all of the bytes. Places count bytes from 0, and a fault is the first one from the
 /// left: `Short` is at a number, a text or a kind that runs past the end, `Field` at one that is no value, and `Rest`
-/// at the first byte behind a whole entry.
+/// at the first byte after a whole entry.
 pub fn decode(alloc: Global, bytes: &[u8]) -> Result<Entry, EntryFault>
     // What is read is spelled by the bytes.
     ensures found { IfOk result (λ e. EntryFits e × (bytes.now ≡ spelling e)) }

@@ -107,7 +107,7 @@ impl Get for Place {
     }
 }
 
-// The byte behind the kind of Undone.
+// The byte after the kind of Undone.
 fn undone(r: &mut Reader) -> Result<Answer, EntryFault>
     ensures { Gives result (coded undone_of r.old) r.new }
 {

@@ -77,7 +77,7 @@ passes_down hard entries server older beside passes =
     let host = ap (λ (h : List ℕ). length h) (address_is server older beside).0 in
     omega (arith, passes, up, down, host)
 
--- behind an entry that was recorded nothing is halted
+-- after an entry that was recorded nothing is halted
 still_going : (old new : Moment) (entry : Entry) → IsAdded old entry new → IsGoing new
 still_going old new entry added = ap halt_of added.2.1.3 ∙ added.0
 
@@ -107,7 +107,7 @@ pub at_fault : {T : Type 0} (P : HallFault → Type 0) (r : Result T HallFault) 
 at_fault P (Ok x) fault told holds = absurd told
 at_fault P (Err why) fault told holds = subst P (sym told) holds
 
--- behind the end of the older one of its address a server may come up
+-- after the end of the older one of its address a server may come up
 pub up_after : (old new : Moment) (server older : Server) → IsLegal (past_of old) → StandingsTell (past_of old) → CanUp (past_of old) server → IsOlder (past_of old) server older → IsAdded old (entry_is.Down older) new
     → Allowed (past_of new) (entry_is.Up server)
 up_after old new server older legal tell can is added =

@@ -76,7 +76,7 @@ module _ (old new : Recording) (entries more : List Entry) (number : ℕ) (was :
   before_is : (entry : Entry) (desk : Desk) → Records old entry (Ok number) new → (behind : IsEnlistedFor (back more) entry desk) → made behind.before ≡ made (back entries)
   before_is entry desk records behind = ap (λ (J : Past). made (older J)) (sym behind.is ∙ past_more entries more old new entry number was same records)
 
-  -- what is known of the desk behind a step
+  -- what is known of the desk after a step
   pub step_behind : (pid : Pid) (pick : Option Server) (out : StepOut) (desk : Desk) (low : ℕ) (late : Bool) → Records old (entry_is.Step pid pick out) (Ok number) new → IsEnlistedFor (back more) (entry_is.Step pid pick out) desk
       → low ≡ made (back entries) + 1 → late ≡ alters out → IsIn pid.0 (claims_on desk) → IsStepOf (back more) pid low late desk
   step_behind pid pick out desk low late records behind first changes mine = record {
@@ -88,7 +88,7 @@ module _ (old new : Recording) (entries more : List Entry) (number : ℕ) (was :
     mine = mine;
   }
 
-  -- and behind an undo
+  -- and after an undo
   pub undo_behind : (root pid : Pid) (row : ℕ) (out : StepOut) (desk : Desk) (low : ℕ) (late : Bool) → Records old (entry_is.Undo pid row out) (Ok number) new → IsEnlistedFor (back more) (entry_is.Undo pid row out) desk
       → low ≡ made (back entries) + 1 → root_of (back entries) pid.0 ≡ root.0 → late ≡ alters out → IsIn root.0 (claims_on desk) → IsUndoOf (back more) root low late desk
   undo_behind root pid row out desk low late records behind first roots changes mine =
@@ -103,7 +103,7 @@ module _ (old new : Recording) (entries more : List Entry) (number : ℕ) (was :
         mine = mine;
       }
 
--- behind an entry by a claimed procedure, whose claim ends, all others that are claimed can go on
+-- after an entry by a claimed procedure, whose claim ends, all others that are claimed can go on
 pub goes_on_by : (old new : Recording) (entries more : List Entry) (desk after : Desk) (entry : Entry) (number p : ℕ) → IsExec old entries desk → entries_of new ≡ more → Follows (back more) after → IsLegal (back entries) → Allowed (back entries) entry
     → Records old entry (Ok number) new → Unclaims p (claims_on desk) (claims_on after) → ((q : ℕ) → q ≢ p → IsNotBy (back entries) entry q) → IsExec new more after
 goes_on_by old new entries more desk after entry number p was same follows legal allowed records less others = record {

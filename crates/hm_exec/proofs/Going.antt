@@ -1,4 +1,4 @@
--- Behind an entry that was recorded.
+-- After an entry that was recorded.
 use Rattle.std.proofs.Common.{◌≡◌, ◌++◌, ◌∷◌, [], ℕ, List, Ok, ap, sym, subst, ◌∙◌}
 use Rattle.hm_data.specs.declared.entry.Entry.{Entry}
 use Rattle.hm_hall.specs.Recording.{Recording, Records, entries_of}
@@ -22,7 +22,7 @@ pub past_more : (old entries : List Entry) (was new : Recording) (entry : Entry)
 past_more old entries was new entry number same more records =
     ap back (sym more ∙ recorded was new entry number records ∙ ap (λ l. l ++ entry ∷ []) same) ∙ back-push old entry
 
--- whoever is claimed can go on behind an entry that isn't by one of them
+-- whoever is claimed can go on after an entry that isn't by one of them
 pub able_behind : (entry : Entry) (J : Past) (desk new : Desk) → IsLegal (entry ∷ J) → Follows J desk → AreAble J desk → claims_on new ≡ claims_on desk
     → ((q : ℕ) → IsIn q (claims_on desk) → IsNotBy J entry q) → AreAble (entry ∷ J) new
 able_behind entry J desk new legal follows able same others q is =

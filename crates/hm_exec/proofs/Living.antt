@@ -99,7 +99,7 @@ alone (entry_is.Abort pid ∷ J) legal a b on there same = alone J legal.0 a b o
 more_than_none : (older : Server) (J : Past) → (entry_is.Down older ∷ J) ≢ []
 more_than_none older J e = cc
 
--- behind the end of the one that was live at its address a newer server may come up
+-- after the end of the one that was live at its address a newer server may come up
 pub up_behind : (J : Past) → IsLegal J → (server older : Server) → IsOlder J server older → has_newer J server ≡ false → Allowed (entry_is.Down older ∷ J) (entry_is.Up server)
 up_behind J legal server older is newest =
     let none : has_older_live (entry_is.Down older ∷ J) server ≡ false = false_from_ne_true (has_older_live (entry_is.Down older ∷ J) server) (λ any.

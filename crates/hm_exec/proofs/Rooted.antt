@@ -34,7 +34,7 @@ module _ (old new : Recording) (entries more : List Entry) (desk after : Desk) (
       let is : entries ≡ more = sym was.same ∙ sym (unrecorded old new entry fault adds) ∙ same in
       record { same = same; follows = follows; able = λ q mine. subst (λ (l : List Entry). CanGo (back l) q) is (was.able q (subst (IsIn q) claims mine)) }
 
-  -- behind an entry that is by nobody who is claimed, whoever is can go on
+  -- after an entry that is by nobody who is claimed, whoever is can go on
   pub goes_on : (entry : Entry) (number : ℕ) → IsLegal (back entries) → Allowed (back entries) entry → Records old entry (Ok number) new → ((q : ℕ) → IsIn q (claims_on desk) → IsNotBy (back entries) entry q)
       → IsExec new more after
   goes_on entry number legal allowed records others = record {

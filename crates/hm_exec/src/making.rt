@@ -146,7 +146,7 @@ fn admit_made<R: Recorder>(
     enlist_and_enter(state, desk, recorder, alloc, ready, parent)
 }
 
-// Records an entry that may follow, whose procedures have this parent; they are enlisted behind it. What the recorder would refuse
+// Records an entry that may follow, whose procedures have this parent; they are enlisted after it. What the recorder would refuse
 // needs no memory.
 pub(crate) fn add_made<R: Recorder>(
     state: &mut State,

@@ -1,4 +1,4 @@
--- Who runs, behind a change of the server at one place.
+-- Who runs, after a change of the server at one place.
 use Rattle.std.proofs.Common.{◌≡◌, ℕ, ◌<◌, List, length, Option, Some, None, Bool, true, false, if◌then◌else◌, get_or, set, refl, ap, sym, ◌∙◌, inl, inr}
 use Rattle.std.proofs.Math.Path.{fun_ext}
 use Rattle.std.proofs.lemmas.Bool.{cases_eq}
@@ -21,7 +21,7 @@ use Rattle.hm_fleet.specs.Crew.{actors_in, address_cmp, address_of, running, slo
 use Rattle.hm_fleet.specs.declared.address.Address.{Address}
 use Rattle.hm_fleet.proofs.Alike.{actor_is}
 
--- the server at a place, behind a change that leaves its name
+-- the server at a place, after a change that leaves its name
 pub changed_slot : (old new : ActorView) (server : Server) → same_server old.name server ≡ true → new.name ≡ old.name
     → running (Some new) ≡ set_actor (running (Some old)) server (Some (actor_of new))
 changed_slot old new server on name = fun_ext (λ other.

@@ -1,4 +1,4 @@
--- Who runs, and where, behind a start.
+-- Who runs, and where, after a start.
 use Rattle.std.proofs.Common.{◌≡◌, ℕ, ◌<◌, List, [], ◌∷◌, ◌++◌, length, Option, Some, None, Bool, true, false, if◌then◌else◌, set, refl, ap, sym, ◌∙◌, inl, inr, arith, length-append}
 use Rattle.std.proofs.Math.ListN.{length-set}
 use Rattle.std.proofs.Math.Path.{fun_ext}
@@ -60,7 +60,7 @@ started_again places slots crew server place view found new = fun_ext (λ other.
           ∙ ap (λ a. running (slot_at slots a) other) (sym e) ∙ begun_elsewhere (actors_in places slots) server other off
     ]
 
--- a new address, and the place behind all others
+-- a new address, and the place after all others
 abbrev Places : List (Address × ℕ) → List (Address × ℕ) → Address → ℕ → Type 0
 Places old new address place = (other : Address) → find address_cmp new other ≡ (if is_eq (address_cmp address other) then Some place else find address_cmp old other)
 

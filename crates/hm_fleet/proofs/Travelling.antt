@@ -45,7 +45,7 @@ module _ {X : Type 0} where
       ap Some at ∙ sym (slice_get-get_or items place x below) ∙ ap (slice_get items) is ∙ (first items one places within).1.0
       ∙ ap (λ l. slice_get l 0) (sym (first items one places within).1.1)
 
-  -- an item behind the others
+  -- an item after the others
   at_front : (items more : List X) (place : ℕ) → place < length items → slice_get (items ++ more) place ≡ slice_get items place
   at_front [] more place lt = absurd (omega arith)
   at_front (x ∷ items) more zero lt = refl

@@ -1,4 +1,4 @@
--- The entries that may stand behind a journal can be recorded.
+-- The entries that may stand after a journal can be recorded.
 use Rattle.std.proofs.Common.{◌≡◌, ℕ, ◌+◌, ◌≤◌, List, [], ◌∷◌, ◌++◌, length, Option, Some, None, All, refl, arith, length-append, ap, sym, ◌∙◌}
 use Rattle.std.proofs.lemmas.List.Elements.{All-nil, All-cons}
 use Rattle.hm_names.specs.Server.{Server}

@@ -63,7 +63,7 @@ of_children (child_is.Transits table ids goal ∷ more) are i own at = of_batch 
 of_children (child_is.One args ∷ more) are zero own at = subst IsShortArgs (same_Some args own at) are.0.1
 of_children (child_is.One args ∷ more) are (suc i) own at = of_children more are.1 i own at
 
--- a catalog behind short edits
+-- a catalog after short edits
 edited_short : (edits : List Edit) (key : CatKey) (row : Option CatRow) → Each IsShortEdit edits → If IsShortRow row → If IsShortRow (edited edits key row)
 edited_short [] key row are is = is
 edited_short (e ∷ edits) key row are is = edited_short edits key (if same_key key e.key then e.after else row) are.1 (by (same_key key e.key))

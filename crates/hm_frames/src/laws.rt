@@ -16,7 +16,7 @@ ghost use Rattle.hm_model.specs.Requests.{MaySubmit};
 ghost use Rattle.hm_model.specs.Rules.{Allowed, AreSheets, IsLegal};
 ghost use Rattle.hm_hall.specs.Recording.{CanBeRecorded};
 
-/// Each entry that may stand behind a journal can be recorded: its spelling fits a frame.
+/// Each entry that may stand after a journal can be recorded: its spelling fits a frame.
 pub fn entries_fit_frames()
     ensures start { (sheets : List Sheet) → AreSheets sheets → CanBeRecorded (entry_is.Start sheets) }
     ensures submit { (nonce : Nonce) (request : Request) → MaySubmit request → RequestFits request →

@@ -1,4 +1,4 @@
-//! Each entry that may stand behind a journal fits a frame of its log: a law, as a function that does nothing.
+//! Each entry that may stand after a journal fits a frame of its log: a law, as a function that does nothing.
 #![tactic(auto)]
 
 mod laws;

@@ -22,7 +22,7 @@ under-cases zero n = inr (omega arith, refl)
 under-cases (suc b) zero = inl (omega arith, refl)
 under-cases (suc b) (suc n) = ⊎_elim (λ t. let a = t.0 in inl (omega arith, t.1)) (λ t. let a = t.0 in inr (omega arith, t.1)) (under-cases b n)
 
--- a number that lies behind the one list and in the other
+-- a number that lies after the one list and in the other
 once-of : (n a b k : ℕ) → k + under a n ≡ under b n → a ≤ n → n < b → k ≡ 1
 once-of n a b k e le lt = ⊎_elim (λ t. let p = t.0 in absurd (omega arith)) (λ t. let p = t.1 in ⊎_elim (λ u. let q = u.1 in omega arith) (λ u. let q = u.0 in absurd (omega arith)) (under-cases b n)) (under-cases a n)
 

@@ -87,7 +87,7 @@ module _ {I T S : Type 0} (shown : S → Whole I T) where
     -- parts add up
     pub shares : total parts s.views ≡ seats
     pub few : seats < 2 ^ 32
-    -- each number behind the opening list is in one view's items, each out is owed by one view
+    -- each number after the opening list is in one view's items, each out is owed by one view
     pub written : (n : ℕ) → total (wrote n) s.views + under (length ((shown start).items)) n ≡ under (length whole.items) n
     pub owed : (n : ℕ) → total (owing n) s.views ≡ times n whole.outs
     pub distinct : (n : ℕ) → times n whole.outs ≤ 1

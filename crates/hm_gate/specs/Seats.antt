@@ -27,7 +27,7 @@ module _ {I T : Type 0} where
   abbrev pub spent : View I T
   spent = record { front = []; mine = []; owes = []; position = Out; stopped = false; parts = 0; seats = 0; opening = []; terms = None }
 
--- what the seat with all parts knows of the value at the end: its items are those that the gate was made of and, behind
+-- what the seat with all parts knows of the value at the end: its items are those that the gate was made of and, after
 -- them, those that the seat added, each once at its number; its outs are what the seat owes
 pub record Ends {I T S : Type 0} (shown : S → Whole I T) (v : View I T) (x : S) : Type 0 where
   pub items_begin : Begins ((shown x).items) v.front

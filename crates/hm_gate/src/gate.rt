@@ -96,7 +96,7 @@ impl<V: Kept> Gate<V> {
         }
     }
 
-    /// Ends the gate, and gives the value: its list is what the gate was made of and, behind it, what the seat added.
+    /// Ends the gate, and gives the value: its list is what the gate was made of and, after it, what the seat added.
     pub fn close(self, seat: Seat<V>) -> V
         requires gate { seat.gate ≡ self }
         requires out { IsOutside seat.view }

@@ -14,7 +14,7 @@ numbers_more first (suc count) =
     ap (numbers_from first) (let e : suc count + 1 ≡ suc (count + 1) = omega arith in e)
     ∙ ap (λ numbers. first ∷ numbers) (numbers_more (first + 1) count ∙ ap (λ n. numbers_from (first + 1) count ++ n ∷ []) (let e : (first + 1) + count ≡ first + suc count = omega arith in e))
 
--- what is made of the number behind others stands behind what is made of these
+-- what is made of the number after others stands after what is made of these
 pub made_more : {X : Type 0} (make : ℕ → X) (before now then : List X) (first count more number : ℕ) (x : X) → now ≡ before ++ map make (numbers_from first count) → number ≡ first + count → more ≡ count + 1 → x ≡ make number → then ≡ now ++ x ∷ [] → then ≡ before ++ map make (numbers_from first more)
 made_more make before now then first count more number x was at adds is put =
     put ∙ rw (was, is, at, adds) (append_assoc before (map make (numbers_from first count)) (make (first + count) ∷ [])
@@ -26,7 +26,7 @@ draws_more make all now then drawn next count left x was more is made put =
     rw (put, made, is) (append_assoc now (make (next_draw drawn) ∷ []) (map make (draws (next_draw drawn) left))
     ∙ sym (ap (λ n. now ++ map make (draws drawn n)) more) ∙ was)
 
--- the script by its parts, one behind the other
+-- the script by its parts, one after the other
 pub whole : (seed count : ℕ) (none up created settled moved still all : List Command) → none ≡ [] → up ≡ none ++ servers → created ≡ up ++ creates count → settled ≡ created ++ C.Settle ∷ [] → moved ≡ settled ++ moves seed count → still ≡ moved ++ C.Settle ∷ [] → all ≡ still ++ ending → all ≡ generated seed count
 unfolding generated
 whole seed count none up created settled moved still all none_is up_is created_is settled_is moved_is still_is all_is =

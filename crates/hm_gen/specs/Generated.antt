@@ -38,7 +38,7 @@ split_key number = codes "k" ++ (48 + number / 10) ∷ (48 + number % 10) ∷ []
 abbrev pub split_keys : ℕ → List (List ℕ)
 split_keys regions = map split_key (numbers_from 1 (regions - 1))
 
--- the request for a table: of `count` regions it has the 64 behind those of the tables before, or as many as are left
+-- the request for a table: of `count` regions it has the 64 after those of the tables before, or as many as are left
 abbrev pub create : ℕ → ℕ → Command
 create count number = C.Create no_nonce (table number) (split_keys (min 64 (count - 64 * number)))
 
@@ -46,11 +46,11 @@ create count number = C.Create no_nonce (table number) (split_keys (min 64 (coun
 abbrev pub creates : ℕ → List Command
 creates count = map (create count) (numbers_from 0 (div_ceil count 64))
 
--- the number that the generator draws behind another
+-- the number that the generator draws after another
 abbrev pub next_draw : ℕ → ℕ
 next_draw x = (x * 6364136223846793005 + 1442695040888963407) % 2 ^ 64
 
--- so many numbers that the generator draws behind a seed
+-- so many numbers that the generator draws after a seed
 abbrev pub draws : ℕ → ℕ → List ℕ
 draws seed zero = []
 draws seed (suc count) = next_draw seed ∷ draws (next_draw seed) count

@@ -42,7 +42,7 @@ with_next kept entry = record kept { next = Some entry }
 abbrev pub bytes_of : List Entry → ℕ
 bytes_of entries = 10 + sum_by (λ entry. length (spelling entry) + 5) entries
 
--- behind these entries this one would pass the hard mark
+-- after these entries this one would pass the hard mark
 abbrev pub Passes : ℕ → List Entry → Entry → Type 0
 Passes hard entries entry = hard < bytes_of entries + length (spelling entry) + 5
 

@@ -1,4 +1,4 @@
--- Blocks one behind another: where each begins, what an item more or a split does, and a search in two levels.
+-- Blocks one after another: where each begins, what an item more or a split does, and a search in two levels.
 use Rattle.std.proofs.Common.{◌≡◌, ◌≢◌, ℕ, zero, suc, ◌+◌, ◌-◌, ◌<◌, ◌≤◌, List, [], ◌∷◌, ◌++◌, length, get_or, set, take, drop, Ok, Err, refl, inl, inr, arith, ap, sym, ◌∙◌, subst, length-append, append_assoc, zero-add}
 use Rattle.std.specs.List.{insert}
 use Rattle.std.specs.List.Sorted.{IsBinarySearchResult, IsNonDecreasingBy}
@@ -42,7 +42,7 @@ begins (block ∷ blocks) (suc b) lt =
     let e : suc b + 1 ≡ suc (b + 1) = omega arith in
     rw e (omega (arith, begins blocks b (omega arith)))
 
--- a later block begins behind the end of an earlier one
+-- a later block begins after the end of an earlier one
 order : {X : Type 0} (blocks : List (List X)) (i j : ℕ) → i < j → j < length blocks → start blocks i + length (block_at blocks i) ≤ start blocks j
 order [] i j less lt = absurd (omega arith)
 order (block ∷ blocks) i zero less lt = absurd (omega arith)
@@ -54,7 +54,7 @@ pub start-zero : {X : Type 0} (blocks : List (List X)) → start blocks 0 + 0 �
 start-zero [] = refl
 start-zero (block ∷ blocks) = refl
 
--- behind the end of a block stands the first item of the next, and then the spot behind that
+-- after the end of a block stands the first item of the next, and then the spot after that
 pub behind_end : {X : Type 0} (blocks : List (List X)) (b at : ℕ) → IsPacked blocks → IsSpot blocks b at → at ≡ length (block_at blocks b) → start blocks b + at < length (laid blocks)
     → record { spot : IsSpot blocks (b + 1) 1; next : start blocks (b + 1) + 1 ≡ start blocks b + at + 1 }
 behind_end blocks b at packed spot end more =

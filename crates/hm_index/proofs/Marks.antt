@@ -103,7 +103,7 @@ firsts-set [] b block = refl
 firsts-set (first ∷ blocks) zero block = refl
 firsts-set (first ∷ blocks) (suc b) block = ap (λ l. first_mark first ∷ l) (firsts-set blocks b block)
 
--- a mark put in where a block begins is its first, and one behind that leaves it
+-- a mark put in where a block begins is its first, and one after that leaves it
 pub firsts-put : (blocks : List (List Mark)) (b at : ℕ) (mark : Mark) → b < length blocks → at ≤ length (block_at blocks b)
     → map first_mark (set blocks b (insert (block_at blocks b) at mark)) ≡ (if at == 0 then set (map first_mark blocks) b mark else map first_mark blocks)
 firsts-put blocks b zero mark lt le = firsts-set blocks b (mark ∷ block_at blocks b)
@@ -118,7 +118,7 @@ firsts-put blocks b (suc at) mark lt le =
     kept [] at le = absurd (omega arith)
     kept (first ∷ block) at le = refl
 
--- the upper half of a block that is split begins behind the lower half
+-- the upper half of a block that is split begins after the lower half
 pub firsts-split : (blocks : List (List Mark)) (b half : ℕ) → b < length blocks → 0 < half → half < length (block_at blocks b)
     → map first_mark (split_at blocks b half) ≡ insert (map first_mark blocks) (b + 1) (first_mark (drop half (block_at blocks b)))
 firsts-split [] b half lt some less = absurd (omega arith)
@@ -223,7 +223,7 @@ module _ {K : Type 0} (cmp : K → K → Ordering) (total : IsTotalOrder cmp) (h
         (λ k d lt. by_hint (slice_get pairs (get_or marks k d).place) (get_or marks k d).hint key (hinted k d lt)) r range result
 
 module _ {K V : Type 0} (hint_of : K → ℕ) where
-  -- a pair behind the others, and a mark of it
+  -- a pair after the others, and a mark of it
   pub hinted-insert : (pairs : List (K × V)) (marks : List Mark) (at : ℕ) (pair : K × V) → AreHinted hint_of pairs marks
       → AreHinted hint_of (pairs ++ pair ∷ []) (insert marks at (record { hint = hint_of pair.0; place = length pairs }))
   hinted-insert pairs marks at pair hinted =

@@ -57,7 +57,7 @@ module _ {K V : Type 0} (cmp : K → K → Ordering) (total : IsTotalOrder cmp) 
       let parts = split (comparisons_rise pairs rising key) in
       record { found = tt; absent = record { within = within; less = λ j d lt. parts.0 j d (omega arith) lt; greater = λ j d le lt. parts.1 j d le lt } }
 
-  -- the pairs behind the first
+  -- the pairs after the first
   rising_tail : (pair : K × V) (pairs : List (K × V)) → KeysRise cmp (pair ∷ pairs) → KeysRise cmp pairs
   rising_tail pair pairs rising i j d lt within = rising (suc i) (suc j) d (omega arith) (omega arith)
 
@@ -115,7 +115,7 @@ module _ {K V : Type 0} (cmp : K → K → Ordering) (total : IsTotalOrder cmp) 
       in_front pair.0 key other pair.1 value (find cmp pairs other) (find cmp (insert pairs i (key, value)) other) (gap.less zero pair (omega arith))
       (find-insert pairs key value i (gap_tail pair pairs key i gap) other)
 
-  -- behind a pair that was put in, each stands one place further
+  -- after a pair that was put in, each stands one place further
   moved : (pairs : List (K × V)) (pair : K × V) (at j : ℕ) (d : K × V) → at ≤ length pairs → at < j → get_or (insert pairs at pair) j d ≡ get_or pairs (j - 1) d
   moved pairs pair at j d within lt = subst (λ q. get_or (insert pairs at pair) q d ≡ get_or pairs (j - 1) d) {x = j - 1 + 1} (omega arith) (get_or-insert_above pairs at pair d (j - 1) (omega arith) within)
 

@@ -1,4 +1,4 @@
--- The items at some places, when one is written over or comes behind the others, and a search among them.
+-- The items at some places, when one is written over or comes after the others, and a search among them.
 use Rattle.std.proofs.Common.{◌≡◌, ◌≢◌, ℕ, zero, suc, ◌+◌, ◌<◌, ◌≤◌, List, [], ◌∷◌, ◌++◌, length, get_or, set, take, drop, slice_get, Some, None, Result, Ok, Err, IfOk, IfErr, refl, inl, inr, arith, ap, sym, ◌∙◌, subst, length-append}
 use Rattle.std.specs.Cmp.{IsTotalOrder}
 use Rattle.std.specs.List.{All, insert}
@@ -97,7 +97,7 @@ module _ {X : Type 0} where
       let first : slice_get (items ++ y ∷ []) place ≡ slice_get items place = slice_get-push items y place ∙ grind (arith, nat_tests, lt) in
       rw (first, picked-push items y places (tail items place places within)) refl
 
-  -- an item behind the others, and its place among the places
+  -- an item after the others, and its place among the places
   pub picked-insert : (items : List X) (y : X) (places : List ℕ) (at : ℕ) → AreIn items places → at ≤ length places
       → picked (items ++ y ∷ []) (insert places at (length items)) ≡ insert (picked items places) at y
   picked-insert items y places zero within le =

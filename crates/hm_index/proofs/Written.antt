@@ -1,4 +1,4 @@
--- What becomes of the pairs in order where one is written over, or comes behind the others.
+-- What becomes of the pairs in order where one is written over, or comes after the others.
 use Rattle.std.proofs.Common.{◌≡◌, ℕ, ◌+◌, ◌∙◌, List, [], ◌∷◌, ◌++◌, length, get_or, set, if◌then◌else◌, Some, None, sym, arith, length-append}
 use Rattle.std.specs.Cmp.{IsTotalOrder}
 use Rattle.std.specs.List.{insert}
@@ -66,7 +66,7 @@ module _ {K V : Type 0} (cmp : K → K → Ordering) (total : IsTotalOrder cmp) 
         rising = rw over (in_order cmp total (set (picked pairs (places (laid blocks))) (start blocks b + at) (pair.0, value)) new.rises);
       }
 
-  -- a pair behind the others, and a mark of it in the gap that was found
+  -- a pair after the others, and a mark of it in the gap that was found
   pub put_in : IsAbsent (rank_at cmp pairs key) blocks b at → (hint : ℕ)
       → record {
         none : find cmp (picked pairs (places (laid blocks))) key ≡ None;

@@ -56,7 +56,7 @@ pub record OrderView : Type 0 where
   pub spare : ℕ
   pub room : ℕ
 
--- the blocks one behind another
+-- the blocks one after another
 abbrev pub laid : {X : Type 0} → List (List X) → List X
 laid [] = []
 laid (block ∷ more) = block ++ laid more

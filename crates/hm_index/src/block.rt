@@ -82,7 +82,7 @@ impl Block {
         put_at(&mut self.marks, at, mark);
     }
 
-    // Moves what stands behind the first half into a block that is empty.
+    // Moves what stands after the first half into a block that is empty.
     pub(crate) fn split(&mut self, upper: &mut Block)
         requires full { length self.old ≡ 128 }
         requires empty { upper.old ≡ [] }

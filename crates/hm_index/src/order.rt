@@ -172,7 +172,7 @@ impl Order {
         Spot { block: 0, at: 0 }
     }
 
-    // The place that is marked at a spot, or behind the end of its block at the first of the next block.
+    // The place that is marked at a spot, or after the end of its block at the first of the next block.
     pub(crate) fn next(&self, spot: Spot) -> Option<usize>
         requires { IsSpot self.now.blocks spot.block spot.at }
         ensures { result ≡ slice_get (places (laid self.now.blocks)) (start self.now.blocks spot.block + spot.at) }
@@ -188,7 +188,7 @@ impl Order {
         None
     }
 
-    // The spot behind one where there is a mark, or whose block ends while another follows.
+    // The spot after one where there is a mark, or whose block ends while another follows.
     pub(crate) fn following(&self, spot: Spot) -> Spot
         requires spot { IsSpot self.now.blocks spot.block spot.at }
         requires more { start self.now.blocks spot.block + spot.at < length (laid self.now.blocks) }

@@ -45,7 +45,7 @@ no_start sheets first more other = illegal_first sheets first more (breaks_first
 pub wrong_start : (sheets own : List Sheet) (more : List Entry) → (AreSheets own → ⊥) → IsFirstIllegal sheets (entry_is.Start own ∷ more) 0 1
 wrong_start sheets own more wrong = illegal_first sheets (entry_is.Start own) more (inl (refl, λ holds. wrong holds.1))
 
--- no entry behind others changes the sheets
+-- no entry after others changes the sheets
 pub sheets_stay : (before : Past) (entry : Entry) → before ≢ [] → Allowed before entry → sheets_of (entry ∷ before) ≡ sheets_of before
 sheets_stay before (entry_is.Start own) some allowed = absurd (some allowed.0.0)
 sheets_stay before (entry_is.Submit nonce request) some allowed = refl
@@ -56,7 +56,7 @@ sheets_stay before (entry_is.Up server) some allowed = refl
 sheets_stay before (entry_is.Down server) some allowed = refl
 sheets_stay before (entry_is.Abort pid) some allowed = refl
 
--- one entry more that may stand behind them
+-- one entry more that may stand after them
 pub begun_more : (sheets : List Sheet) (front more : List Entry) (entry : Entry) → IsBegun sheets front → more ≡ front ++ entry ∷ [] → Allowed (back front) entry → IsBegun sheets more
 begun_more sheets front more entry was is allowed =
     let pushed : back more ≡ entry ∷ back front = ap back is ∙ back-push front entry in

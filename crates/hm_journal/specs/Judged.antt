@@ -59,7 +59,7 @@ IsBadFrom frames number (why_is.Illegal bad rule) = ⊥
 IsBadFrom frames number (why_is.SheetsDiffer kind) = ⊥
 IsBadFrom frames number why_is.Memory = Unit {0}
 
--- why an entry isn't added behind these. Memory ran out only where no rule but that of its evaluation refuses it.
+-- why an entry isn't added after these. Memory ran out only where no rule but that of its evaluation refuses it.
 abbrev pub IsNotAdded : List Entry → Entry → JournalWhy → Type 0
 IsNotAdded entries entry why_is.Fault = ⊥
 IsNotAdded entries entry (why_is.NotALog place) = ⊥
@@ -69,7 +69,7 @@ IsNotAdded entries entry (why_is.Illegal number rule) = (number ≡ length entri
 IsNotAdded entries entry (why_is.SheetsDiffer kind) = ⊥
 IsNotAdded entries entry why_is.Memory = IsUnrefused (back entries) entry
 
--- why the entry of a frame isn't added behind these
+-- why the entry of a frame isn't added after these
 abbrev pub IsNotAddedFrom : List Entry → List (List ℕ) → ℕ → JournalWhy → Type 0
 IsNotAddedFrom entries frames number why =
     IsBadFrom frames number why ⊎ ((entry : Entry) × SpellsAt frames number entry × IsNotAdded entries entry why)

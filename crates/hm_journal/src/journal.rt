@@ -83,7 +83,7 @@ impl<D: Disk> Journal<D> {
         self.halted.is_some() || !fits(self.bytes, length(entry) as usize, self.limits.hard)
     }
 
-    /// Records the entry that is ready, and gives its number. It takes no memory. At `Ok` the entry is on the disk. Behind
+    /// Records the entry that is ready, and gives its number. It takes no memory. At `Ok` the entry is on the disk. After
     /// a fault of the log the disk may hold it or not, until it is opened anew.
     pub fn record_entry(&mut self) -> Result<u64, RecordFault>
         requires { self.old.kept.next ≢ None }

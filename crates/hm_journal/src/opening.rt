@@ -235,7 +235,7 @@ fn of_frames<D: Disk>(
 impl<D: Disk> Journal<D> {
     /// Opens a disk as a journal of these sheets, and gives its state too. A disk of size 0, and a log without frames,
     /// gets its first entry. An error gives the disk back; unless it is a fault the disk reads as before, or as the same
-    /// frames with nothing behind them.
+    /// frames with nothing after them.
     pub fn open(
         alloc: Global,
         disk: D,

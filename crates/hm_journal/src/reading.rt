@@ -71,7 +71,7 @@ fn state_with(alloc: Global, first: &Entry, sheets: &[Sheet]) -> Result<State, J
     Ok(State::start(alloc, own.copy(alloc)?)?)
 }
 
-// Whether an entry may stand behind those that are there, and else why not.
+// Whether an entry may stand after those that are there, and else why not.
 fn may_stand(alloc: Global, state: &State, entry: &Entry) -> Result<(), JournalWhy>
     ensures allowed { OnOk result (Allowed (back state.now.entries) entry.now) }
     ensures why { IfErr result (IsNotAdded state.now.entries entry.now) }
@@ -84,7 +84,7 @@ fn may_stand(alloc: Global, state: &State, entry: &Entry) -> Result<(), JournalW
     }
 }
 
-// Adds an entry that may stand behind those that are there.
+// Adds an entry that may stand after those that are there.
 fn add_allowed(alloc: Global, state: &mut State, entry: Entry) -> Result<(), AllocError>
     requires { Allowed (back state.old.entries) entry }
     ensures { OnOk result (state.new.entries ≡ state.old.entries ++ entry ∷ []) }
@@ -94,7 +94,7 @@ fn add_allowed(alloc: Global, state: &mut State, entry: Entry) -> Result<(), All
     Ok(())
 }
 
-// Adds an entry, if it may stand behind those that are there.
+// Adds an entry, if it may stand after those that are there.
 fn add_entry(alloc: Global, state: &mut State, entry: Entry) -> Result<(), JournalWhy>
     ensures entries { OnOk result (state.new.entries ≡ state.old.entries ++ entry ∷ []) }
     ensures allowed { OnOk result (Allowed (back state.old.entries) entry) }
@@ -123,7 +123,7 @@ fn read_first(alloc: Global, frames: &Frames, sheets: &[Sheet]) -> Result<State,
     state
 }
 
-// Adds the entry of the frame of this number, if it may stand behind those that are there.
+// Adds the entry of the frame of this number, if it may stand after those that are there.
 fn read_next(
     alloc: Global,
     state: &mut State,
@@ -139,7 +139,7 @@ fn read_next(
     add_entry(alloc, state, entry)
 }
 
-// Adds the entries of the frames behind those of the entries that are there, if they may stand there.
+// Adds the entries of the frames after those of the entries that are there, if they may stand there.
 fn read_others(alloc: Global, state: &mut State, frames: &Frames) -> Result<(), JournalWhy>
     requires { Spells (take (length state.old.entries) frames.now) state.old.entries }
     ensures spelled { OnOk result (Spells frames.now state.new.entries) }

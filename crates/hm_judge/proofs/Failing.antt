@@ -21,7 +21,7 @@ use Rattle.hm_judge.specs.Aborts.{is_failed}
 use Rattle.hm_judge.proofs.Found.{there_of}
 use Rattle.hm_judge.proofs.Stepping.{not_true}
 
--- a root that has a step behind an entry was one before it
+-- a root that has a step after an entry was one before it
 root_before : (entry : Entry) (before : Past) → IsLegal (entry ∷ before) → (p : ℕ) → last_answer before p ≢ None → is_root (entry ∷ before) p ≡ true → is_root before p ≡ true
 root_before entry before legal p steps top = by (node_of before p) refl
   where

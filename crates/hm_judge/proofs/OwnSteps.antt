@@ -24,7 +24,7 @@ own_later : (entry : Entry) (J : Past) → IsLegal (entry ∷ J) → (r : ℕ) (
 own_later entry J legal r [] all = tt
 own_later entry J legal r (step ∷ below) all = ((all.0.0, nodes_stay entry J legal step.pid all.0.0 all.0.1, all.0.2), own_later entry J legal r below all.1)
 
--- so are the steps behind one of a procedure in the tree
+-- so are the steps after one of a procedure in the tree
 own_pushed : (J : Past) (r : ℕ) (undo : Back) (failed : Bool) (p row : ℕ) (edits : List Edit) (below : List Undoable) (node : Node) → node_of J p ≡ Some node → node.root ≡ r → AllOwn J r below → AllOwn J r (pushed undo failed p row edits below)
 own_pushed J r back_is.Nothing failed p row edits below node is root all = all
 own_pushed J r back_is.Edits true p row edits below node is root all = all

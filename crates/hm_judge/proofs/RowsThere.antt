@@ -150,7 +150,7 @@ call_in (args_are.FenceCall server) verb v sheet valid e = exact_in (args_are.Fe
 call_in (args_are.LayoutCall root) verb v sheet valid e = exact_in (args_are.LayoutCall root) sheet valid e _ _ refl 1 refl
 call_in (args_are.SweepLayout root) verb v sheet valid e = exact_in (args_are.SweepLayout root) sheet valid e _ _ refl 1 refl
 
--- the row behind an answer that doesn't stop
+-- the row after an answer that doesn't stop
 goes_to : (next first : ℕ) (answer : Answer) → GoesTo next answer → is_stop answer ≡ false → row_after first (Some answer) ≡ next
 goes_to next first (answer_is.More n) goes runs = goes
 goes_to next first (answer_is.Wait n) goes runs = goes
@@ -226,7 +226,7 @@ module _ (J : Past) (p : ℕ) (pick : Option Server) (out : StepOut) (step : Ste
       ] in
       exact_in step.node.args step.sheet step.valid step.of_kind _ _ (ap exact_rows kind) behind (lt-ltb behind 6 here)
 
--- behind every legal journal
+-- after every legal journal
 abbrev AreIn : Past → Type 0
 AreIn J = (p : ℕ) (node : Node) → node_of J p ≡ Some node → (sheet : Sheet) → sheet_for (sheets_of J) (kind_of node.args) ≡ Some sheet → is_stopped (last_answer J p) ≡ false → IsIn node.args sheet (row_of J p node)
 

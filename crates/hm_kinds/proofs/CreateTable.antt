@@ -87,7 +87,7 @@ table_seen table split first state row =
     add_effect (λ k. None) table first (bounds_for split) (key_is.Table table) (cond (same_table table table) (Some (row_is.Table state 1)) row)
     ∙ cond-true (same_table table table) (Some (row_is.Table state 1)) row (same_table-refl table)
 
--- the row of a key behind the table is added
+-- the row of a key after the table is added
 abbrev row_then : TableName → Catalog → CatKey → Option CatRow
 row_then table base key = cond (same_key key (key_is.Table table)) (Some (row_is.Table state_is.Disabled 1)) (base key)
 

@@ -44,7 +44,7 @@ unfailed : (next : ℕ) (cause : Option Cause) → failing (checked next cause).
 unfailed next None h = refl
 unfailed next (Some cause) h = absurd (none-some cause (sym h))
 
--- behind its first step, where it didn't fail, a procedure of exact rows is settled
+-- after its first step, where it didn't fail, a procedure of exact rows is settled
 pub exact_settles : (args : Args) → IsExactKind args → (row : Row) → slice_get (exact_rows (kind_of args)) (first_row_of args) ≡ Some row → (base there others : Catalog) (keys : List CatKey) (at : StepIn) → Sight args base there others keys [] at → failing (row_answer row at).answer ≡ None → IsSettled args base
 exact_settles (args_are.Root (request_is.Move region to) first) exact row is base there others keys at s fine others' keys' same =
     ap (λ o. unless (region_ready o (others' (key_is.Region region))) []) (same (key_is.Table region.table) (guards_read (args_are.Root (request_is.Move region to) first) (key_is.Table region.table) reads_table))

@@ -77,7 +77,7 @@ join one other (key_is.Region region) (inr c) (inl g) = clash_right one other (r
 join one other (key_is.Region region) (inr c) (inr (inl g)) = clash_right one other (resource_is.Table region.table) c.1 g
 join one other (key_is.Region region) (inr c) (inr (inr g)) = clash_left one other (resource_is.Region region) c.0 g.1
 
--- the exclusive ask behind what covers
+-- the exclusive ask after what covers
 found : (list : List Ask) (key : CatKey) → list_any (λ ask. ask.exclusive && is_over ask.resource key) list ≡ true → (resource : Resource) × IsIn (exclusive resource) list × (is_over resource key ≡ true)
 found [] key h = absurd (false≢true h)
 found (ask ∷ more) key h = elim (or_cases (ask.exclusive && is_over ask.resource key) _ h) [

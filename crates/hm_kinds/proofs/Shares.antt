@@ -76,7 +76,7 @@ key_there table id = and_from (same_table table table) (id == id) (same_table-re
 key_other : (table : TableName) (id other : ℕ) → id ≢ other → same_key (region_key table id) (region_key table other) ≡ false
 key_other table id other differs = Rattle.std.proofs.lemmas.Bool.and_right (same_table table table) (id == other) (ne_eqb id other differs)
 
--- the row of a region at a place behind the first
+-- the row of a region at a place after the first
 add_at : (there : Catalog) (table : TableName) (bounds : List (List ℕ)) (start : List ℕ) (first place id : ℕ) → id ≡ first + place → (row : Option CatRow) → edited (add_ranges there table first (ranges_from start bounds)) (region_key table id) row ≡ row_or (between (start ∷ bounds) place) row
 add_at there table [] start first place id e row = refl
 add_at there table (end ∷ bounds) start first zero id e row =

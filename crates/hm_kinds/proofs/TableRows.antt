@@ -18,7 +18,7 @@ use Rattle.hm_model.proofs.KeyTests.{same_table-refl}
 pub state_same : (table : TableName) (one other : Catalog) (change : CatRow → CatRow) → one (key_is.Table table) ≡ other (key_is.Table table) → (key : CatKey) (row : Option CatRow) → edited (changed one (key_is.Table table) change ∷ []) key row ≡ edited (changed other (key_is.Table table) change ∷ []) key row
 state_same table one other change same key row = ap (λ o. cond (same_key key (key_is.Table table)) (option_map change o) row) same
 
--- what is seen of the row behind a change
+-- what is seen of the row after a change
 pub state_seen : (table : TableName) (base : Catalog) (change : CatRow → CatRow) (row : Option CatRow) → edited (changed base (key_is.Table table) change ∷ []) (key_is.Table table) row ≡ option_map change (base (key_is.Table table))
 state_seen table base change row = cond-true (same_table table table) (option_map change (base (key_is.Table table))) row (same_table-refl table)
 

@@ -43,7 +43,7 @@ linked_lists s lists linked =
     let room = linked.room in
     walk_at s.ends s l in_ends ∙ walk_joined s l None (list_at lists l) (length s.nodes) (linked.joined l in_lists) (omega (arith, short, room))))
 
--- the chains behind an operation link what it makes
+-- the chains after an operation link what it makes
 relinked : (s : Chains) (lists : List (List ℕ)) → IsLinked s lists → IsLinked s (lists_of s) × (lists_of s ≡ lists)
 relinked s lists linked = let e = linked_lists s lists linked in (subst (IsLinked s) (sym e) linked, e)
 

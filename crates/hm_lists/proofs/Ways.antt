@@ -28,7 +28,7 @@ module _ (s : Chains) (linked : IsLinked s (lists_of s)) (l : ℕ) (there : l < 
       by zero le = absurd (grind (arith, common_steps))
       by (suc n) le = ap (λ ys. x ∷ ys) (walk_joined s l (Some x) rest n tail (grind (arith, common_steps)))
 
-  -- the node behind one
+  -- the node after one
   pub next_is : (front : List ℕ) (x : ℕ) (rest : List ℕ) → list_at (lists_of s) l ≡ front ++ x ∷ rest → (node_at s x).next ≡ slice_get rest 0
   next_is front x rest cut = joined_first (next_in s l) (prev_in s l) (Some x) rest None (joined_split (next_in s l) (prev_in s l) None front x rest None (subst (λ xs. Joined (next_in s l) (prev_in s l) None xs None) cut (linked.joined l there))).1 ∙ by rest
     where

@@ -21,7 +21,7 @@ room_of links = vec_capacity links.nodes + vec_capacity links.ends
 abbrev pub rest_from : Chains → Option ℕ → List ℕ
 rest_from s node = walk (length s.nodes) s node
 
--- a place in a list that the chains link, before a node or behind the last
+-- a place in a list that the chains link, before a node or after the last
 pub record IsOnWay (s : Chains) (node : Option ℕ) : Type 0 where
   pub linked : IsLinked s (lists_of s)
   pub list : ℕ

@@ -46,7 +46,7 @@ impl Links {
         }
     }
 
-    // Links a node behind the last of a list.
+    // Links a node after the last of a list.
     fn push(&mut self, list: u32, node: u32)
         requires list { list < vec_len self.old.ends }
         requires node { node < vec_len self.old.nodes }
@@ -87,7 +87,7 @@ impl Links {
         self.nodes[node as usize] = FREE;
     }
 
-    // Puts a node that is in no list behind the last of a list.
+    // Puts a node that is in no list after the last of a list.
     pub(crate) fn push_back(&mut self, list: u32, node: u32)
         requires linked { AreLinked self.old }
         requires list { list < length (held self.old) }

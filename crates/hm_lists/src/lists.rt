@@ -57,7 +57,7 @@ impl Lists {
         self.links.grow_ends(count as usize)
     }
 
-    /// Puts a node that is in no list behind the last of a list.
+    /// Puts a node that is in no list after the last of a list.
     pub fn push_back<L: Ledger>(&mut self, list: u32, node: u32, steps: &mut Steps<L>)
         requires list { list < length self.old.lists }
         requires node { node < self.old.spare }

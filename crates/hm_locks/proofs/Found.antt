@@ -104,7 +104,7 @@ mapped : (b : Bool) (o f : Option Entry) → option_map row_for (cond b o f) ≡
 mapped true o f = refl
 mapped false o f = refl
 
--- the rows behind a change of an entry
+-- the rows after a change of an entry
 pub rows_set : (places : List (ℕ × ℕ)) (es : List (Option Entry)) → IsFound places es → (p i : ℕ) (e : Entry) → find nat_cmp places p ≡ Some i → entry_at es i ≡ Some e
     → (o : Option Entry) → ((d : Entry) → o ≡ Some d → d.pid ≡ e.pid) → AreChanged (rows_in es) p (option_map row_for o) (rows_in (set es i o))
 rows_set places es index p i e at is o same q =

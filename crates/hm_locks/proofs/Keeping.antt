@@ -85,7 +85,7 @@ module _ (places : List (ℕ × ℕ)) (es : List (Option Entry)) (wants : List W
         | inr old ↦ kept.asks j d k a (sym old.1 ∙ here) ask
       ]
 
-      -- the lists behind a change
+      -- the lists after a change
       pub kept_set : (lists' : List (List ℕ)) → length lists' ≡ length lists
           → ((l n : ℕ) → IsIn n (list_at lists' l) → Sits (set es i o) wants l n) → ((l n : ℕ) → Sits (set es i o) wants l n → IsIn n (list_at lists' l))
           → IsKept places (set es i o) wants numbers lists' spare
@@ -224,7 +224,7 @@ module _ (places : List (ℕ × ℕ)) (es : List (Option Entry)) (wants : List W
     sits = λ l n sits. subst (IsIn n) (sym (same l)) (kept.sits l n sits);
   }
 
-  -- more lists behind the others, and more nodes
+  -- more lists after the others, and more nodes
   pub kept_wider : {T E : Type 0} (r : Result T E) (old new : List (List ℕ)) (n spare' : ℕ) → old ≡ lists → OnOk r (new ≡ old ++ replicate n []) → OnErr r (new ≡ old) → spare ≤ spare' → IsKept places es wants numbers new spare'
   kept_wider r old new n spare' is ok err wide =
       let more = wider r old new n ok err in

@@ -1,4 +1,4 @@
--- Elements at places, behind a change and behind what is added.
+-- Elements at places, after a change and after what is added.
 use Rattle.std.proofs.Common.{◌≡◌, ◌≢◌, ℕ, zero, suc, ◌+◌, ◌<◌, Bool, true, false, not, ◌==◌, List, [], ◌∷◌, ◌++◌, length, map, get_or, set, eqb, cond, Option, Some, None, slice_get, refl, sym, ap, ◌∙◌, subst, inl, inr, ◌⊎◌, arith}
 use Rattle.std.proofs.lemmas.Bool.{cases_eq, eq-eqb, ne_eqb, eqb-true, true≢false}
 use Rattle.std.proofs.lemmas.Bool.Decides.{nat_tests}
@@ -93,7 +93,7 @@ list_at-set (ys ∷ lists) zero (suc j) xs lt = grind (arith, nat_tests)
 list_at-set (ys ∷ lists) (suc i) zero xs lt = grind (arith, nat_tests)
 list_at-set (ys ∷ lists) (suc i) (suc j) xs lt = grind (arith, nat_tests, list_at-set lists i j xs (omega (arith, lt)))
 
--- a node that is put behind the last of a list
+-- a node that is put after the last of a list
 pub pushed_in : (lists : List (List ℕ)) (list node : ℕ) → list < length lists → (l n : ℕ)
     → (IsIn n (list_at (set lists list (list_at lists list ++ node ∷ [])) l) → IsIn n (list_at lists l) ⊎ ((l ≡ list) × (n ≡ node)))
     × (IsIn n (list_at lists l) ⊎ ((l ≡ list) × (n ≡ node)) → IsIn n (list_at (set lists list (list_at lists list ++ node ∷ [])) l))

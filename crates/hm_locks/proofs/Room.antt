@@ -13,7 +13,7 @@ more_at [] n l = none_at n l
 more_at (xs ∷ lists) n zero = refl
 more_at (xs ∷ lists) n (suc l) = more_at lists n l
 
--- lists with more behind them, or as they were
+-- lists with more after them, or as they were
 pub wider : {T E : Type 0} (r : Result T E) (old new : List (List ℕ)) (n : ℕ) → OnOk r (new ≡ old ++ replicate n []) → OnErr r (new ≡ old)
     → ((l : ℕ) → list_at new l ≡ list_at old l) × (length old ≤ length new)
 wider (Ok x) old new n ok err = (

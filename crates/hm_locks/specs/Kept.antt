@@ -90,7 +90,7 @@ IsClaimed numbers i claim (Some want) =
 abbrev pub IsWanted : List (Key × ℕ) → ℕ → Ask → Option Want → Type 0
 IsWanted numbers i ask want = IsClaimed numbers i (claim_of ask) want
 
--- behind the wants stand those of an entry's claims
+-- after the wants stand those of an entry's claims
 pub record AreAdded (numbers : List (Key × ℕ)) (place : ℕ) (claims : List Claim) (old new : List Want) : Type 0 where
   pub more : List Want
   pub items : new ≡ old ++ more
@@ -107,7 +107,7 @@ pub record IsFound (places : List (ℕ × ℕ)) (entries : List (Option Entry)) 
   pub mine : (p i : ℕ) (e : Entry) → find nat_cmp places p ≡ Some i → entry_at entries i ≡ Some e → e.pid ≡ p
   pub found : (i : ℕ) (e : Entry) → entry_at entries i ≡ Some e → find nat_cmp places e.pid ≡ Some i
 
--- each entry has a node for each of its asks, one behind another
+-- each entry has a node for each of its asks, one after another
 abbrev pub HaveNodes : List (Option Entry) → List Want → List (Key × ℕ) → Type 0
 HaveNodes entries wants numbers =
     (i : ℕ) (e : Entry) (k : ℕ) (a : Ask) → entry_at entries i ≡ Some e → slice_get e.asked k ≡ Some a

@@ -26,6 +26,6 @@ not_greater Less = true
 not_greater Equal = true
 not_greater Greater = false
 
--- the first region doesn't stand behind the other in name order
+-- the first region doesn't stand after the other in name order
 abbrev pub is_before : Region → Region → Bool
 is_before region other = not_greater (region_cmp region other)

@@ -7,7 +7,7 @@ use hm_names::{Copied, RegionName};
 use std::alloc::{AllocError, Global};
 use std::cmp::Ordering;
 
-// The region doesn't stand behind the other in name order.
+// The region doesn't stand after the other in name order.
 fn is_before(region: &RegionName, other: &RegionName) -> bool
     ensures { result ≡ before region.now other.now }
 {

@@ -10,7 +10,7 @@ use hm_lists::{Lists, Steps};
 use std::marker::Brand;
 use std::sync::ledger::{Blank, Ledger};
 
-// Puts a node behind the last of a list, with a count of steps of its own.
+// Puts a node after the last of a list, with a count of steps of its own.
 pub(crate) fn link<L: Ledger>(lists: &mut Lists, list: u32, node: u32, blank: Blank)
     requires name { blank.name ≡ L.name }
     requires parts { blank.parts ≡ L.parts }

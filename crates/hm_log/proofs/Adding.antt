@@ -7,7 +7,7 @@ use Rattle.hm_log.specs.Run.{IsRun, BeforeOrAll}
 use Rattle.hm_log.proofs.Stages.{staged, torn_behind, written_behind, torn_gate, written_log, written_gate}
 
 module _ (at : ℕ) (frames : List (List ℕ)) (file : List ℕ) (whole : IsWhole file at frames) (run : List ℕ) (more : List (List ℕ)) (is_run : IsRun run more) where
-  -- the run is there, behind its closed gate
+  -- the run is there, after its closed gate
   pub staged_is : (seen : List ℕ) → seen ≡ written (at + 1) run file → seen ≡ staged at frames file whole run
   staged_is seen on_disk = on_disk ∙ written_behind at frames file whole run
 

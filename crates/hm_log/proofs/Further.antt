@@ -10,7 +10,7 @@ use Rattle.hm_log.proofs.Ends.{one_list, read_reads}
 use Rattle.hm_log.proofs.Spelling.{spelled-push}
 use Rattle.hm_log.proofs.Stages.{length_whole, whole_reads}
 
--- frames behind frames
+-- frames after frames
 pub spelled-append : (xs ys : List (List ℕ)) → spelled (xs ++ ys) ≡ spelled xs ++ spelled ys
 spelled-append [] ys = refl
 spelled-append (f ∷ xs) ys = ap (λ (l : List ℕ). 43 ∷ l) (ap (λ (l : List ℕ). laid f ++ l) (spelled-append xs ys) ∙ sym (append_assoc (laid f) (spelled xs) (spelled ys)))
@@ -139,7 +139,7 @@ pub no_foreign : (bytes : List ℕ) (at size : ℕ) → EndsAt [] at size → si
 no_foreign bytes at size ends long stands place (inl short) = let few = short.1 in omega (arith, few, long, ends.within, ends.at)
 no_foreign bytes at size ends long stands place (inr differs) = differs.3 (ap (λ (l : List ℕ). get_or l place 0) stands ∙ get_or_append_left header (drop at bytes) 0 place differs.1)
 
--- a clean log ends behind the closed gate that was found
+-- a clean log ends after the closed gate that was found
 pub clean_size : (bytes : List ℕ) (frames : List (List ℕ)) (gate size : ℕ) → IsFound bytes frames gate size → IsClean bytes → size ≡ gate + 1
 clean_size bytes frames gate size (long, inl none) (at, own, whole) = absurd (let all = length_whole at own bytes whole in let zero = none.0 in omega (arith, long, zero, all))
 clean_size bytes frames gate size (long, inr some) (at, own, whole) =

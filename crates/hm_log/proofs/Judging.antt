@@ -33,7 +33,7 @@ pub record Ends (bytes : List ℕ) : Type 0 where
 size_here : (frame rest : List ℕ) → IsFrame frame → size_of (laid frame ++ rest) ≡ length frame
 size_here frame rest is = ap size_of (append_assoc (size_bytes (length frame)) frame rest) ∙ size_of-size_bytes (length frame) (frame ++ rest) is.most
 
--- a whole frame and a gate behind it are no missing frame
+-- a whole frame and a gate after it are no missing frame
 stands : (frame rest : List ℕ) → IsFrame frame → 1 ≤ length rest → NoFrame (laid frame ++ rest) → ⊥
 stands frame rest is some none =
     let size = size_here frame rest is in

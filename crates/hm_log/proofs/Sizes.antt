@@ -1,4 +1,4 @@
--- A length in four bytes, and what it says of the bytes behind it.
+-- A length in four bytes, and what it says of the bytes after it.
 use Rattle.std.proofs.Common.{◌≡◌, ◌⊎◌, inl, inr, ℕ, ◌≤◌, ◌<◌, List, ◌++◌, length, take, get_or, sym, ◌∙◌, ap, arith, append_assoc, length-append}
 use Rattle.std.proofs.lemmas.List.{take_at}
 use Rattle.std.proofs.lemmas.Nat.{le_bytes_4}

@@ -25,7 +25,7 @@ pub spelled_fewer : (frames : List (List ℕ)) → length frames ≤ length (spe
 spelled_fewer [] = omega arith
 spelled_fewer (f ∷ frames) = omega (arith, spelled_fewer frames, length-append (laid f) (spelled frames))
 
--- one frame more stands behind the others
+-- one frame more stands after the others
 pub spelled-push : (frames : List (List ℕ)) (frame rest : List ℕ) → spelled (frames ++ frame ∷ []) ++ rest ≡ spelled frames ++ 43 ∷ (laid frame ++ rest)
 spelled-push [] frame rest = ap (λ (l : List ℕ). 43 ∷ (l ++ rest)) (append-nil (laid frame))
 spelled-push (f ∷ frames) frame rest =
@@ -53,7 +53,7 @@ goes_on bytes frames rest tail frame next so_far is_open is =
     ∙ ap (λ (l : List ℕ). header ++ l) (sym (spelled-push frames frame next))
     ∙ sym (append_assoc header (spelled (frames ++ frame ∷ [])) next)
 
--- some frames stand behind others
+-- some frames stand after others
 pub spelled-append : (frames more : List (List ℕ)) → spelled (frames ++ more) ≡ spelled frames ++ spelled more
 spelled-append [] more = refl
 spelled-append (f ∷ frames) more =
@@ -63,7 +63,7 @@ spelled-append (f ∷ frames) more =
 pub length-run : (run : List ℕ) (more : List (List ℕ)) → IsRun run more → length run ≡ length (spelled more)
 length-run run more is = omega (arith, ap length is.spelling, length-append (spelled more) (45 ∷ []))
 
--- one frame, with the closed gate behind it, is a run
+-- one frame, with the closed gate after it, is a run
 pub run_of_one : (run frame : List ℕ) → run ≡ laid frame ++ 45 ∷ [] → IsFrame frame → IsRun run (frame ∷ [])
 run_of_one run frame is fits = record {
   some = omega arith;

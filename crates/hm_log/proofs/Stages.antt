@@ -18,7 +18,7 @@ module _ (at : ℕ) (frames : List (List ℕ)) (file : List ℕ) (whole : IsWhol
   pub whole_reads : Reads file frames
   whole_reads = record { gate = whole.gate; free = []; shut = whole.shut; spelling = whole.spelling; each = whole.each }
 
-  -- behind the closed gate anything may stand
+  -- after the closed gate anything may stand
   pub torn_behind : (n : ℕ) (c : List ℕ) → Torn (at + 1) n file c → Reads c frames
   torn_behind n c torn =
       let split = torn_end (at + 1) n file c (sym length_whole) torn in
@@ -31,7 +31,7 @@ module _ (at : ℕ) (frames : List (List ℕ)) (file : List ℕ) (whole : IsWhol
       }
 
   module _ (run : List ℕ) where
-    -- the file with a run behind its closed gate
+    -- the file with a run after its closed gate
     abbrev pub staged : List ℕ
     staged = header ++ spelled frames ++ whole.gate ∷ [] ++ run
 

@@ -15,7 +15,7 @@ pub record IsFrame (frame : List ℕ) : Type 0 where
 unfoldable pub size_bytes : ℕ → List ℕ
 size_bytes n = to_le_bytes w32 n
 
--- a frame as it stands behind its open gate: its length and its bytes
+-- a frame as it stands after its open gate: its length and its bytes
 abbrev pub laid : List ℕ → List ℕ
 laid frame = size_bytes (length frame) ++ frame
 
@@ -28,7 +28,7 @@ spelled (frame ∷ frames) = 43 ∷ laid frame ++ spelled frames
 abbrev pub log_of : List (List ℕ) → List ℕ
 log_of frames = header ++ spelled frames ++ 45 ∷ []
 
--- the size of a log with these frames and nothing behind its closed gate
+-- the size of a log with these frames and nothing after its closed gate
 abbrev pub size_with : List (List ℕ) → ℕ
 size_with frames = 10 + sum_by (λ frame. length frame + 5) frames
 
@@ -52,11 +52,11 @@ BeforeOrAfter frames frame bytes = Reads bytes frames ⊎ Reads bytes (frames ++
 unfoldable pub size_of : List ℕ → ℕ
 size_of bytes = from_le_bytes w32 (take 4 bytes)
 
--- behind an open gate: fewer than 4 bytes, a length of 0 or above 65,536, or fewer bytes than the length and the next gate need
+-- after an open gate: fewer than 4 bytes, a length of 0 or above 65,536, or fewer bytes than the length and the next gate need
 abbrev pub NoFrame : List ℕ → Type 0
 NoFrame rest = (length rest < 4) ⊎ ((size_of rest ≡ 0) ⊎ ((65536 < size_of rest) ⊎ (length rest ≤ 4 + size_of rest)))
 
--- the gate at this place, behind these frames, is open and has no frame
+-- the gate at this place, after these frames, is open and has no frame
 pub record IsBadFrame (bytes : List ℕ) (place : ℕ) : Type 0 where
   pub frames : List (List ℕ)
   pub rest : List ℕ
@@ -90,7 +90,7 @@ pub record IsWhole (bytes : List ℕ) (at : ℕ) (frames : List (List ℕ)) : Ty
   pub place : at ≡ length (header ++ spelled frames)
   pub each : All IsFrame frames
 
--- the bytes are a log, and nothing stands behind it
+-- the bytes are a log, and nothing stands after it
 abbrev pub IsClean : List ℕ → Type 0
 IsClean bytes = (at : ℕ) × (frames : List (List ℕ)) × IsWhole bytes at frames
 

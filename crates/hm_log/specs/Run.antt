@@ -2,7 +2,7 @@
 use Rattle.std.specs.Prelude.{◌≡◌, ◌⊎◌, ℕ, ◌≤◌, List, [], ◌∷◌, ◌++◌, length, All}
 use Rattle.hm_log.specs.Format.{spelled, IsFrame, Reads}
 
--- a run as it stands behind a gate: frames, with an open gate between two of them and a closed one at the end
+-- a run as it stands after a gate: frames, with an open gate between two of them and a closed one at the end
 pub record IsRun (run : List ℕ) (more : List (List ℕ)) : Type 0 where
   pub some : 1 ≤ length more
   pub each : All IsFrame more

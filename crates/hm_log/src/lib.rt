@@ -1,4 +1,4 @@
-//! A log of frames over a disk. A frame stands behind a gate, one byte. Frames are added one by one or in
+//! A log of frames over a disk. A frame stands after a gate, one byte. Frames are added one by one or in
 //! runs, and the gate before them is opened only once they are on the disk. So a stop at any moment leaves
 //! the frames that were there, or these and all that were being added.
 #![tactic(auto)]

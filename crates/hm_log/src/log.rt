@@ -48,7 +48,7 @@ impl<D: Disk> Model for Log<D> {
 
 impl<D: Disk> Log<D> {
     /// Opens the log on a disk, and gives the frames that it held. It begins with a sync, and cuts what
-    /// stands behind the frames. A disk of size 0 becomes a log with no frame. A log with nothing behind
+    /// stands after the frames. A disk of size 0 becomes a log with no frame. A log with nothing after
     /// its frames isn't changed.
     ///
     /// `NotALog` and `BadFrame` say that the disk holds no log, and where. `Fault` says that the disk
@@ -62,7 +62,7 @@ impl<D: Disk> Log<D> {
         ensures small { IfOk result (λ r. r.0.bytes < 2 ^ 63) }
         ensures live { IfOk result (λ r. r.0.stalled ≡ false) }
 
-        // What the disk reads as, now and behind each stop.
+        // What the disk reads as, now and after each stop.
         ensures on_disk { D.tells → IfOk result (λ r. Reads (D.seen r.0.disk) r.1) }
         ensures size { D.tells → IfOk result (λ r. length (D.seen r.0.disk) ≡ r.0.bytes) }
         ensures cut { D.tells → 1 ≤ length (D.seen disk) →
@@ -154,7 +154,7 @@ impl<D: Disk> Log<D> {
         // It takes no memory.
         ensures room { self.new.room ≡ self.old.room }
 
-        // What the disk reads as, now and behind each stop.
+        // What the disk reads as, now and after each stop.
         ensures written { D.tells → OnOk result (D.seen self.new.disk ≡ log_of self.new.frames) }
         ensures on_disk { D.tells → BeforeOrAfter self.old.frames frame.now (D.seen self.new.disk) }
         ensures durable { D.tells →
@@ -199,7 +199,7 @@ impl<D: Disk> Log<D> {
         // It takes no memory.
         ensures room { self.new.room ≡ self.old.room }
 
-        // What the disk reads as, now and behind each stop.
+        // What the disk reads as, now and after each stop.
         ensures written { D.tells → OnOk result (D.seen self.new.disk ≡ log_of self.new.frames) }
         ensures on_disk { D.tells → (more : List (List ℕ)) → IsRun run.now more →
             BeforeOrAll self.old.frames more (D.seen self.new.disk) }
@@ -293,7 +293,7 @@ impl<D: Arm> Log<D> {
     }
 }
 
-// Writes a run behind the closed gate, and opens the gate once it is on the disk.
+// Writes a run after the closed gate, and opens the gate once it is on the disk.
 fn add<D: Disk>(disk: &mut D, gate: u64, run: &[u8]) -> Result<(), Failed>
     requires place { D.tells → length (D.seen disk.old) ≡ gate + 1 }
     requires room { gate + 1 < 2 ^ 64 }

@@ -16,7 +16,7 @@ use std::alloc::Global;
 // The nine bytes and a closed gate.
 const NEW: [u8; 10] = [72, 77, 65, 83, 84, 69, 82, 74, 1, 45];
 
-// The frames, the place of the closed gate behind them, and room for appends.
+// The frames, the place of the closed gate after them, and room for appends.
 #[derive(Drop)]
 pub(crate) struct Ready {
     pub(crate) frames: Frames,
@@ -24,7 +24,7 @@ pub(crate) struct Ready {
     pub(crate) buffer: Vec<u8>,
 }
 
-// Reads the frames and the place of the gate behind them, and cuts what stands behind it. A disk of size
+// Reads the frames and the place of the gate after them, and cuts what stands after it. A disk of size
 // 0 becomes a new log.
 pub(crate) fn prepare<D: Disk>(alloc: Global, disk: &mut D) -> Result<Ready, OpenWhy>
     ensures whole { D.tells → IfOk result (λ r. IsWhole (D.seen disk.new) r.gate r.frames) }

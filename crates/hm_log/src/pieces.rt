@@ -20,7 +20,7 @@ const PIECE: u64 = 1_048_576;
 #[derive(Drop)]
 pub(crate) struct Found {
     pub(crate) frames: Frames,
-    // The place of the closed gate behind the frames; in a disk of size 0, where it will be.
+    // The place of the closed gate after the frames; in a disk of size 0, where it will be.
     pub(crate) gate: u64,
     pub(crate) size: u64,
 }
@@ -82,7 +82,7 @@ fn first_gate<D: Disk>(disk: &mut D, size: u64) -> Result<Gate, OpenWhy>
     })
 }
 
-// Reads a piece from an open gate on, adds its frames, and gives the gate behind them.
+// Reads a piece from an open gate on, adds its frames, and gives the gate after them.
 fn read_piece<D: Disk>(
     alloc: Global,
     disk: &mut D,
@@ -120,7 +120,7 @@ fn read_piece<D: Disk>(
             is_open: false,
         });
     }
-    // The frame behind an open gate is in the next piece, unless this one was long enough for any, or the last.
+    // The frame after an open gate is in the next piece, unless this one was long enough for any, or the last.
     if end == 0 || count == left {
         return Err(OpenWhy::BadFrame(gate));
     }
@@ -169,7 +169,7 @@ fn read_frames<D: Disk>(
     })
 }
 
-// What the disk holds. Nothing is read behind the closed gate but the rest of its piece.
+// What the disk holds. Nothing is read after the closed gate but the rest of its piece.
 pub(crate) fn fetch<D: Disk>(alloc: Global, disk: &mut D) -> Result<Found, OpenWhy>
     ensures found { D.tells → IfOk result (λ f. IsFound (D.seen disk.old) f.frames f.gate f.size) }
     ensures each { IfOk result (λ f. All IsFrame f.frames) }

@@ -7,7 +7,7 @@ use std::alloc::{AllocError, Global};
 
 const HEADER: [u8; 9] = [72, 77, 65, 83, 84, 69, 82, 74, 1];
 
-// The frame behind an open gate, and what follows it.
+// The frame after an open gate, and what follows it.
 fn split_frame(rest: &[u8]) -> Option<(&[u8], &[u8])>
     ensures frame { IfSome result (λ p.
         (rest.now ≡ laid p.0.now ++ p.1.now) × IsFrame p.0.now × (1 ≤ length p.1.now)) }
@@ -41,7 +41,7 @@ pub(crate) fn not_a_log(bytes: &[u8]) -> Option<u64>
     None
 }
 
-// Adds the frames that stand whole in these bytes, from a gate on, and gives the place of the gate behind
+// Adds the frames that stand whole in these bytes, from a gate on, and gives the place of the gate after
 // them: it is closed, or has no whole frame here.
 pub(crate) fn take_frames(
     alloc: Global,

@@ -1,8 +1,8 @@
-//! How a frame is laid out behind a gate.
+//! How a frame is laid out after a gate.
 ghost use Rattle.std.specs.Prelude.{◌≡◌, ◌+◌, ◌≤◌, ◌++◌, ◌∷◌, [], length, vec_len, vec_capacity};
 ghost use Rattle.hm_log.specs.Format.{laid, IsFrame};
 
-/// Appends a frame as it stands behind an open gate, its length and its bytes, and a closed gate behind
+/// Appends a frame as it stands after an open gate, its length and its bytes, and a closed gate after
 /// it. It keeps within the room that was made, and takes no memory.
 pub fn lay_frame(out: &mut Vec<u8>, frame: &[u8])
     requires size { IsFrame frame.now }

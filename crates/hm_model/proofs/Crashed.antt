@@ -365,7 +365,7 @@ by_deed = refl
 region_by_deed : serial crash39 (key_is.Region (region 1)) ≡ cat crash39 (key_is.Region (region 1))
 region_by_deed = refl
 
--- behind a failed open the region goes to the other server
+-- after a failed open the region goes to the other server
 not_again : fits_at crash19 4 one ≡ false
 not_again = refl
 

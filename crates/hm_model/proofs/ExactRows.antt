@@ -169,7 +169,7 @@ start_led (args_are.FenceCall server) none sheet valid e = absurd (cons_nil _ _ 
 start_led (args_are.LayoutCall root) none sheet valid e = absurd (cons_nil _ _ none)
 start_led (args_are.SweepLayout root) none sheet valid e = absurd (cons_nil _ _ none)
 
--- what is known of a row that is led to: its line, and the lines behind it
+-- what is known of a row that is led to: its line, and the lines after it
 pub record IsLedRow (kind : ℕ) (rows : List Row) (row : Row) : Type 0 where
   pub line : Line
   pub behind : List Line

@@ -50,7 +50,7 @@ use Rattle.hm_names.specs.Server.{Server}
 use Rattle.hm_names.specs.declared.pid.Pid.{Pid}
 use Rattle.std.proofs.Common.{Bool, List, None, Option, Some, [], false, if◌then◌else◌, inl, inr, length, map, not, refl, true, ℕ, ◌==◌, ◌∷◌, ◌≡◌, ◌≢◌, ◌⊎◌}
 
--- behind an answer the next row, the first one, or none
+-- after an answer the next row, the first one, or none
 abbrev pub Leads : ℕ → Answer → Type 0
 Leads next answer =
     (row_after 0 (Some answer) ≡ next) ⊎ ((row_after 0 (Some answer) ≡ 0) ⊎ (row_after 0 (Some answer) ≡ no_row))

@@ -89,7 +89,7 @@ not_over pid pick out J legal failed all =
     both true true c ea eb h = absurd (true≢false eb)
     both false b c ea eb h = absurd (false≢true ea)
 
--- the undos of a tree took back its latest steps in turn, and what is left is left; behind one the tree is failed, and all
+-- the undos of a tree took back its latest steps in turn, and what is left is left; after one the tree is failed, and all
 -- descendants have stopped
 record GoesBack (J : Past) (r : ℕ) : Type 0 where
   order : to_undo J r ≡ undos_of J r ++ map mark (stack J r)

@@ -44,7 +44,7 @@ made_up_to J grown p node is = elim (cases_lt (made J) p) [
   ]
 ]
 
--- what wasn't there has no more behind one entry
+-- what wasn't there has no more after one entry
 pub record StaysUntold (J J' : Past) : Type 0 where
   pub unmade : (p : ℕ) → node_of J p ≡ None → last_answer J p ≡ None → last_answer J' p ≡ None
   pub uncalled : (p : ℕ) → node_of J p ≡ None → verb_of J p ≡ None → verb_of J' p ≡ None
@@ -63,7 +63,7 @@ same_grown J J' made_is node_is untold grown = record {
   unaborted = λ p h. let was = sym (node_is p) ∙ h in untold.unaborted p was (grown.unaborted p was);
 }
 
--- more procedures, numbered behind the others
+-- more procedures, numbered after the others
 module _ (J J' : Past) (count : ℕ) (made_is : made J' ≡ made J + count) (old : (q : ℕ) → q ≤ made J → node_of J' q ≡ node_of J q) (new : (q : ℕ) → made J < q → q ≤ made J + count → (x : Node) × (node_of J' q ≡ Some x)) (past : (q : ℕ) → made J + count < q → node_of J' q ≡ None) (untold : StaysUntold J J') (grown : IsGrown J) where
   -- what is not there now wasn't before
   more_none : (q : ℕ) → node_of J' q ≡ None → node_of J q ≡ None
@@ -258,7 +258,7 @@ sheets_are (entry_is.Up server ∷ before) legal some = sheets_are before legal.
 sheets_are (entry_is.Down server ∷ before) legal some = sheets_are before legal.0 legal.1.0
 sheets_are (entry_is.Abort pid ∷ before) legal some = sheets_are before legal.0 legal.1.0
 
--- what stands under a nonce behind one more entry that makes nothing new of it
+-- what stands under a nonce after one more entry that makes nothing new of it
 under_on : (entry : Entry) (J : Past) (nonce : Nonce) (p : ℕ) (under : IsUnder J nonce p) → ((node : Node) → node_of J p ≡ Some node → node_of (entry ∷ J) p ≡ Some node) → IsUnder (entry ∷ J) nonce p
 under_on entry J nonce p under stays = record {
   newer = entry ∷ under.newer;

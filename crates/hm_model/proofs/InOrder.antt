@@ -16,7 +16,7 @@ use Rattle.hm_model.specs.Places.{at_server, is_at, joined_at, joined_by, joined
 use Rattle.hm_model.specs.Tree.{node_of}
 use Rattle.hm_model.proofs.NameTies.{regions_total}
 
--- each of the regions comes behind this one
+-- each of the regions comes after this one
 abbrev pub AllLater : Region → List Region → Type 0
 AllLater region [] = Unit {0}
 AllLater region (first ∷ more) = (region_cmp region first ≡ Less) × AllLater region more

@@ -1,4 +1,4 @@
--- Edits and behind them these turned round leave all as it was.
+-- Edits and after them these turned round leave all as it was.
 use Rattle.std.proofs.Common.{◌≡◌, List, [], ◌∷◌, ◌++◌, cond, Option, refl, ap, sym, ◌∙◌, inl, inr}
 use Rattle.std.proofs.lemmas.Bool.{cond-true, cond-false}
 use Rattle.hm_data.specs.declared.catalog.CatKey.{CatKey}

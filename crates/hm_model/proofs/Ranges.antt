@@ -57,7 +57,7 @@ first_row_low (args_are.FenceCall server) = omega arith
 first_row_low (args_are.LayoutCall root) = omega arith
 first_row_low (args_are.SweepLayout root) = omega arith
 
--- the row behind an answer doesn't hang on the first one
+-- the row after an answer doesn't hang on the first one
 row_behind : (first : ℕ) (answer : Answer) → row_after first (Some answer) ≡ row_after 0 (Some answer)
 row_behind first (answer_is.More next) = refl
 row_behind first (answer_is.Wait next) = refl

@@ -41,7 +41,7 @@ pub in_with_keys : (q : CatKey) (edits : List Edit) (keys : List CatKey) → IsI
 in_with_keys q [] keys h = h
 in_with_keys q (edit ∷ edits) keys h = in_with_keys q edits (with_key edit.key keys) (in_with_key q edit.key keys (inr h))
 
--- a key that has a row behind edits had one before, or is of an edit
+-- a key that has a row after edits had one before, or is of an edit
 edited_has : (q : CatKey) (edits : List Edit) (row : Option CatRow) (keys : List CatKey) → (row ≢ None → IsIn q keys) → edited edits q row ≢ None → IsIn q (with_keys edits keys)
 edited_has q [] row keys has some = has some
 edited_has q (edit ∷ edits) row keys has some = elim (cases_key q edit.key) [

@@ -127,7 +127,7 @@ clash_within J left taken within none a b ha hb c = none a b (ha.0, ha.1, by a h
     by a (inl some) = inl some
     by a (inr among) = inr (within a among)
 
--- who holds behind an entry held before it, or steps at it
+-- who holds after an entry held before it, or steps at it
 module _ (entry : Entry) (J : Past) (legal : IsLegal (entry ∷ J)) (taken : List ℕ) (made_all : (p : ℕ) → IsIn p taken → node_of J p ≢ None) where
   was_there : (a : ℕ) → (last_answer (entry ∷ J) a ≡ last_answer J a) → HoldsWith (entry ∷ J) taken a → node_of J a ≢ None
   was_there a last (there, running, inl some) none = some (last ∙ (grown_all J legal.0).unmade a none)
@@ -185,7 +185,7 @@ module _ (pid : Pid) (pick : Option Server) (out : StepOut) (J : Past) (legal : 
         | inr free ↦ one_more J taken pid.0 none free p q (held_step p hp) (held_step q hq) was
       ]
 
--- behind an entry whose step is of one who was taken, or is free, no two conflict where none did
+-- after an entry whose step is of one who was taken, or is free, no two conflict where none did
 pub after : (entry : Entry) (J : Past) (legal : IsLegal (entry ∷ J)) (taken : List ℕ) → ((p : ℕ) → IsIn p taken → node_of J p ≢ None) → NoneClash J taken → StepsFree J taken entry → NoneClash (entry ∷ J) taken
 after (entry_is.Start sheets) J legal taken made_all none free = calm (entry_is.Start sheets) J legal taken made_all none (λ a. refl)
 after (entry_is.Submit nonce request) J legal taken made_all none free = calm (entry_is.Submit nonce request) J legal taken made_all none (λ a. refl)

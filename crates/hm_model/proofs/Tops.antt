@@ -104,7 +104,7 @@ root_stays (entry_is.Undo pid row out) J legal s x top over = elim (cases_eq s (
   | inl mine ↦ absurd (true≢false (sym over ∙ ap (root_ended J) mine ∙ undo_open pid row out J legal))
 ]
 
--- who holds behind an entry, and made no step by it, held before
+-- who holds after an entry, and made no step by it, held before
 pub held : (entry : Entry) (J : Past) → IsLegal (entry ∷ J) → (s : ℕ) (x : Node) → TopHolds (entry ∷ J) s x → last_answer (entry ∷ J) s ≡ last_answer J s → TopHolds J s x
 held entry J legal s x h same =
     let begun : last_answer J s ≢ None = (λ none. h.1 (same ∙ none)) in
@@ -123,7 +123,7 @@ top_root J s x top = ap is_root_in top.0 ∙ ap is_top top.1
 pub holds_with : (J : Past) (s : ℕ) (x : Node) → TopHolds J s x → HoldsWith J [] s
 holds_with J s x h = ((λ none. none-some x (sym none ∙ h.0.0)), holds_open J s x h, inl h.1)
 
--- who holds behind a step held before, or makes its first step
+-- who holds after a step held before, or makes its first step
 pub held_or : (pid : Pid) (pick : Option Server) (out : StepOut) (J : Past) → IsLegal (entry_is.Step pid pick out ∷ J) → (s : ℕ) (x : Node) → TopHolds (entry_is.Step pid pick out ∷ J) s x → TopHolds J s x ⊎ ((s ≡ pid.0) × TopIs J s x)
 held_or pid pick out J legal s x h = elim (cases_eq s pid.0) [
   | inr other ↦ inl (held (entry_is.Step pid pick out) J legal s x h (other_answer pid pick out J s other))

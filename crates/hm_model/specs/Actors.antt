@@ -71,7 +71,7 @@ abbrev pub once_more : Actor → Pid → Option Served → Option ReportMsg
 once_more actor id None = None
 once_more actor id (Some last) = Some (reported actor id last.told)
 
--- a server behind a new call about a region
+-- a server after a new call about a region
 abbrev pub behind : Actor → Pid → Region → Service → Actor
 behind actor id region service = record {
   name = actor.name;

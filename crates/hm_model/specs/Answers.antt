@@ -49,7 +49,7 @@ is_aborted (entry_is.Abort pid ∷ before) p = if p == pid.0 then true else is_a
 abbrev pub no_row : ℕ
 no_row = 255
 
--- the row that comes next behind an answer: the first one where no step was made, and `no_row` behind the end
+-- the row that comes next after an answer: the first one where no step was made, and `no_row` after the end
 abbrev pub row_after : ℕ → Option Answer → ℕ
 row_after first None = first
 row_after first (Some (answer_is.More next)) = next

@@ -18,7 +18,7 @@ use Rattle.hm_model.specs.Answers.{last_answer}
 abbrev pub Catalog : Type 0
 Catalog = CatKey → Option CatRow
 
--- the row of a key behind edits, in order: that of the last edit of the key, else the row before
+-- the row of a key after edits, in order: that of the last edit of the key, else the row before
 abbrev pub edited : List Edit → CatKey → Option CatRow → Option CatRow
 edited [] key row = row
 edited (edit ∷ edits) key row = edited edits key (if same_key key edit.key then edit.after else row)

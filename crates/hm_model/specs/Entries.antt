@@ -9,7 +9,7 @@ use Rattle.hm_model.specs.Journal.{Past}
 use Rattle.hm_model.specs.Phase.{ended}
 use Rattle.hm_model.specs.Tree.{made, node_of, root_of, args_in}
 
--- the procedure is one of those that these children stand for, made behind these entries
+-- the procedure is one of those that these children stand for, made after these entries
 abbrev pub makes : Past → List Child → ℕ → Bool
 makes before children r = nat_lt (made before) r && nat_le r (made before + length (args_in children))
 

@@ -71,7 +71,7 @@ UndosGoBack = (J : Past) → IsLegal J → (r : ℕ) → (left : List Reversal) 
 abbrev pub AllIsUndone : Type 0
 AllIsUndone = (J : Past) → IsLegal J → (r : ℕ) → cause J r ≢ None → root_ended J r ≡ true → to_undo J r ≡ undos_of J r
 
--- behind an undo no procedure of the tree makes a step
+-- after an undo no procedure of the tree makes a step
 abbrev pub UndosAreLast : Type 0
 UndosAreLast =
     (pid : Pid) (pick : Option Server) (out : StepOut) (before : Past) → IsLegal (entry_is.Step pid pick out ∷ before)
@@ -83,7 +83,7 @@ Tells [] now = Unit {0}
 Tells (edit ∷ edits) now =
     (edit.before ≡ now edit.key) × Tells edits (λ key. if same_key key edit.key then edit.after else now key)
 
--- edits that tell so, and behind them these turned round, leave each row as it was
+-- edits that tell so, and after them these turned round, leave each row as it was
 abbrev pub EditsGoBack : Type 0
 EditsGoBack =
     (edits : List Edit) (now : Catalog) → Tells edits now → (key : CatKey)

@@ -85,7 +85,7 @@ OlderIsLegal = (newer older : Past) → IsLegal (newer ++ older) → IsLegal old
 abbrev pub FrontIsLegal : Type 0
 FrontIsLegal = (k : ℕ) (journal : List Entry) → IsLegal (back journal) → IsLegal (back (take k journal))
 
--- the entries behind the first few are newer
+-- the entries after the first few are newer
 abbrev pub BackIsCut : Type 0
 BackIsCut = (k : ℕ) (journal : List Entry) → back journal ≡ back (drop k journal) ++ back (take k journal)
 

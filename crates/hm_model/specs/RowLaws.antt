@@ -13,12 +13,12 @@ use Rattle.hm_model.specs.Reads.{reads}
 use Rattle.hm_model.specs.Rules.{IsLegal}
 use Rattle.hm_model.specs.Tree.{Node}
 
--- each of the keys comes behind this one
+-- each of the keys comes after this one
 abbrev pub AllBehind : CatKey → List CatKey → Type 0
 AllBehind key [] = Unit {0}
 AllBehind key (first ∷ more) = (key_cmp key first ≡ Less) × AllBehind key more
 
--- each key comes behind those before it
+-- each key comes after those before it
 abbrev pub AreInOrder : List CatKey → Type 0
 AreInOrder [] = Unit {0}
 AreInOrder (key ∷ keys) = AllBehind key keys × AreInOrder keys

@@ -57,7 +57,7 @@ abbrev pub IsBeforePoint : Past → ℕ → Type 0
 IsBeforePoint before p =
     (node : Node) × (node_of before p ≡ Some node) × (row : Row) × (next_row before p node ≡ Some row) × (row.after ≡ false)
 
--- the rules for an entry behind others, by number
+-- the rules for an entry after others, by number
 abbrev pub rules : Past → Entry → List (ℕ × Type 0)
 rules before (entry_is.Start sheets) =
     (1, (before ≡ []) × AreSheets sheets)
@@ -110,15 +110,15 @@ abbrev pub FirstFails : ℕ → List (ℕ × Type 0) → Type 0
 FirstFails k [] = ⊥
 FirstFails k ((number, rule) ∷ more) = ((k ≡ number) × (rule → ⊥)) ⊎ (rule × FirstFails k more)
 
--- an entry that may stand behind these
+-- an entry that may stand after these
 abbrev pub Allowed : Past → Entry → Type 0
 Allowed before entry = AllHold (rules before entry)
 
--- the lowest rule that an entry behind these breaks
+-- the lowest rule that an entry after these breaks
 abbrev pub Breaks : Past → Entry → ℕ → Type 0
 Breaks before entry k = FirstFails k (rules before entry)
 
--- each entry was allowed behind those before it
+-- each entry was allowed after those before it
 abbrev pub IsLegal : Past → Type 0
 IsLegal [] = Unit {0}
 IsLegal (entry ∷ before) = IsLegal before × Allowed before entry

@@ -23,7 +23,7 @@ pub record Storage : Type 0 where
 abbrev pub empty_storage : Storage
 empty_storage = record { answer = λ id. None; fenced = λ server. false; laid = λ root. false; refusals = 0 }
 
--- the storage behind a new call with its answer
+-- the storage after a new call with its answer
 abbrev pub answered : Pid → Told → Storage → Storage
 answered id told storage = record {
   answer = λ other. if id.0 == other.0 then Some told else storage.answer other;

@@ -96,7 +96,7 @@ opened_or_not next server false =
 abbrev pub confirm_opened : ℕ → List (Pid × Told) → Option Place → StepOut
 confirm_opened next ends place = opened_or_not next (told_place place).server (is_told told_is.Opened ends)
 
--- behind a close: the end for a region that is to be unassigned, and for others the way to another server
+-- after a close: the end for a region that is to be unassigned, and for others the way to another server
 abbrev pub behind_close : Goal → Told → Answer
 behind_close goal_is.Assign told = answer_is.More 0
 behind_close goal_is.Unassign told = answer_is.Done told

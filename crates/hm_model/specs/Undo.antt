@@ -21,7 +21,7 @@ abbrev pub unless_failed : Bool → Undoable → List Undoable → List Undoable
 unless_failed true step below = below
 unless_failed false step below = step ∷ below
 
--- what can be undone behind a step: the step too, unless its row has no undo or it failed
+-- what can be undone after a step: the step too, unless its row has no undo or it failed
 abbrev pub pushed : Back → Bool → ℕ → ℕ → List Edit → List Undoable → List Undoable
 pushed back_is.Nothing failed p row edits below = below
 pushed back_is.Edits failed p row edits below =

@@ -100,7 +100,7 @@ pub fn none_conflict()
 {}
 
 /// The undos of a tree take back its steps from the latest on, each with its edits turned round, which lead back to what was
-/// there; a failed root that has ended has taken back all, and behind an undo no procedure of its tree makes a step.
+/// there; a failed root that has ended has taken back all, and after an undo no procedure of its tree makes a step.
 pub fn undos_go_back()
     ensures order { UndosGoBack }
     ensures all { AllIsUndone }

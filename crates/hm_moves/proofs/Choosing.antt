@@ -266,7 +266,7 @@ module _ (loads : Loads) (earlier : List Shift) (next : List ℕ) (at number : �
       let long = length-append earlier (shift ∷ rest) in
       omega (arith, small, all, long, is)
 
--- the moves behind one shift more
+-- the moves after one shift more
 pub moves_more : (opened : Server → List Region) (servers : List Server) (loads : Loads) (regions : List (List Region)) → AreOpened opened servers loads regions
     → (earlier : List Shift) (shift : Shift) (rest : List Shift) (moves new all : List Move) (at number : ℕ) (region : Option Region)
     → slice_get (names loads) at ≡ Some shift.from → number ≡ given shift.from earlier → region ≡ region_in regions at number → new ≡ moves ++ move_if region shift

@@ -30,7 +30,7 @@ abbrev pub move_if : Option Region → Shift → List Move
 move_if None shift = []
 move_if (Some region) shift = record { region = region; from = shift.from; to = shift.to } ∷ []
 
--- the moves of shifts behind earlier ones: as many regions of a server are passed over as were shifted from it before
+-- the moves of shifts after earlier ones: as many regions of a server are passed over as were shifted from it before
 abbrev pub chosen : (Server → List Region) → List Shift → List Shift → List Move
 chosen opened earlier [] = []
 chosen opened earlier (shift ∷ more) =

@@ -38,7 +38,7 @@ take-at c xs ys = take_at xs (c ∷ ys) (length xs) refl
 drop-at : (c : ℕ) (xs ys : List ℕ) → drop (length xs + 1) (xs ++ c ∷ ys) ≡ ys
 drop-at c xs ys = ap (drop (length xs + 1)) (sym (append_assoc xs (c ∷ []) ys)) ∙ drop_at (xs ++ c ∷ []) ys (length xs + 1) (length_push xs c)
 
--- the first separator stands behind a text that lacks it
+-- the first separator stands after a text that lacks it
 pub cut_first-at : (c : ℕ) (xs ys : List ℕ) → Lacks c xs → cut_first c (xs ++ c ∷ ys) ≡ Some (xs, ys)
 unfolding cut_first
 cut_first-at c xs ys h = let at = position-at c xs ys h in rw (at, take-at c xs ys, drop-at c xs ys)

@@ -14,7 +14,7 @@ not_true : (a : Bool) → not a ≡ true → a ≡ false
 not_true true e = cc
 not_true false e = refl
 
--- an inner key is above the start, isn't empty, and the end lies behind it
+-- an inner key is above the start, isn't empty, and the end lies after it
 pub inner_is : (r : KeyRange) (m : List ℕ) → inner r m ≡ true → (below r.start m ≡ true) × ((length m == 0) ≡ false) × (ends_behind r m ≡ true)
 inner_is r m e =
     let parts = both (holds r m) (not (bytes_eq r.start m)) e in
@@ -22,7 +22,7 @@ inner_is r m e =
     let above = below_unequal r.start m held.0 (not_true (bytes_eq r.start m) parts.1) in
     (above, not_empty r.start m above, held.1)
 
--- the end lies behind each key below one that it lies behind
+-- the end lies after each key below one that it lies after
 ends_by : (unbounded : Bool) (k m e : List ℕ) → below k m ≡ true → (unbounded || below m e) ≡ true → (unbounded || below k e) ≡ true
 ends_by true k m e p q = refl
 ends_by false k m e p q = below_trans k m e p q
@@ -59,12 +59,12 @@ pub held_apart : (r : KeyRange) (m : List ℕ) → inner r m ≡ true → (k : L
 held_apart r m e k =
     apart_by (length m == 0) (below k m) (upto r.start k) (upto m k) (ends_behind r k) (inner_is r m e).1 (upto_not m k)
 
--- the end of a range lies behind what is up to a key that it lies behind
+-- the end of a range lies after what is up to a key that it lies after
 ends_upto : (unbounded : Bool) (s k e : List ℕ) → upto s k ≡ true → (unbounded || below k e) ≡ true → (unbounded || below s e) ≡ true
 ends_upto true s k e p q = refl
 ends_upto false s k e p q = upto_below s k e p q
 
--- where two ranges have a key in common each one's end lies behind the other's start
+-- where two ranges have a key in common each one's end lies after the other's start
 pub shared_ends : (a b : KeyRange) (k : List ℕ) → holds a k ≡ true → holds b k ≡ true → ends_behind a b.start ≡ true
 shared_ends a b k p q =
     let in_a = both (upto a.start k) (ends_behind a k) p in
@@ -91,7 +91,7 @@ common_by a b true e p q in_a in_b =
 common_by a b false e p q in_a in_b =
     (b.start, and_true (upto a.start b.start) (ends_behind a b.start) (upto_not a.start b.start ∙ ap not e) in_a, q)
 
--- where each one's end lies behind the other's start, two ranges that have keys have the greater start in common
+-- where each one's end lies after the other's start, two ranges that have keys have the greater start in common
 pub common_key : (a b : KeyRange) (in_a in_b : List ℕ) → holds a in_a ≡ true → holds b in_b ≡ true → overlaps a b ≡ true
     → (key : List ℕ) × (holds a key ≡ true) × (holds b key ≡ true)
 common_key a b in_a in_b p q e =

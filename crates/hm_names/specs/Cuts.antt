@@ -1,7 +1,7 @@
 -- Texts cut in two at a separator.
 use Rattle.std.specs.Prelude.{ℕ, ◌+◌, ◌-◌, ◌==◌, Option, Some, None, List, length, position, reverse, take, drop}
 
--- what stands before a place and what stands behind it
+-- what stands before a place and what stands after it
 abbrev pub cut_at : List ℕ → Option ℕ → Option (List ℕ × List ℕ)
 cut_at text None = None
 cut_at text (Some place) = Some (take place text, drop (place + 1) text)

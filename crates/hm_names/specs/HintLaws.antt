@@ -62,7 +62,7 @@ first_less x y o lt = let first : nat_cmp x y ≡ Less = grind (arith, nat_tests
 first_same : (x y : ℕ) (o : Ordering) → x ≡ y → ordering_then (nat_cmp x y) o ≡ o
 first_same x y o is = let first : nat_cmp x y ≡ Equal = grind (arith, nat_tests, is) in rw first refl
 
--- behind the same number, the names with the lesser hint are the lesser
+-- after the same number, the names with the lesser hint are the lesser
 pub rises : (n a : ℕ) (xs ys : List ℕ) → front n a xs < front n a ys → slice_cmp nat_cmp xs ys ≡ Less
 rises zero a xs ys lt = absurd (omega (arith, lt))
 rises (suc n) a [] [] lt = absurd (omega (arith, lt))

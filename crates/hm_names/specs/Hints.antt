@@ -2,8 +2,8 @@
 use Rattle.std.specs.Prelude.{◌≡◌, ℕ, zero, suc, ◌+◌, ◌-◌, ◌*◌, ◌^◌, ◌<◌, ◌≤◌, nat_lt, min, List, [], ◌∷◌, if◌then◌else◌}
 use Rattle.hm_names.specs.declared.nonce.Nonce.{Nonce}
 
--- so many bytes, from the first on, as digits behind a number: one that is missing counts as 0; one that is no byte counts as 255, and so do
--- all behind it
+-- so many bytes, from the first on, as digits after a number: one that is missing counts as 0; one that is no byte counts as 255, and so do
+-- all after it
 abbrev pub front : ℕ → ℕ → List ℕ → ℕ
 front zero before bytes = before
 front (suc count) before [] = front count (before * 256) []

@@ -57,7 +57,7 @@ abbrev pub onto : ℕ → Result (List ℕ) NameFault → Result (List ℕ) Name
 onto byte (Ok key) = Ok (byte ∷ key)
 onto byte (Err fault) = Err fault
 
--- a byte at a place, and the key that stands behind it
+-- a byte at a place, and the key that stands after it
 abbrev pub onto_rest : ℕ → Option (ℕ × ℕ) → (ℕ → Result (List ℕ) NameFault) → Result (List ℕ) NameFault
 onto_rest at None rest = Err (BadByte at)
 onto_rest at (Some (byte, more)) rest = onto byte (rest more)

@@ -5,7 +5,7 @@ use Rattle.std.specs.Cmp.Lexicographic.{slice_cmp}
 use Rattle.std.specs.Str.{bytes_eq}
 use Rattle.hm_names.specs.declared.range.KeyRange.{KeyRange}
 
--- the end of a range lies behind a key: it is above it, or it is empty, which is the open end
+-- the end of a range lies after a key: it is above it, or it is empty, which is the open end
 abbrev pub ends_behind : KeyRange → List ℕ → Bool
 ends_behind r key = (length r.end == 0) || is_lt (slice_cmp nat_cmp key r.end)
 
@@ -17,7 +17,7 @@ holds r key = is_le (slice_cmp nat_cmp r.start key) && ends_behind r key
 abbrev pub inner : KeyRange → List ℕ → Bool
 inner r key = holds r key && not (bytes_eq r.start key)
 
--- each range's end lies behind the other's start
+-- each range's end lies after the other's start
 abbrev pub overlaps : KeyRange → KeyRange → Bool
 overlaps a b = ends_behind a b.start && ends_behind b a.start
 

@@ -52,7 +52,7 @@ impl fmt::Display for ByteText {
     }
 }
 
-// The byte that a text begins with, and how many bytes behind its first stand for it.
+// The byte that a text begins with, and how many bytes after its first stand for it.
 #[tactic(auto, unfolding(crate::specs::Keys::first_byte))]
 fn first_byte(text: &[u8]) -> Option<(u8, usize)>
     requires { 0 < length text.now }

@@ -2,7 +2,7 @@
 ghost use Rattle.std.specs.Prelude.{◌≡◌, ℕ, ◌+◌, ◌*◌, ◌<◌, ◌^◌, drop};
 ghost use Rattle.hm_names.specs.Hints.{front};
 
-/// The first 7 bytes as the digits of a number, behind a byte that stands before them: names with the same byte before them have hints
+/// The first 7 bytes as the digits of a number, after a byte that stands before them: names with the same byte before them have hints
 /// that don't fall in the order of the names.
 pub fn front_hint(before: u64, bytes: &[u8]) -> u64
     requires { before < 256 }

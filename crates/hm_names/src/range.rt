@@ -28,7 +28,7 @@ impl KeyRange {
         self.start <= *key && self.ends_behind(key)
     }
 
-    /// Whether each range's end lies behind the other's start. Ranges that only touch don't overlap.
+    /// Whether each range's end lies after the other's start. Ranges that only touch don't overlap.
     pub fn overlaps(&self, other: &KeyRange) -> bool
         ensures ends { result ≡ overlaps self.now other.now }
         ensures shared { (key : List ℕ)

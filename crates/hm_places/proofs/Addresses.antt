@@ -82,7 +82,7 @@ module _ (server : Server) where
       by Equal more = rising
       by Greater more = rising
 
-  -- behind one that is above the address, none has it
+  -- after one that is above the address, none has it
   above_address : (p : Server) → is_lt (server_cmp p server) ≡ false → same_address server p ≡ false → address_cmp server p ≡ Less
   above_address p from off = by (address_cmp p server) refl
     where

@@ -63,7 +63,7 @@ module _ (came : List (Server × Standing)) (server : Server) where
   there_ended (m ∷ numbers) (suc at) here low =
       step m numbers (low zero m (omega arith) (omega arith)) ∙ there_ended numbers at here (λ k d le lt. low (suc k) d (omega arith) (omega arith))
 
-  -- behind one whose address is above, none has it
+  -- after one whose address is above, none has it
   none_above : (first : Server) (numbers : List ℕ) → address_cmp server first ≡ Less → IsBelow (cmp_if server_cmp) (Some first) (map (name_of came) numbers) → first_there (live_names came numbers) server ≡ None
   none_above first [] high below = refl
   none_above first (n ∷ numbers) high below = by (name_of came n) below.0 (none_above first numbers high below.1)

@@ -80,7 +80,7 @@ abbrev pub with_fence : List (Server × Standing) → Option Server → List (Se
 with_fence servers None = servers
 with_fence servers (Some server) = fenced servers server
 
--- how the servers stand behind an entry
+-- how the servers stand after an entry
 abbrev pub stand_behind : Past → Entry → List (Server × Standing) → List (Server × Standing)
 stand_behind before (entry_is.Start sheets) servers = servers
 stand_behind before (entry_is.Submit nonce request) servers = servers

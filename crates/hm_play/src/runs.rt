@@ -66,7 +66,7 @@ fn strings(alloc: Global, words: &[&str]) -> Result<Vec<String>, AllocError> {
     Ok(strings)
 }
 
-/// A log with much room behind it.
+/// A log with much room after it.
 pub fn disk(alloc: Global, log: &[u8], fails: &[u64]) -> Result<MemDisk, AllocError> {
     let bytes = log.to_vec(alloc)?;
     let room = (bytes.len() as u64).saturating_add(131_072);
@@ -187,7 +187,7 @@ fn play_tables(
     play_with(alloc, devices, groups, limits)
 }
 
-/// Runs a script over a log with much room behind it.
+/// Runs a script over a log with much room after it.
 pub fn play(
     alloc: Global,
     words: &[&str],

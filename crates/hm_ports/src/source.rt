@@ -43,7 +43,7 @@ pub enum ReadWhy {
     Memory,
 }
 
-// Reads as many bytes as are left behind a place and fit, and moves the place behind them.
+// Reads as many bytes as are left after a place and fit, and moves the place after them.
 pub(crate) fn read_from(bytes: &[u8], at: &mut usize, into: &mut [u8]) -> usize
     requires { at.old ≤ length bytes.now }
     ensures most { result ≡ min (length (drop at.old bytes.now)) (length into.new) }
@@ -58,7 +58,7 @@ pub(crate) fn read_from(bytes: &[u8], at: &mut usize, into: &mut [u8]) -> usize
 
 const CHUNK: usize = 4096;
 
-/// Reads a source to its end, where that comes within `limit` bytes. Behind an error the source may
+/// Reads a source to its end, where that comes within `limit` bytes. After an error the source may
 /// have given any front of what was left, by up to 4096 bytes more than `limit`.
 pub fn read_all<S: Source>(alloc: Global, source: &mut S, limit: usize) -> Result<Vec<u8>, ReadWhy>
     ensures all { S.tells → IfOk result (λ bytes. bytes.items ≡ S.left source.old) }

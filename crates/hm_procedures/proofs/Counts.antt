@@ -1,4 +1,4 @@
--- How many roots haven't ended, behind an entry.
+-- How many roots haven't ended, after an entry.
 use Rattle.std.proofs.Common.{◌≡◌, ◌≢◌, ℕ, zero, suc, ◌+◌, ◌<◌, ◌≤◌, ◌&&◌, Bool, true, false, not, if◌then◌else◌, Option, Some, None, refl, ap, sym, ◌∙◌, inl, inr, ◌⊎◌, is_some, arith}
 use Rattle.std.proofs.lemmas.Bool.{and_left, cases_eq}
 use Rattle.hm_data.specs.declared.answer.Cause.{Cause}

@@ -1,4 +1,4 @@
--- Each procedure and its eldest sibling, behind an entry, and the next child of the same parent.
+-- Each procedure and its eldest sibling, after an entry, and the next child of the same parent.
 use Rattle.std.proofs.Common.{◌≡◌, ℕ, zero, suc, ◌+◌, ◌-◌, ◌<◌, ◌≤◌, ◌==◌, List, [], ◌∷◌, ◌++◌, true, false, Option, Some, None, is_some, length, slice_get, refl, ap, sym, ◌∙◌, subst, inl, inr, arith, length-append}
 use Rattle.std.specs.Option.{option_map, option_or}
 use Rattle.std.proofs.lemmas.Bool.{cases_Bool, cases_eq, cases_lt, cond-true, eq-eqb, false≢true, ne_eqb}
@@ -39,7 +39,7 @@ elder_of n eldest [] i = refl
 elder_of n eldest (args ∷ more) zero = let e : n + 1 ≡ n + 0 + 1 = omega arith in ap (λ k. Some (elder_by k eldest)) e
 elder_of n eldest (args ∷ more) (suc i) = let e : n + 1 + i + 1 ≡ n + suc i + 1 = omega arith in elder_of (n + 1) eldest more i ∙ ap (λ k. option_map (λ a. elder_by k eldest) (slice_get more i)) e
 
--- one more behind others
+-- one more after others
 elders_snoc : (n : ℕ) (eldest : Option Pid) (ys : List Args) (args : Args) → elders n eldest (ys ++ args ∷ []) ≡ elders n eldest ys ++ elders (n + length ys) eldest (args ∷ [])
 elders_snoc n eldest [] args = let e : n + 1 ≡ n + 0 + 1 = omega arith in ap (λ k. elder_by k eldest ∷ []) e
 elders_snoc n eldest (y ∷ ys) args =

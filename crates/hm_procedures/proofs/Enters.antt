@@ -1,4 +1,4 @@
--- What is kept, behind entries that are no step: new procedures, reports, aborts, and entries that change nothing of it.
+-- What is kept, after entries that are no step: new procedures, reports, aborts, and entries that change nothing of it.
 use Rattle.std.proofs.Common.{◌≡◌, ◌≢◌, ℕ, suc, ◌+◌, ◌-◌, ◌<◌, ◌≤◌, ◌==◌, List, [], ◌∷◌, ◌++◌, Bool, true, not, ◌&&◌, Option, Some, None, length, map, slice_get, refl, ap, sym, ◌∙◌, inl, inr, arith, length-append}
 use Rattle.std.specs.Option.{option_map}
 use Rattle.std.proofs.lemmas.Bool.{cases_Bool, cases_eq, cases_lt}

@@ -10,7 +10,7 @@ use Rattle.hm_model.proofs.Grown.{grown_all}
 use Rattle.hm_procedures.specs.Procedures.{IsNextChild, children_below}
 use Rattle.hm_procedures.proofs.Firsts.{child_within}
 
--- where one is, and behind all at the end
+-- where one is, and after all at the end
 abbrev pub bound : Past → Option Pid → ℕ
 bound J None = made J + 1
 bound J (Some at) = at.0

@@ -1,4 +1,4 @@
--- Lists behind a write at one place and behind new items, and numbers by place.
+-- Lists after a write at one place and after new items, and numbers by place.
 use Rattle.std.proofs.Common.{◌≡◌, ◌≢◌, ℕ, zero, suc, ◌+◌, ◌-◌, ◌<◌, ◌≤◌, List, [], ◌∷◌, ◌++◌, Bool, true, false, Option, Some, None, cond, eqb, set, length, map, take, drop, slice_get, refl, ap, sym, ◌∙◌, inl, inr, arith, length-append}
 use Rattle.std.specs.Option.{option_map}
 use Rattle.std.proofs.lemmas.Bool.{cases_eq, cond-false, cond-true, eq-eqb, ne_eqb}
@@ -52,7 +52,7 @@ slice_get-added n up [] i = refl
 slice_get-added n up (args ∷ more) zero = let e : n + 1 ≡ n + 0 + 1 = omega arith in ap (λ k. Some (fresh k up args)) e
 slice_get-added n up (args ∷ more) (suc i) = let e : n + 1 + i + 1 ≡ n + suc i + 1 = omega arith in slice_get-added (n + 1) up more i ∙ ap (λ k. option_map (fresh k up) (slice_get more i)) e
 
--- one more behind others
+-- one more after others
 added_snoc : (n : ℕ) (up : Option (Pid × Pid)) (ys : List Args) (args : Args) → added n up (ys ++ args ∷ []) ≡ added n up ys ++ added (n + length ys) up (args ∷ [])
 added_snoc n up [] args = let e : n + 1 ≡ n + 0 + 1 = omega arith in ap (λ k. fresh k up args ∷ []) e
 added_snoc n up (y ∷ ys) args =

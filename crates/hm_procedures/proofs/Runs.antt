@@ -20,7 +20,7 @@ use Rattle.hm_procedures.specs.Changes.{ends_in}
 use Rattle.hm_procedures.specs.Kept.{kept_at, kept_of, made_in_step}
 use Rattle.hm_procedures.specs.declared.kept.Tracked.{Tracked}
 
--- a number is one of so many behind another
+-- a number is one of so many after another
 abbrev pub is_among : ℕ → ℕ → ℕ → Bool
 is_among from count q = nat_lt from q && nat_lt q (from + count + 1)
 
@@ -180,7 +180,7 @@ module _ (J : Past) (legal : IsLegal J) (p : ℕ) (kept : List Tracked) (are : (
       ∙ kept_end (from + n) (node_of J (from + n + 1)) refl refl
       ∙ ap (λ o. elim o as (λ x. List (Pid × Told)) [ None ↦ [] | Some x ↦ end_of (from + n + 1) (done_with x.last) ]) (sym (are (from + n))))
 
-  -- and none behind
+  -- and none after
   ends_past : (m : ℕ) → ends_below J p (from + 1 + count + m) ≡ ends_in kept from count
   ends_past zero = let e : from + 1 + count + 0 ≡ from + 1 + count = omega arith in ap (ends_below J p) e ∙ ends_run count (omega arith)
   ends_past (suc m) =

@@ -1,4 +1,4 @@
--- What is kept, behind a step and behind an undo.
+-- What is kept, after a step and after an undo.
 use Rattle.std.proofs.Common.{◌≡◌, ◌≢◌, ℕ, ◌+◌, ◌-◌, ◌<◌, ◌≤◌, ◌&&◌, ◌==◌, List, [], ◌∷◌, ◌++◌, Bool, true, false, not, if◌then◌else◌, Option, Some, None, length, map, nat_lt, slice_get, refl, ap, sym, ◌∙◌, inl, inr, arith}
 use Rattle.std.specs.Option.{option_map}
 use Rattle.std.proofs.lemmas.Bool.{and_from, cases_Bool, cond-false, cond-true, le-ltb, lt-ltb}

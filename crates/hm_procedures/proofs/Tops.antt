@@ -18,7 +18,7 @@ onto_more : (b : Bool) (root : Pid) (xs ys zs : List Pid) → xs ≡ ys ++ zs �
 onto_more true root xs ys zs same = ap (λ l. root ∷ l) same
 onto_more false root xs ys zs same = same
 
--- behind one procedure more
+-- after one procedure more
 tops_more : (p : ℕ) (are : List Pid) (root : Pid) → tops_from p (are ++ root ∷ []) ≡ tops_from p are ++ tops_from (p + length are) (root ∷ [])
 tops_more p [] root = let e : p ≡ p + 0 = omega arith in ap (λ q. tops_from q (root ∷ [])) e
 tops_more p (first ∷ are) root =

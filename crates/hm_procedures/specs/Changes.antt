@@ -15,7 +15,7 @@ use Rattle.hm_model.specs.Phase.{end_of, or_else, own_phase, phase_table, root_o
 use Rattle.hm_model.specs.Places.{has_failed, one_more}
 use Rattle.hm_procedures.specs.declared.kept.Tracked.{Tracked}
 
--- the first of so many procedures that are made behind so many
+-- the first of so many procedures that are made after so many
 abbrev pub first_made : ℕ → ℕ → Option Pid
 first_made made zero = None
 first_made made (suc count) = Some (record { 0 = made + 1 })
@@ -45,7 +45,7 @@ fresh p up args = record {
   first_child = None;
 }
 
--- new procedures, numbered behind a number
+-- new procedures, numbered after a number
 abbrev pub added : ℕ → Option (Pid × Pid) → List Args → List Tracked
 added p up [] = []
 added p up (args ∷ more) = fresh (p + 1) up args ∷ added (p + 1) up more
@@ -55,12 +55,12 @@ abbrev pub elder_by : ℕ → Option Pid → Pid
 elder_by p None = record { 0 = p }
 elder_by p (Some eldest) = eldest
 
--- the eldest siblings of new procedures, numbered behind a number
+-- the eldest siblings of new procedures, numbered after a number
 abbrev pub elders : ℕ → Option Pid → List Args → List Pid
 elders p eldest [] = []
 elders p eldest (args ∷ more) = elder_by (p + 1) eldest ∷ elders (p + 1) eldest more
 
--- behind a step, where it is the one's own, before which so many had been made and which makes so many
+-- after a step, where it is the one's own, before which so many had been made and which makes so many
 abbrev pub stepped : Bool → StepOut → ℕ → ℕ → Tracked → Tracked
 stepped own out made count one = record one {
   shown = record one.shown { row = if own then row_after (first_row_of (let shown = one.shown in shown.args)) (Some out.answer) else (let shown = one.shown in shown.row); tries = if own && has_failed out.place then one_more (let shown = one.shown in shown.tries) else (let shown = one.shown in shown.tries) };
@@ -72,11 +72,11 @@ stepped own out made count one = record one {
   first_child = if own then option_or one.first_child (first_made made count) else one.first_child;
 }
 
--- behind the end of a child, where it is the one's
+-- after the end of a child, where it is the one's
 abbrev pub child_ended : Bool → Tracked → Tracked
 child_ended own one = record one { open_children = one.open_children - one_if own }
 
--- the root behind a step in its tree that makes so many, by which a descendant ends or not, and which fails or not
+-- the root after a step in its tree that makes so many, by which a descendant ends or not, and which fails or not
 abbrev pub tree_stepped : Bool → ℕ → Bool → Option Cause → Tracked → Tracked
 tree_stepped own count ends failure one = record one {
   open_under = one.open_under + (if own then count else 0) - one_if (own && ends);
@@ -88,12 +88,12 @@ abbrev pub is_this : Option Pid → ℕ → Bool
 is_this None p = false
 is_this (Some pid) p = pid.0 == p
 
--- a procedure behind a step, by who it is: the one that steps, its parent, its root, or another
+-- a procedure after a step, by who it is: the one that steps, its parent, its root, or another
 abbrev pub noted : ℕ → Pid → Option Pid → Pid → StepOut → ℕ → ℕ → Tracked → Tracked
 noted p pid parent root out made count one =
     tree_stepped (root.0 == p) count (is_stop out.answer && is_some parent) (failing out.answer) (child_ended (is_this parent p && is_stop out.answer) (stepped (p == pid.0) out made count one))
 
--- behind a report of its call, and behind an abort
+-- after a report of its call, and after an abort
 abbrev pub reported : Bool → Told → Tracked → Tracked
 reported own told one = record one { report = if own then Some told else one.report }
 

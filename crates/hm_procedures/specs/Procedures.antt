@@ -34,7 +34,7 @@ is_unfinished past q = is_some (node_of past q) && not (ended past q)
 abbrev pub unfinished_procedures : Past → ℕ
 unfinished_procedures past = count_below (is_unfinished past) (made past + 1)
 
--- the next child of a procedure behind a number
+-- the next child of a procedure after a number
 abbrev pub IsNextChild : Past → ℕ → ℕ → Option Pid → Type 0
 IsNextChild past p low None = (q : ℕ) → low < q → child_in p (node_of past q) ≡ false
 IsNextChild past p low (Some next) =

@@ -17,7 +17,7 @@ abbrev pub tops_from : ℕ → List Pid → List Pid
 tops_from p [] = []
 tops_from p (root ∷ roots) = if root.0 == p then root ∷ tops_from (p + 1) roots else tops_from (p + 1) roots
 
--- the next procedure of a root's tree behind the one at a place, where there is one
+-- the next procedure of a root's tree after the one at a place, where there is one
 abbrev pub IsNext : List Pid → Pid → ℕ → Option Pid → Type 0
 IsNext roots root place None = (i : ℕ) → place < i → slice_get roots i ≡ Some root → ⊥
 IsNext roots root place (Some next) =

@@ -28,7 +28,7 @@ pub(crate) fn less_if(count: u64, over: bool) -> u64
     if over { count - 1 } else { count }
 }
 
-// Adds a procedure to the others: behind the eldest of its siblings, or as the eldest.
+// Adds a procedure to the others: after the eldest of its siblings, or as the eldest.
 fn add_sibling(siblings: &mut Trees, pid: Pid, eldest: Option<Pid>)
     requires room { 1 ≤ siblings.old.spare }
     requires number { pid.0 ≡ length siblings.old.roots + 1 }

@@ -148,7 +148,7 @@ pub(crate) fn first_child(kept: &[Tracked], pid: Pid) -> Option<Pid>
     kept[pid.0 as usize - 1].first_child
 }
 
-// The first child behind a step, before which so many procedures had been made and which makes so many.
+// The first child after a step, before which so many procedures had been made and which makes so many.
 fn first_after(first: Option<Pid>, made: u64, count: u64) -> Option<Pid>
     requires { made + count < 2 ^ 64 }
     ensures { result ≡ option_or first (first_made made count) }

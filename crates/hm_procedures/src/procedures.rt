@@ -286,7 +286,7 @@ impl Procedures {
     }
 
     /// Takes in an entry: `made` are what the procedures that it makes work on, in order, `nothing_left` whether nothing is
-    /// left to undo of its tree behind it. It takes no memory.
+    /// left to undo of its tree after it. It takes no memory.
     pub fn enter(&mut self, entry: &Entry, made: List<Args>, nothing_left: bool)
         requires legal { IsLegal (entry.now ∷ self.old.past) }
         requires made { made ≡ args_made self.old.past entry.now }

@@ -103,7 +103,7 @@ module _ (key : CatKey) where
       by true rest = (turned key k Less behind.0, rest)
       by false rest = rest
 
-  -- the row is put in behind a lesser key, or where its own key stands
+  -- the row is put in after a lesser key, or where its own key stands
   behind_lesser : (row : CatRow) (k : CatKey) (r : CatRow) (asks : Bool) (place : ℕ) (found after : Rows) → key_cmp k key ≡ Less → Fits place (if asks then ((k, r) ∷ found) else found)
       → ((p : ℕ) → Fits p found → insert found p (key, row) ≡ after) → insert (if asks then ((k, r) ∷ found) else found) place (key, row) ≡ (if asks || false then ((k, r) ∷ after) else after)
   behind_lesser row k r true zero found after less fits rest = let clash : Greater ≡ Less = sym fits.0 ∙ less in cc

@@ -1,4 +1,4 @@
--- The lock book behind an entry.
+-- The lock book after an entry.
 use Rattle.std.proofs.Common.{◌≡◌, ◌≢◌, ℕ, zero, suc, ◌+◌, ◌-◌, ◌<◌, ◌≤◌, ◌&&◌, [], ◌∷◌, List, map, Bool, true, false, if◌then◌else◌, nat_lt, Option, Some, None, is_some, slice_get, refl, ap, sym, ◌∙◌, inl, inr, subst, arith}
 use Rattle.std.specs.Option.{option_map}
 use Rattle.std.proofs.lemmas.Bool.{cases_Bool, cases_eq, cases_lt, cond-false, cond-true, le-ltb, lt-ltb, true≢false}
@@ -191,7 +191,7 @@ unless_twice : (b : Bool) (row : Option Row) → unless_ended b (unless_ended b 
 unless_twice true row = refl
 unless_twice false row = refl
 
--- the rows behind an entry, from which the root of its tree and the procedure of its step were taken where they have ended
+-- the rows after an entry, from which the root of its tree and the procedure of its step were taken where they have ended
 module _ (entry : Entry) (J : Past) (legal : IsLegal (entry ∷ J)) (mid once : List Row) (with_it : AreRowsWith J entry mid)
     (own : row_of once (tree_of J entry) ≡ unless_ended (ended (entry ∷ J) (tree_of J entry)) (row_of mid (tree_of J entry)))
     (others : (p : ℕ) → p ≢ tree_of J entry → row_of once p ≡ row_of mid p) where

@@ -27,7 +27,7 @@ use Rattle.hm_records.specs.Book.{above_made, asked, asks_in, asks_of, draft_of,
 use Rattle.hm_records.proofs.BookBehind.{first_fits}
 use Rattle.hm_records.proofs.Whole.{made_count}
 
--- asks of drafts one behind another
+-- asks of drafts one after another
 pub asks_append : (xs ys : List DraftView) → asks_in (xs ++ ys) ≡ asks_in xs + asks_in ys
 asks_append [] ys = omega arith
 asks_append (x ∷ xs) ys =

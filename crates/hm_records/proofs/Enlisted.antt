@@ -163,6 +163,6 @@ module _ (entry : Entry) (J : Past) (legal : IsLegal (entry ∷ J)) (p : ℕ) wh
   pub row_was_over : ended J p ≡ true → or_taken (stepper_of entry) p (row_at J p) ≡ None
   row_was_over over = taken_none (stepper_of entry) p (row_at J p) (row_over (ended J p) (is_some (last_answer J p)) p (node_of J p) over)
 
--- nobody behind the last has a row
+-- nobody after the last has a row
 pub none_behind : (J : Past) → IsLegal J → (s : Option Pid) (p : ℕ) → made J < p → or_taken s p (row_at J p) ≡ None
 none_behind J legal s p behind = taken_none s p (row_at J p) (row_out (ended J p) (is_some (last_answer J p)) p (node_of J p) ((grown_all J legal).numbered p behind))

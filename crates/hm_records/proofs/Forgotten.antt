@@ -37,14 +37,14 @@ stack_stays (entry_is.Abort pid) J p other = refl
 root_stays : (entry : Entry) (J : Past) → IsLegal (entry ∷ J) → (p : ℕ) (x : Node) → node_of J p ≡ Some x → is_root (entry ∷ J) p ≡ is_root J p
 root_stays entry J legal p x is = ap is_root_in (nodes_stay entry J legal p x is) ∙ sym (ap is_root_in is)
 
--- who is no root behind an entry was none before it
+-- who is no root after an entry was none before it
 was_no_root : (entry : Entry) (J : Past) → IsLegal (entry ∷ J) → (p : ℕ) → is_root (entry ∷ J) p ≡ false → is_root J p ≡ false
 was_no_root entry J legal p rootless = elim (there_or_not J p) [
   | inl none ↦ ap is_root_in none
   | inr x ↦ sym (root_stays entry J legal p x.0 x.1) ∙ rootless
 ]
 
--- the root of a procedure is one behind an entry
+-- the root of a procedure is one after an entry
 root_is : (entry : Entry) (J : Past) → IsLegal (entry ∷ J) → (p : ℕ) (x : Node) → node_of J p ≡ Some x → is_root (entry ∷ J) (root_of J p) ≡ true
 root_is entry J legal p x is =
     let root = rooted_all J legal.0 p x is in

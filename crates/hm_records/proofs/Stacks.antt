@@ -1,4 +1,4 @@
--- The steps that may be undone, behind an entry.
+-- The steps that may be undone, after an entry.
 use Rattle.std.proofs.Common.{◌≡◌, ◌≢◌, ℕ, ◌==◌, List, [], ◌∷◌, map, Bool, true, false, not, ◌&&◌, if◌then◌else◌, Option, Some, None, is_some, refl, ap, sym, ◌∙◌, inl, inr, subst}
 use Rattle.std.proofs.lemmas.Bool.{cases_eq, false≢true, ne_eqb, not-true, true≢false}
 use Rattle.std.proofs.lemmas.Option.{none-some, same_Some}
@@ -26,7 +26,7 @@ none_left false next [] some is = absurd (false≢true (sym (ap is_some is) ∙ 
 none_left true next (step ∷ below) some is = absurd (true≢false (sym (ap is_some is) ∙ some))
 none_left false next (step ∷ below) some is = refl
 
--- a root that is open behind an entry was open before it
+-- a root that is open after an entry was open before it
 pub was_open : (entry : Entry) (J : Past) → IsLegal (entry ∷ J) → (root : Pid) → is_open (entry ∷ J) root ≡ true → is_open J root ≡ true
 was_open entry J legal root on = by (ended J root.0) refl
   where

@@ -229,7 +229,7 @@ stays_ended entry J legal p over = elim (there_or_not J p) [
           (others_stay entry J legal p x is at_top differs).ends p x is (top_is_own J (forest_all J legal.0) p x is at_top) ∙ over)
     ]
 
--- who isn't there before an entry has no step behind it
+-- who isn't there before an entry has no step after it
 pub none_answers : (entry : Entry) (J : Past) → IsLegal (entry ∷ J) → (p : ℕ) → node_of J p ≡ None → last_answer (entry ∷ J) p ≡ None
 none_answers entry J legal p none = by entry legal
   where

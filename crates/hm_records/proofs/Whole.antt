@@ -1,4 +1,4 @@
--- All that is kept, behind an entry.
+-- All that is kept, after an entry.
 use Rattle.std.proofs.Common.{◌≡◌, ◌≢◌, ℕ, ◌+◌, ◌≤◌, List, [], ◌∷◌, length, min, refl, ap, arith}
 use Rattle.hm_names.specs.Order.{nonce_cmp, table_cmp}
 use Rattle.hm_data.specs.declared.sheet.Sheet.{Sheet}
@@ -57,7 +57,7 @@ least_within k a b a' b' le le' = omega arith
 pub least_more : (a b a' b' : ℕ) → a ≤ a' → b ≤ b' → min a b ≤ min a' b'
 least_more a b a' b' le le' = omega arith
 
--- what is kept behind the start
+-- what is kept after the start
 pub starts : (sheets : List Sheet) (beside : Beside) → beside.rows ≡ rows_in [] → beside.stacks ≡ [] → beside.places ≡ [] → beside.servers ≡ [] → beside.nonces ≡ [] → beside.drawn_ids ≡ []
     → beside.sheets ≡ sheets → beside.book ≡ [] → AreRecords (entry_is.Start sheets ∷ []) beside
 starts sheets beside rows stacks places servers nonces drawn_ids sheets_is book = record {

@@ -83,7 +83,7 @@ asks_in drafts = length (flat_map (λ (draft : DraftView). draft.asks) drafts)
 abbrev pub asks_of : Entry → ℕ
 asks_of entry = asks_in (drafts_of [] entry)
 
--- the row of a draft where one of them is that of the procedure, the first that of the one behind a last
+-- the row of a draft where one of them is that of the procedure, the first that of the one after a last
 abbrev pub or_drafted : ℕ → List DraftView → ℕ → Option Row → Option Row
 or_drafted last drafts p row = if nat_lt last p then option_map (drafted p) (slice_get drafts (p - last - 1)) else row
 

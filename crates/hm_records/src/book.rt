@@ -134,7 +134,7 @@ fn take(book: &mut LockBook, past: &Procedures, entry: &Entry)
     }
 }
 
-// Enlists procedures behind the last, in the room that was made for them.
+// Enlists procedures after the last, in the room that was made for them.
 fn enlist(book: &mut LockBook, last: u64, drafts: Vec<Draft>)
     requires small { last < 2 ^ 63 }
     requires new { (p : ℕ) → last < p → row_of book.old.rows p ≡ None }
@@ -180,7 +180,7 @@ fn release(book: &mut LockBook, procedures: &Procedures, pid: Pid)
     }
 }
 
-// Behind an entry, the root of its tree and the procedure of its step are enlisted no longer where they have ended.
+// After an entry, the root of its tree and the procedure of its step are enlisted no longer where they have ended.
 pub(crate) fn release_ended(book: &mut LockBook, procedures: &Procedures, entry: &Entry, tree: Pid)
     ensures rows { (before : Past) → procedures.now.past ≡ entry.now ∷ before → tree ≡ pid_of (tree_of before entry.now) → AreRowsWith before entry.now book.old.rows → AreRows procedures.now.past book.new.rows }
     ensures spare { (book.new.spare ≡ book.old.spare) × (book.new.spare_asks ≡ book.old.spare_asks) }

@@ -1,4 +1,4 @@
--- What the calls behind an entry need, where it went on with one procedure.
+-- What the calls after an entry need, where it went on with one procedure.
 use Rattle.std.proofs.Common.{◌≡◌, ◌≢◌, ℕ, ◌+◌, ◌<◌, ◌≤◌, List, [], ◌∷◌, Option, Some, None, Bool, ◌==◌, refl, inl, inr, ap, sym, ◌∙◌, subst, arith}
 use Rattle.std.specs.Option.{option_map}
 use Rattle.std.specs.Prelude.{IfSome}
@@ -125,7 +125,7 @@ module _ (J : Past) (legal : IsLegal J) (p low : ℕ) (late : Bool) (desk : Desk
         below = entered.below;
       }
 
-  -- behind all calls it follows
+  -- after all calls it follows
   pub follows_now : (new : Desk) (parent : Option ℕ) (root high : ℕ) → parent ≡ parent_in entered.node.above → root ≡ entered.node.root → high ≡ made J + 1 → IsSameBut desk new
       → Owes J new (chain (entry_debts entered.before p entered.node late) p parent root low high) → Follows J new
   follows_now new parent root high up top to same owes =

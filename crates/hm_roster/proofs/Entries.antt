@@ -132,7 +132,7 @@ last_there J legal late desk rooted last q is ge lt none =
     let t = (grown_all J legal).there q (omega (arith, is, ge, more)) (omega (arith, is, lt)) in
     none-some t.0 (sym none ∙ t.1)
 
--- behind an entry that made a root, once that was looked at, it follows
+-- after an entry that made a root, once that was looked at, it follows
 pub root_follows : (J : Past) → IsLegal J → (late : Bool) (desk new : Desk) (rooted : IsRooted J late desk) (last : ℕ) → last ≡ made J → IsSameBut desk new
     → (let debts = paid_from (root_debts rooted.before late) last (last + 1) in Owes J new (record debts { late = false })) → Follows J new
 root_follows J legal late desk new rooted last is same owes =

@@ -1,4 +1,4 @@
--- Behind an entry.
+-- After an entry.
 use Rattle.std.proofs.Common.{◌≡◌, ◌≢◌, ◌⊎◌, ℕ, ◌+◌, ◌<◌, ◌≤◌, List, ◌∷◌, Option, Some, None, Bool, true, false, ◌||◌, is_none, nat_lt, nat_le, refl, inl, inr, ap, sym, ◌∙◌, subst, arith}
 use Rattle.std.proofs.lemmas.Bool.{and_parts, cases_Bool, cases_lt, false≢true, leb-true, ltb-true, or_cases}
 use Rattle.std.proofs.lemmas.Option.{none-some, same_Some}
@@ -63,7 +63,7 @@ reported_known call told J legal =
     let own = calls_own J legal.0 call.0 verb.0 verb.1 in
     (made_up_to J (grown_all J legal.0) call.0 own.0 own.1).1
 
--- behind a report of a call that fences nobody
+-- after a report of a call that fences nobody
 pub heard_one : (call : Pid) (told : Told) (J : Past) → IsLegal (entry_is.Report call told ∷ J) → (n : Option Server → ℕ) (roster : Roster) (lists : List (List ℕ)) → IsTied J n roster → WakesOne roster.lists lists call.0
     → ((node : Node) (server : Server) → node_of J call.0 ≡ Some node → node.args ≡ args_are.FenceCall server → ⊥) → IsTied (entry_is.Report call told ∷ J) n (record roster { lists = lists })
 heard_one call told J legal n roster lists tied wakes none =
@@ -76,7 +76,7 @@ heard_one call told J legal n roster lists tied wakes none =
       | inr off ↦ off
     ]
 
--- behind a report of a call to fence a server
+-- after a report of a call to fence a server
 pub heard_all : (call : Pid) (told : Told) (J : Past) → IsLegal (entry_is.Report call told ∷ J) → (n : Option Server → ℕ) (roster : Roster) (between lists : List (List ℕ)) (number : ℕ) → IsTied J n roster → WakesOne roster.lists between call.0
     → Wakes between lists (Suspended number) → ((node : Node) × (server : Server) × (node_of J call.0 ≡ Some node) × (node.args ≡ args_are.FenceCall server) × (number ≡ n (Some server)))
     → IsTied (entry_is.Report call told ∷ J) n (record roster { lists = lists })

@@ -81,7 +81,7 @@ is_made (entry_is.Down server) J legal i args is =
     (root_node (made J + 1 + i) (args_are.Crash server) 1, down_new server J (made J + 1 + i) (ap (λ k. made J + 1 + k) one.0 ∙ first_place J), one.1, refl)
 is_made (entry_is.Abort pid) J legal i args is = absurd (none-some args is)
 
--- how many there are behind an entry
+-- how many there are after an entry
 pub made_more : (entry : Entry) (J : Past) → made (entry ∷ J) ≡ made J + length (args_made J entry)
 made_more (entry_is.Start sheets) J = omega arith
 made_more (entry_is.Submit nonce request) J = refl

@@ -95,7 +95,7 @@ more : (b : Bool) (x q : ℕ) (xs : List ℕ) → IsIn q xs → IsIn q (cond b (
 more true x q xs is = inr is
 more false x q xs is = is
 
--- and each of them comes to the list behind a procedure
+-- and each of them comes to the list after a procedure
 to_wait : (rows : List Row) (moves : List (ℕ × Queue)) (q : ℕ) → AllWait rows moves → IsIn q (movers moves) → (h : ℕ) × IsIn q (comers (Waits h) moves)
 to_wait rows [] q wait is = absurd is
 to_wait rows (move ∷ moves) q wait (inl e) = (

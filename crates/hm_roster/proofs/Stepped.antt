@@ -1,4 +1,4 @@
--- Behind an entry that goes on with one procedure nobody is left who isn't looked at.
+-- After an entry that goes on with one procedure nobody is left who isn't looked at.
 use Rattle.std.proofs.Common.{◌≡◌, ◌≢◌, ◌⊎◌, ℕ, ◌+◌, ◌<◌, ◌≤◌, List, [], ◌∷◌, Option, Some, None, Bool, true, false, not, ◌==◌, ◌||◌, nat_lt, nat_le, refl, inl, inr, ap, sym, ◌∙◌, subst, arith}
 use Rattle.std.proofs.lemmas.Bool.{and_parts, cases_Bool, eq-eqb, eqb-true, false≢true, leb-true, ltb-true, not-true, or_cases, true≢false}
 use Rattle.hm_names.specs.Server.{Server}
@@ -22,7 +22,7 @@ abbrev pub without_if : (ℕ → Bool) → Option ℕ → ℕ → Bool
 without_if test None = test
 without_if test (Some p) = without test p
 
--- what is left to do behind all calls
+-- what is left to do after all calls
 abbrev pub chain : Debts → ℕ → Option ℕ → ℕ → ℕ → ℕ → Debts
 chain debts p parent root low high = record (paid (paid_if (paid (paid_from (finished (finished debts p) root) low high) p) parent) root) { late = false }
 
@@ -130,7 +130,7 @@ module _ (entry : Entry) (J : Past) (legal : IsLegal (entry ∷ J)) (p : ℕ) (n
   alike None = refl
   alike (Some q) = refl
 
-  -- behind all calls nothing is left to do
+  -- after all calls nothing is left to do
   pub chained : (n : Option Server → ℕ) (roster : Roster) → IsTiedBut (entry ∷ J) n roster (chain (entry_debts J p node late) p parent root low high) → IsTied (entry ∷ J) n roster
   unfolding came
   chained n roster tied = all_looked_at n roster (subst (λ d. IsTiedBut (entry ∷ J) n roster d) (alike parent) tied)

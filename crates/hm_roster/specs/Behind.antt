@@ -1,4 +1,4 @@
--- What is known of a desk behind an entry, before it was looked at who may go on or has ended.
+-- What is known of a desk after an entry, before it was looked at who may go on or has ended.
 use Rattle.std.specs.Prelude.{◌≡◌, ℕ, ◌+◌, ◌<◌, ◌∷◌, Option, Some, None, Bool, ◌||◌, ◌==◌}
 use Rattle.hm_names.specs.Server.{Server}
 use Rattle.hm_names.specs.declared.nonce.Nonce.{Nonce}

@@ -74,7 +74,7 @@ pub record Makes (before : Past) (entry : Entry) (works : List Args) (parent : O
 abbrev pub MayMake : Past → List Args → Option Pid → Type 0
 MayMake before works parent = (entry : Entry) × Makes before entry works parent
 
--- behind what a journal says so many more are enlisted
+-- after what a journal says so many more are enlisted
 pub record HasMore (J : Past) (desk : Desk) (count : ℕ) : Type 0 where
   pub was : List Row
   pub tied : IsTied J (number_on desk) (roster_with desk was)

@@ -41,7 +41,7 @@ abbrev pub aside_in : List (ℕ × Bool) → ℕ
 aside_in [] = 0
 aside_in (look ∷ more) = (if look.1 then 0 else 1) + aside_in more
 
--- a front of the ready was looked at: those that were moved or set aside, and behind them the one that is given, if one is; and in how
+-- a front of the ready was looked at: those that were moved or set aside, and after them the one that is given, if one is; and in how
 -- many steps: two for each that was moved, and two more, one for each ask of those that were looked at, and four for each set aside
 pub record Looks (J : Past) (rows : List Row) (old new : List (List ℕ)) (given : Option ℕ) (before after : ℕ) : Type 0 where
   pub looks : List (ℕ × Bool)

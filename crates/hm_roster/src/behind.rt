@@ -1,4 +1,4 @@
-//! What is done behind submissions, reports, aborts, and servers that come and go.
+//! What is done after submissions, reports, aborts, and servers that come and go.
 ghost use Rattle.std.specs.Prelude.{◌≡◌, ◌≤◌, ◌<◌, IfSome, Some, false};
 ghost use Rattle.std.specs.Option.{option_copied};
 ghost use Rattle.hm_data.specs.declared.entry.Entry.TheVariants as entry_is;
@@ -59,7 +59,7 @@ impl Desk {
         }
     }
 
-    /// Behind a server that came up those that were set aside for want of one are ready.
+    /// After a server that came up those that were set aside for want of one are ready.
     pub fn behind_up(&mut self, records: &Records)
         requires { IsCome records.now.past self.old }
         ensures follows { Follows records.now.past self.new }
@@ -69,7 +69,7 @@ impl Desk {
         self.wake_held_uncounted::<Brand>(Blank::new(1));
     }
 
-    /// Behind an abort there is nothing to do: whoever is aborted is before the point, where no server is needed. A law that does
+    /// After an abort there is nothing to do: whoever is aborted is before the point, where no server is needed. A law that does
     /// nothing.
     pub fn behind_abort(&self, records: &Records, pid: Pid)
         requires { IsBehind records.now.past (entry_is.Abort pid) self.now }
@@ -118,7 +118,7 @@ impl Desk {
         self.hear(records, call, &mut steps);
     }
 
-    /// Behind a report the one that called is ready, and where its call fences a server, those whose calls went there.
+    /// After a report the one that called is ready, and where its call fences a server, those whose calls went there.
     pub fn behind_report(&mut self, records: &Records, call: Pid, told: Told)
         requires { IsBehind records.now.past (entry_is.Report call told) self.old }
         ensures follows { Follows records.now.past self.new }
@@ -152,7 +152,7 @@ impl Desk {
         self.line_up_last(records, late, &mut steps);
     }
 
-    /// Behind a submission, whose root is enlisted, that is ready.
+    /// After a submission, whose root is enlisted, that is ready.
     pub fn behind_submit(&mut self, records: &Records)
         requires { IsSubmitted records.now.past self.old }
         ensures follows { Follows records.now.past self.new }
@@ -162,7 +162,7 @@ impl Desk {
         self.line_up_last_uncounted::<Brand>(records, false, Blank::new(1));
     }
 
-    /// Behind a server that went down the root of its crash, which is enlisted, is ready; and so are those that were set aside for
+    /// After a server that went down the root of its crash, which is enlisted, is ready; and so are those that were set aside for
     /// want of a live server: they may need none any more, or another.
     pub fn behind_down(&mut self, records: &Records)
         requires { IsGone records.now.past self.old }

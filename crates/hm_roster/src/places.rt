@@ -1,4 +1,4 @@
-//! Where a procedure belongs, behind an entry.
+//! Where a procedure belongs, after an entry.
 ghost use Rattle.std.specs.Prelude.{◌≡◌, ◌≢◌, ◌≤◌, ◌<◌, ℕ, IfSome, None, true};
 ghost use Rattle.hm_locks.specs.Book.{AreChanged, IsEnlisted, row_of};
 ghost use Rattle.hm_model.specs.Journal.{Past};

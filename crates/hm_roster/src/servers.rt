@@ -48,7 +48,7 @@ impl Desk {
         Ok(())
     }
 
-    // The next number: one behind those of so many servers, since the first list is for calls to the storage.
+    // The next number: one after those of so many servers, since the first list is for calls to the storage.
     fn next_number(&self) -> Result<u32, AllocError>
         ensures { IfOk result (λ number. number ≡ length self.now.numbers.pairs + 1) }
     {

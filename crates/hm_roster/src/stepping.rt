@@ -1,4 +1,4 @@
-//! What is done behind a step, and behind what undoes one.
+//! What is done after a step, and after what undoes one.
 ghost use Rattle.std.specs.Prelude.{◌≡◌, ◌≢◌, ◌≤◌, ◌<◌, IfSome, None, false, true};
 ghost use Rattle.hm_locks.specs.Book.{IsEnlisted};
 ghost use Rattle.hm_model.specs.Phase.{ended};
@@ -156,7 +156,7 @@ impl Desk {
         self.look_at(records, pid, low, late, &mut steps);
     }
 
-    /// Behind a step of a claimed procedure, whose children are enlisted: who has ended is enlisted no longer, and those who waited
+    /// After a step of a claimed procedure, whose children are enlisted: who has ended is enlisted no longer, and those who waited
     /// for it are ready; then its children, itself, its parent and its root, where they can go on; then those that were set aside for
     /// want of a live server, where rows changed.
     pub fn behind_step(&mut self, records: &Records, pid: Pid, low: u64, late: bool)
@@ -172,7 +172,7 @@ impl Desk {
         self.look_at_uncounted::<Brand>(records, pid, low, late, Blank::new(1));
     }
 
-    /// Behind an undo of a step in the tree of a claimed root, whose followers are enlisted: where the root has ended it is enlisted no
+    /// After an undo of a step in the tree of a claimed root, whose followers are enlisted: where the root has ended it is enlisted no
     /// longer, and those who waited for it are ready; then its followers and itself, where they can go on; then those that were set
     /// aside for want of a live server, where rows changed.
     pub fn behind_undo(&mut self, records: &Records, root: Pid, low: u64, late: bool)

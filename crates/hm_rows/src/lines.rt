@@ -8,7 +8,7 @@ use std::test::Fail;
 #[test]
 fn run_reads_these_lines(rt: HostRuntime) -> Result<(), Fail> {
     let cases = [
-        // Spaces before, between and behind the words.
+        // Spaces before, between and after the words.
         (
             b"  namespace   1:1    shop  \n procs \n".as_slice(),
             "pid 1\nprocs at 2: 1\n1 CreateNamespace shop RUNNABLE\n",

@@ -79,7 +79,7 @@ fn run_leaves_these_bytes(rt: HostRuntime) -> Result<(), Fail> {
             settled.as_slice(),
         ),
     ];
-    // No bytes, a log without frames, and a new journal with a torn frame or a closed gate behind it hold the same.
+    // No bytes, a log without frames, and a new journal with a torn frame or a closed gate after it hold the same.
     let mut torn = NEW.to_vec(rt.alloc())?;
     torn.extend_from_slice(b"\x01\0\0\0\x04-")?;
     let closed = gated(rt.alloc(), &[START, SUBMIT], 1)?;

@@ -6,7 +6,7 @@ use std::alloc::{AllocError, Global};
 use std::process::Abort;
 use std::test::Fail;
 
-// A table that is made up to its enabling, behind the start.
+// A table that is made up to its enabling, after the start.
 const MADE: [&[u8]; 10] = [
     b"\x01\x01\0\0\0\0\0\0\0\x01\0\0\0\0\0\0\0\x03\x07\0default\x01\0t\0\0",
     b"\x02\x01\0\0\0\0\0\0\0\0\0\x01\0\0\0\0\0\0\0\0",
@@ -107,7 +107,7 @@ fn check_judges_as_open_does(rt: HostRuntime) -> Result<(), Fail> {
     Ok(())
 }
 
-// A journal behind its start, the entries behind that, and the rule that the last of these breaks.
+// A journal after its start, the entries after that, and the rule that the last of these breaks.
 type Case = (&'static [&'static [u8]], &'static [&'static [u8]], u8);
 
 // The log of a case, and how many entries stand before its last.
@@ -150,7 +150,7 @@ fn check_names_the_lowest_rule_that_is_broken(rt: HostRuntime) -> Result<(), Fai
         (&[], &[UP, DOWN, DOWN], 15),
         (&[], &[ABORT_1], 16),
         (&MADE[..5], &[ABORT_2], 16),
-        // One that has ended, which is no root, behind the point of its root.
+        // One that has ended, which is no root, after the point of its root.
         (&MADE, &[ABORT_3], 16),
         (&MADE, &[ABORT_1], 17),
     ];

@@ -131,7 +131,7 @@ fn find_of_keys_with_and_without_a_row(rt: HostRuntime) -> Result<(), Fail> {
     Ok(())
 }
 
-// Rows one behind another.
+// Rows one after another.
 fn lines(alloc: Global, rows: RowsOf<'_>) -> Result<String, AllocError> {
     let mut text = String::new(alloc);
     for (key, row) in rows {

@@ -17,7 +17,7 @@ fn run_balances_regions(rt: HostRuntime) -> Result<(), Fail> {
             "server a,1,1\ncreate 1:1 t f m s w\nsettle\nexpire a,1,1\nbalance\nserver b,1,1\nbalance\nsettle\nbalance\nservers\n",
             "up a,1,1\npid 1\nsettled at 44\nexpired a,1,1 pid 14\nbalance 0\nup b,1,1\nbalance 0\nsettled at 82\nbalance 0\nservers at 82: 2\na,1,1 fenced 0\nb,1,1 live 5\n",
         ),
-        // Servers that come up behind a create. What was moved stays.
+        // Servers that come up after a create. What was moved stays.
         (
             "server a,1,1\ncreate 1:1 t f m s w\nsettle\nserver b,1,1\nserver c,1,1\nbalance\nsettle\nservers\nregions\nbalance\nprocs\n",
             "up a,1,1\npid 1\nsettled at 44\nup b,1,1\nup c,1,1\nbalance 3\nmove t,1 from a,1,1 to b,1,1 pid 14\nmove t,2 from a,1,1 to b,1,1 pid 15\nmove t,3 from a,1,1 to c,1,1 pid 16\nsettled at 85\nservers at 85: 3\na,1,1 live 2\nb,1,1 live 2\nc,1,1 live 1\nregions at 85: 5\nt,1 \\- f Live OPEN b,1,1\nt,2 f m Live OPEN b,1,1\nt,3 m s Live OPEN c,1,1\nt,4 s w Live OPEN a,1,1\nt,5 w \\- Live OPEN a,1,1\nbalance 0\nprocs at 85: 4\n1 CreateTable t SUCCESS\n14 Transit t,1 SUCCESS\n15 Transit t,2 SUCCESS\n16 Transit t,3 SUCCESS\n",

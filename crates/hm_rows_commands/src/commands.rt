@@ -6,7 +6,7 @@ use std::test::Fail;
 #[test]
 fn run_rolls_back_what_failed(rt: HostRuntime) -> Result<(), Fail> {
     let cases = [
-        // An abort before the point, and one behind it.
+        // An abort before the point, and one after it.
         (
             "create 1:1 t\nstep 10\nabort 1\nsettle\nprocs\nregions\n",
             "pid 1\nstepped 10 at 10\naborting 1\nsettled at 18\nprocs at 18: 2\n1 CreateTable t ROLLEDBACK Aborted\n4 SweepLayout 1 SUCCESS\nregions at 18: 0\n",

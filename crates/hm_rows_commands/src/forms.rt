@@ -117,7 +117,7 @@ fn leaves(
 #[test]
 fn check_says_how_long_a_journal_is(rt: HostRuntime) -> Result<(), Fail> {
     let settled = gated(rt.alloc(), &[START, SUBMIT, CHECKS, ADDS], 4)?;
-    // The second frame is behind a closed gate.
+    // The second frame is after a closed gate.
     let closed = gated(rt.alloc(), &[START, SUBMIT], 1)?;
     let cases = [
         (b"".as_slice(), 0),

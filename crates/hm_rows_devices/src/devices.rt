@@ -38,7 +38,7 @@ fn run_makes_four_calls_of_the_disk_at_each_submission(rt: HostRuntime) -> Resul
 }
 
 // What a run of three submissions and a table says over a log of so many entries, where the log fails
-// behind so many of the submissions.
+// after so many of the submissions.
 fn halted_text(alloc: Global, entries: u64, recorded: u64) -> Result<String, AllocError> {
     let mut text = format!(in alloc; "opened at {entries}\n")?;
     for number in 0..4u64 {
@@ -53,7 +53,7 @@ fn halted_text(alloc: Global, entries: u64, recorded: u64) -> Result<String, All
     Ok(text)
 }
 
-// What the disk reads behind a run with a fault at this call and a stop.
+// What the disk reads after a run with a fault at this call and a stop.
 fn stopped(
     alloc: Global,
     script: &[u8],
@@ -226,7 +226,7 @@ fn run_tries_its_last_line_once(rt: HostRuntime) -> Result<(), Fail> {
 const SETTLES: &[u8] = b"namespace 1:1 shop\nsettle\nprocs\n";
 
 // A run of it over a new log has this status and text, and of its four entries so many are laid on the disk, and so many
-// behind an open gate.
+// after an open gate.
 fn leaves(
     rt: &(impl Abort + AllocGlobal),
     fails: Fails<'_>,
@@ -260,7 +260,7 @@ fn run_with_a_fault_at_each_call(rt: HostRuntime) -> Result<(), Fail> {
         b"opened at 1\nhalted LogFault\nhalted LogFault\nhalted LogFault\nhmaster: log fault\n".as_slice();
     let settling =
         b"opened at 1\npid 1\nhalted LogFault\nhalted LogFault\nhmaster: log fault\n".as_slice();
-    // The calls of the disk by number, and what the run says and leaves where such a one fails: an entry is laid behind
+    // The calls of the disk by number, and what the run says and leaves where such a one fails: an entry is laid after
     // its closed gate, synced, and then the gate opens and is synced.
     let cases = [
         ([3, 4].as_slice(), opening, (0, 0)),

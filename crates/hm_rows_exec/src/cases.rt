@@ -83,7 +83,7 @@ fn says_halted(
     Ok(())
 }
 
-// Plays the run with each kind of entry up to the event at which the recorder halts, and compares what that and those behind it say.
+// Plays the run with each kind of entry up to the event at which the recorder halts, and compares what that and those after it say.
 fn halts(
     rt: &(impl Abort + AllocGlobal),
     run: &mut Run,

@@ -155,7 +155,7 @@ pub(crate) const ABORTED: &[Row] = &[
     (Event::Claim, "none"),
 ];
 
-/// A report between claim and commit: the call goes on behind its server's fence, and is answered while it is claimed.
+/// A report between claim and commit: the call goes on after its server's fence, and is answered while it is claimed.
 pub(crate) const REPORTED: &[Row] = &[
     (Event::Line("server h1,1,1"), "up; up h1,1,1"),
     (Event::Line("create 1:1 t"), "pid 1; submit 1:1"),
@@ -281,7 +281,7 @@ pub(crate) const REPICKED: &[Row] = &[
     (Event::Claim, "claimed 6: 6 row 0"),
 ];
 
-/// A claim that is put back before a first step gives back what it took, and the one who waited comes first. Behind a first step it keeps it.
+/// A claim that is put back before a first step gives back what it took, and the one who waited comes first. After a first step it keeps it.
 pub(crate) const PUT_BACK: &[Row] = &[
     (Event::Line("create 1:1 t"), "pid 1; submit 1:1"),
     (Event::Line("create 1:2 t"), "pid 2; submit 1:2"),
@@ -498,7 +498,7 @@ pub(crate) const WHOLE: &[Row] = &[
     (Event::Commit(4), "kept 17; step 4 Done(Fenced)"),
 ];
 
-/// Of each entry behind the start its number among these, the event that records it, the bytes of a log of those before it, the
+/// Of each entry after the start its number among these, the event that records it, the bytes of a log of those before it, the
 /// greatest hard mark that it passes, and what the event has recorded before.
 pub(crate) const HALTS: [(u64, usize, u64, u64, &str); 17] = [
     (0, 0, 296, 321, ""),
@@ -520,7 +520,7 @@ pub(crate) const HALTS: [(u64, usize, u64, u64, &str); 17] = [
     (16, 24, 755, 779, ""),
 ];
 
-/// Events behind a fault, which are judged by nothing else.
+/// Events after a fault, which are judged by nothing else.
 pub(crate) const AFTER: [Event; 12] = [
     Event::Line("namespace 9:1 z"),
     Event::Line("namespace 1:1 n"),

@@ -66,7 +66,7 @@ fn line(alloc: Global, ask: &Ask) -> Result<String, AllocError> {
     }
 }
 
-/// Asks one behind another.
+/// Asks one after another.
 pub fn lines(alloc: Global, asked: &[Ask]) -> Result<String, AllocError> {
     let mut text = String::new(alloc);
     for ask in asked {

@@ -1,5 +1,5 @@
 //! Names: what texts name or why they name none, what is written of them, hints, ranges, and numbers of plain values. Each
-//! line of standard input is a case, unless it begins with `#`; it is printed with what was answered. A text stands behind
+//! line of standard input is a case, unless it begins with `#`; it is printed with what was answered. A text stands after
 //! `=`, and may be empty.
 #![tactic(auto)]
 

@@ -20,7 +20,7 @@ pub fn put_parsed(
     Ok(())
 }
 
-// What is written of a name behind a byte that was there. For a namespace the text is that of a table in it.
+// What is written of a name after a byte that was there. For a namespace the text is that of a table in it.
 fn written(alloc: Global, kind: &str, text: &[u8]) -> Result<Vec<u8>, NameFault> {
     let mut out = Vec::from_slice(alloc, b">")?;
     match kind {

@@ -28,7 +28,7 @@ fn ask(alloc: Global, text: &str) -> Result<Ask, NameFault> {
     })
 }
 
-// Asks, one behind each semicolon.
+// Asks, one after each semicolon.
 fn asks(alloc: Global, text: &str) -> Result<List<Ask>, NameFault> {
     let mut asks = Vec::new(alloc);
     for item in text.split("; ") {

@@ -28,7 +28,7 @@ fn is_found(index: &Index<u64, u64>, number: usize, pair: &(u64, u64)) -> bool {
         && index.iter_from(&pair.0).next() == Some(pair)
 }
 
-// Puts how many pairs there are, and how many of them are found and stand behind a lesser key.
+// Puts how many pairs there are, and how many of them are found and stand after a lesser key.
 fn put_walk(index: &Index<u64, u64>, out: &mut String) -> Result<(), AllocError> {
     let view = index.view();
     let mut number: usize = 0;

@@ -5,7 +5,7 @@ use hm_names::NameFault;
 use std::alloc::{AllocError, Global};
 use std::sync::ledger::Ledger;
 
-// Puts a node that is in no list behind the last of a list.
+// Puts a node that is in no list after the last of a list.
 fn push<L: Ledger>(
     alloc: Global,
     lists: &mut Lists,

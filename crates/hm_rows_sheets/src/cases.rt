@@ -1,8 +1,8 @@
 //! Steps of each row of each sheet: the kind and the row, what the step sees, and what it answers and does.
 //!
-//! What a step sees is its args, and then items, each behind a semicolon: rows of the catalog, what children ended with
+//! What a step sees is its args, and then items, each after a semicolon: rows of the catalog, what children ended with
 //! (`end`), the region's place, whether the server is `fenced`, the regions on a crashed server (`on`), the picked server,
-//! and behind `undo` the edits of the step that is undone. A step answers first; then come its edits, children, call,
+//! and after `undo` the edits of the step that is undone. A step answers first; then come its edits, children, call,
 //! place and followers. A `*` is the empty key. A run as `1..64` stands for these numbers, and among keys for their texts
 //! of three digits; `regions`, `adds` and `drops` tell adjacent live regions by the table, the first id and the bounds.
 

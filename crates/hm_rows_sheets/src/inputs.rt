@@ -131,7 +131,7 @@ impl Seen {
     }
 }
 
-/// What a step of procedure 7 of root 5 sees: its args, and then items, each behind a semicolon.
+/// What a step of procedure 7 of root 5 sees: its args, and then items, each after a semicolon.
 pub fn input(alloc: Global, kind: u8, row: u8, text: &str) -> Result<StepIn, Fail> {
     let mut seen = Seen::new(alloc);
     for item in text.split("; ") {

@@ -97,7 +97,7 @@ impl Done {
     }
 }
 
-/// What a step answers and does: items, each behind a semicolon.
+/// What a step answers and does: items, each after a semicolon.
 pub fn output(alloc: Global, text: &str) -> Result<StepOut, Fail> {
     let mut done = Done::new(alloc);
     for item in text.split("; ") {

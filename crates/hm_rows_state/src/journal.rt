@@ -15,7 +15,7 @@ use hm_transit::TransitHands;
 use std::alloc::{AllocError, Global};
 use std::test::Fail;
 
-// The entries behind its start.
+// The entries after its start.
 const JOURNAL: [&[u8]; 65] = [
     // A server comes up.
     b"\x05\x02\0h1\x94>\x01\0\0\0\0\0\0\0",
@@ -146,7 +146,7 @@ fn add_first(
     Ok(true)
 }
 
-// The state of so many entries of the journal, and of some more behind them.
+// The state of so many entries of the journal, and of some more after them.
 pub(crate) fn state_at(alloc: Global, count: usize, more: &[&[u8]]) -> Result<State, Fail> {
     let mut state = State::start(alloc, sheets(alloc)?)?;
     let first = add_first(alloc, &mut state, &JOURNAL, count.saturating_sub(1));

@@ -179,7 +179,7 @@ const CASES: [Case; 53] = [
     // A server that never came up, or is down.
     (1, &[], b"\x06\x02\0h1\x94>\x01\0\0\0\0\0\0\0", 15),
     (57, &[], b"\x06\x02\0h1\x94>\x01\0\0\0\0\0\0\0", 15),
-    // An abort of what isn't there, has ended, has failed, was aborted; of a child, whose row is behind the point.
+    // An abort of what isn't there, has ended, has failed, was aborted; of a child, whose row is after the point.
     (1, &[], b"\x07\x01\0\0\0\0\0\0\0", 16),
     (32, &[], b"\x07\x01\0\0\0\0\0\0\0", 16),
     (44, &[], b"\x07\n\0\0\0\0\0\0\0", 16),
@@ -190,7 +190,7 @@ const CASES: [Case; 53] = [
         16,
     ),
     (14, &[], b"\x07\x04\0\0\0\0\0\0\0", 16),
-    // An abort behind the point.
+    // An abort after the point.
     (12, &[], b"\x07\x01\0\0\0\0\0\0\0", 17),
     (58, &[], b"\x07\x11\0\0\0\0\0\0\0", 17),
     (51, &[], b"\x07\x0f\0\0\0\0\0\0\0", 17),

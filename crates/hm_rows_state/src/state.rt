@@ -21,7 +21,7 @@ const ASKED: Seen = (2, 1, Some(Pid(1)), Some((1, 0, 0)));
 const STEPPED: Seen = (3, 1, Some(Pid(1)), Some((1, 1, 0)));
 
 // What is added: the submission, or a step of its procedure that has this answer and does nothing else. Why that isn't
-// allowed, and what is seen behind it.
+// allowed, and what is seen after it.
 const CASES: [(Option<Answer>, Option<NotAllowed>, Seen); 5] = [
     (Some(Answer::More(1)), Some(NotAllowed::Rule(5)), STARTED),
     (None, None, ASKED),

@@ -132,7 +132,7 @@ fn a_stop_leaves_the_first_pieces_of_a_batch(rt: HostRuntime) -> Result<(), Fail
         (Choice::Fill(b'-'), false),
     ];
     for (choice, is_open) in choices {
-        // It is as it was behind each flush that fails.
+        // It is as it was after each flush that fails.
         let mut batch = batch_of(rt.alloc(), PIECES)?;
         for (call, synced, open) in STOPS {
             let want = if is_open { open } else { synced };

@@ -7,7 +7,7 @@ use std::test::Fail;
 // A log with the one frame 1, 2, 3.
 const ONE: &[u8] = b"HMASTERJ\x01+\x03\0\0\0\x01\x02\x03-";
 
-// Behind an append of the frame 4.
+// After an append of the frame 4.
 const TWO: &[u8] = b"HMASTERJ\x01+\x03\0\0\0\x01\x02\x03+\x01\0\0\0\x04-";
 
 // A disk with room for 64 bytes, whose calls of these numbers fail.

@@ -1,4 +1,4 @@
--- Who is in a list behind a change.
+-- Who is in a list after a change.
 use Rattle.std.proofs.Common.{◌≡◌, ◌≢◌, ℕ, zero, suc, ◌<◌, not, List, [], ◌∷◌, ◌++◌, length, map, set, drop, eqb, cond, Some, slice_get, refl, sym, ap, ◌∙◌, subst, inl, inr, ◌⊎◌, arith}
 use Rattle.std.proofs.lemmas.Bool.{cases_eq, eq-eqb, ne_eqb}
 use Rattle.std.proofs.lemmas.Bool.Decides.{nat_tests}
@@ -31,7 +31,7 @@ list_at-map f none [] l = sym none
 list_at-map f none (xs ∷ lists) zero = refl
 list_at-map f none (xs ∷ lists) (suc l) = list_at-map f none lists l
 
--- who is left behind a pid
+-- who is left after a pid
 pub in_without : (p q : ℕ) (xs : List ℕ) → IsIn q (without p xs) → IsIn q xs × (q ≢ p)
 in_without p q [] is = absurd is
 in_without p q (x ∷ xs) is = elim (cases_eq x p) [

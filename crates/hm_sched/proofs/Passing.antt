@@ -212,6 +212,6 @@ next_both rows old between new given before middle after one two = record {
       let t = two.steps in omega (arith, long, first, all, s, t));
 }
 
--- the tables' list is as it was behind the servers'
+-- the tables' list is as it was after the servers'
 pub tables_kept : (rows : List Row) (old new : List (List ℕ)) (given : Option ℕ) (before after : ℕ) → IsNextOf rows old new Servers given before after → members new Tables ≡ members old Tables
 tables_kept rows old new given before after is = (passes_list rows old new Servers is.moves given refl is.passes).ready Tables refl refl

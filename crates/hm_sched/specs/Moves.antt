@@ -17,7 +17,7 @@ abbrev pub comers : Queue → List (ℕ × Queue) → List ℕ
 comers queue [] = []
 comers queue (move ∷ more) = if is_same move.1 queue then move.0 ∷ comers queue more else comers queue more
 
--- the front of a list went to the back of others, in order; the one behind it, if there is one, was taken out; the rest is left
+-- the front of a list went to the back of others, in order; the one after it, if there is one, was taken out; the rest is left
 pub record Moves (old new : List (List ℕ)) (queue : Queue) (moves : List (ℕ × Queue)) (taken : Option ℕ) : Type 0 where
   pub front : members old queue ≡ movers moves ++ (option_to_list taken ++ members new queue)
   pub others : (k : Queue) → is_same queue k ≡ false → members new k ≡ members old k ++ comers k moves
@@ -50,7 +50,7 @@ pub record PassesOne (rows : List Row) (old new : List (List ℕ)) (queue : Queu
   pub free : IfSome given (IsFree rows)
   pub rest : IfNone given (members new queue ≡ [])
 
--- all of the servers' list conflict, and the tables' is gone through behind it
+-- all of the servers' list conflict, and the tables' is gone through after it
 pub record PassesBoth (rows : List Row) (old new : List (List ℕ)) (moves : List (ℕ × Queue)) (given : Option ℕ) : Type 0 where
   pub between : List (List ℕ)
   pub servers : List (ℕ × Queue)

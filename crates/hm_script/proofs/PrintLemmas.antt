@@ -82,7 +82,7 @@ script_more out new commands i c within is so_far written =
     written ∙ ap (λ t. t ++ line_text c) so_far ∙ flat_map_more line_text [] (take i commands) c
     ∙ ap script_text (sym (take_more commands i c within ∙ ap (λ d. take i commands ++ d ∷ []) (sym is)))
 
--- the lines of a command and those behind it
+-- the lines of a command and those after it
 line_more : (n : ℕ) (first : Bool) (command : Command) (rest : List ℕ) → may_stand first (spelling command).keyword ≡ true → IsFitting (spelling command)
     → read_lines every n first (lines_of ((command_text command ++ 10 ∷ []) ++ rest)) ≡ onto_others (spelling command) (read_lines every (n + 1) false (lines_of rest))
 line_more n first command rest stands fit =

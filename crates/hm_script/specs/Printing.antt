@@ -22,14 +22,14 @@ are_bytes bytes = list_all (λ b. nat_lt b 256) bytes
 abbrev pub IsReadBack : Need → Value → Type 0
 IsReadBack need value = (is_word (value_text value) ≡ true) × (read need (value_text value) ≡ Ok value)
 
--- the values may stand behind needed words
+-- the values may stand after needed words
 abbrev pub FitRest : Rest → List Value → Type 0
 FitRest rest [] = Unit {0}
 FitRest nothing (value ∷ values) = ⊥
 FitRest (maybe need) (value ∷ values) = IsReadBack need value × (values ≡ [])
 FitRest (many need) (value ∷ values) = IsReadBack need value × FitRest (many need) values
 
--- the values are what is needed, and what may stand behind that
+-- the values are what is needed, and what may stand after that
 abbrev pub Fit : List Need → Rest → List Value → Type 0
 Fit [] rest values = FitRest rest values
 Fit (need ∷ needs) rest [] = ⊥

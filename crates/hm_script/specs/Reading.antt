@@ -23,7 +23,7 @@ abbrev pub in_order : Bool → Result Spelling Why → Result Spelling Why
 in_order true reading = reading
 in_order false reading = Err Order
 
--- the first word, if it is a keyword, and the words behind it
+-- the first word, if it is a keyword, and the words after it
 abbrev pub read_known : Bool → List ℕ → Option ℕ → Option Keyword → List (List ℕ) → Result Spelling Why
 read_known first line wrong None words = Err (Word (indent_of line))
 read_known first line wrong (Some keyword) words = unless_wrong wrong (in_order (may_stand first keyword) (read_keyword keyword words))

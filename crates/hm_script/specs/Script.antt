@@ -83,7 +83,7 @@ IsSpelled (Workers count) = count ≤ 16
 IsSpelled (Merge nonce regions) = length regions ≡ 2
 IsSpelled command = Unit {0}
 
--- a command that may stand behind others: no Workers
+-- a command that may stand after others: no Workers
 abbrev pub IsLater : Command → Type 0
 IsLater command = may_stand false (spelling command).keyword ≡ true
 

@@ -1,4 +1,4 @@
--- Which words stand behind each keyword.
+-- Which words stand after each keyword.
 use Rattle.std.specs.Prelude.{ℕ, ◌-◌, ◌^◌, Result, Ok, Err, List, [], ◌∷◌, drop}
 use Rattle.hm_script.specs.declared.bad.Why.{Why}
 use Rattle.hm_script.specs.declared.bad.Why.TheVariants.{Missing, Extra}
@@ -6,7 +6,7 @@ use Rattle.hm_script.specs.declared.keyword.Keyword.{Keyword}
 use Rattle.hm_script.specs.declared.keyword.Keyword.TheVariants.{Workers, OfNs, Create, OfTable, Modify, Split, Merge, Move, OfNumber, OfServer, Refuse, Procs, Cut, Alone}
 use Rattle.hm_script.specs.Values.{Need, nonce, ns, table, region, key, server, number, target, json, Value, read}
 
--- what may stand behind the needed words: nothing, perhaps one word, or any number of words
+-- what may stand after the needed words: nothing, perhaps one word, or any number of words
 pub data Rest : Type 0 where
   nothing : Rest
   maybe : Need → Rest
@@ -20,7 +20,7 @@ pub record Shape : Type 0 where
 abbrev pub any_number : Need
 any_number = number (2 ^ 64 - 1)
 
--- the words behind each keyword
+-- the words after each keyword
 abbrev pub shape_of : Keyword → Shape
 shape_of Workers = record { needs = number 16 ∷ []; rest = nothing }
 shape_of (OfNs word) = record { needs = nonce ∷ ns ∷ []; rest = nothing }
@@ -52,14 +52,14 @@ abbrev pub first_read : Need → List (List ℕ) → Result Value Why
 first_read need [] = Err Missing
 first_read need (word ∷ words) = read need word
 
--- the words behind the needed ones
+-- the words after the needed ones
 abbrev pub read_rest : Rest → List (List ℕ) → Result (List Value) Why
 read_rest rest [] = Ok []
 read_rest nothing (word ∷ words) = Err Extra
 read_rest (maybe need) (word ∷ words) = before (read need word) (read_rest nothing words)
 read_rest (many need) (word ∷ words) = before (read need word) (read_rest (many need) words)
 
--- the needed words in order, and then those behind them
+-- the needed words in order, and then those after them
 abbrev pub read_needs : List Need → Rest → List (List ℕ) → Result (List Value) Why
 read_needs [] rest words = read_rest rest words
 read_needs (need ∷ needs) rest words = before (first_read need words) (read_needs needs rest (drop 1 words))

@@ -1,4 +1,4 @@
--- How commands are spelled: a keyword, and the values of the words behind it.
+-- How commands are spelled: a keyword, and the values of the words after it.
 use Rattle.std.specs.Prelude.{ℕ, Result, Ok, Err, List, [], ◌∷◌, ◌++◌, map}
 use Rattle.std.specs.List.{flat_map}
 use Rattle.hm_script.specs.declared.bad.Why.{Why}
@@ -56,11 +56,11 @@ abbrev pub spelled : Keyword → Result (List Value) Why → Result Spelling Why
 spelled keyword (Ok values) = Ok (record { keyword = keyword; values = values })
 spelled keyword (Err why) = Err why
 
--- a keyword and the words behind it
+-- a keyword and the words after it
 abbrev pub read_keyword : Keyword → List (List ℕ) → Result Spelling Why
 read_keyword keyword words = spelled keyword (read_needs (shape_of keyword).needs (shape_of keyword).rest words)
 
--- a value behind a space
+-- a value after a space
 abbrev pub behind_space : Value → List ℕ
 behind_space value = 32 ∷ value_text value
 

@@ -1,4 +1,4 @@
--- What words behind a keyword may have to be, and what they are then read as.
+-- What words after a keyword may have to be, and what they are then read as.
 use Rattle.std.specs.Prelude.{ℕ, Bool, true, false, Option, Some, None, Result, Ok, Err, List, [], ◌∷◌, codes, if◌then◌else◌}
 use Rattle.std.specs.Fmt.{decimal}
 use Rattle.std.specs.Str.{bytes_eq}

@@ -2,7 +2,7 @@
 ghost use Rattle.std.specs.Prelude.{◌≡◌};
 ghost use Rattle.hm_script.specs.Keywords.{keyword_text, keyword_in, keyword_of};
 
-/// A word that begins a line, by the words that stand behind it.
+/// A word that begins a line, by the words that stand after it.
 #[derive(Clone, Copy)]
 pub enum Keyword {
     /// A number, and only in the first command.

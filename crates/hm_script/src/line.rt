@@ -26,7 +26,7 @@ fn without_return(line: &[u8]) -> &[u8]
     }
 }
 
-// The first line, and what stands behind it.
+// The first line, and what stands after it.
 pub fn first_line(bytes: &[u8]) -> (&[u8], &[u8])
     requires { 0 < length bytes.now }
     ensures lines { lines_of bytes.now ≡ result.0.now ∷ lines_of result.1.now }

@@ -329,7 +329,7 @@ fn put_json(out: &mut Vec<u8>) -> Result<(), AllocError>
     Ok(())
 }
 
-// The words behind a command's keyword, each behind a space.
+// The words after a command's keyword, each after a space.
 fn put_values(alloc: Global, out: &mut Vec<u8>, command: &Command) -> Result<(), AllocError>
     ensures written { OnOk result (out.new.items ≡ out.old.items ++ flat_map behind_space (spelling command.now).values) }
     ensures fit { IsSpelled command.now → OnOk result (IsFitting (spelling command.now)) }

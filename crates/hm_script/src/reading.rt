@@ -168,7 +168,7 @@ fn alone(word: LoneWord, words: &mut Words) -> Result<Command, Why>
     }
 }
 
-// The command of a keyword and the words behind it.
+// The command of a keyword and the words after it.
 fn read_keyword(alloc: Global, keyword: Keyword, words: &mut Words) -> Result<Command, Why>
     ensures { IsAnswer spelling result (keyword_read keyword words.old) }
 {

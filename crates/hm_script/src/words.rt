@@ -23,7 +23,7 @@ fn skip_spaces(line: &[u8]) -> &[u8]
     rest
 }
 
-// The first word, and what stands behind it.
+// The first word, and what stands after it.
 fn next_word(line: &[u8]) -> Option<(&[u8], &[u8])>
     ensures { MatchOption result (words_of line.now ≡ []) (λ r. words_of line.now ≡ r.0.now ∷ words_of r.1.now) }
 {

@@ -61,7 +61,7 @@ BeginsApart J p =
 pub begins_apart : (pid : Pid) (pick : Option Server) (out : StepOut) (J : Past) → IsLegal (entry_is.Step pid pick out ∷ J) → BeginsApart J pid.0
 begins_apart pid pick out J legal node is top none s x h differs clash = step_free pid pick out J legal s (holds_with J s x h) (tops_conflict J pid.0 s node x (is, top) h.0 (λ e. differs (sym e)) clash)
 
--- a root behind a step was one before
+-- a root after a step was one before
 module _ (pid : Pid) (pick : Option Server) (out : StepOut) (J : Past) (step : StepFacts J pid.0 pick out) where
   pub step_top : (s : ℕ) (x : Node) → TopIs (entry_is.Step pid pick out ∷ J) s x → TopIs J s x
   step_top s x is = elim (le_or_lt s (made J)) [

@@ -203,7 +203,7 @@ module _ (pid : Pid) (pick : Option Server) (out : StepOut) (J : Past) (grown : 
           let some : last_answer J pid.0 ≢ None = (λ none. none-some a (sym none ∙ l)) in
           (was J step.node.root, ready_held (inr some) (λ none. some (ap (last_answer J) (sym (root_step e).0) ∙ none)))
 
-  -- the row that the root runs next, behind its own step
+  -- the row that the root runs next, after its own step
   last_root : step.node.above ≡ [] → last_answer J' step.node.root ≡ Some out.answer
   last_root e = ap (last_answer (entry_is.Step pid pick out ∷ J)) (root_step e).0 ∙ answer_now pid pick out J
 
@@ -227,7 +227,7 @@ module _ (pid : Pid) (pick : Option Server) (out : StepOut) (J : Past) (grown : 
   unfolding top
   lined_top e exact = ap (λ (n : Node). is_lined n.args) (root_step e).1 ∙ lined_is step.node.args exact
 
-  -- behind such an answer the tree of the root that steps may not be undone any more
+  -- after such an answer the tree of the root that steps may not be undone any more
   past_not : step.node.above ≡ [] → exact_rows (kind_of step.node.args) ≡ [] → failing out.answer ≡ None → IsPast step.sheet.rows (first_row_of step.node.args) out.answer → MayFall J' step.node.root own_root.0 → ⊥
   past_not e exact fine past (inl listless) = true≢false (sym (lined_top e exact) ∙ listless)
   past_not e exact fine past (inr (inl failed)) = failed (cause_is ∙ ap (λ c. or_else c (failing out.answer)) (uncaused e) ∙ fine)
@@ -236,7 +236,7 @@ module _ (pid : Pid) (pick : Option Server) (out : StepOut) (J : Past) (grown : 
   abbrev IsKept : Type 0
   IsKept = (out.edits ≡ []) ⊎ ((step.row.undo ≡ back_is.Edits) × Tells out.edits (cat J))
 
-  -- a root's tree that may be undone behind its step could be before, and then the step can be undone
+  -- a root's tree that may be undone after its step could be before, and then the step can be undone
   root_could : step.node.above ≡ [] → MayFall J' step.node.root own_root.0 → MayFall J step.node.root own_root.0 × IsKept
   unfolding top
   root_could e may = elim (editless J pid.0 pick out step d led_here own_root.0.args own_args belongs_here) [
@@ -312,7 +312,7 @@ module _ (pid : Pid) (pick : Option Server) (out : StepOut) (J : Past) (grown : 
   kept_tells (inl none) edits e = subst (λ l. Tells l (cat J)) (sym none ∙ e) tt
   kept_tells (inr told) edits e = subst (λ l. Tells l (cat J)) e told.1
 
-  -- behind the step what may be undone leads back to where the root began
+  -- after the step what may be undone leads back to where the root began
   pub unwinds_now : MayFall J' step.node.root own_root.0 → (key : CatKey) → covers own_root.0.args key ≡ true → unwound (stack J' step.node.root) key (cat J' key) ≡ was J' step.node.root key
   unwinds_now may key c =
       let r = ready in
@@ -330,7 +330,7 @@ module _ (pid : Pid) (pick : Option Server) (out : StepOut) (J : Past) (grown : 
   pub stack_within : AllWithin own_root.0.args (stack J' step.node.root)
   stack_within = subst (AllWithin own_root.0.args) (sym stack_is) (push_within own_root.0.args step.row.undo (is_some (failing out.answer)) pid.0 (row_if_there J pid.0 (node_of J pid.0)) out.edits (stack J step.node.root) within_now ready.1.within)
 
-  -- who is there behind the step: who was, or a child that it made
+  -- who is there after the step: who was, or a child that it made
   old_or_kid : (q : ℕ) (x : Node) → node_of J' q ≡ Some x → ((q ≤ made J) × (node_of J q ≡ Some x)) ⊎ ((i : ℕ) × (a : Args) × (slice_get (args_in out.children) i ≡ Some a) × (x ≡ child_of pid.0 step.node a) × (made J < q))
   old_or_kid q x is = elim (le_or_lt q (made J)) [
     | inl le ↦ inl (le, sym (node_same pid pick out J q le) ∙ is)

@@ -1,4 +1,4 @@
--- What a step edits, and whether its tree may still fail behind it.
+-- What a step edits, and whether its tree may still fail after it.
 use Rattle.std.proofs.Common.{◌≡◌, ℕ, List, [], ◌∷◌, ◌++◌, Bool, true, false, not, ◌&&◌, ◌||◌, ◌==◌, nat_le, cond, Option, Some, None, refl, ap, sym, ◌∙◌, subst, inl, inr, ◌⊎◌, slice_get}
 use Rattle.std.proofs.lemmas.Bool.{and_left, and_parts, and_right, false≢true, not-true, not_from_true, or_cases, true≢false}
 use Rattle.std.proofs.lemmas.Option.{none-some, same_Some}
@@ -87,11 +87,11 @@ undone_by_edits sheet valid place row is edit before not_ends =
       ]
     ]
 
--- behind an answer the next row, if there is one, is after the point
+-- after an answer the next row, if there is one, is after the point
 abbrev pub IsPast : List Row → ℕ → Answer → Type 0
 IsPast rows first answer = is_stop answer ≡ false → (row : Row) → slice_get rows (row_after first (Some answer)) ≡ Some row → row.after ≡ true
 
--- behind an answer the next row is there, before the point
+-- after an answer the next row is there, before the point
 abbrev pub IsEarly : List Row → ℕ → Answer → Type 0
 IsEarly rows first answer = (is_stop answer ≡ false) × (row : Row) × (slice_get rows (row_after first (Some answer)) ≡ Some row) × (row.after ≡ false)
 

@@ -14,7 +14,7 @@ use Rattle.hm_model.specs.Undo.{Undoable, pushed}
 use Rattle.hm_serial.proofs.Local.{Within, undo_leads_back, within_undo}
 use Rattle.hm_model.specs.GoingBack.{Tells}
 
--- the row of a key behind the undoing of steps, the latest first
+-- the row of a key after the undoing of steps, the latest first
 abbrev pub unwound : List Undoable → CatKey → Option CatRow → Option CatRow
 unwound [] key row = row
 unwound (latest ∷ below) key row = unwound below key (edited (undo_edits latest.undo latest.edits) key row)

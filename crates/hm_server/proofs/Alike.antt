@@ -1,4 +1,4 @@
--- What is kept, behind a call that was served.
+-- What is kept, after a call that was served.
 use Rattle.std.proofs.Common.{◌≡◌, ℕ, List, Some, Bool, true, false, ◌||◌, ◌==◌, if◌then◌else◌, is_some, refl, ap, sym, ◌∙◌, arith}
 use Rattle.std.specs.Option.{option_map}
 use Rattle.std.specs.Ordering.{is_eq, nat_cmp}

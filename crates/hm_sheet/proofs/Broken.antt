@@ -1,4 +1,4 @@
--- The first rule that fails, of rules behind others; and where a sheet can break one.
+-- The first rule that fails, of rules after others; and where a sheet can break one.
 use Rattle.std.proofs.Common.{◌≡◌, ℕ, ◌+◌, ◌<◌, ◌≤◌, List, [], ◌∷◌, ◌++◌, length, Option, Some, None, Bool, true, false, refl, arith, if◌then◌else◌, slice_get, inl, inr, zero, suc, ◌⊎◌, drop, nat_lt, ◌||◌, ◌==◌, ◌&&◌, not}
 use Rattle.std.proofs.lemmas.Bool.Decides.{nat_tests}
 use Rattle.std.proofs.lemmas.Bool.{cases_lt}

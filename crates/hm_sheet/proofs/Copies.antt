@@ -38,7 +38,7 @@ copies-push all sheets kinds i sheet lt so_far is one =
 pub copies-all : (all sheets : List Sheet) (kinds : List ℕ) (index : ℕ) → length kinds ≤ index → AreSheetsOf (take index kinds) all sheets → AreSheetsOf kinds all sheets
 copies-all all sheets kinds index over copies = subst (λ ks. AreSheetsOf ks all sheets) (take_all index kinds over) copies
 
--- what holds of the rest holds of its first, and of what comes behind
+-- what holds of the rest holds of its first, and of what comes after
 pub holds_next : (P : ℕ → Type 0) (numbers : List ℕ) (i : ℕ) → i < length numbers → AllByRecursion P (drop i numbers) → P (get_or numbers i 0) × AllByRecursion P (drop (i + 1) numbers)
 holds_next P [] i lt all = absurd (omega (arith, lt))
 holds_next P (first ∷ numbers) zero lt all = all

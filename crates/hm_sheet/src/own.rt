@@ -27,7 +27,7 @@ fn row_to(line: Line, next: u8) -> Row
     }
 }
 
-// Lines as rows behind others, each leading to the next one, and the last to the end.
+// Lines as rows after others, each leading to the next one, and the last to the end.
 fn push_rows(rows: &mut Vec<Row>, lines: &[Line]) -> Result<(), AllocError>
     requires { length lines.now ≤ 200 }
     ensures { OnOk result (rows.new.items ≡ rows.old.items ++ in_turn 1 (map line_of lines.now)) }

@@ -28,7 +28,7 @@ first_of past legal p one is = by (node_of past p) refl is
 abbrev pub asked_by : Past → List ℕ → List Lock
 asked_by past numbers = flat_map locks_of (shown past numbers)
 
--- one more, and the others behind it
+-- one more, and the others after it
 asked_more : (past : Past) (p : ℕ) (more : List ℕ) → asked_by past (p ∷ more) ≡ asked_by past (p ∷ []) ++ asked_by past more
 asked_more past p more = by (record_of past p)
   where

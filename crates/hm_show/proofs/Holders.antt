@@ -27,7 +27,7 @@ use Rattle.hm_model.proofs.Grown.{grown_all, made_up_to}
 use Rattle.hm_show.specs.Locks.{holds}
 use Rattle.hm_show.specs.Procs.{pids}
 
--- each number is below those behind it
+-- each number is below those after it
 abbrev Rise : List ℕ → Type 0
 Rise [] = Unit {0}
 Rise (n ∷ ns) = AllByRecursion (λ m. n < m) ns × Rise ns
@@ -37,7 +37,7 @@ below_in n [] all m is = absurd is
 below_in n (k ∷ ns) all m (inl e) = subst (λ x. n < x) (sym e) all.0
 below_in n (k ∷ ns) all m (inr is) = below_in n ns all.1 m is
 
--- what one that rises has behind its first, another has there too
+-- what one that rises has after its first, another has there too
 behind_first : (n m : ℕ) (ns ms : List ℕ) → n ≡ m → AllByRecursion (λ k. n < k) ns → ((p : ℕ) → IsIn p (n ∷ ns) → IsIn p (m ∷ ms)) → (p : ℕ) → IsIn p ns → IsIn p ms
 behind_first n m ns ms same all to p is = elim (to p (inr is)) [
   | inl e ↦ absurd (let lt = below_in n ns all p is in omega (arith, lt, e, same))

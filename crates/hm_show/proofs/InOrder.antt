@@ -56,7 +56,7 @@ module _ {X : Type 0} (lt : X → X → Bool) where
     not_above : (x y : X) (xs ys : List X) → Rises (y ∷ ys) → filter (ties lt x) (x ∷ xs) ≡ filter (ties lt x) (y ∷ ys) → lt x y ≡ false
     not_above x y xs ys up same = first_passes (λ z. lt z y ≡ false) (ties lt x) (y ∷ ys) x (filter (ties lt x) xs) (irreflexive y, up.0) (sym same ∙ kept (ties lt x) x xs (itself x))
 
-    -- behind one that both begin with, the same are kept
+    -- after one that both begin with, the same are kept
     behind : (test : X → Bool) (x : X) (xs ys : List X) → filter test (x ∷ xs) ≡ filter test (x ∷ ys) → filter test xs ≡ filter test ys
     behind test x xs ys same = by (test x) refl
       where

@@ -12,14 +12,14 @@ but_all all kept none = record {
   count = (let n = none.count in omega (arith, n));
 }
 
--- behind the last one
+-- after the last one
 pub but_none : (all : List Line) (kept : Lines) → AreLinesBut [] all kept → AreLines all kept
 but_none all kept rest = record {
   text = sym (append-nil _) ∙ rest.text;
   count = (let n = rest.count in omega (arith, n));
 }
 
--- behind one line more
+-- after one line more
 pub but_more : (line : Line) (rest all : List Line) (old new : Lines) → AreLinesBut (line ∷ rest) all old → IsMore line old new → AreLinesBut rest all new
 but_more line rest all old new was more =
     let joined : (a b c : List ℕ) → (a ++ b) ++ c ≡ a ++ (b ++ c) = λ a b c. simp append_assoc in
@@ -28,7 +28,7 @@ but_more line rest all old new was more =
       count = (let n = was.count in let one = more.count in omega (arith, n, one));
     }
 
--- behind one line more, if there is one
+-- after one line more, if there is one
 pub but_more_if : (o : Option Line) (rest all : List Line) (old new : Lines) → AreLinesBut (cons_option o rest) all old → IsMoreIf o old new → AreLinesBut rest all new
 but_more_if None rest all old new was same = subst (AreLinesBut rest all) (sym same) was
 but_more_if (Some line) rest all old new was more = but_more line rest all old new was more

@@ -77,7 +77,7 @@ abbrev pub is_finish : Act → Bool
 is_finish act_is.Finish = true
 is_finish act = false
 
--- acts behind the one that closes regions, up to the one that changes them
+-- acts after the one that closes regions, up to the one that changes them
 abbrev pub is_shut : Act → Bool
 is_shut act_is.Layout = true
 is_shut act_is.UpdateSplitMeta = true
@@ -246,7 +246,7 @@ module _ (u : TableName) (asked : CatKey → Bool) where
       (subst (λ o. IsIn r (live_among u (keep true (key_is.Region r) o (rows_at asked there keys)))) (sym is) (live_here r range parents (rows_at asked there keys) own)))
   live_listed there (first ∷ keys) r range parents own on (inr later) is = live_kept (asked first) first (there first) (rows_at asked there keys) r (live_listed there keys r range parents own on later is)
 
--- no first act stands behind one that closes
+-- no first act stands after one that closes
 abbrev pub begins_shut : List Line → Bool
 begins_shut [] = false
 begins_shut (line ∷ lines) = is_shut line.act

@@ -90,7 +90,7 @@ module _ (pid : Pid) (pick : Option Server) (out : StepOut) (J : Past) (legal : 
     pub root_is : step.node.root ≡ pid.0
     root_is = (grown_all J legal.0).tops pid.0 step.node step.node_is top
 
-    -- where it stands: the line of its row and those behind it
+    -- where it stands: the line of its row and those after it
     pub record Own : Type 0 where
       pub base : Catalog
       pub then : List Edit
@@ -145,7 +145,7 @@ module _ (pid : Pid) (pick : Option Server) (out : StepOut) (J : Past) (legal : 
             ((serves step.node.args exact none_rows).begins (cat J)) (λ key g. refl) (λ begun. absurd (begun none)) (cond-true ((pid.0 == pid.0) && is_none (last_answer J pid.0)) (cat J) (was J pid.0) (and_from (pid.0 == pid.0) (is_none (last_answer J pid.0)) (eq-eqb pid.0 pid.0 refl) (ap is_none none))) (λ none. (refl, refl))
         by (Some a) some = listed a some (((stands_all J legal.0).tree pid.0 step.node ((step.node_is, top), (λ none. none-some a (sym none ∙ some)), subst (λ r. root_ended J r ≡ false) root_is (step_open pid pick out J (grown_all J legal.0) step does))).stage (step.uncaused (ap is_top top)) runs_now)
 
-    -- behind it a row follows, of the next line
+    -- after it a row follows, of the next line
     pub record Follows (act : Act) : Type 0 where
       pub acts : out ≡ act_answer step.row.act step.row.next (step_input J pid.0 step.node pick)
       pub next : Line

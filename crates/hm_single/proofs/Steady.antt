@@ -176,7 +176,7 @@ module _ (pid : Pid) (row : ℕ) (out : StepOut) (J : Past) (legal : IsLegal (en
   undo_steady key reading = within_others root.args out.edits (undo_within pid row out J legal its_grown its_all.falls) key
       (left_alone J legal.0 q region m going (root_of J pid.0) root (undo_holds pid row out J legal its_grown its_all.falls) other_tree key reading) (cat J key)
 
--- so it is behind every entry
+-- so it is after every entry
 pub steady : (entry : Entry) (J : Past) → IsLegal (entry ∷ J) → (q : ℕ) (region : Region) (m : Moves J q region) → IsGoing (last_answer J q) → (key : CatKey) → reads m.0.args key ≡ true → cat (entry ∷ J) key ≡ cat J key
 steady (entry_is.Start sheets) J legal q region m going key reading = refl
 steady (entry_is.Submit nonce request) J legal q region m going key reading = refl

@@ -31,7 +31,7 @@ state_on entry past count allowed few was = record {
   small = few;
 }
 
--- and stands behind the others
+-- and stands after the others
 pub behind : (entry : Entry) (past : Past) → reverse (entry ∷ past) ≡ reverse past ++ entry ∷ []
 behind entry past = reverse-append (entry ∷ []) past
 

@@ -44,7 +44,7 @@ impl Ready {
         self.parts.made()
     }
 
-    // An entry with what is kept of it behind the journal, which has it.
+    // An entry with what is kept of it after the journal, which has it.
     pub(crate) fn with(journal: Journal, entry: Entry, parts: Parts) -> Ready
         requires { AreParts (drop 1 journal.entries) entry parts }
         ensures entry { result.entry ≡ entry }

@@ -261,7 +261,7 @@ impl State {
         Ok(parts)
     }
 
-    /// Adds an entry, in the room that was made for it behind the same journal. It takes no memory.
+    /// Adds an entry, in the room that was made for it after the same journal. It takes no memory.
     pub fn apply(&mut self, ready: Ready)
         requires past { ready.past ≡ back self.old.entries }
         requires allowed { Allowed (back self.old.entries) ready.entry }

@@ -34,7 +34,7 @@ few_among (x ∷ xs) ys once among =
     let longer = w.1 in
     omega (arith, fewer, longer)
 
--- a report of this refusal is among the calls, behind which there are these
+-- a report of this refusal is among the calls, after which there are these
 abbrev pub with_refused : Bool → ℕ → List ℕ → List ℕ
 with_refused refused call calls = cond refused (call ∷ calls) calls
 

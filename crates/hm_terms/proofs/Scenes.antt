@@ -88,7 +88,7 @@ both : (a b : Bool) → (a && b) ≡ true → (a ≡ true) × (b ≡ true)
 both true b h = (refl, h)
 both false b h = absurd (false≢true h)
 
--- what waits is among the reports, behind one more too
+-- what waits is among the reports, after one more too
 waits_on : (waiting reports : List ReportMsg) (made : Option ReportMsg) → ((report : ReportMsg) → IsIn report waiting → IsIn report reports)
     → (report : ReportMsg) → IsIn report (with_report waiting made) → IsIn report (with_report reports made)
 waits_on waiting reports None among report h = among report h

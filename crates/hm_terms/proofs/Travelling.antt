@@ -139,7 +139,7 @@ report_stays : (reports : List ReportMsg) (made : Option ReportMsg) (report : Re
 report_stays reports None report there = there
 report_stays reports (Some last) report there = pushed_old report last reports there
 
--- what waits was reported, behind one report more too
+-- what waits was reported, after one report more too
 waits_too : (waiting reports : List ReportMsg) (made : Option ReportMsg) → ((report : ReportMsg) → IsIn report waiting → IsIn report reports)
     → (report : ReportMsg) → IsIn report (with_report waiting made) → IsIn report (with_report reports made)
 waits_too waiting reports None among report there = among report there

@@ -18,7 +18,7 @@ use Rattle.hm_terms.specs.Travels.{Travelled, reported_in}
 abbrev pub NewIsWithin : Type 0
 NewIsWithin = (kept : Recording) (peer : Peer) → IsWithin peer (length (refused_by peer (past_in (new_scene kept)))) (new_scene kept)
 
--- behind a command each keeps to what it kept to, and to what the command granted
+-- after a command each keeps to what it kept to, and to what the command granted
 abbrev pub CommandsStayWithin : Type 0
 CommandsStayWithin =
     (command : Command) (old : Scene) (answer : Option Answer) (new : Scene) → Comes command old answer new
@@ -70,7 +70,7 @@ RepeatsCallAndReport =
     (before : List ℕ) (old : Scene) (count : ℕ) (new : Scene) → Answers command_is.Repeat old (answer_is.Resent count) new
     → IsLegal (past_in old) → Travelled before old → 2 * length (reported_in (past_in old)) ≤ 2 * length before + count
 
--- behind commands a `repeat` counts at least twice the reports since the journal was opened
+-- after commands a `repeat` counts at least twice the reports since the journal was opened
 abbrev pub RepeatsTwiceTheReports : Type 0
 RepeatsTwiceTheReports =
     (kept : Recording) (commands : List Command) (answers : List Answer) (mid : Scene) → AnswersInTurn commands (new_scene kept) answers mid

@@ -16,7 +16,7 @@ pub fn refusals_are_granted()
     ensures { RefusalsAreGranted }
 {}
 
-/// Where a journal was just opened all its reports are old ones. Behind each command, and each server that is held to be dead, the
+/// Where a journal was just opened all its reports are old ones. After each command, and each server that is held to be dead, the
 /// others are of calls that were sent and of reports that were made, and `repeat` counts both.
 pub fn reports_have_travelled()
     ensures new { NewHasTravelled }

@@ -60,7 +60,7 @@ exact_marked (args_are.FenceCall server) = inr (_, _, refl, refl)
 exact_marked (args_are.LayoutCall root) = inr (_, _, refl, refl)
 exact_marked (args_are.SweepLayout root) = inr (_, _, refl, refl)
 
--- behind the end there is no row
+-- after the end there is no row
 at_end : (first : ℕ) (last : Option Answer) → is_stopped last ≡ true → row_after first last ≡ no_row
 at_end first None stops = absurd (false≢true stops)
 at_end first (Some (answer_is.More next)) stops = absurd (false≢true stops)

@@ -326,7 +326,7 @@ wake_all_owes J number_of roster debts lists server tied goes =
       book = all.book;
     }
 
--- behind the waking of those set aside none of them may go on unseen
+-- after the waking of those set aside none of them may go on unseen
 pub wake_held_owes : WakeHeldOwes
 wake_held_owes J number_of roster debts lists tied goes =
     let all = woken J number_of roster debts lists Held tied goes in

@@ -106,7 +106,7 @@ module _ (entry : Entry) (J : Past) (legal : IsLegal (entry ∷ J)) (nodes : (q 
     picks = λ q free lack is_calm. elim (lacks q lack) [ inl on ↦ inl (on, calm q is_calm) | inr on ↦ inr on ];
   }
 
--- an entry behind which those set aside alone are looked at
+-- an entry after which those set aside alone are looked at
 look_aside : (entry : Entry) (J : Past) (number_of : Option Server → ℕ) (roster : Roster) → IsLegal (entry ∷ J) → ((q : ℕ) → node_of (entry ∷ J) q ≡ node_of J q) → ((q : ℕ) → last_answer (entry ∷ J) q ≡ last_answer J q) → ((q : ℕ) → ended (entry ∷ J) q ≡ ended J q)
     → ((q : ℕ) → IsCalm J q → IsCalm (entry ∷ J) q) → SameCalls J (entry ∷ J) → ((q : ℕ) (x : Node) → phase (entry ∷ J) q x ≡ phase J q x) → ((q : ℕ) (x : Node) → undoes (entry ∷ J) q x ≡ undoes J q x)
     → IsTied J number_of roster → IsTiedBut (entry ∷ J) number_of roster late_debts

@@ -25,7 +25,7 @@ abbrev pub AblesStay : Type 0
 AblesStay =
     (entry : Entry) (J : Past) (p : ℕ) → IsLegal (entry ∷ J) → CanGo J p → IsCalm J p → IsNotBy J entry p → CanGo (entry ∷ J) p
 
--- where all that are claimed can go on, all but the one that an entry is by can behind it
+-- where all that are claimed can go on, all but the one that an entry is by can after it
 abbrev pub ClaimedStayAble : Type 0
 ClaimedStayAble =
     (entry : Entry) (J : Past) (number_of : Option Server → ℕ) (roster : Roster) → IsLegal (entry ∷ J) → IsTied J number_of roster

@@ -121,7 +121,7 @@ WakeAllOwes =
     → IsTiedBut J number_of (record roster { lists = lists })
     (record debts { slack = λ q. debts.slack q && not (number_of (called_in (node_of J q)) == server) })
 
--- behind the waking of those set aside none of them may go on unseen
+-- after the waking of those set aside none of them may go on unseen
 abbrev pub WakeHeldOwes : Type 0
 WakeHeldOwes =
     (J : Past) (number_of : Option Server → ℕ) (roster : Roster) (debts : Debts) (lists : List (List ℕ))

@@ -78,7 +78,7 @@ UndoOwes =
     → Unclaims (root_of J pid.0) roster.claimed claimed → Enlists J (entry_is.Undo pid row out ∷ J) roster.rows rows
     → IsTiedBut (entry_is.Undo pid row out ∷ J) number_of (record { claimed = claimed; lists = roster.lists; rows = rows }) (undo_debts J (root_of J pid.0) out)
 
--- a root that is made is owed; behind a server that went down those that were set aside are looked at
+-- a root that is made is owed; after a server that went down those that were set aside are looked at
 abbrev pub root_debts : Past → Bool → Debts
 root_debts before late = record no_debts { owed = is_new before; late = late }
 

@@ -56,34 +56,34 @@ pub fn ends_owe()
     ensures { EndOwes }
 {}
 
-/// Behind a step its children, its procedure, the parent and the root are looked at, and those that wait for a server where rows
+/// After a step its children, its procedure, the parent and the root are looked at, and those that wait for a server where rows
 /// changed.
 pub fn steps_owe()
     ensures { StepOwes }
 {}
 
-/// Behind an undo its followers and the root are looked at, and those that wait for a server where rows changed.
+/// After an undo its followers and the root are looked at, and those that wait for a server where rows changed.
 pub fn undos_owe()
     ensures { UndoOwes }
 {}
 
-/// A root that was made is to become ready; behind a server that went down those that wait for one are looked at.
+/// A root that was made is to become ready; after a server that went down those that wait for one are looked at.
 pub fn roots_owe()
     ensures submit { SubmitOwes }
     ensures down { DownOwes }
 {}
 
-/// Behind a report the one that called is woken, and those whose calls went to a server that the report fences.
+/// After a report the one that called is woken, and those whose calls went to a server that the report fences.
 pub fn reports_owe()
     ensures { ReportOwes }
 {}
 
-/// Behind a server that came those that wait for one are looked at.
+/// After a server that came those that wait for one are looked at.
 pub fn servers_owe()
     ensures { UpOwes }
 {}
 
-/// Behind an abort nothing is left to do: whoever is aborted is before the point, where no server is needed.
+/// After an abort nothing is left to do: whoever is aborted is before the point, where no server is needed.
 pub fn aborts_tie()
     ensures { AbortTies }
 {}
@@ -108,7 +108,7 @@ pub fn debts_rise()
     ensures { DebtsMayRise }
 {}
 
-/// Behind an opening everybody is owed.
+/// After an opening everybody is owed.
 pub fn openings_owe()
     ensures { OpeningOwes }
 {}
@@ -125,8 +125,8 @@ pub fn enlisting_ties()
     ensures ends { EnlistingEnds }
 {}
 
-/// Where nothing is left to do: of the owed those alone are that are busy and stand nowhere; behind one call for one that was
-/// owed; and behind the wake-ups of a report.
+/// Where nothing is left to do: of the owed those alone are that are busy and stand nowhere; after one call for one that was
+/// owed; and after the wake-ups of a report.
 pub fn debts_are_paid()
     ensures told { OwedIsTold }
     ensures one { OnePays }
@@ -135,7 +135,7 @@ pub fn debts_are_paid()
 {}
 
 /// By no entry but its own step, or what undoes a step of its tree where it is the root, does who can go on cease to. So where
-/// all that are claimed can go on, all but the one that an entry is by can behind it.
+/// all that are claimed can go on, all but the one that an entry is by can after it.
 pub fn ables_stay()
     ensures all { AblesStay }
     ensures claimed { ClaimedStayAble }

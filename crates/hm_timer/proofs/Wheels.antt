@@ -59,7 +59,7 @@ with_dues now n size dues dues' m w sized le small room is =
       place = λ l pid here. ap (λ d. d % 512) (same pid (w.known l pid here)) ∙ w.place l pid here;
     }
 
--- a pid behind those that are due no later
+-- a pid after those that are due no later
 put_past : (pid due : ℕ) (xs ys : Timers) → ((p d : ℕ) → Has xs p d → d ≤ due) → put_in pid due (xs ++ ys) ≡ xs ++ put_in pid due ys
 put_past pid due [] ys low = refl
 put_past pid due (x ∷ xs) ys low =

@@ -29,7 +29,7 @@ IsSet timers pid = (due : ℕ) × Has timers pid due
 abbrev pub IsUnset : Timers → ℕ → Type 0
 IsUnset timers pid = (due : ℕ) → Has timers pid due → ⊥
 
--- another pid, behind all that are due no later
+-- another pid, after all that are due no later
 abbrev pub put_in : ℕ → ℕ → Timers → Timers
 put_in pid due [] = (pid, due) ∷ []
 put_in pid due (first ∷ more) = if nat_le first.1 due then first ∷ put_in pid due more else ((pid, due) ∷ first ∷ more)

@@ -150,7 +150,7 @@ impl Wheel {
         Some(self.dues[pid.0 as usize])
     }
 
-    /// Goes on to a tick and puts the procedures that are due behind those that were woken, by due and then by the order of
+    /// Goes on to a tick and puts the procedures that are due after those that were woken, by due and then by the order of
     /// setting. However far it goes, it goes round once at most.
     pub fn advance<L: Ledger>(&mut self, to: u64, woken: &mut Vec<Pid>, steps: &mut Steps<L>)
         requires later { self.old.now ≤ to }

@@ -30,7 +30,7 @@ IsFull hard at = (let kept = kept_at at in kept.hard ≡ hard) × ((bytes : ℕ)
 pub going_full : (hard : ℕ) (at : Scene) → (kept_at at).hard ≡ hard → halt_at at ≡ None → IsFull hard at
 going_full hard at same going = (same, λ bytes full. absurd (none-some (halt_is.JournalFull bytes) (sym going ∙ full)))
 
--- behind a command
+-- after a command
 pub comes_full : (hard : ℕ) (command : Command) (old : Scene) (answer : Option Answer) (new : Scene) → IsFull hard old → Comes command old answer new → IsFull hard new
 comes_full hard command old answer new was c = by (halt_at old) refl c
   where
@@ -41,7 +41,7 @@ comes_full hard command old answer new was c = by (halt_at old) refl c
     by None going at = (grows.hard ∙ was.0, λ bytes full. subst (λ (h : ℕ). IsPassed h bytes) was.0 (grows.full bytes going full))
     by (Some why) is same = subst (IsFull hard) (sym same.1) was
 
--- behind all that were answered
+-- after all that were answered
 pub answered_full : (hard : ℕ) (commands : List Command) (old : Scene) (marks : List ℕ) (answers : List Answer) (new : Scene) → IsFull hard old → Transcript commands old marks answers new → IsFull hard new
 answered_full hard [] old marks answers new was t = subst (IsFull hard) (sym t.2) was
 answered_full hard (command ∷ commands) old marks answers new was t =
@@ -53,13 +53,13 @@ pass_full hard server old lines new going was (inl down) =
     (comes_full hard (command_is.Expire server) old (Some (answer_is.Expired server down.pid)) new was comes, (down_keeps server old new lines down).going)
 pass_full hard server old lines new going was (inr same) = (subst (IsFull hard) (sym same.2) was, subst GoesOn (sym same.2) going)
 
--- behind servers that were held to be dead
+-- after servers that were held to be dead
 pub downs_full : (hard : ℕ) (servers : List Server) (old : Scene) (lines : List Answer) (new : Scene) → GoesOn old → IsFull hard old → Downs servers old lines new → IsFull hard new × GoesOn new
 downs_full hard [] old lines new going was downs = (subst (IsFull hard) (sym downs.1) was, subst GoesOn (sym downs.1) going)
 downs_full hard (server ∷ servers) old lines new going was downs =
     let here = pass_full hard server old downs.1 downs.0 going was downs.3 in downs_full hard servers downs.0 downs.2 new here.1 here.0 downs.5
 
--- behind an opening, and behind what follows
+-- after an opening, and after what follows
 pub remains_full : (hard bytes : ℕ) (left : List Server) (answered rest : List Command) (start : Scene) (marks : List ℕ) (answers : List Answer) (mid new : Scene) → GoesOn start → IsFull hard start → Transcript answered start marks answers mid
     → Remains (JournalFull bytes) left answered rest mid new → IsFull hard new
 remains_full hard bytes left answered rest start marks answers mid new going was t (inl none) = subst (IsFull hard) (sym none.2) (answered_full hard answered start marks answers mid was t)

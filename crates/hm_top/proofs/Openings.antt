@@ -147,12 +147,12 @@ downs_more (first ∷ servers) server old mid new lines more downs pass = (
   downs_more servers server downs.0 mid new downs.2 more downs.5 pass,
 )
 
--- the text of lines behind others
+-- the text of lines after others
 text_more : (before mid after : List ℕ) (lines more : List Answer) → mid ≡ before ++ text_of lines → after ≡ mid ++ text_of more → after ≡ before ++ text_of (lines ++ more)
 text_more before mid after lines more first second =
     second ∙ ap (λ l. l ++ text_of more) first ∙ append_assoc before (text_of lines) (text_of more) ∙ ap (λ l. before ++ l) (sym (flat_map-append answer_text lines more))
 
--- a part of a line behind others
+-- a part of a line after others
 short_more : (before mid after : List ℕ) (lines : List Answer) (line : Answer) → mid ≡ before ++ text_of lines → IsPartOf mid after (answer_text line) → IsShort before after (lines ++ line ∷ [])
 short_more before mid after lines line first part = record { before = lines; last = line; parts = refl; got = subst (λ m. IsPartOf m after (answer_text line)) first part }
 
@@ -255,7 +255,7 @@ stop_ends tells got0 got1 server old (early_is.Halted why) new s = s.0.2
 stop_ends tells got0 got1 server old early_is.WriteFault new s = tt
 stop_ends tells got0 got1 server old early_is.Memory new s = tt
 
--- what is answered behind an opening, under what was said before
+-- what is answered after an opening, under what was said before
 said_on : (got0 got1 got2 : List ℕ) (lines : List Answer) (ended : Result (Unit {0}) EarlyEnd) (rest : List Command) (mid new : Scene) (answers : List Answer) → EndsAt ended rest mid new
     → got1 ≡ got0 ++ text_of lines → GotAnswers got1 got2 (ended_status ended None) answers → GotAnswers got0 got2 (ended_status ended None) (lines ++ answers)
 said_on got0 got1 got2 lines (Ok done) rest mid new answers ends first got = text_more got0 got1 got2 lines answers first got
@@ -274,7 +274,7 @@ remains_on (Err (early_is.Halted why)) answered rest mid new e = absurd e
 remains_on (Err early_is.WriteFault) answered rest mid new e = (inl refl, e)
 remains_on (Err early_is.Memory) answered rest mid new e = inl (refl, e)
 
--- commands are answered behind an opening
+-- commands are answered after an opening
 pub answered_on : {tells : Type 0} {got0 got1 got2 : List ℕ} {old at : Scene} {servers : List Server} → servers_of (past_in old) ≡ servers → IsPassing tells got0 got1 old servers at → (ended : Result (Unit {0}) EarlyEnd) {commands : List Command}
     {marks : List ℕ} {new : Scene} → IsAnsweringOn tells got1 got2 ended commands at marks new → IsAnswering tells got0 got2 ended commands old marks new
 answered_on {got0} {got1} {got2} {old} {at} {servers} all passing ended {new} a = record {
@@ -316,7 +316,7 @@ some_at old (Some server) lack = (server, refl, by (is_live (past_in old) server
     by true lack = refl
     by false lack = absurd (lack refl)
 
--- items before, at and behind a place
+-- items before, at and after a place
 pub split_at : (items : List Server) (place : ℕ) (item : Server) → slice_get items place ≡ Some item → (more : List Server) × (items ≡ take place items ++ item ∷ more)
 split_at [] place item here = absurd (none-some item here)
 split_at (first ∷ items) zero item here = let same : first ≡ item = cc in (items, ap (λ s. s ∷ items) same)
@@ -358,7 +358,7 @@ adds_on old mid new one two = (
   let all = steps_more one.0 two.0 in let none = one.2 in let nor = two.2 in omega (arith, all, none, nor),
 )
 
--- what ran behind an opening
+-- what ran after an opening
 pub ran_behind : {hands : HandsUse} (old mid : Scene) (new : List Entry) → AddsNoStep old mid → Ran hands (journal_at mid) new → Ran hands (journal_at old) new
 ran_behind {hands} old mid new one ran =
     let all = steps_more one.0 ran.0 in

@@ -54,12 +54,12 @@ last_none : (rose : Type 0) (old new : List ℕ) → IsLast rose old new [] → 
 last_none rose old new (inl whole) = whole ∙ append-nil old
 last_none rose old new (inr part) = let short = part.1.1 in absurd (omega (arith, short))
 
--- a line behind a text
+-- a line after a text
 last_more : (rose rose' : Type 0) (old mid new text line : List ℕ) → (rose → rose') → mid ≡ old ++ text → IsLast rose mid new line → IsLast rose' (old ++ text) new line
 last_more rose rose' old mid new text line later e (inl whole) = inl (whole ∙ ap (λ m. m ++ line) e)
 last_more rose rose' old mid new text line later e (inr part) = inr (later part.0, subst (λ m. IsPartOf m new line) e part.1)
 
--- what the sink has behind the last line
+-- what the sink has after the last line
 pub got_finished : (rose rose' : Type 0) (old mid new : List ℕ) (status : RunStatus) (answers : List Answer) → (rose → rose') → GotAnswers old mid status answers → IsLast rose mid new (last_line status)
     → Got rose' old new status answers
 got_finished rose rose' old mid new Done answers later e last = last_none rose mid new last ∙ e
@@ -228,7 +228,7 @@ module _ (takes : List Entry → Type 0) (commands : List Command) (limits : Lim
     abbrev first : Scene
     first = begun limits (sheets_used hands) old
 
-    -- under a status that its end has, or one behind which as much remains
+    -- under a status that its end has, or one after which as much remains
     abbrev pub was_opened : (status : RunStatus) (ended : Result (Unit {0}) EarlyEnd) → ((answers : List Answer) → GotAnswers out.before out.after (ended_status ended None) answers → GotAnswers out.before out.after status answers)
         → ((servers : List Server) (answered rest : List Command) (at left : Scene) → Remains (ended_status ended None) servers answered rest at left → Remains status servers answered rest at left)
         → IsAnswering out.tells out.before out.after ended commands first marks new → WasOpened spoken status

@@ -19,7 +19,7 @@ part_between old mid new before text rest whole parts so_far part =
     ap (take (length before + part.0)) parts ∙ take-append-add before (text ++ rest) part.0 ∙ ap (λ l. before ++ l) (take-append-le part.0 text rest (omega arith)) in
     (length before + part.0, omega arith, part.2 ∙ ap (λ l. l ++ take part.0 text) so_far ∙ append_assoc old before (take part.0 text) ∙ ap (λ l. old ++ l) (sym front))
 
--- a part of a text behind another, which more may follow
+-- a part of a text after another, which more may follow
 pub part_first : (old mid new before text rest : List ℕ) → mid ≡ old ++ before → IsPartOf mid new text → IsPartOf old new (before ++ (text ++ rest))
 part_first old mid new before text rest so_far part = part_between old mid new before text rest (before ++ (text ++ rest)) refl so_far part
 

@@ -200,7 +200,7 @@ module _ {K : Type 0} (k : Sink.Ghosts K) (out0 out1 out2 : K) (run : Run) (stat
   abbrev finished : Run
   finished = record run { out = sink_use k out0 out2 }
 
-  -- the end of a run behind its last line
+  -- the end of a run after its last line
   run_finished : EndsUnfinished unfinished status → Ends finished status
   run_finished e =
       ends_map unfinished before_line behind_line finished.out (rose_early (k.faults out0) (k.faults out1) (k.faults out2) then) status

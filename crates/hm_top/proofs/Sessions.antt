@@ -54,7 +54,7 @@ transcript_more (begin ∷ commands) command answer old mid new marks answers t 
       transcript_more commands command answer t.0 mid new t.1 t.2 t.4 fits once,
     )
 
--- one answer more behind answers that the sink has whole
+-- one answer more after answers that the sink has whole
 module _ (before mid after : List ℕ) (answers : List Answer) (answer : Answer) (whole : mid ≡ before ++ text_of answers) where
   pub short_more : IsPartOf mid after (answer_text answer) → IsShort before after (answers ++ answer ∷ [])
   short_more part = record { before = answers; last = answer; parts = refl; got = subst (λ m. IsPartOf m after (answer_text answer)) whole part }

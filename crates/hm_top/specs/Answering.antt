@@ -22,7 +22,7 @@ abbrev pub RunsOut : List Command → Scene → Scene → Type 0
 RunsOut [] old new = ⊥
 RunsOut (command ∷ more) old new = IsUnanswered command old new
 
--- what remains of commands behind such an end: nothing; or the sink failed; or memory ran out for the next of them
+-- what remains of commands after such an end: nothing; or the sink failed; or memory ran out for the next of them
 abbrev pub EndsAt : Result (Unit {0}) EarlyEnd → List Command → Scene → Scene → Type 0
 EndsAt (Ok done) rest at new = (rest ≡ []) × (new ≡ at)
 EndsAt (Err (early_is.Halted why)) rest at new = ⊥
@@ -35,7 +35,7 @@ pub record AnswersInTurn (commands rest : List Command) (old : Scene) (marks : L
   pub parts : commands ≡ answered ++ rest
   pub transcript : Transcript answered old marks answers mid
 
--- behind an opening commands were answered in turn from old on; the sink has of the answers what it has where it ends so, and new is left
+-- after an opening commands were answered in turn from old on; the sink has of the answers what it has where it ends so, and new is left
 pub record IsAnsweringOn (tells : Type 0) (before after : List ℕ) (ended : Result (Unit {0}) EarlyEnd) (commands : List Command) (old : Scene) (marks : List ℕ) (new : Scene) : Type 0 where
   pub rest : List Command
   pub answers : List Answer

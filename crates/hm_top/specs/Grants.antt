@@ -13,11 +13,11 @@ use Rattle.hm_terms.specs.Refusals.{granted_by, refused_by}
 use Rattle.hm_top.specs.Opening.{Downs}
 use Rattle.hm_top.specs.Transcript.{Transcript}
 
--- nothing came behind the last answer, or memory ran out for one command more
+-- nothing came after the last answer, or memory ran out for one command more
 abbrev pub EndsThere : Scene → Scene → Type 0
 EndsThere mid new = (new ≡ mid) ⊎ ((command : Command) × IsUnanswered command mid new)
 
--- behind a run's opening and its commands no one's refusals are more than before and what the commands granted
+-- after a run's opening and its commands no one's refusals are more than before and what the commands granted
 abbrev pub RunsRefuseAsGranted : Type 0
 RunsRefuseAsGranted =
     (kept : Recording) (passed : List Server) (lines : List Answer) (start : Scene) → Downs passed (new_scene kept) lines start

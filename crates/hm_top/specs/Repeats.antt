@@ -22,7 +22,7 @@ EachRepeatsTwice before journal (mark ∷ marks) (answer_is.Resent count ∷ ans
 EachRepeatsTwice before journal (mark ∷ marks) (answer ∷ answers) = EachRepeatsTwice before journal marks answers
 EachRepeatsTwice before journal marks answers = Unit {0}
 
--- behind a run's opening and its commands each line `repeated M` has M at least twice the reports since the journal was opened
+-- after a run's opening and its commands each line `repeated M` has M at least twice the reports since the journal was opened
 abbrev pub RunsRepeatTwice : Type 0
 RunsRepeatTwice =
     (kept : Recording) (passed : List Server) (lines : List Answer) (start : Scene) → Downs passed (new_scene kept) lines start

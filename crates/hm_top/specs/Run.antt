@@ -45,7 +45,7 @@ use Rattle.hm_top.specs.Words.{form_of}
 abbrev pub before_line : SinkUse → RunStatus → List Answer → Type 0
 before_line out status answers = out.tells → GotAnswers out.before out.after status answers
 
--- and behind it
+-- and after it
 abbrev pub behind_line : SinkUse → RunStatus → List Answer → Type 0
 behind_line out status answers = out.tells → Got out.failed out.before out.after status answers
 
@@ -110,7 +110,7 @@ module _ (run : Run) where
   abbrev pub EndsUnfinished : RunStatus → Type 0
   EndsUnfinished = EndsBy before_line
 
-  -- and behind it
+  -- and after it
   abbrev pub Ends : RunStatus → Type 0
   Ends = EndsBy behind_line
 
@@ -132,7 +132,7 @@ module _ (run : Run) where
       ⊎ (((old : List Entry) × (disk.tells → IsOnDisk (sheets_used hands) disk.before old))
       ⊎ ((old : List Entry) × (new : Scene) × AreAnswered session Memory commands old new))
 
-  -- where memory ran out: before the log was looked at; in looking at it; or for the commands, or the line behind those that are made
+  -- where memory ran out: before the log was looked at; in looking at it; or for the commands, or the line after those that are made
   abbrev pub RanOut : Form → Type 0
   RanOut form_is.Run = disk.untouched ⊎ ((commands : List Command) × IsRead commands × RanOutIn (session_of behind_line) commands)
   RanOut form_is.Check = disk.only_read

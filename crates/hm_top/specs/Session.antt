@@ -47,7 +47,7 @@ module _ (session : Session) where
     pub answering : AreAnswered status commands old new
     pub left : IsLeft disk hands old new
 
-  -- the same, and this halted the run behind its lines, or nothing
+  -- the same, and this halted the run after its lines, or nothing
   abbrev pub EndedBy : RunStatus → Option Halt → Type 0
   EndedBy status halted = (opened : WasOpened status) × (halt_at opened.new ≡ halted)
 

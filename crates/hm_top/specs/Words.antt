@@ -16,7 +16,7 @@ log_behind form at [] = Err at
 log_behind form at (log ∷ []) = if is_log_name log then Ok form else Err at
 log_behind form at (log ∷ more ∷ rest) = if is_log_name log then Err (at + 1) else Err at
 
--- the log's name behind a number of regions that fits
+-- the log's name after a number of regions that fits
 abbrev pub log_behind_count : ℕ → Option ℕ → List (List ℕ) → Result Form ℕ
 log_behind_count seed None words = Err 2
 log_behind_count seed (Some count) words = log_behind (form_is.Gen seed count) 3 words
@@ -26,7 +26,7 @@ abbrev pub count_behind : ℕ → List (List ℕ) → Result Form ℕ
 count_behind seed [] = Err 2
 count_behind seed (word ∷ words) = log_behind_count seed (within 1 16384 (number_of word)) words
 
--- these behind a seed that fits
+-- these after a seed that fits
 abbrev pub count_behind_seed : Option ℕ → List (List ℕ) → Result Form ℕ
 count_behind_seed None words = Err 1
 count_behind_seed (Some seed) words = count_behind seed words

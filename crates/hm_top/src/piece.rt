@@ -27,7 +27,7 @@ fn write<K: Sink>(out: &mut K, bytes: &[u8]) -> Result<(), Failed>
     write_all(out, bytes)
 }
 
-// Writes a number behind a comma.
+// Writes a number after a comma.
 fn put_behind_comma<K: Sink>(out: &mut K, number: u64) -> Result<(), Failed>
     ensures all { K.tells → OnOk result (K.got out.new ≡ K.got out.old ++ (codes "," ++ decimal number)) }
     ensures part { K.tells → OnErr result (IsPartOf (K.got out.old) (K.got out.new) (codes "," ++ decimal number)) }
@@ -37,7 +37,7 @@ fn put_behind_comma<K: Sink>(out: &mut K, number: u64) -> Result<(), Failed>
     write(out, Buffer::new().format(number).as_bytes())
 }
 
-// Writes a host and what is behind it.
+// Writes a host and what is after it.
 fn put_server<K: Sink>(out: &mut K, server: &ServerName) -> Result<(), Failed>
     ensures all { K.tells → OnOk result (K.got out.new ≡ K.got out.old ++ server_text server.now) }
     ensures part { K.tells → OnErr result (IsPartOf (K.got out.old) (K.got out.new) (server_text server.now)) }

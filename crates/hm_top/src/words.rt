@@ -39,7 +39,7 @@ fn is_log_name(name: &[u8]) -> bool
     }
 }
 
-// The log's name behind so many words.
+// The log's name after so many words.
 fn log_behind(form: Form, at: u64, words: &[String]) -> Result<Form, u64>
     requires { at ≤ 3 }
     ensures form { result ≡ log_behind_of form at (map string_bytes words.now) }

@@ -1,4 +1,4 @@
--- The slots of roots, where one is written over or comes behind the others.
+-- The slots of roots, where one is written over or comes after the others.
 use Rattle.std.proofs.Common.{◌≡◌, ◌≢◌, ℕ, zero, suc, ◌+◌, ◌<◌, ◌≤◌, List, [], ◌∷◌, ◌++◌, length, get_or, set, Bool, true, false, ◌==◌, if◌then◌else◌, Option, Some, None, refl, arith, ap, sym, ◌∙◌}
 use Rattle.std.specs.Option.{option_map}
 use Rattle.std.specs.Ordering.{is_eq}
@@ -104,7 +104,7 @@ held_at [] i d lt = absurd (omega arith)
 held_at (slot ∷ more) zero d lt = omega arith
 held_at (slot ∷ more) (suc i) d lt = let rest = held_at more i d (omega arith) in omega (arith, rest)
 
--- a slot without steps comes behind the others
+-- a slot without steps comes after the others
 pub steps_behind : (slots : List Slot) (slot : Slot) → slot.steps ≡ [] → (other : Pid) → steps_of (stacks_of (slots ++ slot ∷ [])) other ≡ steps_of (stacks_of slots) other
 steps_behind [] slot none other = by (slot.root.0 == other.0)
   where

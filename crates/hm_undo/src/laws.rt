@@ -1,7 +1,7 @@
 //! What the stacks say of a journal: laws, as functions that do nothing.
 ghost use Rattle.hm_undo.specs.Laws.{ForgottenLeave, OthersLeave, StepsLeave, StepsPush, UndosPop};
 
-/// Where the stacks of some roots have what a journal has left to undo, they do so behind each entry: a step that leaves an
+/// Where the stacks of some roots have what a journal has left to undo, they do so after each entry: a step that leaves an
 /// undo is pushed, an undo pops, and nothing else changes them. A root that is forgotten is told of no more.
 pub fn stacks_tell()
     ensures steps { StepsPush }

@@ -64,7 +64,7 @@ IsBytes-front xs ys fits i =
       | inr le ↦ rw (get_or_past xs i 0 le) (omega arith)
     ]
 
--- bytes behind bytes
+-- bytes after bytes
 pub IsBytes-behind : (xs ys : List ℕ) → IsBytes (xs ++ ys) → IsBytes ys
 IsBytes-behind xs ys fits i = rw (← get_or-append-add xs ys i 0) (fits (length xs + i))
 
@@ -72,7 +72,7 @@ IsBytes-behind xs ys fits i = rw (← get_or-append-add xs ys i 0) (fits (length
 IsBytes-take : (n : ℕ) (xs : List ℕ) → IsBytes xs → IsBytes (take n xs)
 IsBytes-take n xs fits = IsBytes-front (take n xs) (drop n xs) (rw (take-append-drop n xs) fits)
 
--- what is taken from bytes is bytes, and what is behind
+-- what is taken from bytes is bytes, and what is after
 pub taken_fits : (i : Input) (bytes : List ℕ) (j : Input) → IsBytes i.rest → Takes i bytes j → IsBytes bytes × IsBytes j.rest
 taken_fits i bytes j fits t =
     let whole : IsBytes (bytes ++ j.rest) = rw (← t.parts) fits in
@@ -132,7 +132,7 @@ input at rest = record { at = at; rest = rest }
 input_is : (a b : ℕ) (xs ys : List ℕ) → a ≡ b → xs ≡ ys → input a xs ≡ input b ys
 input_is a b xs ys p q = ap (λ (n : ℕ). input n xs) p ∙ ap (λ (zs : List ℕ). input b zs) q
 
--- a text of n bytes behind two bytes is taken
+-- a text of n bytes after two bytes is taken
 text_taken : (n : ℕ) (i : Input) → IsBytes i.rest → 2 + n ≤ length i.rest → n ≡ little_number 2 i.rest
     → Takes i (text (take n (drop 2 i.rest))) (past (2 + n) i)
 text_taken n i fits long is =

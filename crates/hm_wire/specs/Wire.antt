@@ -5,7 +5,7 @@ use Rattle.hm_wire.specs.Input.{Input}
 use Rattle.hm_wire.specs.declared.fault.WireFault.{WireFault}
 use Rattle.hm_wire.specs.declared.fault.WireFault.TheVariants.{Short, Range}
 
--- the input behind n bytes
+-- the input after n bytes
 abbrev pub past : ℕ → Input → Input
 past n i = record { at = i.at + n; rest = drop n i.rest }
 
@@ -13,7 +13,7 @@ past n i = record { at = i.at + n; rest = drop n i.rest }
 abbrev pub number_at : ℕ → Input → Result (ℕ × Input) WireFault
 number_at n i = if nat_lt (length i.rest) n then Err (Short i.at) else Ok (little_number n i.rest, past n i)
 
--- a text of at most `most` bytes behind its length, which is a number of two bytes
+-- a text of at most `most` bytes after its length, which is a number of two bytes
 abbrev pub text_at : ℕ → Input → Result (List ℕ × Input) WireFault
 text_at most i =
     if nat_lt (length i.rest) 2 then Err (Short i.at)
@@ -30,7 +30,7 @@ abbrev pub Reads : {X Y : Type 0} → (X → Y) → Result X WireFault → Input
 Reads view (Ok x) old read new = read ≡ Ok (view x, new)
 Reads view (Err e) old read new = (read ≡ Err e) × (new ≡ old)
 
--- these bytes stand at the front of an input, and the other input is what is behind them
+-- these bytes stand at the front of an input, and the other input is what is after them
 pub record Takes (old : Input) (bytes : List ℕ) (new : Input) : Type 0 where
   pub parts : old.rest ≡ bytes ++ new.rest
   pub place : new.at ≡ old.at + length bytes

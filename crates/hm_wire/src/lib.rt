@@ -1,4 +1,4 @@
-//! Fields of bytes: numbers, the lowest byte first, and texts behind their length. Each value has one spelling.
+//! Fields of bytes: numbers, the lowest byte first, and texts after their length. Each value has one spelling.
 #![tactic(auto)]
 
 mod fault;

@@ -52,7 +52,7 @@ pub fn put_u64(out: &mut Vec<u8>, value: u64)
     put_bytes(out, &bytes);
 }
 
-/// Appends a text behind its length, a number of two bytes. No memory is taken.
+/// Appends a text after its length, a number of two bytes. No memory is taken.
 pub fn put_text(out: &mut Vec<u8>, text: &[u8])
     requires room { HasRoom out.old (2 + length text.now) }
     requires short { length text.now < 2 ^ 16 }

@@ -1,4 +1,4 @@
--- Which calls are due behind what happens.
+-- Which calls are due after what happens.
 use Rattle.std.proofs.Common.{◌≡◌, ◌≢◌, ◌⊎◌, ℕ, ◌∷◌, true, false, is_some, None, Option, Some, List, Result, Ok, Err, refl, sym, ap, ◌∙◌, inl, inr, subst, arith}
 use Rattle.std.proofs.lemmas.Bool.{false≢true, or_from, or_parts}
 use Rattle.std.proofs.lemmas.Option.{none-some, same_Some}
@@ -37,7 +37,7 @@ id_if p (Some peer) (Some verb) call e = ap (λ (c : Call). c.id) (sym (same_Som
 pub own_id : (J : Past) (p : ℕ) (call : Call) → call_of J p ≡ Some call → call.id ≡ pid_of p
 own_id J p call is = id_if p (peer_of J p) (verb_of J p) call is
 
--- a call that is due behind an entry was due before it, or is the entry's
+-- a call that is due after an entry was due before it, or is the entry's
 pub due_before : (entry : Entry) (J : Past) (o : Outside) (call : Call) → IsLegal (entry ∷ J) → IsDue (entry ∷ J) o call → IsDue J o call ⊎ ((calls_made entry ≡ 1) × (call.id.0 ≡ stepper entry))
 due_before entry J o call legal due =
     elim (new_call entry J call.id.0 call.verb (parts_of (entry ∷ J) call due.0).1) [

@@ -128,7 +128,7 @@ first_enters : (old new : Moment) (server : Server) (fault : HallFault) → Faul
 first_enters old new server fault (inl none) = by_copying IsQuiet old new (entry_is.Up server) fault (refl, λ o. tt) none.1
 first_enters old new server fault (inr older) = by_copying IsQuiet old new (entry_is.Down older.0) fault (refl, λ o. tt) older.2
 
--- nothing was recorded, or one entry was or was refused, and behind it another one
+-- nothing was recorded, or one entry was or was refused, and after it another one
 abbrev pub EnteredTwice : Recording → Recording → Type 0
 EnteredTwice old new = (between : Recording) × Entered IsQuiet old between × Entered IsQuiet between new
 

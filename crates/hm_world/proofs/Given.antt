@@ -1,4 +1,4 @@
--- A world stays sound behind an answer that is given back.
+-- A world stays sound after an answer that is given back.
 use Rattle.std.proofs.Common.{◌≡◌, ℕ, ◌∷◌, Bool, true, false, is_some, List, Ok, refl, sym, ap, ◌∙◌, inl, inr, subst, arith}
 use Rattle.hm_data.specs.declared.entry.Entry.{Entry}
 use Rattle.hm_data.specs.declared.entry.Entry.TheVariants as entry_is

@@ -50,7 +50,7 @@ none_lower x (y ∷ ys) bound q (inr more) = none_lower x ys bound.1 q more
 pub first_lowest : (x : Reverse ℕ) (xs : List (Reverse ℕ)) → 0 < length xs → x ≡ slice_index_or xs 0 x → IsUpperBound lowest_first x xs → IsLowest (number x) (map number xs)
 first_lowest x xs some is bound = (first_there x xs some is, none_lower x xs bound)
 
--- behind the first one all others are there
+-- after the first one all others are there
 pub popped_without : (x : Reverse ℕ) (xs ys : List (Reverse ℕ)) → IsPermutation xs (x ∷ ys) → IsUpperBound lowest_first x xs → (p : ℕ) → IsLowest p (map number xs) → AreWithout p (map number xs) (map number ys)
 popped_without x xs ys moves bound p lowest q there = by (moved q xs (x ∷ ys) moves there)
   where

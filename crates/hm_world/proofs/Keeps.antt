@@ -1,4 +1,4 @@
--- A world stays sound behind each of its calls.
+-- A world stays sound after each of its calls.
 use Rattle.std.proofs.Common.{◌≡◌, ◌≢◌, ℕ, ◌+◌, ◌∷◌, ◌++◌, [], Bool, true, false, None, Some, List, refl, sym, ap, ◌∙◌, inl, inr, subst}
 use Rattle.std.proofs.Math.Path.{fun_ext}
 use Rattle.std.proofs.lemmas.Bool.{false≢true}
@@ -125,7 +125,7 @@ module _ (kept : Recording) (fleet new : FleetView) (numbers : List ℕ) (sound 
     due = subst (λ o. HaveDue (back kept.entries) o numbers) (sym outside) sound.due;
   }
 
--- behind a call of the executor
+-- after a call of the executor
 pub sound_entered : (P : Entry → Type 0) (old new : Recording) (fleet : FleetView) (numbers : List ℕ) → ((entry : Entry) → P entry → calls_made entry ≡ 0) → ((entry : Entry) → P entry → IsTrueReport (outside_of fleet) entry) → IsSound old fleet numbers → Entered P old new → IsSound new fleet numbers
 sound_entered P old new fleet numbers quiet tells sound entered = record {
   safe = safe_entered P old new (outside_of fleet) tells sound.safe entered;
@@ -133,11 +133,11 @@ sound_entered P old new fleet numbers quiet tells sound entered = record {
   due = have_entered P old new (outside_of fleet) numbers quiet sound.safe.safe.legal sound.due entered;
 }
 
--- behind one that calls nobody and reports nothing
+-- after one that calls nobody and reports nothing
 pub sound_quiet : (old new : Recording) (fleet : FleetView) (numbers : List ℕ) → IsSound old fleet numbers → Entered IsQuiet old new → IsSound new fleet numbers
 sound_quiet old new fleet numbers sound entered = sound_entered IsQuiet old new fleet numbers (λ entry quiet. quiet.0) (λ entry quiet. quiet.1 (outside_of fleet)) sound entered
 
--- behind a report that waited
+-- after a report that waited
 pub sound_reported : (old new : Recording) (fleet : FleetView) (numbers : List ℕ) (report : ReportMsg) → IsIn report fleet.waiting → IsSound old fleet numbers → Entered (λ entry. entry ≡ report_entry report) old new → IsSound new fleet numbers
 sound_reported old new fleet numbers report waits sound entered =
     sound_entered (λ entry. entry ≡ report_entry report) old new fleet numbers (λ entry is. ap calls_made is) (λ entry is. subst (IsTrueReport (outside_of fleet)) (sym is) (report, sound.sent.waiting_is report waits, refl, refl)) sound entered

@@ -1,4 +1,4 @@
--- There is less to carry behind whatever is carried.
+-- There is less to carry after whatever is carried.
 use Rattle.std.proofs.Common.{◌≡◌, ◌≢◌, ℕ, ◌+◌, ◌-◌, ◌≤◌, ◌∷◌, ◌++◌, [], List, is_some, length, Bool, true, false, not, ◌||◌, ◌==◌, drop, None, Some, Result, Ok, refl, sym, ap, ◌∙◌, inl, inr, subst, arith}
 use Rattle.std.specs.List.{list_any}
 use Rattle.std.specs.Option.{option_map}

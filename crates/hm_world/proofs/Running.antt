@@ -1,4 +1,4 @@
--- Who runs behind what happens outside.
+-- Who runs after what happens outside.
 use Rattle.std.proofs.Common.{◌≡◌, ◌≢◌, ◌⊎◌, ℕ, Bool, true, false, if◌then◌else◌, is_some, None, Option, Some, refl, sym, ap, ◌∙◌, inl, inr, subst}
 use Rattle.std.specs.Option.{option_map}
 use Rattle.std.proofs.lemmas.Bool.{false≢true}
@@ -10,7 +10,7 @@ use Rattle.hm_model.specs.Fleet.{same_address, same_server}
 use Rattle.hm_world_model.specs.Outside.{Outside, armed, died, refusing, runs, started}
 use Rattle.hm_world_model.proofs.Facts.{cases_server}
 
--- nobody runs who didn't, behind a death
+-- nobody runs who didn't, after a death
 pub died_runs : (o : Outside) (server : Server) (peer : Peer) → runs (died o server) peer ≡ true → runs o peer ≡ true
 died_runs o server (peer_is.Server other) on = by (same_server server other) on
   where
@@ -33,7 +33,7 @@ armed_runs o (peer_is.Server server) count peer_is.Storage on = on
 armed_runs o peer_is.Storage count (peer_is.Server other) on = on
 armed_runs o peer_is.Storage count peer_is.Storage on = on
 
--- behind a start it is the one that started, or ran before
+-- after a start it is the one that started, or ran before
 pub started_runs : (o : Outside) (server : Server) (peer : Peer) → runs (started o server) peer ≡ true → (peer ≡ peer_is.Server server) ⊎ (runs o peer ≡ true)
 started_runs o server (peer_is.Server other) on = elim (cases_server server other) [
   | inl same ↦ inl (ap peer_is.Server (sym same.1))

@@ -1,4 +1,4 @@
--- What is on the wire was sent, and what waits was reported, behind what happens.
+-- What is on the wire was sent, and what waits was reported, after what happens.
 use Rattle.std.proofs.Common.{◌≡◌, ◌∷◌, ◌++◌, [], None, Option, Some, List, refl, sym, ap, inl, inr, subst}
 use Rattle.hm_data.specs.declared.call.Call.{Call}
 use Rattle.hm_data.specs.declared.call.Peer.{Peer}

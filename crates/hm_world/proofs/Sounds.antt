@@ -16,7 +16,7 @@ use Rattle.hm_world_model.proofs.Keeping.{entries_keep}
 use Rattle.hm_world.specs.Sound.{IsSafeWith}
 use Rattle.hm_world.proofs.Entered.{Entered}
 
--- behind an entry that was recorded, or refused
+-- after an entry that was recorded, or refused
 safe_recorded : (old new : Recording) (o : Outside) (entry : Entry) (result : Result ℕ RecordFault) → IsSafeWith old o → Allowed (back old.entries) entry → IsTrueReport o entry → Records old entry result new → IsSafeWith new o
 safe_recorded old new o entry (Ok number) safe may true_report records =
     subst (λ (k : Recording). IsSafeWith k o) (sym records.3) (record {
@@ -38,7 +38,7 @@ safe_recorded old new o entry (Err record_is.LogFault) safe may true_report reco
       tailless = λ going. absurd (none-some _ (sym going));
     })
 
--- behind a call of the executor
+-- after a call of the executor
 pub safe_entered : (P : Entry → Type 0) (old new : Recording) (o : Outside) → ((entry : Entry) → P entry → IsTrueReport o entry) → IsSafeWith old o → Entered P old new → IsSafeWith new o
 safe_entered P old new o tells safe (inl same) = subst (λ (k : Recording). IsSafeWith k o) (sym same) safe
 safe_entered P old new o tells safe (inr (entry, holds, may, result, records)) = safe_recorded old new o entry result safe may (tells entry holds) records

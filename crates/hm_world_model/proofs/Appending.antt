@@ -32,7 +32,7 @@ use Rattle.hm_world_model.specs.Runs.{IsMade, IsTrueReport}
 use Rattle.hm_world_model.specs.Safe.{CallsTo, HasServed, HeldBy, IsLast, Made, Runs, Safe}
 use Rattle.hm_world_model.proofs.Facts.{Touch, call_now, calls_back, calls_now, closes, fences_verb, fit_now, last_made, node_called, one_server, opens, peer_same, same, same_verb, touch, verb_made, verb_now, verb_was}
 
--- what stays behind an entry
+-- what stays after an entry
 module _ (entry : Entry) (J : Past) (legal : IsLegal (entry ∷ J)) (o : Outside) (safe : Safe J o) where
   pub made_now : (p : ℕ) (told : Told) → Made J o p told → Made (entry ∷ J) o p told
   made_now p told h = record {

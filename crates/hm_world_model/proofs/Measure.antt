@@ -165,7 +165,7 @@ module _ (w : World) (kept : IsKept w) where
     parts : (peer_of w.past call.id.0 ≡ Some call.peer) × (verb_of w.past call.id.0 ≡ Some call.verb)
     parts = parts_of w.past call ((safe_past w kept).calls.sent_is call there)
 
-    -- behind it the call isn't to be sent
+    -- after it the call isn't to be sent
     own_off : is_to_send (happens w (Travels (Deliver call))) call.id.0 ≡ false
     own_off = elim (cases_Bool (runs w.outside call.peer)) [
       | inr gone ↦ and_left (runs_if (delivered w.outside call) (peer_of w.past call.id.0)) _ (runs_if_on w.outside call (peer_of w.past call.id.0) ∙ ap (runs_if w.outside) parts.0 ∙ gone)

@@ -57,7 +57,7 @@ in_reported r xs ys (Some new) more h = elim (in_pushed r new xs h) [
   | inr old ↦ pushed_old r new ys (more r old)
 ]
 
--- an entry behind the journal
+-- an entry after the journal
 pushed : (entry : Entry) (past : Past) (d : ℕ) (o : Outside) → AllTails None past d o → Safe (entry ∷ past) o → AllTails None (entry ∷ past) d o
 pushed entry past d o all safe zero h = safe
 pushed entry past d o all safe (suc n) h = all n (omega (arith, h))

@@ -85,7 +85,7 @@ abbrev pub stopped : World → ℕ → World
 stopped w k =
     record w { past = first k (whole w); tail = None; durable = k; taken = []; claimed = []; halted = None }
 
--- the world behind a master's work
+-- the world after a master's work
 abbrev pub worked : World → Work → World
 worked w (Submit nonce request) = with_entry w (entry_is.Submit nonce request)
 worked w (Claim claim) = record w { taken = claim.pid ∷ w.taken; claimed = claim ∷ w.claimed }
@@ -96,7 +96,7 @@ worked w (Flush k) = record w { durable = k }
 worked w (Expire server) = with_entry w (entry_is.Down server)
 worked w (Abort pid) = with_entry w (entry_is.Abort pid)
 
--- the world behind what becomes of calls and reports
+-- the world after what becomes of calls and reports
 abbrev pub travelled : World → Travel → World
 travelled w (Send call) = record w { wire = w.wire ++ call ∷ []; outside = with_sent w.outside call }
 travelled w (Deliver call) = record (with_delivered w call) { wire = drop 1 w.wire }
@@ -107,20 +107,20 @@ travelled w (HearAgain report) = with_heard w report
 travelled w Lose = record w { wire = []; waiting = [] }
 travelled w Repeat = record w { wire = w.wire ++ w.outside.sent; waiting = w.waiting ++ w.outside.reports }
 
--- the world behind what becomes of the servers and the storage
+-- the world after what becomes of the servers and the storage
 abbrev pub lived : World → Life → World
 lived w (Start server older) =
     record (with_entry (with_older_down older w) (entry_is.Up server)) { outside = started w.outside server }
 lived w (Die server) = record w { outside = died w.outside server }
 lived w (Arm peer count) = record w { outside = armed w.outside peer count }
 
--- the world behind what ends a master
+-- the world after what ends a master
 abbrev pub ended_by : World → End → World
 ended_by w (Fault tail) = record w { tail = tail; halted = Some LogFault }
 ended_by w Full = record w { halted = Some JournalFull }
 ended_by w (Stop k) = stopped w k
 
--- the world behind an event
+-- the world after an event
 abbrev pub happens : World → Event → World
 happens w (Works work) = worked w work
 happens w (Travels travel) = travelled w travel

@@ -46,7 +46,7 @@ FitsTheFirst =
     (lived : Lived) (all journal : List Entry) → lived.past ≡ back all
     → Fits lived (back journal) ↔ ((k : ℕ) × (lived.durable ≤ k) × (k ≤ length all) × (journal ≡ take k all))
 
--- a master that goes on where it fits is the one behind the stop
+-- a master that goes on where it fits is the one after the stop
 abbrev pub ResumedIsStopped : Type 0
 ResumedIsStopped = (w : World) (past : Past) → Fits (lived_of w) past → resumed (lived_of w) past ≡ stopped w (length past)
 

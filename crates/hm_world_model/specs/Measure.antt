@@ -32,7 +32,7 @@ is_to_send w p = runs_if w.outside (peer_of w.past p) && (not (is_settled w.past
 abbrev pub left_to_carry : World → ℕ
 left_to_carry w = 3 * count_below (is_to_send w) (made w.past + 1) + 2 * length w.wire + length w.waiting
 
--- there is less to carry behind an event
+-- there is less to carry after an event
 abbrev pub IsNearer : World → Event → Type 0
 IsNearer w event = left_to_carry (happens w event) + 1 ≤ left_to_carry w
 
@@ -81,7 +81,7 @@ CanCarry w =
     ⊎ (((report : ReportMsg) × Carries w (Travels (Ignore report)))
     ⊎ ((call : Call) × Carries w (Travels (Send call)))))
 
--- where nothing can be carried, at once or behind a flush of the whole journal, nothing is left to carry
+-- where nothing can be carried, at once or after a flush of the whole journal, nothing is left to carry
 abbrev pub CarryingIsPossible : Type 0
 CarryingIsPossible =
     (w : World) → IsKept w → GoesOn w

@@ -50,7 +50,7 @@ answer_by o call peer_is.Storage = (store o.storage call).1
 abbrev pub report_to : Outside → Call → Option ReportMsg
 report_to o call = answer_by o call call.peer
 
--- a server behind a call, where it runs
+-- a server after a call, where it runs
 abbrev pub behind_call : Option Actor → Call → Option Actor
 behind_call None call = None
 behind_call (Some actor) call = Some (serve actor call).0

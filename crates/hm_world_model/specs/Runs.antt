@@ -60,7 +60,7 @@ IsTrueReport o (entry_is.Up server) = Unit {0}
 IsTrueReport o (entry_is.Down server) = Unit {0}
 IsTrueReport o (entry_is.Abort pid) = Unit {0}
 
--- what a fault may leave behind the journal: nothing, or an entry that may be recorded next, a report only where it was made
+-- what a fault may leave after the journal: nothing, or an entry that may be recorded next, a report only where it was made
 abbrev pub MayLeave : World → Option Entry → Type 0
 MayLeave w None = GoesOn w
 MayLeave w (Some entry) = MayEnter w entry × IsTrueReport w.outside entry
@@ -115,7 +115,7 @@ May w (Travels travel) = MayTravel w travel
 May w (Lives life) = MayLive w life
 May w (Ends end) = MayEnd w end
 
--- a world behind events, of which the newest stands first
+-- a world after events, of which the newest stands first
 abbrev pub after : World → List Event → World
 after w [] = w
 after w (event ∷ before) = happens (after w before) event

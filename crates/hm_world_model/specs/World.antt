@@ -20,7 +20,7 @@ pub record Claimed : Type 0 where
   pub pid : ℕ
   pub pick : Option Server
 
--- the journal, newest first; an entry that a fault may have left behind it; how many entries are durable; who was claimed
+-- the journal, newest first; an entry that a fault may have left after it; how many entries are durable; who was claimed
 -- since the master was opened and holds, and who is claimed; calls on the wire and reports that wait, oldest first; what is
 -- outside; and whether the master halted
 pub record World : Type 0 where

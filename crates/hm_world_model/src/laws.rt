@@ -52,7 +52,7 @@ pub fn points_hold()
 {}
 
 /// What lives on while a master is stopped fits the first entries of the journal that it lived with, from so many on as a stop
-/// may have left. A master that goes on with it over such a journal is the world behind that stop.
+/// may have left. A master that goes on with it over such a journal is the world after that stop.
 pub fn fleets_fit()
     ensures fit { FitsTheFirst }
     ensures stopped { ResumedIsStopped }
@@ -67,7 +67,7 @@ pub fn calls_are_answered()
     ensures heard { ReportsAreHeard }
 {}
 
-/// There is less to carry behind each call that is delivered, each that is sent where it is to be sent, each report that is
+/// There is less to carry after each call that is delivered, each that is sent where it is to be sent, each report that is
 /// recorded, and each of a settled call that is ignored. An entry adds no more than the call that it records, and a flush
 /// nothing. While anything is left, some of it can be carried.
 pub fn carrying_goes_on()

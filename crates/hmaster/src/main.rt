@@ -22,7 +22,7 @@ use std::alloc::{AllocError, Global};
 use std::process::ExitCode;
 use std::{env, io};
 
-// The words behind the program's name. Words that aren't text count as no words.
+// The words after the program's name. Words that aren't text count as no words.
 fn program_words(rt: &HostRuntime) -> Result<Vec<String>, AllocError> {
     match env::args(rt) {
         Ok(words) => words.skip(1).collect(rt.alloc()),
