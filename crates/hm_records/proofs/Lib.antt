@@ -10,3 +10,4 @@ mod Edits
 mod Drawn
 mod Whole
 pub mod Firsts
+mod Begins

@@ -2,3 +2,4 @@ pub mod Records
 pub mod Book
 pub mod Parts
 pub mod Laws
+pub mod Blank

@@ -1,6 +1,6 @@
 //! What stands beside the procedures before there is an entry.
-ghost use Rattle.std.specs.Prelude.{◌≡◌, [], IfOk};
-ghost use Rattle.hm_catalog.specs.Rows.{rows_in};
+ghost use Rattle.std.specs.Prelude.{IfOk};
+ghost use Rattle.hm_records.specs.Blank.{AreBlankRows, IsBlank, IsBlankFleet, IsBlankCount};
 
 use hm_catalog::Catalog;
 use hm_index::Index;
@@ -10,36 +10,79 @@ use hm_places::{Places, Servers};
 use hm_undo::Stack;
 use std::alloc::{AllocError, Global};
 
+// The rows of the catalog, and no step to undo.
+#[derive(Drop)]
+pub(crate) struct BlankRows {
+    pub(crate) catalog: Catalog,
+    pub(crate) stack: Stack,
+}
+
+impl BlankRows {
+    fn new(alloc: Global) -> Result<BlankRows, AllocError>
+        ensures { IfOk result AreBlankRows }
+    {
+        let catalog = Catalog::start(alloc)?;
+        let stack = Stack::new(alloc)?;
+        Ok(BlankRows { catalog, stack })
+    }
+}
+
+// No place of a region, and no server.
+#[derive(Drop)]
+pub(crate) struct BlankFleet {
+    pub(crate) places: Places,
+    pub(crate) servers: Servers,
+}
+
+impl BlankFleet {
+    fn new(alloc: Global) -> Result<BlankFleet, AllocError>
+        ensures { IfOk result IsBlankFleet }
+    {
+        let places = Places::new(alloc)?;
+        let servers = Servers::new(alloc)?;
+        Ok(BlankFleet { places, servers })
+    }
+}
+
+// No procedure of a nonce, and no region id that was drawn.
+#[derive(Drop)]
+pub(crate) struct BlankCount {
+    pub(crate) nonces: Index<Nonce, Pid>,
+    pub(crate) drawn: Index<TableName, u64>,
+}
+
+impl BlankCount {
+    fn new(alloc: Global) -> Result<BlankCount, AllocError>
+        ensures { IfOk result IsBlankCount }
+    {
+        let nonces = Index::new(alloc)?;
+        let drawn = Index::new(alloc)?;
+        Ok(BlankCount { nonces, drawn })
+    }
+}
+
 // The parts of records in which nothing stands yet.
 #[derive(Drop)]
 pub(crate) struct Blank {
-    pub(crate) catalog: Catalog,
-    pub(crate) stack: Stack,
-    pub(crate) places: Places,
-    pub(crate) servers: Servers,
-    pub(crate) nonces: Index<Nonce, Pid>,
-    pub(crate) drawn: Index<TableName, u64>,
+    pub(crate) rows: BlankRows,
+    pub(crate) fleet: BlankFleet,
+    pub(crate) count: BlankCount,
     pub(crate) book: LockBook,
 }
 
 impl Blank {
     pub(crate) fn new(alloc: Global) -> Result<Blank, AllocError>
-        ensures rows { IfOk result (λ blank. blank.catalog.rows ≡ rows_in []) }
-        ensures stacks { IfOk result (λ blank. blank.stack.stacks ≡ []) }
-        ensures places { IfOk result (λ blank. blank.places.places ≡ []) }
-        ensures servers { IfOk result (λ blank. blank.servers.servers ≡ []) }
-        ensures nonces { IfOk result (λ blank. blank.nonces.pairs ≡ []) }
-        ensures drawn { IfOk result (λ blank. blank.drawn.pairs ≡ []) }
-        ensures book { IfOk result (λ blank. blank.book.rows ≡ []) }
+        ensures { IfOk result IsBlank }
     {
+        let rows = BlankRows::new(alloc)?;
+        let fleet = BlankFleet::new(alloc)?;
+        let count = BlankCount::new(alloc)?;
+        let book = LockBook::new(alloc)?;
         Ok(Blank {
-            catalog: Catalog::start(alloc)?,
-            stack: Stack::new(alloc)?,
-            places: Places::new(alloc)?,
-            servers: Servers::new(alloc)?,
-            nonces: Index::new(alloc)?,
-            drawn: Index::new(alloc)?,
-            book: LockBook::new(alloc)?,
+            rows,
+            fleet,
+            count,
+            book,
         })
     }
 }

@@ -4,7 +4,8 @@ ghost use Rattle.hm_data.specs.declared.entry.Entry.{Entry as EntryValue};
 ghost use Rattle.hm_model.specs.Journal.{Past};
 ghost use Rattle.hm_procedures.specs.Kept.{args_made as made_by};
 ghost use Rattle.hm_model.specs.RegionIds.{AsksForZero};
-ghost use Rattle.hm_records.specs.Parts.{AreParts, size_of};
+ghost use Rattle.hm_places.specs.Laws.{placed_now as placed_by};
+ghost use Rattle.hm_records.specs.Parts.{AreParts, comes_up as up_by, edits_of as edited_by, ids_drawn as drawn_by, size_of, step_left as left_by};
 
 use crate::book::{Drafts, drafts_of};
 use crate::fleet::comes_up;
@@ -55,6 +56,33 @@ impl Parts {
     }
 }
 
+// The edits of an entry, and the step that it leaves to be undone.
+type Changes = (List<Edit>, Option<Step>);
+
+fn changes_of(alloc: Global, records: &Records, entry: &Entry) -> Result<Changes, AllocError>
+    ensures { IfOk result (λ changes. (changes.0 ≡ edited_by entry.now) × (changes.1 ≡ left_by records.now.past entry.now)) }
+{
+    let edits = edits_of(alloc, entry)?;
+    let step = step_left(alloc, records, entry)?;
+    Ok((edits, step))
+}
+
+// The table and the count of region ids that an entry draws, the server that comes up, and the place that it gives a region.
+type Named = (
+    Option<(TableName, u64)>,
+    Option<ServerName>,
+    Option<(RegionName, Place)>,
+);
+
+fn named_by(alloc: Global, records: &Records, entry: &Entry) -> Result<Named, AllocError>
+    ensures { IfOk result (λ named. (named.0 ≡ drawn_by entry.now) × (named.1 ≡ up_by entry.now) × (named.2 ≡ placed_by records.now.past entry.now)) }
+{
+    let ids = ids_drawn(alloc, entry)?;
+    let up = comes_up(alloc, entry)?;
+    let placed = placed_now(alloc, records.procedures(), entry)?;
+    Ok((ids, up, placed))
+}
+
 // What is kept of an entry; none where it asks for a transit of the number 0.
 pub(crate) fn parts_of(
     alloc: Global,
@@ -66,16 +94,19 @@ pub(crate) fn parts_of(
     let Some(made) = args_made(alloc, records, entry)? else {
         return Ok(None);
     };
-    let past = records.procedures();
     let drafts = drafts_of(alloc, records, entry, made.as_slice())?;
+    let changes = changes_of(alloc, records, entry)?;
+    let named = named_by(alloc, records, entry)?;
+    let (edits, step) = changes;
+    let (ids, up, placed) = named;
     Ok(Some(Parts {
         made,
         drafts,
-        edits: edits_of(alloc, entry)?,
-        step: step_left(alloc, records, entry)?,
+        edits,
+        step,
         nonce: nonce_used(entry),
-        ids: ids_drawn(alloc, entry)?,
-        up: comes_up(alloc, entry)?,
-        placed: placed_now(alloc, past, entry)?,
+        ids,
+        up,
+        placed,
     }))
 }

@@ -65,6 +65,18 @@ impl Model for Records {
     ghost invariant = { λ s. AreRecords s.procedures.past (record { rows = s.catalog.rows; stacks = s.stack.stacks; places = s.places.places; servers = s.servers.servers; nonces = s.nonces.pairs; drawn_ids = s.drawn.pairs; sheets = s.sheets.items; book = s.book.rows }) };
 }
 
+// The procedures of the journal whose only entry is the start with these sheets.
+fn begun(alloc: Global, entry: &Entry, sheets: &[Valid]) -> Result<Procedures, AllocError>
+    requires starts { entry.now ≡ Entry.Start sheets.now }
+    requires sheets { AreSheets sheets.now }
+    ensures { IfOk result (λ procedures. procedures.past ≡ entry.now ∷ []) }
+{
+    let mut procedures = Procedures::new(alloc)?;
+    let _sheets = sheets;
+    procedures.enter(entry, List::of(Vec::new(alloc)), true);
+    Ok(procedures)
+}
+
 impl Records {
     /// What the journal says whose only entry is the start with these sheets.
     pub fn start(alloc: Global, entry: &Entry, sheets: Vec<Valid>) -> Result<Records, AllocError>
@@ -72,17 +84,16 @@ impl Records {
         requires sheets { AreSheets sheets.items }
         ensures { IfOk result (λ records. records.past ≡ entry.now ∷ []) }
     {
-        let mut procedures = Procedures::new(alloc)?;
-        procedures.enter(entry, List::of(Vec::new(alloc)), true);
+        let procedures = begun(alloc, entry, &sheets)?;
         let blank = Blank::new(alloc)?;
         Ok(Records {
             procedures,
-            catalog: blank.catalog,
-            stack: blank.stack,
-            places: blank.places,
-            servers: blank.servers,
-            nonces: blank.nonces,
-            drawn: blank.drawn,
+            catalog: blank.rows.catalog,
+            stack: blank.rows.stack,
+            places: blank.fleet.places,
+            servers: blank.fleet.servers,
+            nonces: blank.count.nonces,
+            drawn: blank.count.drawn,
             sheets,
             book: blank.book,
         })

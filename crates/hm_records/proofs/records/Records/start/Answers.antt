@@ -10,18 +10,18 @@ use Rattle.hm_records.proofs.records.Records.start.Goals as goal
 pub invariant_of-result : goal.invariant_of-result
 invariant_of-result c =
     let sheets : List Sheet = c.args.sheets.items in
-    let past_is : c.enter.new.self.past ≡ entry_is.Start sheets ∷ [] =
-    c.enter.ensures.past ∙ ap (λ (e : Entry). e ∷ c.in_ok-procedures.procedures.past) c.requires.starts ∙ ap (λ (l : Past). entry_is.Start sheets ∷ l) c.in_ok-procedures.ensures in
+    let past_is : c.in_ok-procedures.procedures.past ≡ entry_is.Start sheets ∷ [] =
+    c.in_ok-procedures.ensures ∙ ap (λ (e : Entry). e ∷ []) c.requires.starts in
     let beside : Beside = record {
-      rows = c.in_ok-blank.blank.catalog.rows;
-      stacks = c.in_ok-blank.blank.stack.stacks;
-      places = c.in_ok-blank.blank.places.places;
-      servers = c.in_ok-blank.blank.servers.servers;
-      nonces = c.in_ok-blank.blank.nonces.pairs;
-      drawn_ids = c.in_ok-blank.blank.drawn.pairs;
+      rows = c.in_ok-blank.blank.rows.catalog.rows;
+      stacks = c.in_ok-blank.blank.rows.stack.stacks;
+      places = c.in_ok-blank.blank.fleet.places.places;
+      servers = c.in_ok-blank.blank.fleet.servers.servers;
+      nonces = c.in_ok-blank.blank.count.nonces.pairs;
+      drawn_ids = c.in_ok-blank.blank.count.drawn.pairs;
       sheets = sheets;
       book = c.in_ok-blank.blank.book.rows;
     } in
     let made = c.in_ok-blank.ensures in
     subst (λ (l : Past). AreRecords l beside) (sym past_is)
-    (starts sheets beside made.rows made.stacks made.places made.servers made.nonces made.drawn refl made.book)
+    (starts sheets beside made.rows.rows made.rows.stacks made.fleet.places made.fleet.servers made.count.nonces made.count.drawn refl made.book)
