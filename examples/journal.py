@@ -23,17 +23,33 @@ class BadLog(Exception):
     """Why bytes are no log, or no journal."""
 
 
+def body_of(data):
+    """Where the first gate of a log stands, where its bytes end, and whether bytes may follow its closed gate."""
+    if data[:8] != b"HMASTERJ" or len(data) < 10:
+        raise BadLog("the file doesn't begin as a log")
+    if data[8] == 1:
+        return 9, len(data), True
+    if len(data) < 11:
+        raise BadLog("the file has no gate")
+    if data[9] != 0x2B:
+        return 10, len(data), True
+    place, end = int.from_bytes(data[-8:], "little"), len(data) - 8
+    if not 11 <= place < end or end - place > place - 10:
+        raise BadLog("the file is a log that is being moved, and its frames aren't where its last bytes say")
+    return place, end, False
+
+
 def frames_of(data):
-    """The frames of a log of version 1, up to its closed gate."""
-    if data[:9] != b"HMASTERJ\x01" or len(data) < 10:
-        raise BadLog("the file doesn't begin as a log of version 1")
-    at = 10
-    while data[at - 1] == 0x2B:
-        length = int.from_bytes(data[at:at + 4], "little")
-        if not 1 <= length <= 65_536 or at + 4 + length >= len(data):
-            raise BadLog(f"the gate at byte {at - 1} is open, and no whole frame follows it")
-        yield data[at + 4:at + 4 + length]
-        at += 4 + length + 1
+    """The frames of a log of either version, up to its closed gate."""
+    gate, end, is_free = body_of(data)
+    while data[gate] == 0x2B:
+        length = int.from_bytes(data[gate + 1:gate + 5], "little")
+        if not 1 <= length <= 65_536 or gate + 5 + length >= end:
+            raise BadLog(f"the gate at byte {gate} is open, and no whole frame follows it")
+        yield data[gate + 5:gate + 5 + length]
+        gate += 5 + length
+    if not is_free and gate != end - 1:
+        raise BadLog(f"the gate at byte {gate} is closed, and more follows it")
 
 
 class Region(NamedTuple):

@@ -40,7 +40,7 @@ with_next kept entry = record kept { next = Some entry }
 
 -- the bytes of a log of these entries: ten, and for each 5 more than its spelling has
 abbrev pub bytes_of : List Entry → ℕ
-bytes_of entries = 10 + sum_by (λ entry. length (spelling entry) + 5) entries
+bytes_of entries = 11 + sum_by (λ entry. length (spelling entry) + 5) entries
 
 -- after these entries this one would pass the hard mark
 abbrev pub Passes : ℕ → List Entry → Entry → Type 0

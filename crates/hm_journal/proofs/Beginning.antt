@@ -16,13 +16,13 @@ first_recorded before old new entry number ready empty records =
     made ∙ ap (λ (kept : Recording). record kept { entries = kept.entries ++ entry ∷ []; next = None }) ready ∙ ap (λ (es : List Entry). record before { entries = es ++ entry ∷ []; next = None }) empty
 
 -- nothing but the log can stop it
-pub only_fault : (before old new : Recording) (entry : Entry) (why : RecordFault) → old ≡ with_next before entry → before.entries ≡ [] → before.halted ≡ None → 65551 ≤ before.hard → length (spelling entry) ≤ 65536
+pub only_fault : (before old new : Recording) (entry : Entry) (why : RecordFault) → old ≡ with_next before entry → before.entries ≡ [] → before.halted ≡ None → 65552 ≤ before.hard → length (spelling entry) ≤ 65536
     → Records old entry (Err why) new → why ≡ fault_is.LogFault
 only_fault before old new entry (fault_is.Halted halt) ready empty going hard short records =
     absurd (none-some halt (sym going ∙ ap (λ (kept : Recording). kept.halted) (sym ready) ∙ records.0))
 only_fault before old new entry (fault_is.JournalFull bytes) ready empty going hard short records =
     let marks : old.hard ≡ before.hard = ap (λ (kept : Recording). kept.hard) ready in
-    let size : bytes_of old.entries ≡ 10 = ap (λ (kept : Recording). bytes_of kept.entries) ready ∙ ap bytes_of empty in
+    let size : bytes_of old.entries ≡ 11 = ap (λ (kept : Recording). bytes_of kept.entries) ready ∙ ap bytes_of empty in
     absurd (omega (arith, records.1, marks, size))
 only_fault before old new entry fault_is.LogFault ready empty going hard short records = refl
 

@@ -5,7 +5,7 @@ use Rattle.hm_disk.specs.Disk.{LeavesOnly, LeavesThen}
 use Rattle.hm_disk.specs.declared.disk.Disk as Disk
 use Rattle.hm_disk.proofs.Moments.{started, weaker}
 use Rattle.hm_log.specs.Format.{Reads, BeforeOrAfter, HoldsFrames}
-use Rattle.hm_log.specs.Opening.{IsMaking, Reopens}
+use Rattle.hm_log.specs.Opening.{IsBlank, IsMaking, Reopens}
 use Rattle.hm_data.specs.declared.entry.Entry.{Entry}
 use Rattle.hm_data.specs.declared.entry.Entry.TheVariants as entry_is
 use Rattle.hm_data.specs.declared.sheet.Sheet.{Sheet}
@@ -36,6 +36,19 @@ module _ {D : Type 0} (moment : D → ℕ) (left_since : D → ℕ → List ℕ 
     each = λ c left. ⊎_elim (λ past. inl (was c (only old c past))) (λ now. now) (run.earlier (moment old) c (omega arith) left);
     before = λ t c le left. run.earlier t c le left;
   }
+
+-- what holds a log that isn't blank reads as its frames, and so it does after an opening that failed
+pub left_reads : (old new : List ℕ) (frames : List (List ℕ)) → (IsBlank old → ⊥) → HoldsFrames old frames → (new ≡ old) ⊎ Reopens old new → Reads new frames
+left_reads old new frames some opens left = by_left left
+  where
+    reads : HoldsFrames old frames → Reads old frames
+    reads (inl empty) = absurd (some (inl empty.0))
+    reads (inr is) = is
+
+    by_left : (new ≡ old) ⊎ Reopens old new → Reads new frames
+    by_left (inl same) = subst (λ (l : List ℕ). Reads l frames) (sym same) (reads opens)
+    by_left (inr (inl alike)) = alike.stays frames (reads opens)
+    by_left (inr (inr making)) = absurd (some making.0)
 
 -- a journal without entries may have got its first
 pub keeps_first : (sheets : List Sheet) (journal : List Entry) → length journal ≤ 0 → (bytes : List ℕ) → BeforeOrAfter [] (spelling (entry_is.Start sheets)) bytes → HoldsJournal sheets journal bytes

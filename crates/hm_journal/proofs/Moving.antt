@@ -6,6 +6,7 @@ use Rattle.hm_disk.specs.Disk.{LeavesOnly, RisesBy}
 use Rattle.hm_disk.specs.declared.disk.Disk as Disk
 use Rattle.hm_disk.proofs.Moments.{joined, started, weaker}
 use Rattle.hm_log.specs.Format.{BeforeOrAfter, Reads}
+use Rattle.hm_log.specs.Opening.{IsUsed}
 use Rattle.hm_data.specs.declared.entry.Entry.{Entry}
 use Rattle.hm_entry.specs.Spelling.{entry as spelling}
 use Rattle.hm_hall.specs.declared.fault.Halt.{Halt}
@@ -54,8 +55,8 @@ module _ {D Setting : Type 0} (d : Disk.Ghosts D Setting) (opened : Opened D) wh
   -- an entry more
   pub since_recorded : (old new : D) (entries : List Entry) (entry : Entry) → Since d opened old entries None None
       → (d.tells → LeavesOnly d.moment d.left_since old new (BeforeOrAfter (frames_of entries) (spelling entry)))
-      → RisesBy 2 (d.changes old) (d.changes new) → IsCalled d 2 old new → Since d opened new (entries ++ entry ∷ []) None None
-  since_recorded old new entries entry was run rises called =
+      → RisesBy 2 (d.changes old) (d.changes new) → IsCalled d 2 old new → d.faults new ≡ d.faults old → Since d opened new (entries ++ entry ∷ []) None None
+  since_recorded old new entries entry was run rises called quiet =
       let longer = length-append entries (entry ∷ []) in
       record {
         grown = omega (arith, longer, was.grown);
@@ -68,6 +69,7 @@ module _ {D Setting : Type 0} (d : Disk.Ghosts D Setting) (opened : Opened D) wh
         };
         least = omega (arith, longer, was.grown, was.least, rises.least);
         failed = λ fault. absurd (cc);
+        unfailed = λ going. quiet ∙ was.unfailed (λ fault. absurd (cc));
       }
 
   -- an entry whose recording failed
@@ -87,6 +89,7 @@ module _ {D Setting : Type 0} (d : Disk.Ghosts D Setting) (opened : Opened D) wh
         };
         least = omega (arith, was.least, called.later);
         failed = λ fault. omega (arith, rose, was.called.fault);
+        unfailed = λ going. absurd (going refl);
       }
 
   -- a journal that is going has no tail
@@ -98,12 +101,24 @@ module _ {D Setting : Type 0} (d : Disk.Ghosts D Setting) (opened : Opened D) wh
   -- an entry more, of a journal that is going
   pub recorded_since : (old new : D) (entries grown : List Entry) (entry : Entry) (tail : Option Entry) (halted : Option Halt) → halted ≡ None → (tail ≢ None → halted ≡ Some halt_is.LogFault)
       → grown ≡ entries ++ entry ∷ [] → Since d opened old entries tail halted → (d.tells → LeavesOnly d.moment d.left_since old new (BeforeOrAfter (frames_of entries) (spelling entry)))
-      → RisesBy 2 (d.changes old) (d.changes new) → IsCalled d 2 old new → Since d opened new grown tail halted
-  recorded_since old new entries grown entry tail halted going failed more was run rises called =
+      → RisesBy 2 (d.changes old) (d.changes new) → IsCalled d 2 old new → d.faults new ≡ d.faults old → Since d opened new grown tail halted
+  recorded_since old new entries grown entry tail halted going failed more was run rises called quiet =
       subst (λ (h : Option Halt). Since d opened new grown tail h) (sym going)
       (subst (λ (t : Option Entry). Since d opened new grown t None) (sym (no_tail tail halted failed going))
       (subst (λ (es : List Entry). Since d opened new es None None) (sym more)
-      (since_recorded old new entries entry (since_going old entries tail halted going failed was) run rises called)))
+      (since_recorded old new entries entry (since_going old entries tail halted going failed was) run rises called quiet)))
+
+  -- an entry that would pass the hard mark, of a journal that was going
+  pub full_since : (disk : D) (entries : List Entry) (tail : Option Entry) (halted : Option Halt) (bytes : ℕ) → halted ≡ None → Since d opened disk entries tail halted
+      → Since d opened disk entries tail (Some (halt_is.JournalFull bytes))
+  full_since disk entries tail halted bytes going was = record {
+    grown = was.grown;
+    leaves = was.leaves;
+    called = was.called;
+    least = was.least;
+    failed = λ fault. absurd (cc);
+    unfailed = λ other. was.unfailed (λ fault. absurd (let none = going in cc));
+  }
 
   -- an entry whose recording failed, of a journal that was going
   pub failed_since : (old new : D) (entries : List Entry) (entry : Entry) (tail tail' : Option Entry) (halted : Option Halt) → halted ≡ None → (tail ≢ None → halted ≡ Some halt_is.LogFault)
@@ -120,6 +135,14 @@ called_then d first second old mid new called then = record {
   later = omega (arith, called.later, then.later);
   changes = omega (arith, called.changes, then.changes);
   setting = then.setting ∙ called.setting;
+}
+
+-- counted calls after others
+pub used_then : {D Setting : Type 0} (d : Disk.Ghosts D Setting) (most : ℕ) (old mid new : D) → IsUsed d old mid → IsCalled d most mid new → IsUsed d old new
+used_then d most old mid new used then = record {
+  fault = omega (arith, used.fault, then.fault);
+  later = omega (arith, used.later, then.later);
+  setting = then.setting ∙ used.setting;
 }
 
 -- no more than so many are no more than more
@@ -174,4 +197,5 @@ module _ {D Setting : Type 0} (d : Disk.Ghosts D Setting) (only : (disk : D) (c 
     called = uncalled d _ disk;
     least = omega arith;
     failed = λ fault. absurd (cc);
+    unfailed = λ going. refl;
   }

@@ -1,7 +1,7 @@
 -- Which journal a disk holds.
-use Rattle.std.specs.Prelude.{◌≡◌, ◌≢◌, ◌⊎◌, ◌<◌, ℕ, List, [], ◌∷◌, ◌++◌, length, map, Some, All}
+use Rattle.std.specs.Prelude.{◌≡◌, ◌≢◌, ◌⊎◌, ◌<◌, ℕ, List, [], ◌∷◌, ◌++◌, map, Some, All}
 use Rattle.hm_disk.specs.Disk.{Only}
-use Rattle.hm_log.specs.Opening.{IsMaking}
+use Rattle.hm_log.specs.Opening.{IsBlank, IsMaking}
 use Rattle.hm_log.specs.Format.{Reads, HoldsFrames}
 use Rattle.hm_data.specs.declared.entry.Entry.{Entry}
 use Rattle.hm_data.specs.declared.entry.Entry.TheVariants as entry_is
@@ -50,10 +50,10 @@ abbrev pub HoldsJournal : List Sheet → List Entry → List ℕ → Type 0
 HoldsJournal sheets journal bytes = Reads bytes (frames_of journal) ⊎ Reads bytes (frames_of (opened sheets journal))
 
 -- A log that held a journal still reads as that journal, to which one without entries may have got its first, and where
--- it had no other image so do all. Nothing is said of a disk of size 0.
+-- it had no other image so do all. Nothing is said where nothing was there yet.
 abbrev pub Spares : List Sheet → (seen : List ℕ) (before : List ℕ → Type 0) (now : List ℕ) (after : List ℕ → Type 0) → Type 0
 Spares sheets seen before now after =
-    (journal : List Entry) → 0 < length seen → IsOnDisk sheets seen journal
+    (journal : List Entry) → (IsBlank seen → ⊥) → IsOnDisk sheets seen journal
     → HoldsJournal sheets journal now × (Only seen before → (bytes : List ℕ) → after bytes → HoldsJournal sheets journal bytes)
 
 -- it reads as it did, or it was a log and each image is one with the same frames

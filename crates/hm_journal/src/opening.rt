@@ -1,10 +1,10 @@
 //! Opens a disk as a journal.
-ghost use Rattle.std.specs.Prelude.{◌≡◌, ◌≢◌, ◌⊎◌, ◌<◌, ◌≤◌, ◌+◌, List, ℕ, [], ◌∷◌, length, IsErrOf, IfOk, IfErr, OnOk, OnErr, MatchResult, All, None, false};
+ghost use Rattle.std.specs.Prelude.{◌≡◌, ◌≢◌, ◌⊎◌, ◌≤◌, ◌+◌, List, ℕ, [], ◌∷◌, length, IsErrOf, IfOk, IfErr, OnOk, OnErr, MatchResult, All, None, false};
 ghost use Rattle.hm_ports.specs.Faults.{Rose};
 ghost use Rattle.hm_disk.specs.Called.{IsCalled};
 ghost use Rattle.hm_disk.specs.Disk.{LeavesOnly, Only, LeavesThen};
 ghost use Rattle.hm_log.specs.Format.{HoldsFrames, IsClean, Reads, size_with};
-ghost use Rattle.hm_log.specs.Opening.{IsMaking, OnlyReads, Reopens};
+ghost use Rattle.hm_log.specs.Opening.{IsBlank, IsInPlace, IsMaking, IsUsed, OnlyReads, Reopens};
 ghost use Rattle.hm_data.specs.declared.entry.Entry.{Entry as EntryValue};
 ghost use Rattle.hm_data.specs.declared.sheet.Sheet.{Sheet as SheetValue};
 ghost use Rattle.hm_entry.specs.Fits.{EntryFits};
@@ -99,7 +99,7 @@ fn record_start<D: Disk>(
     sheets: &[Sheet],
 ) -> Result<(), JournalWhy>
     requires sheets { AreSheets sheets.now }
-    requires hard { 65551 ≤ journal.old.kept.hard }
+    requires hard { 65552 ≤ journal.old.kept.hard }
     requires empty { journal.old.kept.entries ≡ [] }
     requires live { journal.old.kept.halted ≡ None }
     requires whole { journal.old.kept.tail ≡ None }
@@ -124,7 +124,7 @@ fn start<D: Disk>(
     sheets: &[Sheet],
 ) -> Result<Journal<D>, (D, JournalWhy)>
     requires sheets { AreSheets sheets.now }
-    requires hard { 65551 ≤ journal.kept.hard }
+    requires hard { 65552 ≤ journal.kept.hard }
     requires empty { journal.kept.entries ≡ [] }
     requires live { journal.kept.halted ≡ None }
     requires whole { journal.kept.tail ≡ None }
@@ -154,12 +154,14 @@ fn open_log<D: Disk>(alloc: Global, disk: D) -> Result<(Log<D>, Frames), (D, Jou
     ensures why { D.tells → IfErr result (λ e. (sheets : List SheetValue) → Refuses sheets (D.seen disk) e.1) }
     ensures accepts { D.tells → (frames : List (List ℕ)) → HoldsFrames (D.seen disk) frames → MatchResult result (λ r. r.1 ≡ frames) (λ e. IsUnjudged e.1) }
     ensures fault { IfErr result (λ e. e.1 ≡ JournalWhy.Fault → Rose (D.faults disk) (D.faults e.0)) }
+    ensures no_fault { IfOk result (λ r. D.faults r.0.disk ≡ D.faults disk) }
     ensures same { IfErr result (λ e. e.1 ≢ JournalWhy.Fault → D.seen e.0 ≡ D.seen disk) }
-    ensures left { D.tells → IfErr result (λ e. (frames : List (List ℕ)) → 0 < length (D.seen disk) → HoldsFrames (D.seen disk) frames → Reads (D.seen e.0) frames) }
-    ensures spared { D.tells → IfErr result (λ e. (frames : List (List ℕ)) → 0 < length (D.seen disk) → Only (D.seen disk) (D.image disk) → HoldsFrames (D.seen disk) frames
+    ensures left { D.tells → IfErr result (λ e. (frames : List (List ℕ)) → (IsBlank (D.seen disk) → ⊥) → HoldsFrames (D.seen disk) frames → Reads (D.seen e.0) frames) }
+    ensures spared { D.tells → IfErr result (λ e. (frames : List (List ℕ)) → (IsBlank (D.seen disk) → ⊥) → Only (D.seen disk) (D.image disk) → HoldsFrames (D.seen disk) frames
         → (c : List ℕ) → D.image e.0 c → Reads c frames) }
     ensures any_moment { D.tells → IfErr result (λ e. LeavesOnly D.moment D.left_since disk e.0 (λ c. D.image disk c ⊎ Reopens (D.seen disk) c)) }
-    ensures called { MatchResult result (λ r. IsCalled D.Disk 1 disk r.0.disk) (λ e. IsCalled D.Disk 1 disk e.0) }
+    ensures used { MatchResult result (λ r. IsUsed D.Disk disk r.0.disk) (λ e. IsUsed D.Disk disk e.0) }
+    ensures few { D.tells → IsInPlace (D.seen disk) → MatchResult result (λ r. IsCalled D.Disk 1 disk r.0.disk) (λ e. IsCalled D.Disk 1 disk e.0) }
     ensures clean { D.tells → IsClean (D.seen disk) → IfOk result (λ r. IsCalled D.Disk 0 disk r.0.disk) }
 {
     match Log::open(alloc, disk) {
@@ -176,7 +178,7 @@ fn begin<D: Disk>(
     sheets: &[Sheet],
 ) -> Result<(Journal<D>, State), (D, JournalWhy)>
     requires sheets { AreSheets sheets.now }
-    requires hard { 65551 ≤ journal.kept.hard }
+    requires hard { 65552 ≤ journal.kept.hard }
     requires next { journal.kept.next ≡ None }
     requires live { journal.kept.halted ≡ None }
     requires whole { journal.kept.tail ≡ None }
@@ -209,7 +211,7 @@ fn of_frames<D: Disk>(
     limits: Limits,
 ) -> Result<(Journal<D>, State), (D, JournalWhy)>
     requires sheets { AreSheets sheets.now }
-    requires hard { 65551 ≤ limits.hard }
+    requires hard { 65552 ≤ limits.hard }
     requires live { log.stalled ≡ false }
     requires bytes { log.bytes ≡ size_with frames }
     requires logged { D.tells → log.frames ≡ frames }
@@ -234,8 +236,8 @@ fn of_frames<D: Disk>(
 
 impl<D: Disk> Journal<D> {
     /// Opens a disk as a journal of these sheets, and gives its state too. A disk of size 0, and a log without frames,
-    /// gets its first entry. An error gives the disk back; unless it is a fault the disk reads as before, or as the same
-    /// frames with nothing after them.
+    /// gets its first entry. A log of version 1, and one that is being moved, are moved into place first, in more changes
+    /// of the disk. An error gives the disk back; unless it is a fault the disk reads as before, or as the same frames.
     pub fn open(
         alloc: Global,
         disk: D,
@@ -243,7 +245,7 @@ impl<D: Disk> Journal<D> {
         limits: Limits,
     ) -> Result<(Journal<D>, State), (D, JournalWhy)>
         requires sheets { AreSheets sheets.now }
-        requires hard { 65551 ≤ limits.hard }
+        requires hard { 65552 ≤ limits.hard }
 
         // What it gives.
         ensures journal { IfOk result (λ r. (old : List EntryValue) × IsJournal sheets.now old × (r.0.kept.entries ≡ opened sheets.now old)
@@ -258,6 +260,7 @@ impl<D: Disk> Journal<D> {
         ensures accepts { D.tells → (journal : List EntryValue) → IsOnDisk sheets.now (D.seen disk) journal →
             MatchResult result (λ r. r.0.kept.entries ≡ opened sheets.now journal) (λ e. IsUnjudged e.1) }
         ensures fault { IfErr result (λ e. e.1 ≡ JournalWhy.Fault → Rose (D.faults disk) (D.faults e.0)) }
+        ensures no_fault { IfOk result (λ r. D.faults r.0.opened.disk ≡ D.faults disk) }
 
         // What an error leaves.
         ensures same { D.tells → IfErr result (λ e. e.1 ≢ JournalWhy.Fault → SameFrames (D.seen disk) (D.seen e.0) (D.image e.0)) }
@@ -265,7 +268,8 @@ impl<D: Disk> Journal<D> {
         ensures any_moment { D.tells → IfErr result (λ e. LeavesOnly D.moment D.left_since disk e.0 (IsOpening sheets.now (D.seen disk) (D.image disk))) }
 
         // The disk's counts and its setting.
-        ensures called { MatchResult result (λ r. IsCalled D.Disk 1 disk r.0.opened.disk) (λ e. IsCalled D.Disk 3 disk e.0) }
+        ensures used { MatchResult result (λ r. IsUsed D.Disk disk r.0.opened.disk) (λ e. IsUsed D.Disk disk e.0) }
+        ensures few { D.tells → IsInPlace (D.seen disk) → MatchResult result (λ r. IsCalled D.Disk 1 disk r.0.opened.disk) (λ e. IsCalled D.Disk 3 disk e.0) }
         ensures clean { D.tells → IsClean (D.seen disk) → IfOk result (λ r. IsCalled D.Disk 0 disk r.0.opened.disk) }
     {
         match open_log(alloc, disk) {

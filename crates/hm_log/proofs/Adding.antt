@@ -1,10 +1,10 @@
 -- What the two steps of an append leave, one after the other.
-use Rattle.std.proofs.Common.{◌≡◌, inl, ℕ, ◌+◌, ◌++◌, ◌∷◌, [], List, length, sym, ◌∙◌, ap, subst}
+use Rattle.std.proofs.Common.{◌≡◌, inl, ℕ, ◌+◌, ◌++◌, ◌∷◌, [], List, length, take, sym, ◌∙◌, ap, subst}
 use Rattle.hm_disk.specs.Disk.{written, Torn, LeavesOnly}
 use Rattle.hm_disk.proofs.Moments.{weaker, joined}
-use Rattle.hm_log.specs.Format.{log_of, IsWhole}
+use Rattle.hm_log.specs.Format.{image_of, IsWhole}
 use Rattle.hm_log.specs.Run.{IsRun, BeforeOrAll}
-use Rattle.hm_log.proofs.Stages.{staged, torn_behind, written_behind, torn_gate, written_log, written_gate}
+use Rattle.hm_log.proofs.Stages.{staged, ten_are, torn_behind, written_behind, torn_gate, written_log, written_gate}
 
 module _ (at : ℕ) (frames : List (List ℕ)) (file : List ℕ) (whole : IsWhole file at frames) (run : List ℕ) (more : List (List ℕ)) (is_run : IsRun run more) where
   -- the run is there, after its closed gate
@@ -12,10 +12,10 @@ module _ (at : ℕ) (frames : List (List ℕ)) (file : List ℕ) (whole : IsWhol
   staged_is seen on_disk = on_disk ∙ written_behind at frames file whole run
 
   -- the gate is open
-  pub opened : (seen new : List ℕ) → seen ≡ staged at frames file whole run → new ≡ written at (43 ∷ []) seen → (new ≡ log_of (frames ++ more)) × IsWhole new (at + length run) (frames ++ more)
+  pub opened : (seen new : List ℕ) → seen ≡ staged at frames file whole run → new ≡ written at (43 ∷ []) seen → (new ≡ take 10 file ++ image_of (frames ++ more)) × IsWhole new (at + length run) (frames ++ more)
   opened seen new is on_disk =
       let wrote : new ≡ written at (43 ∷ []) (staged at frames file whole run) = on_disk ∙ ap (λ (f : List ℕ). written at (43 ∷ []) f) is in (
-        wrote ∙ written_log at frames file whole run more is_run,
+        wrote ∙ written_log at frames file whole run more is_run ∙ ap (λ (l : List ℕ). l ++ image_of (frames ++ more)) (sym (ten_are at frames file whole)),
         subst (λ (f : List ℕ). IsWhole f (at + length run) (frames ++ more)) (sym wrote) (written_gate at frames file whole run more is_run),
       )
 

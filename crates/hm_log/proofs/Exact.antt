@@ -1,15 +1,10 @@
 -- What holds a log is opened as its frames, unless the disk fails or memory runs out.
 use Rattle.std.proofs.Common.{◌≡◌, ◌⊎◌, ℕ, List, refl, sym, ◌∙◌, inl, inr}
 use Rattle.hm_log.specs.Format.{HoldsFrames, IsNotALog, IsBadFrame}
-use Rattle.hm_log.specs.Verdict.{Verdict, Judges}
+use Rattle.hm_log.specs.Verdict.{Verdict}
 use Rattle.hm_log.specs.declared.why.OpenWhy.{OpenWhy}
 use Rattle.hm_log.specs.declared.why.OpenWhy.TheVariants.{Fault, NotALog, BadFrame, Memory}
 use Rattle.hm_log.proofs.Judging.{only}
-
--- what a disk opens as is a verdict on it
-judged : (bytes : List ℕ) (frames : List (List ℕ)) → HoldsFrames bytes frames → (verdict : Verdict) × Judges bytes verdict
-judged bytes frames (inl blank) = (Verdict.Blank, blank.0)
-judged bytes frames (inr reads) = (Verdict.Holds frames, reads)
 
 pub opens_once : (bytes : List ℕ) (frames others : List (List ℕ)) → HoldsFrames bytes frames → HoldsFrames bytes others → others ≡ frames
 opens_once bytes frames others (inl a) (inl b) = b.1 ∙ sym a.1

@@ -1,275 +1,231 @@
 -- Each content has one verdict.
-use Rattle.std.proofs.Common.{◌≡◌, ◌≢◌, ◌⊎◌, inl, inr, ℕ, zero, suc, ◌+◌, ◌≤◌, ◌<◌, List, [], ◌∷◌, ◌++◌, length, take, drop, get_or, refl, sym, ◌∙◌, ap, subst, arith, append_assoc, length-append, length-drop, take-append-drop}
-use Rattle.std.proofs.lemmas.List.{take_at, drop_at, length-take, append_cancel_left, get_or-take, get_or_past}
-use Rattle.std.proofs.Math.ListN.{get_or-append}
-use Rattle.std.proofs.lemmas.List.Elements.{All-nil, All-cons, All-head, All-tail, All-take, All-drop}
-use Rattle.std.proofs.lemmas.Bool.{cases_eq, cases_lt, cases_order}
+use Rattle.std.proofs.Common.{◌≡◌, ◌≢◌, ◌⊎◌, inl, inr, ℕ, ◌+◌, ◌-◌, ◌≤◌, ◌<◌, List, [], ◌∷◌, ◌++◌, length, take, get_or, refl, sym, ◌∙◌, ap, arith, length-append, length-drop}
+use Rattle.std.proofs.lemmas.List.{length-take}
+use Rattle.std.proofs.lemmas.List.Elements.{All-take, All-drop}
+use Rattle.std.proofs.lemmas.Bool.{cases_eq, cases_lt}
 use Rattle.std.specs.Prelude.{All}
-use Rattle.std.specs.Int.{from_le_bytes, w32}
-use Rattle.hm_log.specs.Format.{header, size_bytes, size_of, laid, spelled, IsFrame, NoFrame, Reads, IsBadFrame, IsNotALog}
+use Rattle.hm_log.specs.Format.{magic, head, spelled, told_place, IsFrame, IsEnd, IsMoved, IsOpenEnded, IsOpenBad, IsShutEarly, NoBody, Reads, IsBadFrame, IsNotALog}
+use Rattle.hm_log.specs.Pieces.{body_in}
 use Rattle.hm_log.specs.Verdict.{Verdict, Blank, Holds, Foreign, Broken, Judges}
-use Rattle.hm_log.proofs.Sizes.{laid_is}
-use Rattle.hm_log.proofs.Spelling.{length-size_bytes, length-laid}
-use Rattle.hm_log.proofs.Listed.{size_of-size_bytes}
-
--- where the frames end: at a closed gate, or at an open one that has none
-abbrev pub IsEnd : List ℕ → Type 0
-IsEnd [] = ⊥
-IsEnd (gate ∷ rest) = (gate ≢ 43) ⊎ ((gate ≡ 43) × NoFrame rest)
-
-some_end : (end : List ℕ) → IsEnd end → 1 ≤ length end
-some_end [] is = absurd is
-some_end (gate ∷ rest) is = omega arith
-
--- frames that stand at a place, up to their end
-pub record Ends (bytes : List ℕ) : Type 0 where
-  pub frames : List (List ℕ)
-  pub end : List ℕ
-  pub spelling : bytes ≡ spelled frames ++ end
-  pub each : All IsFrame frames
-  pub is : IsEnd end
-
--- the size of a frame that stands here
-size_here : (frame rest : List ℕ) → IsFrame frame → size_of (laid frame ++ rest) ≡ length frame
-size_here frame rest is = ap size_of (append_assoc (size_bytes (length frame)) frame rest) ∙ size_of-size_bytes (length frame) (frame ++ rest) is.most
-
--- a whole frame and a gate after it are no missing frame
-stands : (frame rest : List ℕ) → IsFrame frame → 1 ≤ length rest → NoFrame (laid frame ++ rest) → ⊥
-stands frame rest is some none =
-    let size = size_here frame rest is in
-    let long : length (laid frame ++ rest) ≡ 4 + length frame + length rest = omega (arith, length-append (laid frame) rest, length-laid frame) in
-    elim none [
-      | inl short ↦ omega (arith, short, long)
-      | inr (inl nought) ↦ omega (arith, nought, size, is.some)
-      | inr (inr (inl many)) ↦ omega (arith, many, size, is.most)
-      | inr (inr (inr short)) ↦ omega (arith, short, size, long)
-    ]
-
--- two frames that stand at one place are one, and so is what follows
-same_size : (f g x y : List ℕ) → IsFrame f → IsFrame g → laid f ++ x ≡ laid g ++ y → length f ≡ length g
-same_size f g x y is also same = sym (size_here f x is) ∙ ap size_of same ∙ size_here g y also
-
-same_rest : (f g x y : List ℕ) → IsFrame f → IsFrame g → laid f ++ x ≡ laid g ++ y → x ≡ y
-same_rest f g x y is also same =
-    let sizes = same_size f g x y is also same in
-    sym (drop_at (laid f) x (4 + length f) (length-laid f)) ∙ ap (λ (l : List ℕ). drop (4 + length f) l) same ∙ drop_at (laid g) y (4 + length f) (omega (arith, length-laid g, sizes))
-
-behind_size : (f x : List ℕ) → drop 4 (laid f ++ x) ≡ f ++ x
-behind_size f x = ap (λ (l : List ℕ). drop 4 l) (append_assoc (size_bytes (length f)) f x) ∙ drop_at (size_bytes (length f)) (f ++ x) 4 (length-size_bytes (length f))
-
-same_frame : (f g x y : List ℕ) → IsFrame f → IsFrame g → laid f ++ x ≡ laid g ++ y → f ≡ g
-same_frame f g x y is also same =
-    let whole : f ++ x ≡ g ++ y = sym (behind_size f x) ∙ ap (λ (l : List ℕ). drop 4 l) same ∙ behind_size g y in
-    sym (take_at f x (length f) refl) ∙ ap (λ (l : List ℕ). take (length f) l) whole ∙ take_at g y (length f) (sym (same_size f g x y is also same))
-
-tail_of : (a b : ℕ) (x y : List ℕ) → a ∷ x ≡ b ∷ y → x ≡ y
-tail_of a b x y is = cc
-
-head_of : (a b : ℕ) (x y : List ℕ) → a ∷ x ≡ b ∷ y → a ≡ b
-head_of a b x y is = cc
-
--- no frame stands where the frames end
-no_more : (end g : List ℕ) (gs : List (List ℕ)) (other : List ℕ) → IsEnd end → All IsFrame (g ∷ gs) → IsEnd other → end ≡ spelled (g ∷ gs) ++ other → ⊥
-no_more [] g gs other is also ends same = is
-no_more (gate ∷ rest) g gs other (inl shut) also ends same = shut (head_of gate 43 rest _ same)
-no_more (gate ∷ rest) g gs other (inr bad) also ends same =
-    let here : rest ≡ laid g ++ (spelled gs ++ other) = tail_of gate 43 rest _ same ∙ append_assoc (laid g) (spelled gs) other in
-    let some : 1 ≤ length (spelled gs ++ other) = omega (arith, length-append (spelled gs) other, some_end other ends) in
-    stands g (spelled gs ++ other) (All-head IsFrame g gs also) some (subst NoFrame here bad.1)
-
-pub same_ends : (fs gs : List (List ℕ)) (end other : List ℕ) → All IsFrame fs → All IsFrame gs → IsEnd end → IsEnd other → spelled fs ++ end ≡ spelled gs ++ other → (fs ≡ gs) × (end ≡ other)
-same_ends [] [] end other all also is ends same = (refl, same)
-same_ends [] (g ∷ gs) end other all also is ends same = absurd (no_more end g gs other is also ends same)
-same_ends (f ∷ fs) [] end other all also is ends same = absurd (no_more other f fs end ends all is (sym same))
-same_ends (f ∷ fs) (g ∷ gs) end other all also is ends same =
-    let here : laid f ++ (spelled fs ++ end) ≡ laid g ++ (spelled gs ++ other) = sym (append_assoc (laid f) (spelled fs) end) ∙ tail_of 43 43 _ _ same ∙ append_assoc (laid g) (spelled gs) other in
-    let first : f ≡ g = same_frame f g _ _ (All-head IsFrame f fs all) (All-head IsFrame g gs also) here in
-    let rest = same_ends fs gs end other (All-tail IsFrame f fs all) (All-tail IsFrame g gs also) is ends (same_rest f g _ _ (All-head IsFrame f fs all) (All-head IsFrame g gs also) here) in
-    ((λ i. first i ∷ rest.0 i), rest.1)
+use Rattle.hm_log.proofs.Ends.{Ends, IsByte, some_end, same_ends, closed_or_open, tail_of, ended}
+use Rattle.hm_log.proofs.Foreign.{not_foreign, one_place, foreign_some, differs_at}
+use Rattle.hm_log.proofs.Layouts.{layout_of, lies_of, same_body, not_moved, is_first, is_plain, is_moved}
+use Rattle.hm_log.proofs.Listed.{one_list}
 
 -- a log, or one with a bad frame
 pub record Begins (bytes : List ℕ) : Type 0 where
-  pub rest : List ℕ
-  pub spelling : bytes ≡ header ++ rest
-  pub ends : Ends rest
+  pub front : List ℕ
+  pub body : List ℕ
+  pub layout : IsOpenEnded bytes front body ⊎ IsMoved bytes front body
+  pub ends : Ends body
 
 abbrev holds_begins : (bytes : List ℕ) (frames : List (List ℕ)) → Reads bytes frames → Begins bytes
 holds_begins bytes frames reads = record {
-  rest = spelled frames ++ reads.gate ∷ reads.free;
-  spelling = reads.spelling ∙ append_assoc header (spelled frames) (reads.gate ∷ reads.free);
-  ends = record { frames = frames; end = reads.gate ∷ reads.free; spelling = refl; each = reads.each; is = inl reads.shut };
+  front = reads.front;
+  body = reads.body;
+  layout = layout_of bytes frames reads;
+  ends = record { frames = frames; end = reads.runs.gate ∷ reads.free; spelling = reads.runs.spelling; each = reads.runs.each; is = inl reads.runs.shut };
 }
+
+abbrev open_ends : (body : List ℕ) (place : ℕ) → IsOpenBad body place → Ends body
+open_ends body place bad = record { frames = bad.frames; end = 43 ∷ bad.rest; spelling = bad.spelling; each = bad.each; is = inr (refl, bad.none) }
+
+abbrev shut_ends : (body : List ℕ) (place : ℕ) → IsShutEarly body place → Ends body
+shut_ends body place early = record { frames = early.frames; end = early.runs.gate ∷ early.free; spelling = early.runs.spelling; each = early.runs.each; is = inl early.runs.shut }
+
+-- a log with a bad frame, by its cases
+abbrev Bad : (bytes front body : List ℕ) (within : ℕ) → Type 0
+Bad bytes front body within = (IsOpenEnded bytes front body × IsOpenBad body within) ⊎ (IsMoved bytes front body × (IsOpenBad body within ⊎ IsShutEarly body within))
+
+bad_layout : (bytes front body : List ℕ) (within : ℕ) → Bad bytes front body within → IsOpenEnded bytes front body ⊎ IsMoved bytes front body
+bad_layout bytes front body within (inl (straight, bad)) = inl straight
+bad_layout bytes front body within (inr (moved, bad)) = inr moved
+
+-- where its frames end, at the place
+record BadEnd (body : List ℕ) (within : ℕ) : Type 0 where
+  ends : Ends body
+  at : within ≡ length (spelled ends.frames)
+
+bad_end : (bytes front body : List ℕ) (within : ℕ) → Bad bytes front body within → BadEnd body within
+bad_end bytes front body within (inl (straight, bad)) = record { ends = open_ends body within bad; at = bad.at }
+bad_end bytes front body within (inr (moved, inl bad)) = record { ends = open_ends body within bad; at = bad.at }
+bad_end bytes front body within (inr (moved, inr early)) = record { ends = shut_ends body within early; at = early.at }
 
 abbrev broken_begins : (bytes : List ℕ) (place : ℕ) → IsBadFrame bytes place → Begins bytes
 broken_begins bytes place bad = record {
-  rest = spelled bad.frames ++ 43 ∷ bad.rest;
-  spelling = bad.spelling ∙ append_assoc header (spelled bad.frames) (43 ∷ bad.rest);
-  ends = record { frames = bad.frames; end = 43 ∷ bad.rest; spelling = refl; each = bad.each; is = inr (refl, bad.none) };
+  front = bad.front;
+  body = bad.body;
+  layout = bad_layout bytes bad.front bad.body bad.within bad.bad;
+  ends = (bad_end bytes bad.front bad.body bad.within bad.bad).ends;
 }
+
+same_front : (bytes : List ℕ) (one other : Begins bytes) → (length one.front ≡ length other.front) × (one.body ≡ other.body)
+same_front bytes one other = same_body bytes one.front other.front one.body other.body (lies_of bytes one.front one.body one.layout) (lies_of bytes other.front other.body other.layout)
 
 same_begins : (bytes : List ℕ) (one other : Begins bytes) → (one.ends.frames ≡ other.ends.frames) × (one.ends.end ≡ other.ends.end)
 same_begins bytes one other =
     same_ends one.ends.frames other.ends.frames one.ends.end other.ends.end one.ends.each other.ends.each one.ends.is other.ends.is
-    (sym one.ends.spelling ∙ append_cancel_left header one.rest other.rest (sym one.spelling ∙ other.spelling) ∙ other.ends.spelling)
+    (sym one.ends.spelling ∙ (same_front bytes one other).1 ∙ other.ends.spelling)
 
-ten : (bytes : List ℕ) → Begins bytes → 10 ≤ length bytes
-ten bytes one = omega (arith, ap length one.spelling, length-append header one.rest, ap length one.ends.spelling, length-append (spelled one.ends.frames) one.ends.end, some_end one.ends.end one.ends.is)
+body_some : (bytes : List ℕ) (one : Begins bytes) → 1 ≤ length one.body
+body_some bytes one = omega (arith, ap length one.ends.spelling, length-append (spelled one.ends.frames) one.ends.end, some_end one.ends.end one.ends.is)
 
-no_foreign : (bytes : List ℕ) (place : ℕ) → Begins bytes → IsNotALog bytes place → ⊥
-no_foreign bytes place one (inl short) = let le = short.1 in omega (arith, le, ten bytes one)
-no_foreign bytes place one (inr differs) =
-    differs.3 (ap (λ (l : List ℕ). get_or l place 0) one.spelling ∙ get_or-append header one.rest 0 place differs.1)
+bytes_some : (bytes : List ℕ) (one : Begins bytes) → 1 ≤ length bytes
+bytes_some bytes one =
+    let lies = lies_of bytes one.front one.body one.layout in
+    omega (arith, ap length lies.parts, length-append one.front (one.body ++ lies.behind), length-append one.body lies.behind, body_some bytes one)
 
-one_place : (bytes : List ℕ) (p q : ℕ) → IsNotALog bytes p → IsNotALog bytes q → p ≡ q
-one_place bytes p q (inl short) (inl also) = short.2 ∙ sym also.2
-one_place bytes p q (inl short) (inr also) = let le = short.1 in let ge = also.0 in absurd (omega (arith, le, ge))
-one_place bytes p q (inr differs) (inl also) = let le = also.1 in let ge = differs.0 in absurd (omega (arith, le, ge))
-one_place bytes p q (inr differs) (inr also) = elim (cases_order p q) [
-  | inl same ↦ same
-  | inr (inl less) ↦ absurd (differs.3 (agree bytes p q less also.2))
-  | inr (inr more) ↦ absurd (also.3 (agree bytes q p more differs.2))
-]
+begins_foreign : (bytes : List ℕ) (q : ℕ) → Begins bytes → IsNotALog bytes q → ⊥
+begins_foreign bytes q one foreign = not_foreign bytes one.front one.body q one.layout (body_some bytes one) foreign
+
+-- a log has no bad frame
+holds_broken : (bytes : List ℕ) (frames : List (List ℕ)) (q : ℕ) → Reads bytes frames → IsBadFrame bytes q → ⊥
+unfolding bad_end
+holds_broken bytes frames q reads bad = by bad.bad (same_begins bytes (holds_begins bytes frames reads) (broken_begins bytes q bad)).1
   where
-    agree : (bytes : List ℕ) (p q : ℕ) → p < q → take q bytes ≡ take q header → get_or bytes p 0 ≡ get_or header p 0
-    agree bytes p q less same = sym (get_or-take q bytes p 0 less) ∙ ap (λ (l : List ℕ). get_or l p 0) same ∙ get_or-take q header p 0 less
+    early : IsMoved bytes bad.front bad.body → (free : List ℕ) → 1 ≤ length free → reads.free ≡ free → IsOpenEnded bytes reads.front reads.body ⊎ (IsMoved bytes reads.front reads.body × (reads.free ≡ [])) → ⊥
+    early moved free some same (inl straight) = not_moved bytes reads.front bad.front reads.body bad.body straight moved
+    early moved free some same (inr last) = omega (arith, some, ap length same, ap length last.1)
 
-closed_or_open : (x y : ℕ) (a b : List ℕ) → x ≢ y → x ∷ a ≡ y ∷ b → ⊥
-closed_or_open x y a b ne is = ne (head_of x y a b is)
+    by : (is : Bad bytes bad.front bad.body bad.within) → reads.runs.gate ∷ reads.free ≡ (bad_end bytes bad.front bad.body bad.within is).ends.end → ⊥
+    by (inl (straight, none)) same = closed_or_open reads.runs.gate 43 reads.free none.rest reads.runs.shut same
+    by (inr (moved, inl none)) same = closed_or_open reads.runs.gate 43 reads.free none.rest reads.runs.shut same
+    by (inr (moved, inr shut)) same = early moved shut.free shut.some (tail_of reads.runs.gate shut.runs.gate reads.free shut.free same) reads.layout
+
+broken_once : (bytes : List ℕ) (p q : ℕ) → IsBadFrame bytes p → IsBadFrame bytes q → p ≡ q
+broken_once bytes p q one other =
+    let a = broken_begins bytes p one in
+    let b = broken_begins bytes q other in
+    let fronts = (same_front bytes a b).0 in
+    let frames = ap (λ (fs : List (List ℕ)). length (spelled fs)) (same_begins bytes a b).0 in
+    omega (arith, one.at, other.at, (bad_end bytes one.front one.body one.within one.bad).at, (bad_end bytes other.front other.body other.within other.bad).at, fronts, frames)
 
 pub only : (bytes : List ℕ) (one other : Verdict) → Judges bytes one → Judges bytes other → one ≡ other
 only bytes Blank Blank is also = refl
-only bytes Blank (Holds gs) is also = absurd (omega (arith, is, ten bytes (holds_begins bytes gs also)))
-only bytes Blank (Foreign q) is (inl short) = let ge = short.0 in absurd (omega (arith, is, ge))
-only bytes Blank (Foreign q) is (inr differs) = let ge = differs.0 in absurd (omega (arith, is, ge))
-only bytes Blank (Broken q) is also = absurd (omega (arith, is, ten bytes (broken_begins bytes q also)))
-only bytes (Holds fs) Blank is also = absurd (omega (arith, also, ten bytes (holds_begins bytes fs is)))
-only bytes (Holds fs) (Holds gs) is also = ap Holds (same_begins bytes (holds_begins bytes fs is) (holds_begins bytes gs also)).0
-only bytes (Holds fs) (Foreign q) is also = absurd (no_foreign bytes q (holds_begins bytes fs is) also)
-only bytes (Holds fs) (Broken q) is also = absurd (closed_or_open is.gate 43 is.free also.rest is.shut (same_begins bytes (holds_begins bytes fs is) (broken_begins bytes q also)).1)
-only bytes (Foreign p) Blank (inl short) also = let ge = short.0 in absurd (omega (arith, also, ge))
-only bytes (Foreign p) Blank (inr differs) also = let ge = differs.0 in absurd (omega (arith, also, ge))
-only bytes (Foreign p) (Holds gs) is also = absurd (no_foreign bytes p (holds_begins bytes gs also) is)
+only bytes Blank (Holds gs) is also = absurd (omega (arith, is, bytes_some bytes (holds_begins bytes gs also)))
+only bytes Blank (Foreign q) is also = absurd (omega (arith, is, foreign_some bytes q also))
+only bytes Blank (Broken q) is also = absurd (omega (arith, is, bytes_some bytes (broken_begins bytes q also)))
+only bytes (Holds fs) Blank is also = absurd (omega (arith, also, bytes_some bytes (holds_begins bytes fs is)))
+only bytes (Holds fs) (Holds gs) is also = ap Holds (one_list bytes fs gs is also)
+only bytes (Holds fs) (Foreign q) is also = absurd (begins_foreign bytes q (holds_begins bytes fs is) also)
+only bytes (Holds fs) (Broken q) is also = absurd (holds_broken bytes fs q is also)
+only bytes (Foreign p) Blank is also = absurd (omega (arith, also, foreign_some bytes p is))
+only bytes (Foreign p) (Holds gs) is also = absurd (begins_foreign bytes p (holds_begins bytes gs also) is)
 only bytes (Foreign p) (Foreign q) is also = ap Foreign (one_place bytes p q is also)
-only bytes (Foreign p) (Broken q) is also = absurd (no_foreign bytes p (broken_begins bytes q also) is)
-only bytes (Broken p) Blank is also = absurd (omega (arith, also, ten bytes (broken_begins bytes p is)))
-only bytes (Broken p) (Holds gs) is also = absurd (closed_or_open also.gate 43 also.free is.rest also.shut (sym (same_begins bytes (broken_begins bytes p is) (holds_begins bytes gs also)).1))
-only bytes (Broken p) (Foreign q) is also = absurd (no_foreign bytes q (broken_begins bytes p is) also)
-only bytes (Broken p) (Broken q) is also =
-    ap Broken (is.at ∙ ap (λ (fs : List (List ℕ)). length (header ++ spelled fs)) (same_begins bytes (broken_begins bytes p is) (broken_begins bytes q also)).0 ∙ sym also.at)
+only bytes (Foreign p) (Broken q) is also = absurd (begins_foreign bytes p (broken_begins bytes q also) is)
+only bytes (Broken p) Blank is also = absurd (omega (arith, also, bytes_some bytes (broken_begins bytes p is)))
+only bytes (Broken p) (Holds gs) is also = absurd (holds_broken bytes gs p also is)
+only bytes (Broken p) (Foreign q) is also = absurd (begins_foreign bytes q (broken_begins bytes p is) also)
+only bytes (Broken p) (Broken q) is also = ap Broken (broken_once bytes p q is also)
 
--- a frame that stands here, and what follows it
-record Stands (rest : List ℕ) : Type 0 where
-  frame : List ℕ
-  next : List ℕ
-  is : rest ≡ laid frame ++ next
-  fits : IsFrame frame
-  some : 1 ≤ length next
+-- where the body goes on to the end
+ended_open : (bytes front body : List ℕ) → IsOpenEnded bytes front body → (frames : List (List ℕ)) (end : List ℕ) → body ≡ spelled frames ++ end → All IsFrame frames → IsEnd end → (verdict : Verdict) × Judges bytes verdict
+ended_open bytes front body straight frames [] spelling each is = absurd is
+ended_open bytes front body straight frames (gate ∷ rest) spelling each (inl shut) = (
+  Holds frames,
+  record { front = front; body = body; free = rest; layout = inl straight; runs = record { gate = gate; shut = shut; spelling = spelling; each = each } },
+)
+ended_open bytes front body straight frames (gate ∷ rest) spelling each (inr bad) = (
+  Broken (length front + length (spelled frames)),
+  record {
+    front = front;
+    body = body;
+    within = length (spelled frames);
+    at = refl;
+    bad = inl (straight, record { frames = frames; rest = rest; spelling = spelling ∙ ap (λ (g : ℕ). spelled frames ++ g ∷ rest) bad.0; at = refl; each = each; none = bad.1 });
+  },
+)
 
-abbrev IsByte : ℕ → Type 0
-IsByte byte = byte < 256
+-- where it is that of a moved log
+ended_moved : (bytes front body : List ℕ) → IsMoved bytes front body → (frames : List (List ℕ)) (end : List ℕ) → body ≡ spelled frames ++ end → All IsFrame frames → IsEnd end → (verdict : Verdict) × Judges bytes verdict
+ended_moved bytes front body moved frames [] spelling each is = absurd is
+ended_moved bytes front body moved frames (gate ∷ []) spelling each (inl shut) = (
+  Holds frames,
+  record { front = front; body = body; free = []; layout = inr (moved, refl); runs = record { gate = gate; shut = shut; spelling = spelling; each = each } },
+)
+ended_moved bytes front body moved frames (gate ∷ next ∷ rest) spelling each (inl shut) = (
+  Broken (length front + length (spelled frames)),
+  record {
+    front = front;
+    body = body;
+    within = length (spelled frames);
+    at = refl;
+    bad = inr (moved, inr (record { frames = frames; free = next ∷ rest; runs = record { gate = gate; shut = shut; spelling = spelling; each = each }; at = refl; some = omega arith }));
+  },
+)
+ended_moved bytes front body moved frames (gate ∷ rest) spelling each (inr bad) = (
+  Broken (length front + length (spelled frames)),
+  record {
+    front = front;
+    body = body;
+    within = length (spelled frames);
+    at = refl;
+    bad = inr (moved, inl (record { frames = frames; rest = rest; spelling = spelling ∙ ap (λ (g : ℕ). spelled frames ++ g ∷ rest) bad.0; at = refl; each = each; none = bad.1 }));
+  },
+)
 
-byte_at : (bytes : List ℕ) → All IsByte bytes → (i : ℕ) → get_or bytes i 0 < 256
-byte_at bytes all i = elim (cases_lt i (length bytes)) [
-  | inl within ↦ all i 0 within
-  | inr past ↦ subst IsByte (sym (get_or_past bytes i 0 past)) (omega arith)
-]
+all_in : (first limit : ℕ) (bytes : List ℕ) → All IsByte bytes → All IsByte (body_in first limit bytes)
+all_in first limit bytes all = All-drop IsByte first (take limit bytes) (All-take IsByte limit bytes all)
 
-size_is : (rest : List ℕ) → size_of rest ≡ from_le_bytes w32 (take 4 rest)
-unfolding size_of
-size_is rest = refl
+long_in : (first limit : ℕ) (bytes : List ℕ) → first < limit → limit ≤ length bytes → 1 ≤ length (body_in first limit bytes)
+long_in first limit bytes some within = omega (arith, length-drop first (take limit bytes), length-take limit bytes)
 
-stands_here : (rest : List ℕ) → All IsByte rest → 1 ≤ size_of rest → size_of rest ≤ 65536 → 4 + size_of rest < length rest → Stands rest
-stands_here rest all some most long =
-    let n = size_of rest in
-    let tail = drop 4 rest in
-    let size : length (take n tail) ≡ n = omega (arith, length-take n tail, length-drop 4 rest) in
-    record {
-      frame = take n tail;
-      next = drop n tail;
-      is = laid_is rest (take 4 rest) tail n (sym (take-append-drop 4 rest)) (omega (arith, length-take 4 rest)) (size_is rest) (byte_at (take 4 rest) (All-take IsByte 4 rest all)) (take n tail) (drop n tail) (sym (take-append-drop n tail)) size;
-      fits = record { some = omega (arith, size); most = omega (arith, size) };
-      some = omega (arith, length-drop n tail, length-drop 4 rest);
-    }
+open_verdict : (first : ℕ) (bytes front : List ℕ) → first < length bytes → IsOpenEnded bytes front (body_in first (length bytes) bytes) → All IsByte bytes → (verdict : Verdict) × Judges bytes verdict
+open_verdict first bytes front some straight all =
+    let body = body_in first (length bytes) bytes in
+    let ends = ended (length body) body (omega arith) (long_in first (length bytes) bytes some (omega arith)) (all_in first (length bytes) bytes all) in
+    ended_open bytes front body straight ends.frames ends.end ends.spelling ends.each ends.is
 
-frame_or_none : (rest : List ℕ) → All IsByte rest → NoFrame rest ⊎ Stands rest
-frame_or_none rest all = elim (cases_lt (length rest) 4) [
-  | inl short ↦ inl (inl short)
-  | inr four ↦ elim (cases_eq (size_of rest) 0) [
-    | inl nought ↦ inl (inr (inl nought))
-    | inr some ↦ elim (cases_lt 65536 (size_of rest)) [
-      | inl many ↦ inl (inr (inr (inl many)))
-      | inr most ↦ elim (cases_lt (4 + size_of rest) (length rest)) [
-        | inl long ↦ inr (stands_here rest all (omega arith) most long)
-        | inr short ↦ inl (inr (inr (inr short)))
-      ]
+no_body : (place size : ℕ) → NoBody place size ⊎ (NoBody place size → ⊥)
+no_body place size = elim (cases_lt place 11) [
+  | inl low ↦ inl (inl low)
+  | inr not_low ↦ elim (cases_lt size (place + 9)) [
+    | inl high ↦ inl (inr (inl high))
+    | inr not_high ↦ elim (cases_lt (place + place) (size + 2)) [
+      | inl tight ↦ inl (inr (inr tight))
+      | inr not_tight ↦ inr (there not_low not_high not_tight)
     ]
   ]
 ]
+  where
+    there : 11 ≤ place → place + 9 ≤ size → size + 2 ≤ place + place → NoBody place size → ⊥
+    there a b c (inl low) = omega (arith, a, low)
+    there a b c (inr (inl high)) = omega (arith, b, high)
+    there a b c (inr (inr tight)) = omega (arith, c, tight)
 
-ends_here : (rest : List ℕ) → IsEnd rest → Ends rest
-ends_here rest is = record { frames = []; end = rest; spelling = refl; each = All-nil IsFrame; is = is }
+moved_verdict : (bytes : List ℕ) → 11 ≤ length bytes → take 8 bytes ≡ magic → get_or bytes 8 0 ≢ 1 → get_or bytes 9 0 ≡ 43 → All IsByte bytes → (verdict : Verdict) × Judges bytes verdict
+moved_verdict bytes long begins newer plus all = by (no_body (told_place bytes) (length bytes))
+  where
+    by : NoBody (told_place bytes) (length bytes) ⊎ (NoBody (told_place bytes) (length bytes) → ⊥) → (verdict : Verdict) × Judges bytes verdict
+    by (inl none) = (Foreign 9, inr (record { long = long; at = refl; newer = record { begins = begins; newer = newer }; plus = plus; none = none }))
+    by (inr there) =
+        let first = told_place bytes in
+        let limit = length bytes - 8 in
+        let body = body_in first limit bytes in
+        let moved = is_moved bytes first limit (omega (arith, long)) long begins newer plus refl there in
+        let ends = ended (length body) body (omega arith) moved.some (all_in first limit bytes all) in
+        ended_moved bytes (take first bytes) body moved ends.frames ends.end ends.spelling ends.each ends.is
 
-ends_later : (gate : ℕ) (rest : List ℕ) (here : Stands rest) → gate ≡ 43 → Ends here.next → Ends (gate ∷ rest)
-ends_later gate rest here is later = record {
-  frames = here.frame ∷ later.frames;
-  end = later.end;
-  spelling = (λ i. is i ∷ here.is i) ∙ ap (λ (l : List ℕ). 43 ∷ (laid here.frame ++ l)) later.spelling ∙ ap (λ (l : List ℕ). 43 ∷ l) (sym (append_assoc (laid here.frame) (spelled later.frames) later.end));
-  each = All-cons IsFrame here.frame later.frames here.fits later.each;
-  is = later.is;
-}
-
-all_next : (rest : List ℕ) (here : Stands rest) → All IsByte rest → All IsByte here.next
-all_next rest here all =
-    let same : drop (4 + length here.frame) rest ≡ here.next = ap (λ (l : List ℕ). drop (4 + length here.frame) l) here.is ∙ drop_at (laid here.frame) here.next (4 + length here.frame) (length-laid here.frame) in
-    let P : List ℕ → Type 0 = λ l. All IsByte l in
-    subst P same (All-drop IsByte (4 + length here.frame) rest all)
-
-ended : (steps : ℕ) (rest : List ℕ) → length rest ≤ steps → 1 ≤ length rest → All IsByte rest → Ends rest
-ended steps [] le some all = absurd (omega arith)
-ended zero (gate ∷ rest) le some all = absurd (omega arith)
-ended (suc steps) (gate ∷ rest) le some all = elim (cases_eq gate 43) [
-  | inr shut ↦ ends_here (gate ∷ rest) (inl shut)
-  | inl is ↦ elim (frame_or_none rest (All-tail IsByte gate rest all)) [
-    | inl none ↦ ends_here (gate ∷ rest) (inr (is, none))
-    | inr here ↦ ends_later gate rest here is (ended steps here.next (omega (arith, le, ap length here.is, length-append (laid here.frame) here.next)) here.some (all_next rest here (All-tail IsByte gate rest all)))
+head_verdict : (bytes : List ℕ) → 10 ≤ length bytes → take 8 bytes ≡ magic → All IsByte bytes → (verdict : Verdict) × Judges bytes verdict
+head_verdict bytes long begins all = elim (cases_eq (get_or bytes 8 0) 1) [
+  | inl one ↦ open_verdict 9 bytes (magic ++ 1 ∷ []) (omega arith) (inl (is_first bytes (length bytes) refl long begins one)) all
+  | inr newer ↦ elim (cases_eq (length bytes) 10) [
+    | inl ten ↦ (Foreign 10, inl (inr (inr (ten, refl, record { begins = begins; newer = newer }))))
+    | inr more ↦ elim (cases_eq (get_or bytes 9 0) 43) [
+      | inl plus ↦ moved_verdict bytes (omega (arith, long, more)) begins newer plus all
+      | inr off ↦ open_verdict 10 bytes (head (get_or bytes 8 0) (get_or bytes 9 0)) (omega (arith, long, more)) (inr (is_plain bytes (length bytes) refl long begins newer off)) all
+    ]
   ]
 ]
-
--- the first place that differs, if one does
-differs_at : (hs bs : List ℕ) → length hs ≤ length bs → (take (length hs) bs ≡ hs) ⊎ ((p : ℕ) × (p < length hs) × (take p bs ≡ take p hs) × (get_or bs p 0 ≢ get_or hs p 0))
-differs_at [] bs le = inl refl
-differs_at (h ∷ hs) [] le = absurd (omega arith)
-differs_at (h ∷ hs) (b ∷ bs) le = elim (cases_eq b h) [
-  | inr ne ↦ inr (0, omega arith, refl, ne)
-  | inl same ↦ elim (differs_at hs bs (omega arith)) [
-    | inl all ↦ inl (λ i. same i ∷ all i)
-    | inr d ↦ inr (suc d.0, omega (arith, d.1), (λ i. same i ∷ d.2 i), d.3)
-  ]
-]
-
-ended_verdict : (bytes : List ℕ) (frames : List (List ℕ)) (end : List ℕ) → bytes ≡ header ++ spelled frames ++ end → All IsFrame frames → IsEnd end → (verdict : Verdict) × Judges bytes verdict
-ended_verdict bytes frames [] spelling each is = absurd is
-ended_verdict bytes frames (gate ∷ rest) spelling each (inl shut) = (Holds frames, record { gate = gate; free = rest; shut = shut; spelling = spelling; each = each })
-ended_verdict bytes frames (gate ∷ rest) spelling each (inr bad) = (
-  Broken (length (header ++ spelled frames)),
-  record { frames = frames; rest = rest; spelling = spelling ∙ ap (λ (g : ℕ). header ++ spelled frames ++ g ∷ rest) bad.0; at = refl; each = each; none = bad.1 },
-)
-
-header_verdict : (bytes : List ℕ) → 10 ≤ length bytes → take 9 bytes ≡ header → All IsByte bytes → (verdict : Verdict) × Judges bytes verdict
-header_verdict bytes long same all =
-    let rest = drop 9 bytes in
-    let ends = ended (length rest) rest (omega arith) (omega (arith, length-drop 9 bytes)) (All-drop IsByte 9 bytes all) in
-    let split : bytes ≡ header ++ rest = sym (take-append-drop 9 bytes) ∙ ap (λ (l : List ℕ). l ++ rest) same in
-    ended_verdict bytes ends.frames ends.end (split ∙ ap (λ (l : List ℕ). header ++ l) ends.spelling ∙ sym (append_assoc header (spelled ends.frames) ends.end)) ends.each ends.is
 
 pub some : (bytes : List ℕ) → All IsByte bytes → (verdict : Verdict) × Judges bytes verdict
 some bytes all = elim (cases_eq (length bytes) 0) [
   | inl nought ↦ (Blank, nought)
   | inr filled ↦ elim (cases_lt (length bytes) 10) [
-    | inl short ↦ (Foreign (length bytes), inl (omega arith, omega arith, refl))
-    | inr long ↦ elim (differs_at header bytes (omega arith)) [
-      | inl same ↦ header_verdict bytes long same all
-      | inr d ↦ (Foreign d.0, inr (long, d.1, d.2, d.3))
+    | inl short ↦ (Foreign (length bytes), inl (inl (omega arith, omega arith, refl)))
+    | inr long ↦ elim (differs_at magic bytes (omega arith)) [
+      | inl same ↦ head_verdict bytes long same all
+      | inr d ↦ (Foreign d.0, inl (inr (inl (long, d.1, d.2, d.3))))
     ]
   ]
 ]

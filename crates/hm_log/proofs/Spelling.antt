@@ -3,7 +3,7 @@ use Rattle.std.proofs.Common.{◌≡◌, ℕ, ◌+◌, ◌≤◌, List, [], ◌�
 use Rattle.std.proofs.lemmas.List.{append-nil}
 use Rattle.std.proofs.lemmas.List.Sums.{sum_by-cons}
 use Rattle.std.specs.Prelude.{sum_by}
-use Rattle.hm_log.specs.Format.{header, size_bytes, laid, spelled, log_of, IsFrame}
+use Rattle.hm_log.specs.Format.{size_bytes, laid, spelled, image_of, image_size, IsFrame}
 use Rattle.hm_log.specs.Run.{IsRun}
 use Rattle.std.proofs.lemmas.List.Elements.{All-nil, All-push}
 
@@ -37,22 +37,6 @@ spelled-push (f ∷ frames) frame rest =
     ∙ sym (append_assoc (laid f) (spelled frames) (43 ∷ tail)) in
     ap (λ (l : List ℕ). 43 ∷ l) behind
 
-pub length-spelled-push : (frames : List (List ℕ)) (frame : List ℕ) → length (spelled (frames ++ frame ∷ [])) ≡ length (spelled frames) + 5 + length frame
-length-spelled-push frames frame =
-    let longer = spelled (frames ++ frame ∷ []) in
-    let tail = laid frame ++ [] in
-    omega (arith, ap length (spelled-push frames frame []), length-append longer [], length-append (spelled frames) (43 ∷ tail), length-append (laid frame) [], length-laid frame)
-
--- where an open gate and a frame follow, there is one frame more
-pub goes_on : (bytes : List ℕ) (frames : List (List ℕ)) (rest tail frame next : List ℕ) → bytes ≡ header ++ spelled frames ++ rest → rest ≡ 43 ∷ tail → tail ≡ laid frame ++ next
-    → bytes ≡ header ++ spelled (frames ++ frame ∷ []) ++ next
-goes_on bytes frames rest tail frame next so_far is_open is =
-    so_far
-    ∙ append_assoc header (spelled frames) rest
-    ∙ ap (λ (l : List ℕ). header ++ (spelled frames ++ l)) (is_open ∙ ap (λ (l : List ℕ). 43 ∷ l) is)
-    ∙ ap (λ (l : List ℕ). header ++ l) (sym (spelled-push frames frame next))
-    ∙ sym (append_assoc header (spelled (frames ++ frame ∷ [])) next)
-
 -- some frames stand after others
 pub spelled-append : (frames more : List (List ℕ)) → spelled (frames ++ more) ≡ spelled frames ++ spelled more
 spelled-append [] more = refl
@@ -71,11 +55,14 @@ run_of_one run frame is fits = record {
   spelling = ap (λ (l : List ℕ). 43 ∷ l) is ∙ ap (λ (l : List ℕ). 43 ∷ (l ++ 45 ∷ [])) (sym (append-nil (laid frame)));
 }
 
+-- the size of an image
+pub length-image : (frames : List (List ℕ)) → length (image_of frames) ≡ image_size frames
+length-image frames = omega (arith, length-append (spelled frames) (45 ∷ []), length-spelled frames)
+
 -- the gate before a run, once it is open
-pub opened_log : (frames : List (List ℕ)) (run : List ℕ) (more : List (List ℕ)) → IsRun run more → header ++ spelled frames ++ 43 ∷ [] ++ run ≡ log_of (frames ++ more)
-opened_log frames run more is =
-    append_assoc (header ++ spelled frames) (43 ∷ []) run
-    ∙ ap (λ (l : List ℕ). header ++ spelled frames ++ l) is.spelling
-    ∙ sym (append_assoc (header ++ spelled frames) (spelled more) (45 ∷ []))
-    ∙ ap (λ (l : List ℕ). l ++ 45 ∷ []) (append_assoc header (spelled frames) (spelled more))
-    ∙ ap (λ (l : List ℕ). header ++ l ++ 45 ∷ []) (sym (spelled-append frames more))
+pub opened_log : (front : List ℕ) (frames : List (List ℕ)) (run : List ℕ) (more : List (List ℕ)) → IsRun run more → front ++ spelled frames ++ 43 ∷ [] ++ run ≡ front ++ image_of (frames ++ more)
+opened_log front frames run more is =
+    append_assoc (front ++ spelled frames) (43 ∷ []) run
+    ∙ ap (λ (l : List ℕ). front ++ spelled frames ++ l) is.spelling
+    ∙ append_assoc front (spelled frames) (spelled more ++ 45 ∷ [])
+    ∙ ap (λ (l : List ℕ). front ++ l) (sym (append_assoc (spelled frames) (spelled more) (45 ∷ [])) ∙ ap (λ (l : List ℕ). l ++ 45 ∷ []) (sym (spelled-append frames more)))

@@ -2,7 +2,7 @@
 use Rattle.std.specs.Prelude.{◌≡◌, ℕ, List, length}
 use Rattle.hm_log.specs.Format.{Reads, IsNotALog, IsBadFrame}
 
--- nothing yet, a log with these frames, no log, which this place shows, or a log with an open gate at this place that has no frame
+-- nothing yet, a log with these frames, no log, which this place shows, or a log whose frames break off at the gate at this place
 pub data Verdict : Type 0 where
   Blank : Verdict
   Holds : List (List ℕ) → Verdict

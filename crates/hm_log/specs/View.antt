@@ -13,7 +13,7 @@ pub record LogView (D : Type 0) : Type 0 where
 
 -- It reads as its frames. While it isn't stalled, the closed gate stands after them, and all is on the disk.
 pub record IsLog (tells : Type 0) (seen : List ℕ) (image : List ℕ → Type 0) (gate count : ℕ) (stalled : Bool) (room : ℕ) : Type 0 where
-  pub has_room : 65541 ≤ room
+  pub has_room : 65542 ≤ room
   pub fits : gate + 1 < 2 ^ 64
   pub fewer : count ≤ gate
   pub reads : tells → Reads seen (frames_of seen)

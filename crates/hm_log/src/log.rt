@@ -3,8 +3,8 @@ ghost use Rattle.std.specs.Prelude.{◌≡◌, ◌≢◌, ◌⊎◌, ◌+◌, �
 ghost use Rattle.hm_ports.specs.Faults.{Rose};
 ghost use Rattle.hm_disk.specs.Called.{IsCalled};
 ghost use Rattle.hm_disk.specs.Disk.{Only, RisesBy, LeavesOnly, LeavesThen};
-ghost use Rattle.hm_log.specs.Format.{laid, log_of, size_with, IsFrame, IsWhole, Reads, HoldsFrames, BeforeOrAfter, IsClean, IsNotALog, IsBadFrame};
-ghost use Rattle.hm_log.specs.Opening.{IsMaking, Reopens, IsUntouched, OnlyReads};
+ghost use Rattle.hm_log.specs.Format.{laid, log_of, image_of, size_with, IsFrame, IsFirst, IsMoved, IsPlain, IsWhole, Reads, HoldsFrames, BeforeOrAfter, IsClean, IsNotALog, IsBadFrame};
+ghost use Rattle.hm_log.specs.Opening.{IsBlank, IsMaking, IsInPlace, IsUsed, Reopens, IsUntouched, OnlyReads};
 ghost use Rattle.hm_log.specs.Run.{IsRun, BeforeOrAll};
 ghost use Rattle.hm_log.specs.declared.why.OpenWhy.TheVariants.{Fault, NotALog, BadFrame, Memory};
 
@@ -21,11 +21,11 @@ use std::marker::Model;
 /// A log of frames on a disk. A frame has 1 to 65,536 bytes.
 #[derive(Drop)]
 pub struct Log<D: Disk> {
-    disk: D,
-    gate: u64,
-    count: u64,
-    stalled: bool,
-    buffer: Vec<u8>,
+    pub(crate) disk: D,
+    pub(crate) gate: u64,
+    pub(crate) count: u64,
+    pub(crate) stalled: bool,
+    pub(crate) buffer: Vec<u8>,
 }
 
 impl<D: Disk> Model for Log<D> {
@@ -48,8 +48,9 @@ impl<D: Disk> Model for Log<D> {
 
 impl<D: Disk> Log<D> {
     /// Opens the log on a disk, and gives the frames that it held. It begins with a sync, and cuts what
-    /// stands after the frames. A disk of size 0 becomes a log with no frame. A log with nothing after
-    /// its frames isn't changed.
+    /// stands after the frames. A disk of size 0, and a log of version 1 without frames, becomes a log of
+    /// version 2 with no frame. One of version 1 with frames is moved to version 2, and a move that was
+    /// begun is ended. A plain log with nothing after its frames isn't changed.
     ///
     /// `NotALog` and `BadFrame` say that the disk holds no log, and where. `Fault` says that the disk
     /// failed. An error gives the disk back.
@@ -64,10 +65,15 @@ impl<D: Disk> Log<D> {
 
         // What the disk reads as, now and after each stop.
         ensures on_disk { D.tells → IfOk result (λ r. Reads (D.seen r.0.disk) r.1) }
+        ensures whole { D.tells → IfOk result (λ r. IsClean (D.seen r.0.disk)) }
         ensures size { D.tells → IfOk result (λ r. length (D.seen r.0.disk) ≡ r.0.bytes) }
-        ensures cut { D.tells → 1 ≤ length (D.seen disk) →
+        ensures kept { D.tells → (front body : List ℕ) → IsPlain (D.seen disk) front body →
             IfOk result (λ r. D.seen r.0.disk ≡ take r.0.bytes (D.seen disk)) }
-        ensures made { D.tells → length (D.seen disk) ≡ 0 → IfOk result (λ r. D.seen r.0.disk ≡ log_of []) }
+        ensures moved { D.tells → (front body : List ℕ) → IsMoved (D.seen disk) front body →
+            IfOk result (λ r. D.seen r.0.disk ≡ take 9 (D.seen disk) ++ 45 ∷ image_of r.1) }
+        ensures first { D.tells → (front body : List ℕ) → IsFirst (D.seen disk) front body →
+            IfOk result (λ r. D.seen r.0.disk ≡ log_of r.1) }
+        ensures made { D.tells → IsBlank (D.seen disk) → IfOk result (λ r. D.seen r.0.disk ≡ log_of []) }
         ensures durable { D.tells → IfOk result (λ r. (c : List ℕ) → D.image r.0.disk c → Reads c r.1) }
         ensures any_moment { D.tells → MatchResult result
             (λ r. LeavesThen D.moment D.left_since disk r.0.disk
@@ -91,7 +97,10 @@ impl<D: Disk> Log<D> {
             IfErr result (λ e. (D.seen e.0 ≡ D.seen disk) ⊎ Reopens (D.seen disk) (D.seen e.0)) }
 
         // The disk's counts and its setting.
-        ensures called { MatchResult result
+        ensures used { MatchResult result
+            (λ r. IsUsed D.Disk disk r.0.disk)
+            (λ e. IsUsed D.Disk disk e.0) }
+        ensures few { D.tells → IsInPlace (D.seen disk) → MatchResult result
             (λ r. IsCalled D.Disk 1 disk r.0.disk)
             (λ e. IsCalled D.Disk 1 disk e.0) }
         ensures clean { D.tells → IsClean (D.seen disk) → MatchResult result
@@ -155,7 +164,7 @@ impl<D: Disk> Log<D> {
         ensures room { self.new.room ≡ self.old.room }
 
         // What the disk reads as, now and after each stop.
-        ensures written { D.tells → OnOk result (D.seen self.new.disk ≡ log_of self.new.frames) }
+        ensures written { D.tells → OnOk result (D.seen self.new.disk ≡ take 10 (D.seen self.old.disk) ++ image_of self.new.frames) }
         ensures on_disk { D.tells → BeforeOrAfter self.old.frames frame.now (D.seen self.new.disk) }
         ensures durable { D.tells →
             OnOk result ((c : List ℕ) → D.image self.new.disk c → Reads c self.new.frames) }
@@ -200,7 +209,7 @@ impl<D: Disk> Log<D> {
         ensures room { self.new.room ≡ self.old.room }
 
         // What the disk reads as, now and after each stop.
-        ensures written { D.tells → OnOk result (D.seen self.new.disk ≡ log_of self.new.frames) }
+        ensures written { D.tells → OnOk result (D.seen self.new.disk ≡ take 10 (D.seen self.old.disk) ++ image_of self.new.frames) }
         ensures on_disk { D.tells → (more : List (List ℕ)) → IsRun run.now more →
             BeforeOrAll self.old.frames more (D.seen self.new.disk) }
         ensures durable { D.tells →
@@ -226,7 +235,7 @@ impl<D: Disk> Log<D> {
         Ok(number)
     }
 
-    /// The size of the log on the disk.
+    /// The size of the log on the disk, unless it is stalled.
     pub fn bytes(&self) -> u64
         ensures { result ≡ self.now.bytes }
     {
@@ -240,7 +249,7 @@ impl<D: Disk> Log<D> {
         self.count
     }
 
-    /// Whether a call that adds frames has failed.
+    /// Whether a call that adds frames or replaces them has failed.
     pub fn stalled(&self) -> bool
         ensures { result ≡ self.now.stalled }
     {
@@ -301,7 +310,7 @@ fn add<D: Disk>(disk: &mut D, gate: u64, run: &[u8]) -> Result<(), Failed>
     requires only { Only (D.seen disk.old) (D.image disk.old) }
     ensures added { D.tells → (frames more : List (List ℕ)) →
         IsWhole (D.seen disk.old) gate frames → IsRun run.now more →
-        OnOk result ((D.seen disk.new ≡ log_of (frames ++ more))
+        OnOk result ((D.seen disk.new ≡ take 10 (D.seen disk.old) ++ image_of (frames ++ more))
         × IsWhole (D.seen disk.new) (gate + length run.now) (frames ++ more)) }
     ensures durable { OnOk result (Only (D.seen disk.new) (D.image disk.new)) }
     ensures any_moment { D.tells → (frames more : List (List ℕ)) →

@@ -1,11 +1,11 @@
 //! Bytes read as frames.
-ghost use Rattle.std.specs.Prelude.{◌≡◌, ◌≤◌, ◌++◌, List, ℕ, length, take, IfSome, IfNone, IfOk};
-ghost use Rattle.hm_log.specs.Format.{header, laid, IsFrame, NoFrame, BeginsWith, IsNotALog};
+ghost use Rattle.std.specs.Prelude.{◌≡◌, ◌≢◌, ◌≤◌, ◌++◌, List, ℕ, length, take, slice_index, IfSome, IfNone, IfOk};
+ghost use Rattle.hm_log.specs.Format.{laid, magic, IsFrame, NoFrame, BeginsWith, NoHead};
 
 use crate::Frames;
 use std::alloc::{AllocError, Global};
 
-const HEADER: [u8; 9] = [72, 77, 65, 83, 84, 69, 82, 74, 1];
+const MAGIC: [u8; 8] = [72, 77, 65, 83, 84, 69, 82, 74];
 
 // The frame after an open gate, and what follows it.
 fn split_frame(rest: &[u8]) -> Option<(&[u8], &[u8])>
@@ -24,19 +24,24 @@ fn split_frame(rest: &[u8]) -> Option<(&[u8], &[u8])>
     Some(tail.split_at(size))
 }
 
-// The place that shows that it is no log.
+// The place that shows that it is no log, in the first bytes of a file, which are all or eleven. A log of version 1 has ten
+// at least.
 pub(crate) fn not_a_log(bytes: &[u8]) -> Option<u64>
     requires { 1 ≤ length bytes.now }
-    ensures some { IfSome result (λ place. IsNotALog bytes.now place) }
-    ensures none { IfNone result ((10 ≤ length bytes.now) × (take 9 bytes.now ≡ header)) }
+    ensures some { IfSome result (λ place. NoHead bytes.now place) }
+    ensures none { IfNone result ((10 ≤ length bytes.now) × (take 8 bytes.now ≡ magic)
+        × (slice_index bytes.now 8 ≢ 1 → 11 ≤ length bytes.now)) }
 {
     if bytes.len() < 10 {
         return Some(bytes.len() as u64);
     }
-    for i in 0..9 {
-        if bytes[i] != HEADER[i] {
+    for i in 0..8 {
+        if bytes[i] != MAGIC[i] {
             return Some(i as u64);
         }
+    }
+    if bytes[8] != 1 && bytes.len() == 10 {
+        return Some(10);
     }
     None
 }

@@ -16,7 +16,7 @@ pub fn lay_frame(out: &mut Vec<u8>, frame: &[u8])
 }
 
 // Appends within the spare room, and takes no memory.
-fn put(out: &mut Vec<u8>, bytes: &[u8])
+pub(crate) fn put(out: &mut Vec<u8>, bytes: &[u8])
     requires { vec_len out.old + length bytes.now ≤ vec_capacity out.old }
     ensures capacity { vec_capacity out.new ≡ vec_capacity out.old }
     ensures items { out.new.items ≡ out.old.items ++ bytes.now }

@@ -13,13 +13,13 @@ pub enum OpenWhy {
     #[error("the disk failed")]
     Fault,
 
-    /// The file has 1 to 9 bytes, and this is its size; or this is the first of the nine bytes of
-    /// `HMASTERJ` and the version 1 that differs.
+    /// The file has 1 to 9 bytes, or 10 in version 2, and this is its size; or this is the first byte of
+    /// `HMASTERJ` that differs; or it is 9, and no frames stand where the last bytes of a moved log say.
     #[error("no log: byte {0}")]
     NotALog(u64),
 
     /// The gate at this place is open, and no whole frame of 1 to 65,536 bytes and no further gate
-    /// follows it.
+    /// follows it; or it is closed, and isn't the last byte of the frames of a moved log.
     #[error("no frame behind the gate at byte {0}")]
     BadFrame(u64),
 

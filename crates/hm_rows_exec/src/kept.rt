@@ -94,7 +94,7 @@ impl Kept {
         entries.push(spelled(alloc, entry)?)?;
         Ok(Kept {
             entries,
-            bytes: length(entry) + 15,
+            bytes: length(entry) + 16,
             next: None,
             copy: None,
             tail: None,

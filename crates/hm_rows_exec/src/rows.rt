@@ -442,12 +442,12 @@ pub(crate) const ABORTS: &[Row] = &[
 ];
 
 /// How many bytes a log of the first submission has.
-pub(crate) const SOFT: u64 = 322;
+pub(crate) const SOFT: u64 = 323;
 
 /// At the soft mark no new submission is recorded, and all else goes on.
 pub(crate) const FULL: &[Row] = &[
     (Event::Line("namespace 1:1 n"), "pid 1; submit 1:1"),
-    (Event::Line("namespace 1:2 m"), "JournalFull(322)"),
+    (Event::Line("namespace 1:2 m"), "JournalFull(323)"),
     (Event::Line("namespace 1:1 n"), "pid 1 repeated"),
     (Event::Line("namespace 1:1 m"), "NonceClash(Pid(1))"),
     (Event::Line("drop-namespace 1:2 default"), "BadArgs(1)"),
@@ -458,7 +458,7 @@ pub(crate) const FULL: &[Row] = &[
         Event::Step,
         "claimed 1: 1 row 1 aborted, kept 5; step 1 Fail(Aborted)",
     ),
-    (Event::Line("namespace 1:2 m"), "JournalFull(406)"),
+    (Event::Line("namespace 1:2 m"), "JournalFull(407)"),
     (Event::Line("expire h1,1,1"), "down by 2; down h1,1,1"),
     (Event::Step, "claimed 2: 2 row 0, kept 7; step 2 Wait(1)"),
 ];
@@ -501,23 +501,23 @@ pub(crate) const WHOLE: &[Row] = &[
 /// Of each entry after the start its number among these, the event that records it, the bytes of a log of those before it, the
 /// greatest hard mark that it passes, and what the event has recorded before.
 pub(crate) const HALTS: [(u64, usize, u64, u64, &str); 17] = [
-    (0, 0, 296, 321, ""),
-    (1, 1, 322, 358, ""),
-    (2, 4, 359, 383, ""),
-    (3, 5, 384, 408, ""),
-    (4, 8, 409, 458, ""),
-    (5, 9, 459, 472, ""),
-    (6, 10, 473, 492, ""),
-    (7, 11, 493, 524, ""),
-    (8, 13, 525, 549, ""),
-    (9, 15, 550, 569, ""),
-    (10, 15, 570, 589, "; down h1,1,1"),
-    (11, 16, 590, 639, ""),
-    (12, 18, 640, 679, ""),
-    (13, 20, 680, 719, ""),
-    (14, 21, 720, 734, ""),
-    (15, 23, 735, 754, ""),
-    (16, 24, 755, 779, ""),
+    (0, 0, 297, 322, ""),
+    (1, 1, 323, 359, ""),
+    (2, 4, 360, 384, ""),
+    (3, 5, 385, 409, ""),
+    (4, 8, 410, 459, ""),
+    (5, 9, 460, 473, ""),
+    (6, 10, 474, 493, ""),
+    (7, 11, 494, 525, ""),
+    (8, 13, 526, 550, ""),
+    (9, 15, 551, 570, ""),
+    (10, 15, 571, 590, "; down h1,1,1"),
+    (11, 16, 591, 640, ""),
+    (12, 18, 641, 680, ""),
+    (13, 20, 681, 720, ""),
+    (14, 21, 721, 735, ""),
+    (15, 23, 736, 755, ""),
+    (16, 24, 756, 780, ""),
 ];
 
 /// Events after a fault, which are judged by nothing else.

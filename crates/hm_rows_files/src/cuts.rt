@@ -6,7 +6,7 @@ use std::alloc::{AllocError, Global};
 use std::test::Fail;
 
 // A log with the one frame 1, 2, 3.
-const ONE: &[u8] = b"HMASTERJ\x01+\x03\0\0\0\x01\x02\x03-";
+const ONE: &[u8] = b"HMASTERJ\x02-+\x03\0\0\0\x01\x02\x03-";
 
 // So many changes, and so many bytes of the next; how many frames are left where the disk reads as before, and
 // where it is as it was synced last.
@@ -89,9 +89,9 @@ fn cut_and_disarmed(alloc: Global) -> Result<[Result<u64, Failed>; 4], AllocErro
 #[test]
 fn a_cut_disk_fails_until_it_is_disarmed(rt: HostRuntime) -> Result<(), Fail> {
     let [before, after, later, read] = cut_and_disarmed(rt.alloc())?;
-    assert_eq!(rt; before, Ok(18));
+    assert_eq!(rt; before, Ok(19));
     assert_eq!(rt; after, Err(Failed));
-    assert_eq!(rt; later, Ok(18));
+    assert_eq!(rt; later, Ok(19));
     assert_eq!(rt; read, Ok(u64::from(u32::from_be_bytes(*b"xyAS"))));
     Ok(())
 }

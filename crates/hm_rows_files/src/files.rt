@@ -147,9 +147,30 @@ fn what_is_no_file_of_its_own_is_refused(rt: HostRuntime) -> Result<(), Fail> {
         assert!(rt; is_refused(&rt, path), "{path}");
     }
     assert!(rt; !fs::exists(&rt, target)?);
-    fs::write(&rt, target, b"HMASTERJ\x01-")?;
+    fs::write(&rt, target, b"HMASTERJ\x02--")?;
     assert!(rt; FileDisk::writable(&rt, link).is_ok());
     fs::remove_file(&rt, link)?;
     fs::remove_file(&rt, target)?;
+    Ok(())
+}
+
+// The bytes of a log of version 1 with the frames of a log of version 2.
+fn first_of(alloc: Global, bytes: &[u8]) -> Result<Vec<u8>, Fail> {
+    let mut first = b"HMASTERJ\x01".to_vec(alloc)?;
+    first.extend_from_slice(bytes.get(10..).ok_or("the log has no gate")?)?;
+    Ok(first)
+}
+
+#[test]
+fn a_log_of_version_1_is_moved_in_its_file(rt: HostRuntime) -> Result<(), Fail> {
+    let path = path_of(&rt, "first")?;
+    let path = path.as_path().as_str();
+    write_log(&rt, path)?;
+    let bytes = fs::read(&rt, path)?;
+    fs::write(&rt, path, &first_of(rt.alloc(), &bytes)?)?;
+    let (log, frames) = opened(&rt, path)?;
+    assert_eq!(rt; (frames.count(), log.bytes()), (42, bytes.len() as u64));
+    assert!(rt; fs::read(&rt, path)? == bytes);
+    fs::remove_file(&rt, path)?;
     Ok(())
 }

@@ -8,4 +8,6 @@ mod disks;
 #[cfg(test)]
 mod logs;
 #[cfg(test)]
+mod moves;
+#[cfg(test)]
 mod ports;

@@ -5,10 +5,10 @@ use std::alloc::{AllocError, Global};
 use std::test::Fail;
 
 // A log with the one frame 1, 2, 3.
-const ONE: &[u8] = b"HMASTERJ\x01+\x03\0\0\0\x01\x02\x03-";
+const ONE: &[u8] = b"HMASTERJ\x02-+\x03\0\0\0\x01\x02\x03-";
 
 // After an append of the frame 4.
-const TWO: &[u8] = b"HMASTERJ\x01+\x03\0\0\0\x01\x02\x03+\x01\0\0\0\x04-";
+const TWO: &[u8] = b"HMASTERJ\x02-+\x03\0\0\0\x01\x02\x03+\x01\0\0\0\x04-";
 
 // A disk with room for 64 bytes, whose calls of these numbers fail.
 fn disk_of(alloc: Global, bytes: &[u8], fails: &[u64]) -> Result<MemDisk, AllocError> {
@@ -46,7 +46,7 @@ fn a_stop_leaves_one_frame_or_two(rt: HostRuntime) -> Result<(), Fail> {
     for (fail, as_read, synced) in [(4, 1, 1), (5, 1, 1), (6, 1, 1), (7, 2, 1), (99, 2, 2)] {
         for byte in 0..=255 {
             let is_open = fail == 99 || fail == 7 && byte == b'+';
-            let want = if is_open { (2, 24) } else { (1, 18) };
+            let want = if is_open { (2, 25) } else { (1, 19) };
             let disk = stopped(rt.alloc(), fail, Choice::Fill(byte))?;
             let (frames, bytes, disk) = opened(rt.alloc(), disk)?;
             assert_eq!(rt; (frames, bytes), want, "fault {fail}, byte {byte}");
@@ -65,22 +65,22 @@ fn a_stop_leaves_one_frame_or_two(rt: HostRuntime) -> Result<(), Fail> {
 }
 
 #[test]
-fn open_cuts_what_stands_behind_the_gate(rt: HostRuntime) -> Result<(), Fail> {
-    for size in 18..=24 {
+fn open_cuts_what_stands_after_the_gate(rt: HostRuntime) -> Result<(), Fail> {
+    for size in 19..=25 {
         for byte in [b'+', b'-', 0] {
             let mut bytes = ONE.to_vec(rt.alloc())?;
             bytes.resize(size, byte)?;
             let (frames, log_bytes, disk) = opened(rt.alloc(), disk_of(rt.alloc(), &bytes, &[])?)?;
-            assert_eq!(rt; (frames, log_bytes), (1, 18));
+            assert_eq!(rt; (frames, log_bytes), (1, 19));
             assert_eq!(rt; disk.bytes(), ONE);
         }
         let torn = opened(rt.alloc(), disk_of(rt.alloc(), &TWO[..size], &[])?);
         assert_eq!(rt;
             torn.map(|log| log.0),
-            if size == 24 {
+            if size == 25 {
                 Ok(2)
             } else {
-                Err(OpenWhy::BadFrame(17))
+                Err(OpenWhy::BadFrame(18))
             }
         );
     }
@@ -92,10 +92,26 @@ fn open_and_scan_refuse_what_is_no_log(rt: HostRuntime) -> Result<(), Fail> {
     let cases = [
         (b"HMASTER".as_slice(), OpenWhy::NotALog(7)),
         (b"XMASTERJ\x01-", OpenWhy::NotALog(0)),
-        (b"HMASTERJ\x09-", OpenWhy::NotALog(8)),
+        (b"HMASTERJ\x09-", OpenWhy::NotALog(10)),
+        (b"XMASTERJ\x09-", OpenWhy::NotALog(0)),
         (b"HMASTERJ\x01+", OpenWhy::BadFrame(9)),
         (b"HMASTERJ\x01+\0\0\0\0-", OpenWhy::BadFrame(9)),
         (b"HMASTERJ\x01+\x01\0\x01\0-", OpenWhy::BadFrame(9)),
+        (b"HMASTERJ\x02-+", OpenWhy::BadFrame(10)),
+        (b"HMASTERJ\x02++", OpenWhy::NotALog(9)),
+        // The place is below 11, above the size less 9, or has too little room before it.
+        (b"HMASTERJ\x02+---\x0a\0\0\0\0\0\0\0", OpenWhy::NotALog(9)),
+        (b"HMASTERJ\x02+---\x0d\0\0\0\0\0\0\0", OpenWhy::NotALog(9)),
+        (b"HMASTERJ\x02+---\x0b\0\0\0\0\0\0\0", OpenWhy::NotALog(9)),
+        // The closed gate isn't right before the place, and a frame runs into the place.
+        (
+            b"HMASTERJ\x02+.....-.\x0f\0\0\0\0\0\0\0",
+            OpenWhy::BadFrame(15),
+        ),
+        (
+            b"HMASTERJ\x02+.......+\x01\0\0\0\x04\x11\0\0\0\0\0\0\0",
+            OpenWhy::BadFrame(17),
+        ),
     ];
     for (bytes, why) in cases {
         let disk = disk_of(rt.alloc(), bytes, &[])?;
@@ -105,6 +121,16 @@ fn open_and_scan_refuse_what_is_no_log(rt: HostRuntime) -> Result<(), Fail> {
             scanned(rt.alloc(), disk).map(|found| found.0.count()),
             Err(why)
         );
+    }
+    Ok(())
+}
+
+#[test]
+fn a_front_of_a_new_log_is_no_log(rt: HostRuntime) -> Result<(), Fail> {
+    let new = b"HMASTERJ\x02--";
+    for size in 1..new.len() {
+        let torn = opened(rt.alloc(), disk_of(rt.alloc(), &new[..size], &[])?);
+        assert_eq!(rt; torn.map(|log| log.0), Err(OpenWhy::NotALog(size as u64)));
     }
     Ok(())
 }
@@ -127,8 +153,8 @@ fn scan_gives_the_frames(rt: HostRuntime) -> Result<(), Fail> {
 #[test]
 fn open_makes_a_log_and_append_adds_to_it(rt: HostRuntime) -> Result<(), Fail> {
     let (frames, bytes, disk) = opened(rt.alloc(), disk_of(rt.alloc(), b"", &[])?)?;
-    assert_eq!(rt; (frames, bytes), (0, 10));
-    assert_eq!(rt; disk.bytes(), b"HMASTERJ\x01-".as_slice());
+    assert_eq!(rt; (frames, bytes), (0, 11));
+    assert_eq!(rt; disk.bytes(), b"HMASTERJ\x02--".as_slice());
     let Ok((mut log, frames)) = Log::open(rt.alloc(), disk) else {
         return Err(Fail::from("the new log doesn't open"));
     };

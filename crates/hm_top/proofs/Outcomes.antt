@@ -36,7 +36,7 @@ use Rattle.hm_top.specs.Ending.{ended_status, log_why_of, unopened_status}
 use Rattle.hm_top.specs.Faith.{KeepsFaith}
 use Rattle.hm_top.specs.Got.{Got, GotAnswers, IsLast, IsPartOf, IsShort}
 use Rattle.hm_top.specs.Ports.{DiskUse, SinkUse}
-use Rattle.hm_top.specs.Left.{IsLeft, IsNotOpened, IsSpared, StopsLeave}
+use Rattle.hm_top.specs.Left.{CountsTo, IsLeft, IsNotOpened, IsSpared, StopsLeave}
 use Rattle.hm_top.specs.declared.words.Form.{Form}
 use Rattle.hm_top.specs.declared.words.Form.TheVariants as form_is
 use Rattle.hm_top.specs.Checking.{EndsCheck}
@@ -205,7 +205,7 @@ module _ (takes : List Entry → Type 0) (commands : List Command) (limits : Lim
 
   -- what was left of a journal that was opened
   pub left_of : (old : List Entry) (new : Scene) → (disk.tells → IsOnDisk (sheets_used hands) disk.before old) → IsLegal (back (whole new)) → (disk.tells → AllStored disk.stops.after (kept_at new))
-      → (disk.tells → StopsLeave disk hands old new) → disk.called (1 + 2 * (length (whole new) - length old)) → (disk.tells → IsClean disk.before → disk.called (2 * (length (whole new) - length old)))
+      → (disk.tells → StopsLeave disk hands old new) → CountsTo disk (1 + 2 * (length (whole new) - length old)) → (disk.tells → IsClean disk.before → disk.called (2 * (length (whole new) - length old)))
       → (halt_at new ≡ Some halt_is.LogFault → disk.failed) → Ran hands (opened (sheets_used hands) old) (journal_at new) → IsLeft disk hands old new
   left_of old new held legal holds stops called clean cause ran =
       let first = opened_grows (sheets_used hands) old in

@@ -8,11 +8,13 @@ use Rattle.hm_disk.specs.Disk.{LeavesOnly, LeavesThen}
 use Rattle.hm_disk.specs.declared.disk.Disk as Disk
 use Rattle.hm_disk.proofs.Moments.{then_weaker, then_stays}
 use Rattle.hm_log.specs.Format.{IsClean, Reads}
+use Rattle.hm_log.specs.Opening.{IsInPlace, IsUsed}
 use Rattle.hm_log.proofs.Exact.{opens_once}
 use Rattle.hm_data.specs.declared.entry.Entry.{Entry}
 use Rattle.hm_data.specs.declared.sheet.Sheet.{Sheet}
 use Rattle.hm_entry.specs.Spelling.{entry as spelling}
 use Rattle.hm_hall.specs.declared.fault.Halt.TheVariants as halt_is
+use Rattle.hm_journal.proofs.Moving.{used_then}
 use Rattle.hm_journal.specs.Since.{IsFront, with_tail}
 use Rattle.hm_journal.specs.Stored.{frames_of, IsOnDisk, IsOpening, SameFrames, Spares, opened}
 use Rattle.hm_journal.specs.Verdict.{IsUnjudged, Refuses}
@@ -105,11 +107,11 @@ module _ {D Setting : Type 0} (d : Disk.Ghosts D Setting) (takes : List Entry �
       let first = opened_grows own old in
       let grown : (more : List Entry) × (journal_at at ≡ old ++ more) = (first.0 ++ ran.0, ran.1 ∙ ap (λ l. l ++ ran.0) (begins ∙ first.1) ∙ append_assoc old first.0 ran.0) in
       let rose : halt_at at ≡ Some halt_is.LogFault → Rose (d.faults disk) (d.faults new) = λ halted_is.
-      rose_late (d.faults disk) (d.faults was.opened.disk) (d.faults new) first_called.once.fault (leaves.since.failed halted_is) in
+      rose_late (d.faults disk) (d.faults was.opened.disk) (d.faults new) first_called.used.fault (leaves.since.failed halted_is) in
       let more = 2 * (length (whole at) - length old) in
       let called : IsCalled d more was.opened.disk new = subst (λ n. IsCalled d (2 * (length (whole at) - n)) was.opened.disk new) opens.3 leaves.since.called in
       left_of takes commands limits out (disk_use d disk new) hands marks old at (λ told. (opens.4 told).0) leaves.legal leaves.stored (stops_leave d own limits disk was at new opens grown leaves.since.leaves)
-      (called_on d 1 more (1 + more) disk was.opened.disk new (omega arith) first_called.once called)
+      (used_then d more disk was.opened.disk new first_called.used called, λ told place. called_on d 1 more (1 + more) disk was.opened.disk new (omega arith) (first_called.once told place) called)
       (λ told clean. called_on d 0 more more disk was.opened.disk new (omega arith) (first_called.clean told clean) called) rose (subst (λ journal. Ran hands journal (journal_at at)) begins ran)
 
   -- A log was opened as a journal that is taken, and this was left of it.
@@ -146,10 +148,11 @@ module _ {D Setting : Type 0} (d : Disk.Ghosts D Setting) (takes : List Entry �
   talked_unopened status why ends failed none quiet = subst its (sym ends) (outcome_unopened takes commands limits out (disk_use d disk new) hands marks none quiet why failed.failed failed.spared failed.judged)
 
 -- what an opening did to the disk of a log that was opened
-pub called_to_open : {D Setting : Type 0} (d : Disk.Ghosts D Setting) (disk : D) (r : Result (StoreView D) (D × JournalWhy)) → MatchResult r (λ store. IsCalled d 1 disk store.opened.disk) (λ e. IsCalled d 3 disk e.0)
+pub called_to_open : {D Setting : Type 0} (d : Disk.Ghosts D Setting) (disk : D) (r : Result (StoreView D) (D × JournalWhy)) → MatchResult r (λ store. IsUsed d disk store.opened.disk) (λ e. IsUsed d disk e.0)
+    → (d.tells → IsInPlace (d.seen disk) → MatchResult r (λ store. IsCalled d 1 disk store.opened.disk) (λ e. IsCalled d 3 disk e.0))
     → (d.tells → IsClean (d.seen disk) → IfOk r (λ store. IsCalled d 0 disk store.opened.disk)) → IfOk r (λ store. IsCalledToOpen d disk store.opened.disk)
-called_to_open d disk (Ok store) called clean = record { once = called; clean = clean }
-called_to_open d disk (Err e) called clean = tt
+called_to_open d disk (Ok store) used few clean = record { used = used; once = few; clean = clean }
+called_to_open d disk (Err e) used few clean = tt
 
 -- why a log couldn't be opened, said of the sheets that are used
 pub failed_to_open : {D Setting : Type 0} (d : Disk.Ghosts D Setting) (disk : D) (hands : HandsUse) (sheets : List Sheet) → sheets_used hands ≡ sheets → (r : Result (StoreView D) (D × JournalWhy))
@@ -157,13 +160,14 @@ pub failed_to_open : {D Setting : Type 0} (d : Disk.Ghosts D Setting) (disk : D)
     → IfErr r (λ e. e.1 ≡ why_is.Fault → Rose (d.faults disk) (d.faults e.0)) → (d.tells → IfErr r (λ e. e.1 ≢ why_is.Fault → SameFrames (d.seen disk) (d.seen e.0) (d.image e.0)))
     → (d.tells → IfErr r (λ e. Spares sheets (d.seen disk) (d.image disk) (d.seen e.0) (d.image e.0)))
     → (d.tells → IfErr r (λ e. LeavesOnly d.moment d.left_since disk e.0 (IsOpening sheets (d.seen disk) (d.image disk))))
-    → MatchResult r (λ store. IsCalled d 1 disk store.opened.disk) (λ e. IsCalled d 3 disk e.0) → IfErr r (λ e. FailedToOpen (disk_use d disk e.0) hands e.1)
-failed_to_open d disk hands sheets listed (Ok store) why accepts fault same spared moments called = tt
-failed_to_open d disk hands sheets listed (Err (new, cause)) why accepts fault same spared moments called =
+    → MatchResult r (λ store. IsUsed d disk store.opened.disk) (λ e. IsUsed d disk e.0)
+    → (d.tells → IsInPlace (d.seen disk) → MatchResult r (λ store. IsCalled d 1 disk store.opened.disk) (λ e. IsCalled d 3 disk e.0)) → IfErr r (λ e. FailedToOpen (disk_use d disk e.0) hands e.1)
+failed_to_open d disk hands sheets listed (Ok store) why accepts fault same spared moments used few = tt
+failed_to_open d disk hands sheets listed (Err (new, cause)) why accepts fault same spared moments used few =
     let opened : d.tells → LeavesOnly d.moment d.left_since disk new (IsOpening (sheets_used hands) (d.seen disk) (d.image disk)) = λ told. subst (λ l. LeavesOnly d.moment d.left_since disk new (IsOpening l (d.seen disk) (d.image disk))) (sym listed) (moments told) in
     record {
-      spared = (called, λ told. (subst (λ l. Spares l (d.seen disk) (d.image disk) (d.seen new) (d.image new)) (sym listed) (spared told), opened told));
-      judged = λ judged. (called, λ told. (subst (λ l. Refuses l (d.seen disk) cause) (sym listed) (why told), same told judged, opened told));
+      spared = ((used, few), λ told. (subst (λ l. Spares l (d.seen disk) (d.image disk) (d.seen new) (d.image new)) (sym listed) (spared told), opened told));
+      judged = λ judged. ((used, few), λ told. (subst (λ l. Refuses l (d.seen disk) cause) (sym listed) (why told), same told judged, opened told));
       failed = fault;
       unjudged = λ told journal on. accepts told journal (subst (λ l. IsOnDisk l (d.seen disk) journal) listed on);
     }

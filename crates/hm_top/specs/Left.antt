@@ -4,7 +4,7 @@ use Rattle.hm_data.specs.declared.entry.Entry.{Entry}
 use Rattle.hm_model.specs.Journal.{back}
 use Rattle.hm_hall.specs.declared.fault.Halt.TheVariants as halt_is
 use Rattle.hm_log.specs.Format.{IsClean}
-use Rattle.hm_log.specs.Opening.{IsMaking}
+use Rattle.hm_log.specs.Opening.{IsInPlace, IsMaking}
 use Rattle.hm_journal.specs.Since.{IsFront}
 use Rattle.hm_journal.specs.Stored.{AllStored, IsOnDisk, IsOpening, SameFrames, Spares}
 use Rattle.hm_journal.specs.Verdict.{IsUnjudged, Refuses}
@@ -19,6 +19,10 @@ use Rattle.hm_commands.specs.Hands.{HandsUse, SumRisesBy, sheets_used, steps_in}
 use Rattle.hm_commands.specs.Scenes.{halt_at, journal_at, kept_at, whole}
 use Rattle.hm_top.specs.Ports.{DiskUse}
 
+-- its counts didn't fall and its setting stays, and where its log needed no move so many changes at most were counted
+abbrev pub CountsTo : DiskUse → ℕ → Type 0
+CountsTo disk most = disk.used × (disk.tells → IsInPlace disk.before → disk.called most)
+
 module _ (disk : DiskUse) (hands : HandsUse) where
   -- up to some moment a stop left the disk handed in, or a log in the making, and then a front of the new no shorter than the old
   abbrev pub StopsLeave : List Entry → Scene → Type 0
@@ -32,7 +36,7 @@ module _ (disk : DiskUse) (hands : HandsUse) where
     pub held : disk.tells → IsOnDisk (sheets_used hands) disk.before old
     pub holds : disk.tells → AllStored disk.stops.after (kept_at new)
     pub stops : disk.tells → StopsLeave old new
-    pub called : disk.called (1 + 2 * (length (whole new) - length old))
+    pub called : CountsTo disk (1 + 2 * (length (whole new) - length old))
     pub clean : disk.tells → IsClean disk.before → disk.called (2 * (length (whole new) - length old))
     pub ran : SumRisesBy (steps_in added) hands.runs_before hands.runs_after
     pub cause : halt_at new ≡ Some halt_is.LogFault → disk.failed
@@ -43,11 +47,11 @@ module _ (disk : DiskUse) (hands : HandsUse) where
 
   -- an opening that failed spared the journal that the disk held
   abbrev pub IsSpared : Type 0
-  IsSpared = disk.called 3 × (disk.tells → Spares (sheets_used hands) disk.before disk.stops.before disk.after disk.stops.after × StopsInOpening)
+  IsSpared = CountsTo disk 3 × (disk.tells → Spares (sheets_used hands) disk.before disk.stops.before disk.after disk.stops.after × StopsInOpening)
 
   -- the log wasn't opened, for this reason, and its frames are as they were
   abbrev pub IsNotOpened : JournalWhy → Type 0
-  IsNotOpened why = disk.called 3 × (disk.tells → Refuses (sheets_used hands) disk.before why × SameFrames disk.before disk.after disk.stops.after × StopsInOpening)
+  IsNotOpened why = CountsTo disk 3 × (disk.tells → Refuses (sheets_used hands) disk.before why × SameFrames disk.before disk.after disk.stops.after × StopsInOpening)
 
   -- a journal that the disk holds, and that is taken, isn't refused
   abbrev pub AcceptsJournal : (List Entry → Type 0) → RunStatus → Type 0

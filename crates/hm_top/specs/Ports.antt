@@ -6,7 +6,7 @@ use Rattle.hm_ports.specs.declared.sink.Sink as Sink
 use Rattle.hm_disk.specs.Called.{IsCalled}
 use Rattle.hm_disk.specs.Disk.{LeavesOnly, LeavesThen}
 use Rattle.hm_disk.specs.declared.disk.Disk as Disk
-use Rattle.hm_log.specs.Opening.{OnlyReads}
+use Rattle.hm_log.specs.Opening.{IsUsed, OnlyReads}
 
 -- a source: its bytes before and after, that a read failed, and that it is as handed in
 pub record SourceUse : Type 1 where
@@ -61,12 +61,14 @@ stop_use disk old new =
       leave_then = LeavesThen disk.moment disk.left_since old new;
     }
 
--- a disk: its bytes before and after, its stops, that it counted so many changes at most, that a call failed, that it was only read, that it is as handed in
+-- a disk: its bytes before and after, its stops, that its counts didn't fall and its setting stays, that it counted so many changes at most, that a call failed,
+-- that it was only read, that it is as handed in
 pub record DiskUse : Type 1 where
   pub tells : Type 0
   pub before : List ℕ
   pub after : List ℕ
   pub stops : StopUse
+  pub used : Type 0
   pub called : ℕ → Type 0
   pub failed : Type 0
   pub only_read : Type 0
@@ -80,6 +82,7 @@ disk_use disk old new =
       before = disk.seen old;
       after = disk.seen new;
       stops = stop_use disk old new;
+      used = IsUsed disk old new;
       called = λ most. IsCalled disk most old new;
       failed = Rose (disk.faults old) (disk.faults new);
       only_read = OnlyReads disk old new;

@@ -4,7 +4,7 @@ use Rattle.hm_disk.specs.Called.{IsCalled}
 use Rattle.hm_disk.specs.Disk.{LeavesThen}
 use Rattle.hm_disk.specs.declared.disk.Disk as Disk
 use Rattle.hm_log.specs.Format.{IsClean, Reads}
-use Rattle.hm_log.specs.Opening.{IsMaking}
+use Rattle.hm_log.specs.Opening.{IsInPlace, IsMaking, IsUsed}
 use Rattle.hm_data.specs.declared.entry.Entry.{Entry}
 use Rattle.hm_data.specs.declared.sheet.Sheet.{Sheet}
 use Rattle.hm_journal.specs.Stored.{IsJournal, IsOnDisk, frames_of, opened}
@@ -28,9 +28,10 @@ IsOpened d sheets limits disk store =
     (old : List Entry) × IsJournal sheets old × (store.kept ≡ fresh limits (opened sheets old)) × (store.opened.count ≡ length old)
     × (d.tells → IsOnDisk sheets (d.seen disk) old × LeavesThen d.moment d.left_since disk store.opened.disk (early d disk) (λ c. Reads c (frames_of old)))
 
--- an opening changed the disk once at most, and not at all where its log was clean
+-- an opening let no count fall; it changed the disk once at most where its log needn't be moved, and not at all where it was clean
 pub record IsCalledToOpen {D Setting : Type 0} (d : Disk.Ghosts D Setting) (old new : D) : Type 0 where
-  pub once : IsCalled d 1 old new
+  pub used : IsUsed d old new
+  pub once : d.tells → IsInPlace (d.seen old) → IsCalled d 1 old new
   pub clean : d.tells → IsClean (d.seen old) → IsCalled d 0 old new
 
 -- no line was said, and nothing was done; or it was an early end

@@ -97,7 +97,7 @@ fn converse<D: Disk, K: Sink>(
     requires agree { HandsAgree (map (sheets_of ⟦<dyn Handler as Handler>⟧) hands.old.items) }
     requires each { All (IsRegistry ⟦<dyn Handler as Handler>⟧) hands.old.items }
     requires offered { All IsOffered commands.items }
-    requires hard { 65551 ≤ limits.hard }
+    requires hard { 65552 ≤ limits.hard }
     ensures outcome { Outcome (record {
       takes = λ old. Unit {0};
       given = λ read. read ≡ commands.items;
@@ -135,7 +135,7 @@ fn answer_script<S: Source, K: Sink, D: Disk>(
     requires fresh { marks.old.items ≡ [] }
     requires agree { HandsAgree (map (sheets_of ⟦<dyn Handler as Handler>⟧) hands.old.items) }
     requires each { All (IsRegistry ⟦<dyn Handler as Handler>⟧) hands.old.items }
-    requires hard { 65551 ≤ limits.hard }
+    requires hard { 65552 ≤ limits.hard }
     ensures ends { (words : List (List ℕ)) → EndsRun (record {
       words = words;
       limits = limits;
@@ -171,7 +171,7 @@ fn answer_words<S: Source, K: Sink, D: Disk>(
     requires fresh { marks.old.items ≡ [] }
     requires agree { HandsAgree (map (sheets_of ⟦<dyn Handler as Handler>⟧) hands.old.items) }
     requires each { All (IsRegistry ⟦<dyn Handler as Handler>⟧) hands.old.items }
-    requires hard { 65551 ≤ limits.hard }
+    requires hard { 65552 ≤ limits.hard }
     ensures ends { EndsUnfinished (record {
       words = map string_bytes words.now;
       limits = limits;
@@ -239,7 +239,7 @@ pub fn run_within<S: Source, K: Sink, D: Disk>(
 ) -> Ended<D>
     requires agree { HandsAgree (map (sheets_of ⟦<dyn Handler as Handler>⟧) hands.items) }
     requires each { All (IsRegistry ⟦<dyn Handler as Handler>⟧) hands.items }
-    requires hard { 65551 ≤ limits.hard }
+    requires hard { 65552 ≤ limits.hard }
     ensures { KeepsTo (record {
       words = map string_bytes words.now;
       limits = limits;

@@ -111,7 +111,7 @@ pub(crate) fn generate_over<D: Disk, K: Sink>(
     requires fresh { marks.old.items ≡ [] }
     requires agree { HandsAgree (map (sheets_of ⟦<dyn Handler as Handler>⟧) hands.old.items) }
     requires each { All (IsRegistry ⟦<dyn Handler as Handler>⟧) hands.old.items }
-    requires hard { 65551 ≤ limits.hard }
+    requires hard { 65552 ≤ limits.hard }
     ensures ends { EndsGen limits (disk_use D.Disk disk result.1) (hands_use ⟦<dyn Handler as Handler>⟧ hands.old.items hands.new.items) marks.new.items seed count
         (sink_use K.Sink out.old out.new) (before_line (sink_use K.Sink out.old out.new)) result.0 }
     ensures accepts { AcceptsJournal (disk_use D.Disk disk result.1) (hands_use ⟦<dyn Handler as Handler>⟧ hands.old.items hands.new.items) IsFresh result.0 }

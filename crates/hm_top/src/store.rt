@@ -4,7 +4,7 @@ ghost use Rattle.hm_ports.specs.Faults.{Rose};
 ghost use Rattle.hm_disk.specs.Called.{IsCalled};
 ghost use Rattle.hm_disk.specs.Disk.{LeavesOnly, LeavesThen};
 ghost use Rattle.hm_log.specs.Format.{IsClean, Reads};
-ghost use Rattle.hm_log.specs.Opening.{IsMaking};
+ghost use Rattle.hm_log.specs.Opening.{IsInPlace, IsMaking, IsUsed};
 ghost use Rattle.hm_data.specs.declared.entry.Entry.{Entry as EntryValue};
 ghost use Rattle.hm_model.specs.Journal.{back};
 ghost use Rattle.hm_model.specs.Rules.{AreSheets};
@@ -60,7 +60,7 @@ impl<D: Disk> Store<D> {
         limits: Limits,
     ) -> Result<Store<D>, (D, JournalWhy)>
         requires sheets { AreSheets sheets.now }
-        requires hard { 65551 ≤ limits.hard }
+        requires hard { 65552 ≤ limits.hard }
         ensures journal { IfOk result (λ store. (old : List EntryValue) × IsJournal sheets.now old × (store.kept ≡ fresh limits (opened sheets.now old))
             × (store.opened.count ≡ length old) × (D.tells → IsOnDisk sheets.now (D.seen disk) old
             × LeavesThen D.moment D.left_since disk store.opened.disk (λ c. D.image disk c ⊎ IsMaking (D.seen disk) c) (λ c. Reads c (frames_of old)))) }
@@ -71,7 +71,8 @@ impl<D: Disk> Store<D> {
         ensures same { D.tells → IfErr result (λ e. e.1 ≢ JournalWhy.Fault → SameFrames (D.seen disk) (D.seen e.0) (D.image e.0)) }
         ensures spared { D.tells → IfErr result (λ e. Spares sheets.now (D.seen disk) (D.image disk) (D.seen e.0) (D.image e.0)) }
         ensures any_moment { D.tells → IfErr result (λ e. LeavesOnly D.moment D.left_since disk e.0 (IsOpening sheets.now (D.seen disk) (D.image disk))) }
-        ensures called { MatchResult result (λ store. IsCalled D.Disk 1 disk store.opened.disk) (λ e. IsCalled D.Disk 3 disk e.0) }
+        ensures used { MatchResult result (λ store. IsUsed D.Disk disk store.opened.disk) (λ e. IsUsed D.Disk disk e.0) }
+        ensures few { D.tells → IsInPlace (D.seen disk) → MatchResult result (λ store. IsCalled D.Disk 1 disk store.opened.disk) (λ e. IsCalled D.Disk 3 disk e.0) }
         ensures clean { D.tells → IsClean (D.seen disk) → IfOk result (λ store. IsCalled D.Disk 0 disk store.opened.disk) }
     {
         let (journal, state) = Journal::open(alloc, disk, sheets, limits)?;

@@ -54,7 +54,7 @@ pub(crate) fn open_for<D: Disk>(
 ) -> Result<Store<D>, (D, JournalWhy)>
     requires agree { HandsAgree (map (sheets_of ⟦<dyn Handler as Handler>⟧) hands.now.items) }
     requires each { All (IsRegistry ⟦<dyn Handler as Handler>⟧) hands.now.items }
-    requires hard { 65551 ≤ limits.hard }
+    requires hard { 65552 ≤ limits.hard }
     ensures opened { IfOk result (λ store. IsOpened D.Disk (sheets_used (hands_use ⟦<dyn Handler as Handler>⟧ hands.now.items hands.now.items)) limits disk store) }
     ensures called { IfOk result (λ store. IsCalledToOpen D.Disk disk store.opened.disk) }
     ensures serve { IfOk result (λ store. Serve (map (sheets_of ⟦<dyn Handler as Handler>⟧) hands.now.items) store.kept.entries) }

@@ -1,11 +1,34 @@
-use Rattle.std.proofs.Common.{◌+◌, ◌∙◌, List, ℕ, take, drop, sym, ap, subst, arith}
+use Rattle.std.proofs.Common.{◌+◌, ◌∙◌, List, ℕ, append-nil, take, drop, refl, sym, ap, subst, arith}
 use Rattle.std.proofs.lemmas.List.{length-take-le}
+use Rattle.hm_disk.proofs.Moments.{started}
+use Rattle.hm_log.specs.Format.{Reads}
 use Rattle.hm_log.specs.Run.{IsRun, BeforeOrAll}
 use Rattle.hm_log.proofs.Ways.{on_err}
 use Rattle.hm_batch.specs.Flushing.{BreaksOff}
 use Rattle.hm_batch.specs.declared.pieces.Piece.{Piece}
 use Rattle.hm_batch.proofs.Steps.{next, frames_more, moments_more, changes_more}
 use Rattle.hm_batch.proofs.pieces.add_runs.Goals as goal
+
+-- before the first piece
+pub loop-note-init : goal.loop-note-init
+loop-note-init g c =
+    let d = g.D.Disk in
+    let log = c.args.log.now in
+    let durable : d.tells → (f : List ℕ) → d.image log.disk f → Reads f log.frames = λ tells f. c.anchor-before.ensures.durable tells c.requires.live f in
+    record {
+      live = c.requires.live;
+      rest = λ pieces laid. laid.bytes_are;
+      bytes = refl;
+      room = refl;
+      frames = λ tells pieces laid. sym (append-nil log.frames);
+      durable = durable;
+      moments = λ tells pieces laid.
+          started d.moment d.left_since log.disk _
+          (λ f left. (0, omega arith, subst (Reads f) (sym (append-nil log.frames)) (durable tells f (g.met.D.Disk.only_now log.disk f left))));
+      no_fault = refl;
+      changes = record { later = omega arith; least = omega arith; most = omega arith };
+      setting = refl;
+    }
 
 pub split_at-requires : goal.split_at-requires
 split_at-requires g c =

@@ -1,90 +1,73 @@
-use Rattle.std.proofs.Common.{◌≡◌, inl, inr, ◌+◌, List, ℕ, take, sym, ◌∙◌, ap, subst, arith}
+use Rattle.std.proofs.Common.{◌≡◌, ◌+◌, ◌++◌, ◌∷◌, ◌∙◌, List, ℕ, ap, take, sym, subst, arith}
 use Rattle.std.proofs.lemmas.Grind.{common_steps}
 use Rattle.std.specs.Prelude.{IsErrOf}
-use Rattle.hm_disk.specs.Disk.{written, Torn, CutOrWhole}
-use Rattle.hm_log.specs.Format.{Reads, IsWhole}
+use Rattle.hm_log.specs.Format.{IsMoved, IsPlain, Reads, image_of, size_with}
+use Rattle.hm_log.specs.Opening.{Settles}
 use Rattle.hm_log.specs.declared.why.OpenWhy.TheVariants.{Memory}
-use Rattle.hm_log.proofs.Ends.{read_reads, cut_whole}
-use Rattle.hm_log.proofs.Further.{blank, clean_size, held}
-use Rattle.hm_log.proofs.Opening.{new_log, whole_new, empty, alike, making, then, then_cut, then_made}
+use Rattle.hm_log.proofs.Settling.{found_holds, leaves_settling, seen_settling, then_settling}
+use Rattle.hm_log.proofs.Spelling.{length-spelled, spelled_fewer}
 use Rattle.hm_log.proofs.Stages.{whole_reads}
 use Rattle.hm_log.proofs.Ways.{on_err}
 use Rattle.hm_log.proofs.open.prepare.Goals as goal
 
-pub returns-then-size-eq0-clause-whole : goal.returns-then-size-eq0-clause-whole
-returns-then-size-eq0-clause-whole g c tells =
-    let none = blank _ _ _ _ (c.in_ok-frames.ensures.found tells) c.if-size-eq0.true in
-    let file : g.D.Disk.seen c.write_through.new.disk ≡ new_log = c.in_ok-write_through.ensures.written tells ∙ ap (λ (f : List ℕ). written 0 new_log f) (c.load.ensures.only_reads.untouched.reads ∙ empty _ none.0) in
-    whole_new _ _ _ file none.1 none.2
-
-pub returns-then-size-eq0-clause-from_then_on : goal.returns-then-size-eq0-clause-from_then_on
-returns-then-size-eq0-clause-from_then_on g c tells =
-    let d = g.D.Disk in
-    let laws = g.met.D.Disk in
-    let old = c.args.disk.now in
-    let new = c.write_through.new.disk in
-    let frames = c.in_ok-frames.field-0.frames in
-    let none = blank _ _ _ _ (c.in_ok-frames.ensures.found tells) c.if-size-eq0.true in
-    let whole = returns-then-size-eq0-clause-whole g c tells in
-    then_made d.moment d.left_since old c.load.new.disk new (d.image old) (d.seen old) (λ f. Reads f frames) (λ f. Torn 0 10 (d.seen c.load.new.disk) f)
-    (making (d.seen old) (d.seen c.load.new.disk) none.0 c.load.ensures.only_reads.untouched.reads) c.load.ensures.only_reads.leaves c.write_through.ensures.any_moment
-    (λ f left. subst (λ (l : List ℕ). Reads l frames) (sym (c.in_ok-write_through.ensures.durable f (laws.only_now new f left))) (whole_reads c.in_ok-frames.field-0.gate frames (d.seen new) whole))
-
-pub returns-in_err-trim-clause-any_moment : goal.returns-in_err-trim-clause-any_moment
-returns-in_err-trim-clause-any_moment g c tells =
-    let d = g.D.Disk in
-    let file = d.seen c.args.disk.now in
-    let seen = d.seen c.load.new.disk in
-    let to = held _ _ _ _ (c.in_ok-frames.ensures.found tells) c.if-size-eq0.false in
-    on_err _ (then d.moment d.left_since c.args.disk.now c.load.new.disk c.trim.new.disk (d.image c.args.disk.now) file (λ f. CutOrWhole (c.in_ok-frames.field-0.gate + 1) seen f)
-    (λ f cut. inl (alike file seen c.in_ok-frames.field-0.gate c.in_ok-frames.field-0.frames to c.load.ensures.only_reads.untouched.reads f cut)) c.load.ensures.only_reads.leaves c.trim.ensures.any_moment)
-
-pub returns-in_err-trim-clause-left : goal.returns-in_err-trim-clause-left
-returns-in_err-trim-clause-left g c tells =
-    let d = g.D.Disk in
-    let to = held _ _ _ _ (c.in_ok-frames.ensures.found tells) c.if-size-eq0.false in
-    on_err _ (inr (inl (alike (d.seen c.args.disk.now) (d.seen c.load.new.disk) c.in_ok-frames.field-0.gate c.in_ok-frames.field-0.frames to c.load.ensures.only_reads.untouched.reads (d.seen c.trim.new.disk) (c.trim.ensures.part tells))))
-
 pub returns-clause-whole : goal.returns-clause-whole
-returns-clause-whole g c tells =
-    let to = held _ _ _ _ (c.in_ok-frames.ensures.found tells) c.if-size-eq0.false in
-    subst (λ (f : List ℕ). IsWhole f c.in_ok-frames.field-0.gate c.in_ok-frames.field-0.frames) (sym (c.in_ok-trim.ensures.cut tells ∙ ap (λ (f : List ℕ). take (c.in_ok-frames.field-0.gate + 1) f) c.load.ensures.only_reads.untouched.reads)) (cut_whole _ _ _ to)
+returns-clause-whole g c tells = c.in_ok-settle.ensures.whole (c.image_size-gate.result + 9) (omega (arith, c.image_size-gate.ensures.size)) tells
+
+pub returns-clause-frames : goal.returns-clause-frames
+returns-clause-frames g c tells = found_holds (g.D.Disk.seen c.args.disk.now) c.in_ok-found.found.layout c.in_ok-found.found.frames c.in_ok-found.found.gate (c.in_ok-found.ensures.found tells)
 
 pub returns-clause-from_then_on : goal.returns-clause-from_then_on
 returns-clause-from_then_on g c tells =
     let d = g.D.Disk in
-    let file = d.seen c.args.disk.now in
-    let seen = d.seen c.load.new.disk in
-    let frames = c.in_ok-frames.field-0.frames in
-    let to = held _ _ _ _ (c.in_ok-frames.ensures.found tells) c.if-size-eq0.false in
-    let reads = read_reads file c.in_ok-frames.field-0.gate frames to in
-    then_cut d.moment d.left_since c.args.disk.now c.load.new.disk c.trim.new.disk (d.image c.args.disk.now) file (λ f. Reads f frames) (λ f. CutOrWhole (c.in_ok-frames.field-0.gate + 1) seen f) reads
-    (λ f cut. (alike file seen c.in_ok-frames.field-0.gate frames to c.load.ensures.only_reads.untouched.reads f cut).stays frames reads) c.in_ok-frames.ensures.from_then_on c.trim.ensures.any_moment
+    let laws = g.met.D.Disk in
+    let old = c.args.disk.now in
+    let new = c.settle.new.disk in
+    let frames = c.in_ok-found.found.frames in
+    let whole = c.in_ok-settle.ensures.whole (c.image_size-gate.result + 9) (omega (arith, c.image_size-gate.ensures.size)) tells in
+    let settles = subst (λ (f : List ℕ). Settles d.moment d.left_since f frames c.load.new.disk new) c.load.ensures.only_reads.untouched.reads (c.settle.ensures.any_moment tells) in
+    then_settling d.moment d.left_since old c.load.new.disk new (d.seen old) frames (d.image old) (laws.reads_now old tells) c.load.ensures.only_reads.leaves c.in_ok-found.ensures.from_then_on settles
+    (λ f left. subst (λ (l : List ℕ). Reads l frames) (sym (c.in_ok-settle.ensures.durable f (laws.only_now new f left))) (whole_reads _ frames (d.seen new) whole))
 
-pub returns-in_err-frames-clause-memory : goal.returns-in_err-frames-clause-memory
-returns-in_err-frames-clause-memory g c tells place err =
+pub returns-in_err-settle-clause-any_moment : goal.returns-in_err-settle-clause-any_moment
+returns-in_err-settle-clause-any_moment g c tells =
+    let d = g.D.Disk in
+    let old = c.args.disk.now in
+    let frames = c.in_ok-found.found.frames in
+    let settles = subst (λ (f : List ℕ). Settles d.moment d.left_since f frames c.load.new.disk c.settle.new.disk) c.load.ensures.only_reads.untouched.reads (c.settle.ensures.any_moment tells) in
+    on_err _ (leaves_settling d.moment d.left_since old c.load.new.disk c.settle.new.disk (d.seen old) frames (d.image old) (g.met.D.Disk.reads_now old tells) c.load.ensures.only_reads.leaves settles)
+
+pub returns-in_err-settle-clause-left : goal.returns-in_err-settle-clause-left
+returns-in_err-settle-clause-left g c tells =
+    let d = g.D.Disk in
+    let laws = g.met.D.Disk in
+    let new = c.settle.new.disk in
+    let settles = subst (λ (f : List ℕ). Settles d.moment d.left_since f c.in_ok-found.found.frames c.load.new.disk new) c.load.ensures.only_reads.untouched.reads (c.settle.ensures.any_moment tells) in
+    on_err _ (seen_settling d.moment d.left_since c.args.disk.now c.load.new.disk new (d.seen c.args.disk.now) c.in_ok-found.found.frames settles (d.seen new) (λ t late. laws.counts_now new t (d.seen new) late (laws.reads_now new tells)))
+
+pub returns-in_err-found-clause-memory : goal.returns-in_err-found-clause-memory
+returns-in_err-found-clause-memory g c tells place err =
     let fails : IsErrOf c.load.result Memory = grind (arith, common_steps) in
     c.load.ensures.memory tells place fails
 
-pub returns-in_err-write_through-clause-any_moment : goal.returns-in_err-write_through-clause-any_moment
-returns-in_err-write_through-clause-any_moment g c tells =
-    let d = g.D.Disk in
-    let file = d.seen c.args.disk.now in
-    let seen = d.seen c.load.new.disk in
-    let none = blank _ _ _ _ (c.in_ok-frames.ensures.found tells) c.if-size-eq0.true in
-    on_err _ (then d.moment d.left_since c.args.disk.now c.load.new.disk c.write_through.new.disk (d.image c.args.disk.now) file (λ f. Torn 0 10 seen f)
-    (λ f torn. inr (making file seen none.0 c.load.ensures.only_reads.untouched.reads f torn)) c.load.ensures.only_reads.leaves c.write_through.ensures.any_moment)
+pub returns-clause-kept : goal.returns-clause-kept
+returns-clause-kept g c tells front body plain =
+    let seen = g.D.Disk.seen c.args.disk.now in
+    let frames = c.in_ok-found.found.frames in
+    let before : g.D.Disk.seen c.load.new.disk ≡ seen = c.load.ensures.only_reads.untouched.reads in
+    let size : c.image_size-gate.result + 9 + 1 ≡ size_with frames = omega (arith, c.image_size-gate.ensures.size) in
+    c.in_ok-settle.ensures.kept tells front body (subst (λ (l : List ℕ). IsPlain l front body) (sym before) plain)
+    ∙ ap (λ (l : List ℕ). take (size_with frames) l) before
+    ∙ ap (λ (n : ℕ). take n seen) (sym size)
 
-pub returns-then-size-eq0-clause-clean : goal.returns-then-size-eq0-clause-clean
-returns-then-size-eq0-clause-clean g c tells clean =
-    absurd (let all = clean_size _ _ _ _ (c.in_ok-frames.ensures.found tells) clean in let zero = c.if-size-eq0.true in omega (arith, all, zero))
+pub returns-clause-moved : goal.returns-clause-moved
+returns-clause-moved g c tells front body moved =
+    let before : g.D.Disk.seen c.load.new.disk ≡ g.D.Disk.seen c.args.disk.now = c.load.ensures.only_reads.untouched.reads in
+    c.in_ok-settle.ensures.moved tells front body (subst (λ (l : List ℕ). IsMoved l front body) (sym before) moved)
+    ∙ ap (λ (l : List ℕ). take 9 l ++ 45 ∷ image_of c.in_ok-found.found.frames) before
 
-pub returns-in_err-write_through-clause-clean : goal.returns-in_err-write_through-clause-clean
-returns-in_err-write_through-clause-clean g c tells clean =
-    absurd (let all = clean_size _ _ _ _ (c.in_ok-frames.ensures.found tells) clean in let zero = c.if-size-eq0.true in omega (arith, all, zero))
-
-pub returns-clause-clean : goal.returns-clause-clean
-returns-clause-clean g c tells clean = absurd (c.if-size-gate.false (clean_size _ _ _ _ (c.in_ok-frames.ensures.found tells) clean))
-
-pub returns-in_err-trim-clause-clean : goal.returns-in_err-trim-clause-clean
-returns-in_err-trim-clause-clean g c tells clean = absurd (c.if-size-gate.false (clean_size _ _ _ _ (c.in_ok-frames.ensures.found tells) clean))
+pub returns-clause-small : goal.returns-clause-small
+returns-clause-small g c =
+    let frames = c.in_ok-found.found.frames in (
+      omega (arith, c.image_size-gate.ensures.size, c.in_ok-found.ensures.small.0),
+      omega (arith, c.image_size-gate.ensures.size, spelled_fewer frames, length-spelled frames),
+    )

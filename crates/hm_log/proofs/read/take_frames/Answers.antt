@@ -17,7 +17,7 @@ loop-rest-preserved c =
     record {
       taken = (
         taken.0 ++ frame ∷ [],
-        c.in_ok-push.ensures ∙ ap (λ (fs : List (List ℕ)). fs ++ frame ∷ []) taken.1 ∙ append_assoc _ taken.0 (frame ∷ []),
+        c.in_ok-push.ensures.added ∙ ap (λ (fs : List (List ℕ)). fs ++ frame ∷ []) taken.1 ∙ append_assoc _ taken.0 (frame ∷ []),
         one_more _ taken.0 rest (drop 1 rest) frame _ taken.2 is_open (sym whole ∙ found.0),
         All-push IsFrame taken.0 frame taken.3 found.1,
       );

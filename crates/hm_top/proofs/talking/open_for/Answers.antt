@@ -18,7 +18,7 @@ returns-clause-opened g c =
     ok_so c.open.result (λ (store : StoreView _) (found : IsOpened g.D.Disk c.as_slice.result.now c.args.limits c.args.disk store). subst (λ s. IsOpened g.D.Disk s c.args.limits c.args.disk store) (sym listed) found) c.open.ensures.journal
 
 pub returns-clause-called : goal.returns-clause-called
-returns-clause-called g c = called_to_open g.D.Disk c.args.disk c.open.result c.open.ensures.called c.open.ensures.clean
+returns-clause-called g c = called_to_open g.D.Disk c.args.disk c.open.result c.open.ensures.used c.open.ensures.few c.open.ensures.clean
 
 pub returns-clause-serve : goal.returns-clause-serve
 returns-clause-serve g c =
@@ -39,4 +39,4 @@ returns-clause-failed g c =
     let f = λ (r : _). sheets_by (goal.Handler-dyn g) r in
     let listed = used_are f (λ (r : _). whole_of r) c.args.hands.now.items c.requires.agree c.requires.each c.index.result.now c.index.ensures c.as_slice.result.now (c.as_slice.ensures ∙ c.sheets-sheets.ensures) in
     let its = c.open.ensures in
-    failed_to_open g.D.Disk c.args.disk _ c.as_slice.result.now listed c.open.result its.why its.accepts its.fault its.same its.spared its.any_moment its.called
+    failed_to_open g.D.Disk c.args.disk _ c.as_slice.result.now listed c.open.result its.why its.accepts its.fault its.same its.spared its.any_moment its.used its.few

@@ -4,11 +4,11 @@ use Rattle.hm_disk.specs.Called.{IsCalled}
 use Rattle.hm_disk.specs.Disk.{LeavesThen}
 use Rattle.hm_disk.proofs.Moments.{joined, weaker}
 use Rattle.hm_log.specs.Format.{HoldsFrames, Reads}
-use Rattle.hm_log.specs.Opening.{IsMaking}
+use Rattle.hm_log.specs.Opening.{IsMaking, IsUsed}
 use Rattle.hm_journal.specs.Opened.{Opened}
 use Rattle.hm_journal.specs.Stored.{GetsFirst, IsOpening, frames_of, opened}
 use Rattle.hm_journal.proofs.Images.{opening_first, opening_then, opening_vain, then_all}
-use Rattle.hm_journal.proofs.Moving.{called_more, called_then}
+use Rattle.hm_journal.proofs.Moving.{called_more, called_then, used_then}
 use Rattle.hm_journal.proofs.Refusing.{not_refused, of_kinds, refuses_by, same_entries}
 use Rattle.hm_journal.proofs.journal.Journal.open.Goals as goal
 
@@ -95,16 +95,28 @@ returns-in-Err-clause-any_moment g c tells =
     let image = d.image c.args.disk in
     weaker d.moment d.left_since c.args.disk c.in-Err.refused.0 _ (IsOpening c.args.sheets.now seen image) (opening_vain c.args.sheets.now seen image) (c.in-Err.ensures.any_moment tells)
 
-pub returns-in-Ok-clause-called : goal.returns-in-Ok-clause-called
-returns-in-Ok-clause-called g c =
+pub returns-in-Ok-clause-used : goal.returns-in-Ok-clause-used
+returns-in-Ok-clause-used g c =
     let d = g.D.Disk in
-    let called = c.in-Ok.ensures.called in
+    let used = c.in-Ok.ensures.used in
+    MatchResult-from_both c.of_frames.result _ _
+    (IfOk-weaker c.of_frames.result _ _ (λ r journal. subst (λ e. IsUsed d c.args.disk e) (sym (ap (λ (o : Opened _). o.disk) journal.4)) used) c.of_frames.ensures.journal)
+    (IfErr-weaker c.of_frames.result _ _ (λ e then. used_then d 2 c.args.disk c.in-Ok.log.disk e.0 used then) c.of_frames.ensures.called)
+
+pub returns-in-Ok-clause-no_fault : goal.returns-in-Ok-clause-no_fault
+returns-in-Ok-clause-no_fault g c =
+    IfOk-weaker c.of_frames.result _ _ (λ r journal. ap (λ (o : Opened _). g.D.Disk.faults o.disk) journal.4 ∙ c.in-Ok.ensures.no_fault) c.of_frames.ensures.journal
+
+pub returns-in-Ok-clause-few : goal.returns-in-Ok-clause-few
+returns-in-Ok-clause-few g c tells place =
+    let d = g.D.Disk in
+    let called = c.in-Ok.ensures.few tells place in
     MatchResult-from_both c.of_frames.result _ _
     (IfOk-weaker c.of_frames.result _ _ (λ r journal. subst (λ e. IsCalled d 1 c.args.disk e) (sym (ap (λ (o : Opened _). o.disk) journal.4)) called) c.of_frames.ensures.journal)
     (IfErr-weaker c.of_frames.result _ _ (λ e then. called_then d 1 2 c.args.disk c.in-Ok.log.disk e.0 called then) c.of_frames.ensures.called)
 
-pub returns-in-Err-clause-called : goal.returns-in-Err-clause-called
-returns-in-Err-clause-called g c = called_more g.D.Disk 1 3 c.args.disk c.in-Err.refused.0 (omega arith) c.in-Err.ensures.called
+pub returns-in-Err-clause-few : goal.returns-in-Err-clause-few
+returns-in-Err-clause-few g c tells place = called_more g.D.Disk 1 3 c.args.disk c.in-Err.refused.0 (omega arith) (c.in-Err.ensures.few tells place)
 
 pub returns-in-Ok-clause-clean : goal.returns-in-Ok-clause-clean
 returns-in-Ok-clause-clean g c tells clean =

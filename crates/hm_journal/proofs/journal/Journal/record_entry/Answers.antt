@@ -102,5 +102,6 @@ invariant_of-self-2 g c =
           (λ told. leaves_entry d.moment d.left_since f.log.disk c.append.new.self.disk f.log.frames c.deref.result.now frame.items (entries_in f.frames.items) entry
           (logs d.tells (d.image f.log.disk) f.log.frames f.log.bytes f.log.stalled f.next f.tail f.bytes (vec_len f.frames) (vec_capacity f.frames) kept c.self.invariant.0 finds.going told)
           c.deref.ensures.value is.spells (c.append.ensures.any_moment told))
-          (on_ok c.append.result _ c.is_err.result c.is_err.ensures.value c.if-is_err.false c.append.ensures.changes) c.append.ensures.called,
+          (on_ok c.append.result _ c.is_err.result c.is_err.ensures.value c.if-is_err.false c.append.ensures.changes) c.append.ensures.called
+          (on_ok c.append.result _ c.is_err.result c.is_err.ensures.value c.if-is_err.false c.append.ensures.no_fault),
     )

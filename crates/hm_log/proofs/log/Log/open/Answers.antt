@@ -13,11 +13,11 @@ invariant_of-log g c =
     record {
       has_room = found.buffer;
       fits = omega (arith, found.small);
-      fewer = omega (arith, c.count.ensures, found.small);
+      fewer = omega (arith, c.count.ensures.count, found.small);
       reads = λ tells. reads_as _ _ (whole_reads _ _ _ (found.whole tells));
       only = λ _. found.durable;
       whole = λ tells _. whole_as _ _ _ (found.whole tells);
-      counted = λ tells _. c.count.ensures ∙ ap length (sym (frames_of-reads _ _ (whole_reads _ _ _ (found.whole tells))));
+      counted = λ tells _. c.count.ensures.count ∙ ap length (sym (frames_of-reads _ _ (whole_reads _ _ _ (found.whole tells))));
     }
 
 pub returns-in-Ok-clause-frames : goal.returns-in-Ok-clause-frames

@@ -1,0 +1,105 @@
+//! Journals that are opened and recorded in, over memory.
+ghost use Rattle.std.specs.Prelude.{IfOk};
+ghost use Rattle.hm_hall.specs.Recording.{CanBeRecorded};
+ghost use Rattle.hm_model.specs.Rules.{AreSheets};
+
+use crate::runs::disk;
+use hm_crash::CrashHands;
+use hm_data::{Entry, Request, Sheet};
+use hm_disk::MemDisk;
+use hm_journal::{Journal, Limits, entries_fit_frames};
+use hm_names::{Copied, List, Nonce, Ns};
+use hm_sheet::{Handler, Registry};
+use hm_split::SplitHands;
+use hm_tables::TableHands;
+use hm_transit::TransitHands;
+use std::alloc::{AllocError, Global};
+use std::fmt::Write;
+
+// The sheets with which a journal begins.
+fn sheets(alloc: Global) -> Result<List<Sheet>, AllocError>
+    ensures valid { IfOk result AreSheets }
+{
+    let tables = Box::new(alloc, TableHands::new(alloc)?)?;
+    let splits = Box::new(alloc, SplitHands::new(alloc)?)?;
+    let transits = Box::new(alloc, TransitHands::new(alloc)?)?;
+    let crashes = Box::new(alloc, CrashHands::new(alloc)?)?;
+    let handlers: [Box<dyn Handler>; 4] = [tables, splits, transits, crashes];
+    let Ok(registry) = Registry::new(alloc, Vec::from_array(alloc, handlers)?) else {
+        return Err(AllocError);
+    };
+    registry.sheets().copy(alloc)
+}
+
+// The entry that asks for a namespace `more`.
+fn submission(alloc: Global) -> Result<Entry, AllocError>
+    ensures fits { IfOk result CanBeRecorded }
+{
+    let Ok(ns) = Ns::of(alloc, b"more") else {
+        return Err(AllocError);
+    };
+    let _named = ns.as_bytes();
+    entries_fit_frames();
+    let nonce = Nonce {
+        group: 1,
+        number: 1,
+    };
+    Ok(Entry::Submit {
+        nonce,
+        request: Request::CreateNamespace { ns },
+    })
+}
+
+fn open(alloc: Global, log: &[u8], limits: Limits) -> Result<Journal<MemDisk>, AllocError> {
+    let sheets = sheets(alloc)?;
+    let disk = disk(alloc, log, None)?;
+    if limits.hard < 65_552 {
+        return Err(AllocError);
+    }
+    match Journal::open(alloc, disk, sheets.as_slice(), limits) {
+        Ok((journal, _)) => Ok(journal),
+        Err(_) => Err(AllocError),
+    }
+}
+
+// Says how long a journal is, and whether it is at its soft mark.
+fn add_lengths(text: &mut String, journal: &Journal<MemDisk>) -> Result<(), AllocError> {
+    let durable = journal.durable();
+    let bytes = journal.bytes();
+    let full = journal.soft_full();
+    write!(
+        text,
+        "durable {durable}, bytes {bytes}, soft full {full:?}\n"
+    )?;
+    Ok(())
+}
+
+// Makes the entry ready, records it, and says what is answered.
+fn record(
+    alloc: Global,
+    journal: &mut Journal<MemDisk>,
+    text: &mut String,
+) -> Result<(), AllocError> {
+    let entry = submission(alloc)?;
+    journal.ready(alloc, &entry)?;
+    drop(entry);
+    let recorded = journal.record_entry();
+    write!(text, "{recorded:?}, ")?;
+    add_lengths(text, journal)
+}
+
+/// What a journal over this log answers where the entry is recorded so many times.
+pub(crate) fn recordings(
+    alloc: Global,
+    log: &[u8],
+    limits: Limits,
+    count: u64,
+) -> Result<String, AllocError> {
+    let mut text = String::new(alloc);
+    let mut journal = open(alloc, log, limits)?;
+    add_lengths(&mut text, &journal)?;
+    for _ in 0..count {
+        record(alloc, &mut journal, &mut text)?;
+    }
+    Ok(text)
+}
