@@ -1,0 +1,4 @@
+pub mod Owing
+pub mod Staying
+pub mod Running
+pub mod Each
