@@ -31,6 +31,14 @@ refusal_word (refusal_is.OldStart start) = codes "OldStart "
 refusal_word refusal_is.Known = codes "Known"
 refusal_word refusal_is.AlreadyDown = codes "AlreadyDown"
 refusal_word refusal_is.NoServer = codes "NoServer"
+refusal_word (refusal_is.Unsettled roots) = codes "Unsettled "
+refusal_word (refusal_is.TooOld number) = codes "TooOld "
+refusal_word refusal_is.Late = codes "Late"
+refusal_word refusal_is.NoGroup = codes "NoGroup"
+refusal_word refusal_is.NotInGroup = codes "NotInGroup"
+refusal_word refusal_is.Grouped = codes "Grouped"
+refusal_word refusal_is.Alone = codes "Alone"
+refusal_word refusal_is.Active = codes "Active"
 
 -- the word after it
 abbrev pub refusal_detail : Refusal → List ℕ
@@ -46,6 +54,8 @@ refusal_number (refusal_is.TooManyRegions drawn) = Some drawn
 refusal_number (refusal_is.JournalFull bytes) = Some bytes
 refusal_number (refusal_is.Child root) = Some root
 refusal_number (refusal_is.OldStart start) = Some start
+refusal_number (refusal_is.Unsettled roots) = Some roots
+refusal_number (refusal_is.TooOld number) = Some number
 refusal_number why = None
 
 -- a number in decimals, where there is one
@@ -86,3 +96,15 @@ answer_text (answer_is.Resent count) = codes "repeated " ++ decimal count ++ cod
 answer_text (answer_is.Table table) = table.items
 answer_text (answer_is.Balanced lines) = lines.items
 answer_text (answer_is.Halted why) = codes "halted " ++ halt_text why ++ codes "\n"
+answer_text (answer_is.Rolled at) = codes "rolled at " ++ decimal at ++ codes "\n"
+answer_text (answer_is.Adopted kind) = codes "adopted " ++ decimal kind ++ codes "\n"
+answer_text (answer_is.Reopened at) = codes "reopened at " ++ decimal at ++ codes "\n"
+answer_text (answer_is.Followed at) = codes "followed at " ++ decimal at ++ codes "\n"
+answer_text (answer_is.Epoch epoch at) = codes "epoch " ++ decimal epoch ++ codes " at " ++ decimal at ++ codes "\n"
+answer_text (answer_is.Deposed epoch) = codes "deposed " ++ decimal epoch ++ codes "\n"
+answer_text (answer_is.Backoff ticks) = codes "backoff " ++ decimal ticks ++ codes "\n"
+answer_text (answer_is.Ticked at woken) = codes "tick at " ++ decimal at ++ codes ": " ++ decimal woken ++ codes "\n"
+answer_text (answer_is.Group name servers) = codes "group " ++ name ++ codes " " ++ decimal servers ++ codes "\n"
+answer_text answer_is.Grouped = codes "grouped\n"
+answer_text (answer_is.Draining lines) = lines.items
+answer_text (answer_is.Undrained server) = codes "undrained " ++ server_text server ++ codes "\n"

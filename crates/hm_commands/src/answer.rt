@@ -9,7 +9,7 @@ use crate::row_names::row_name;
 use Piece::{Bytes, Number, Server, Text};
 use hm_data::{Act, Phase};
 use hm_hall::Halt;
-use hm_names::ServerName;
+use hm_names::{Ns, ServerName};
 use hm_show::state_name;
 
 /// Why a command is refused. What it names is told beside it.
@@ -39,6 +39,22 @@ pub enum Refusal {
     AlreadyDown,
     /// No server of this name runs.
     NoServer,
+    /// So many procedures are unfinished, which an image can't hold.
+    Unsettled(u64),
+    /// The image would carry this number, which is too great.
+    TooOld(u64),
+    /// The ticks would go past the last one.
+    Late,
+    /// There is no such group.
+    NoGroup,
+    /// The groups don't let the table's regions go to the server.
+    NotInGroup,
+    /// A table has a group, or a server is drained.
+    Grouped,
+    /// The second master has taken the first one's place before.
+    Alone,
+    /// The first master hasn't been deposed.
+    Active,
 }
 
 /// The lines that the run writes for the opening and for each command.
@@ -88,6 +104,30 @@ pub enum Answer {
     Balanced(Vec<u8>),
     /// Nothing is recorded any more, for this reason, which came now or before.
     Halted(Halt),
+    /// An image took the place of the entries, with so many in the journal.
+    Rolled(u64),
+    /// New sheets were adopted; this is the lowest kind of those that differ from the ones before.
+    Adopted(u8),
+    /// The master stopped and began again, with so many entries in the journal.
+    Reopened(u64),
+    /// The second master has read so many entries.
+    Followed(u64),
+    /// The second master has taken the first one's place in this epoch, with so many entries in the journal.
+    Epoch(u64, u64),
+    /// The first master was deposed by this epoch.
+    Deposed(u64),
+    /// The first delay after an open that failed has so many ticks.
+    Backoff(u8),
+    /// It is now this tick, and so many timers ended.
+    Ticked(u64, u64),
+    /// The group has as many servers as were named.
+    Group(Ns, u64),
+    /// The table has the group.
+    Grouped,
+    /// A server is drained: a line with how many regions have to leave it, and one for the submission of each.
+    Draining(Vec<u8>),
+    /// The server may get regions again.
+    Undrained(ServerName),
 }
 
 impl Refusal {
@@ -108,6 +148,14 @@ impl Refusal {
             Refusal::Known => "Known",
             Refusal::AlreadyDown => "AlreadyDown",
             Refusal::NoServer => "NoServer",
+            Refusal::Unsettled(_) => "Unsettled ",
+            Refusal::TooOld(_) => "TooOld ",
+            Refusal::Late => "Late",
+            Refusal::NoGroup => "NoGroup",
+            Refusal::NotInGroup => "NotInGroup",
+            Refusal::Grouped => "Grouped",
+            Refusal::Alone => "Alone",
+            Refusal::Active => "Active",
         }
     }
 
@@ -133,6 +181,8 @@ impl Refusal {
             Refusal::JournalFull(bytes) => Some(bytes),
             Refusal::Child(root) => Some(root),
             Refusal::OldStart(start) => Some(start),
+            Refusal::Unsettled(roots) => Some(roots),
+            Refusal::TooOld(number) => Some(number),
             _ => None,
         }
     }
@@ -290,6 +340,108 @@ impl Answer {
                     NONE,
                 ]
             }
+            Answer::Rolled(at) => [Text("rolled at "), Number(*at), end, NONE, NONE, NONE, NONE],
+            Answer::Adopted(kind) => {
+                [
+                    Text("adopted "),
+                    Number(u64::from(*kind)),
+                    end,
+                    NONE,
+                    NONE,
+                    NONE,
+                    NONE,
+                ]
+            }
+            Answer::Reopened(at) => [
+                Text("reopened at "),
+                Number(*at),
+                end,
+                NONE,
+                NONE,
+                NONE,
+                NONE,
+            ],
+            Answer::Followed(at) => [
+                Text("followed at "),
+                Number(*at),
+                end,
+                NONE,
+                NONE,
+                NONE,
+                NONE,
+            ],
+            Answer::Epoch(epoch, at) => {
+                [
+                    Text("epoch "),
+                    Number(*epoch),
+                    Text(" at "),
+                    Number(*at),
+                    end,
+                    NONE,
+                    NONE,
+                ]
+            }
+            Answer::Deposed(epoch) => [
+                Text("deposed "),
+                Number(*epoch),
+                end,
+                NONE,
+                NONE,
+                NONE,
+                NONE,
+            ],
+            Answer::Backoff(ticks) => {
+                [
+                    Text("backoff "),
+                    Number(u64::from(*ticks)),
+                    end,
+                    NONE,
+                    NONE,
+                    NONE,
+                    NONE,
+                ]
+            }
+            Answer::Ticked(at, woken) => {
+                [
+                    Text("tick at "),
+                    Number(*at),
+                    Text(": "),
+                    Number(*woken),
+                    end,
+                    NONE,
+                    NONE,
+                ]
+            }
+            Answer::Group(name, servers) => {
+                [
+                    Text("group "),
+                    Bytes(name.as_bytes()),
+                    Text(" "),
+                    Number(*servers),
+                    end,
+                    NONE,
+                    NONE,
+                ]
+            }
+            Answer::Grouped => [Text("grouped\n"), NONE, NONE, NONE, NONE, NONE, NONE],
+            Answer::Draining(lines) => [
+                Bytes(lines.as_slice()),
+                NONE,
+                NONE,
+                NONE,
+                NONE,
+                NONE,
+                NONE,
+            ],
+            Answer::Undrained(server) => [
+                Text("undrained "),
+                Server(server),
+                end,
+                NONE,
+                NONE,
+                NONE,
+                NONE,
+            ],
         }
     }
 }

@@ -1,6 +1,26 @@
 //! Each command, read and printed.
-use hm_script::{parse, print};
+use hm_script::{Commands, Pair, Run, parse_for, print};
+use std::alloc::Global;
+use std::process::Abort;
 use std::test::Fail;
+
+// What a program reads of each script is printed as this text.
+fn prints_what_it_reads<C: Commands>(
+    rt: &impl Abort,
+    alloc: Global,
+    cases: &[(&[u8], &str)],
+) -> Result<(), Fail> {
+    for (script, text) in cases {
+        match parse_for::<C>(alloc, script) {
+            Ok(commands) => {
+                let printed = print(alloc, commands.as_slice())?;
+                assert_eq!(rt; printed.as_slice(), text.as_bytes());
+            }
+            Err(bad) => assert!(rt; false, "{bad}"),
+        }
+    }
+    Ok(())
+}
 
 #[test]
 fn print_gives_what_parse_reads(rt: HostRuntime) -> Result<(), Fail> {
@@ -43,17 +63,64 @@ fn print_gives_what_parse_reads(rt: HostRuntime) -> Result<(), Fail> {
         (b"procs\nprocs   json\n", "procs\nprocs json\n"),
         (b"regions\nlocks\nservers", "regions\nlocks\nservers\n"),
         (b"cut 3 0\nreopen\n", "cut 3 0\nreopen\n"),
+        // Words of the later stages.
+        (b"roll\ntimers\nhbck", "roll\ntimers\nhbck\n"),
+        (b"merge 1:5 t,1 t,2 t,3", "merge 1:5 t,1 t,2 t,3\n"),
+        (
+            b"merge 1:5 t,1 t,2 t,3 t,4 t,5 t,6 t,7 t,8 t,9 t,10",
+            "merge 1:5 t,1 t,2 t,3 t,4 t,5 t,6 t,7 t,8 t,9 t,10\n",
+        ),
+        (b"backoff 0\nbackoff 7", "backoff 0\nbackoff 7\n"),
+        (b"tick 1\ntick 1000000", "tick 1\ntick 1000000\n"),
+        (b"group g h2,16020,1", "group g h2,16020,1\n"),
+        (
+            b"group g h2,16020,1  h3,16020,1",
+            "group g h2,16020,1 h3,16020,1\n",
+        ),
+        (b"table-group default:t g", "table-group t g\n"),
+        (
+            b"drain h2,16020,1\nundrain h2,16020,1",
+            "drain h2,16020,1\nundrain h2,16020,1\n",
+        ),
         (b"", ""),
         (b"\n\r\n#\x07\xff\n#", ""),
     ];
-    for (script, text) in cases {
-        match parse(rt.alloc(), script) {
-            Ok(commands) => {
-                let printed = print(rt.alloc(), commands.as_slice())?;
-                assert_eq!(rt; printed.as_slice(), text.as_bytes());
-            }
-            Err(bad) => assert!(rt; false, "{bad}"),
-        }
-    }
-    Ok(())
+    prints_what_it_reads::<Run>(&rt, rt.alloc(), cases.as_slice())
+}
+
+#[test]
+fn print_gives_what_pair_reads(rt: HostRuntime) -> Result<(), Fail> {
+    let cases = [
+        (
+            b"namespace 1:1 shop\ntakeover\nold namespace 1:2 dead\nnamespace 1:2 live\nsettle\nprocs".as_slice(),
+            "namespace 1:1 shop\ntakeover\nold namespace 1:2 dead\nnamespace 1:2 live\nsettle\nprocs\n",
+        ),
+        (
+            b"old namespace 1:1 x\ntakeover\ntakeover\n",
+            "old namespace 1:1 x\ntakeover\ntakeover\n",
+        ),
+        (b" follow \n\n  old   step  7\r\n", "follow\nold step 7\n"),
+        (b"old drop-namespace 1:1 x", "old drop-namespace 1:1 x\n"),
+        (b"old create 1:1 t a b", "old create 1:1 t a b\n"),
+        (
+            b"old delete 1:1 t\nold enable 1:1 t\nold disable 1:1 t",
+            "old delete 1:1 t\nold enable 1:1 t\nold disable 1:1 t\n",
+        ),
+        (b"old modify 1:1 t 2", "old modify 1:1 t 2\n"),
+        (b"old split 1:1 t,1 m", "old split 1:1 t,1 m\n"),
+        (b"old merge 1:1 t,1 t,2 t,3", "old merge 1:1 t,1 t,2 t,3\n"),
+        (
+            b"old move 1:1 t,1\nold move 1:1 t,1 h1,1,1",
+            "old move 1:1 t,1\nold move 1:1 t,1 h1,1,1\n",
+        ),
+        (
+            b"old abort 3\nold expire h1,1,1",
+            "old abort 3\nold expire h1,1,1\n",
+        ),
+        (
+            b"server h1,1,1\nbalance\nlocks\nlose\nrepeat",
+            "server h1,1,1\nbalance\nlocks\nlose\nrepeat\n",
+        ),
+    ];
+    prints_what_it_reads::<Pair>(&rt, rt.alloc(), cases.as_slice())
 }

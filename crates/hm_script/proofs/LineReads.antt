@@ -1,18 +1,21 @@
 -- The line of a command is read as the command.
-use Rattle.std.proofs.Common.{◌≡◌, ◌≢◌, ℕ, ◌<◌, ◌≤◌, ◌++◌, Bool, true, not, nat_lt, cond, List, [], ◌∷◌, length, map, Some, None, Ok, refl, ap, ◌∙◌, arith}
+use Rattle.std.proofs.Common.{◌≡◌, ◌≢◌, ℕ, zero, suc, ◌<◌, ◌≤◌, ◌++◌, Bool, true, not, nat_lt, cond, List, [], ◌∷◌, length, map, Some, None, Ok, refl, ap, ◌∙◌, arith}
 use Rattle.std.specs.List.{list_all, flat_map, position_or_len, AllByRecursion}
 use Rattle.std.proofs.lemmas.Bool.Decides.{nat_tests}
 use Rattle.std.proofs.lemmas.List.{append-nil}
 use Rattle.std.proofs.lemmas.List.Folds.{list_all-append}
 use Rattle.std.proofs.lemmas.List.Sums.{AllPass-from_list_all, position_or_len_is}
 use Rattle.hm_script.specs.declared.keyword.Keyword.{Keyword}
-use Rattle.hm_script.specs.Keywords.{keyword_text}
-use Rattle.hm_script.specs.Lines.{lines_of, is_right, front, words_of}
-use Rattle.hm_script.specs.Printing.{is_word_byte, is_word, FitRest, Fit}
-use Rattle.hm_script.specs.Reading.{may_stand, in_order, read_known, read_words, wrong_byte, read_line}
-use Rattle.hm_script.specs.Shapes.{Rest, nothing, maybe, many, shape_of, read_rest, read_needs}
-use Rattle.hm_script.specs.Spellings.{spelled, read_keyword, behind_space}
-use Rattle.hm_script.specs.Values.{Need, Value, value_text}
+use Rattle.hm_script.specs.declared.keyword.Keyword.TheVariants.{Workers, OfNs, Create, OfTable, Modify, Split, Merge, Move, OfNumber, OfServer, Refuse, Backoff, Tick, Group, TableGroup, Procs, Cut, Old, Alone}
+use Rattle.hm_script.specs.declared.program.Program.{Program}
+use Rattle.hm_script.specs.Keywords.{keyword_of, keyword_text}
+use Rattle.hm_script.specs.Lines.{lines_of, is_right, front, after_old, words_of}
+use Rattle.hm_script.specs.Printing.{is_word_byte, is_word, FitRest, Fit, FitPlain, FitOld, FitKeyword}
+use Rattle.hm_script.specs.Programs.{is_word_of, known_to, old_one}
+use Rattle.hm_script.specs.Reading.{as_old, may_stand, in_order, read_keyword, read_known, read_order, read_words, wrong_byte, read_line}
+use Rattle.hm_script.specs.Shapes.{Rest, nothing, maybe, upto, many, read_rest, read_needs}
+use Rattle.hm_script.specs.Spellings.{spelled, read_plain, behind_space}
+use Rattle.hm_script.specs.Values.{Need, Value, of_nonce, of_ns, of_table, of_region, of_key, of_server, of_number, of_storage, of_json, of_keyword, value_text}
 use Rattle.hm_script.proofs.KeywordLemmas.{keyword_of-keyword_text, word_keyword}
 use Rattle.hm_script.proofs.TextWords.{and_both, and_parts}
 use Rattle.hm_script.proofs.WordLemmas.{words_front, words_whole}
@@ -21,9 +24,12 @@ use Rattle.hm_script.proofs.WordLemmas.{words_front, words_whole}
 rest_read : (rest : Rest) (values : List Value) → FitRest rest values → read_rest rest (map value_text values) ≡ Ok values
 rest_read nothing [] f = refl
 rest_read (maybe need) [] f = refl
+rest_read (upto most need) [] f = refl
 rest_read (many need) [] f = refl
 rest_read nothing (value ∷ values) f = absurd f
 rest_read (maybe need) (value ∷ values) f = let read_back = f.0.1 in let none = f.1 in rw (read_back, none) refl
+rest_read (upto zero need) (value ∷ values) f = absurd f
+rest_read (upto (suc more) need) (value ∷ values) f = let read_back = f.0.1 in rw (read_back, rest_read (upto more need) values f.1) refl
 rest_read (many need) (value ∷ values) f = let read_back = f.0.1 in rw (read_back, rest_read (many need) values f.1) refl
 
 needs_read : (needs : List Need) (rest : Rest) (values : List Value) → Fit needs rest values → read_needs needs rest (map value_text values) ≡ Ok values
@@ -43,6 +49,8 @@ rest_words : (rest : Rest) (values : List Value) → FitRest rest values → are
 rest_words rest [] f = refl
 rest_words nothing (value ∷ values) f = absurd f
 rest_words (maybe need) (value ∷ values) f = and_both _ _ f.0.0 (rest_words nothing values (none_left values f.1))
+rest_words (upto zero need) (value ∷ values) f = absurd f
+rest_words (upto (suc more) need) (value ∷ values) f = and_both _ _ f.0.0 (rest_words (upto more need) values f.1)
 rest_words (many need) (value ∷ values) f = and_both _ _ f.0.0 (rest_words (many need) values f.1)
 
 needs_words : (needs : List Need) (rest : Rest) (values : List Value) → Fit needs rest values → are_words values ≡ true
@@ -117,18 +125,77 @@ lines_right (b ∷ line) rest e =
     let low = right_low b h.0 in
     rw (lines_right line rest h.1) (grind (arith, nat_tests))
 
-pub command_right : (keyword : Keyword) (values : List Value) → Fit (shape_of keyword).needs (shape_of keyword).rest values
-    → list_all is_right (keyword_text keyword ++ flat_map behind_space values) ≡ true
-command_right keyword values f = line_right (keyword_text keyword) values (word_keyword keyword) (needs_words _ _ values f)
+-- a command's values as they are read after its keyword
+pub record IsSaid (most place : ℕ) (keyword : Keyword) (values : List Value) : Type 0 where
+  pub words : are_words values ≡ true
+  pub read : read_keyword most place keyword (map value_text values) ≡ Ok (record { keyword = keyword; values = values })
 
-pub line_read : (first : Bool) (keyword : Keyword) (values : List Value) → may_stand first keyword ≡ true → Fit (shape_of keyword).needs (shape_of keyword).rest values
-    → read_line first (keyword_text keyword ++ flat_map behind_space values) ≡ Ok (record { keyword = keyword; values = values })
+plain_read : (most : ℕ) (keyword : Keyword) (values : List Value) → FitPlain most keyword values
+    → read_plain most keyword (map value_text values) ≡ Ok (record { keyword = keyword; values = values })
+plain_read most keyword values f = ap (spelled keyword) (needs_read _ _ values f)
+
+plain_words : (most : ℕ) (keyword : Keyword) (values : List Value) → FitPlain most keyword values → are_words values ≡ true
+plain_words most keyword values f = needs_words _ _ values f
+
+old_read : (most place : ℕ) (values : List Value) → FitOld most values → IsSaid most place Old values
+old_read most place [] f = absurd f
+old_read most place (of_nonce v ∷ values) f = absurd f
+old_read most place (of_ns v ∷ values) f = absurd f
+old_read most place (of_table v ∷ values) f = absurd f
+old_read most place (of_region v ∷ values) f = absurd f
+old_read most place (of_key v ∷ values) f = absurd f
+old_read most place (of_server v ∷ values) f = absurd f
+old_read most place (of_number n ∷ values) f = absurd f
+old_read most place (of_storage ∷ values) f = absurd f
+old_read most place (of_json ∷ values) f = absurd f
+old_read most place (of_keyword keyword ∷ values) f = record {
+  words = and_both _ _ (word_keyword keyword) (plain_words most keyword values f.1);
+  read =
+      let one : old_one (Some keyword) ≡ Some keyword = let may = f.0 in rw may refl in
+      ap (λ known. read_order most place (old_one known) (map value_text values)) (keyword_of-keyword_text keyword)
+      ∙ ap (λ known. read_order most place known (map value_text values)) one
+      ∙ ap as_old (plain_read most keyword values f.1);
+}
+
+pub keyword_read : (most place : ℕ) (keyword : Keyword) (values : List Value) → FitKeyword most keyword values → IsSaid most place keyword values
+keyword_read most place Old values f = old_read most place values f
+keyword_read most place Workers values f = record { words = plain_words most Workers values f; read = plain_read most Workers values f }
+keyword_read most place (OfNs word) values f = record { words = plain_words most (OfNs word) values f; read = plain_read most (OfNs word) values f }
+keyword_read most place Create values f = record { words = plain_words most Create values f; read = plain_read most Create values f }
+keyword_read most place (OfTable word) values f = record { words = plain_words most (OfTable word) values f; read = plain_read most (OfTable word) values f }
+keyword_read most place Modify values f = record { words = plain_words most Modify values f; read = plain_read most Modify values f }
+keyword_read most place Split values f = record { words = plain_words most Split values f; read = plain_read most Split values f }
+keyword_read most place Merge values f = record { words = plain_words most Merge values f; read = plain_read most Merge values f }
+keyword_read most place Move values f = record { words = plain_words most Move values f; read = plain_read most Move values f }
+keyword_read most place (OfNumber word) values f = record { words = plain_words most (OfNumber word) values f; read = plain_read most (OfNumber word) values f }
+keyword_read most place (OfServer word) values f = record { words = plain_words most (OfServer word) values f; read = plain_read most (OfServer word) values f }
+keyword_read most place Refuse values f = record { words = plain_words most Refuse values f; read = plain_read most Refuse values f }
+keyword_read most place Backoff values f = record { words = plain_words most Backoff values f; read = plain_read most Backoff values f }
+keyword_read most place Tick values f = record { words = plain_words most Tick values f; read = plain_read most Tick values f }
+keyword_read most place Group values f = record { words = plain_words most Group values f; read = plain_read most Group values f }
+keyword_read most place TableGroup values f = record { words = plain_words most TableGroup values f; read = plain_read most TableGroup values f }
+keyword_read most place Procs values f = record { words = plain_words most Procs values f; read = plain_read most Procs values f }
+keyword_read most place Cut values f = record { words = plain_words most Cut values f; read = plain_read most Cut values f }
+keyword_read most place (Alone word) values f = record { words = plain_words most (Alone word) values f; read = plain_read most (Alone word) values f }
+
+pub command_right : (most : ℕ) (keyword : Keyword) (values : List Value) → FitKeyword most keyword values
+    → list_all is_right (keyword_text keyword ++ flat_map behind_space values) ≡ true
+command_right most keyword values f =
+    let said = keyword_read most 0 keyword values f in line_right (keyword_text keyword) values (word_keyword keyword) said.words
+
+known_word : (program : Program) (keyword : Keyword) → is_word_of program keyword ≡ true → known_to program (keyword_of (keyword_text keyword)) ≡ Some keyword
+known_word program keyword known = ap (known_to program) (keyword_of-keyword_text keyword) ∙ rw known refl
+
+pub line_read : (program : Program) (most : ℕ) (first : Bool) (keyword : Keyword) (values : List Value) → is_word_of program keyword ≡ true → may_stand first keyword ≡ true
+    → FitKeyword most keyword values
+    → read_line program most first (keyword_text keyword ++ flat_map behind_space values) ≡ Ok (record { keyword = keyword; values = values })
 unfolding read_line
-line_read first keyword values stands f =
+line_read program most first keyword values known stands f =
     let line = keyword_text keyword ++ flat_map behind_space values in
     let texts = map value_text values in
-    ap (λ wrong. read_words first line wrong (words_of (front wrong line))) (none_wrong line (command_right keyword values f))
-    ∙ ap (read_words first line None) (words_said (keyword_text keyword) values (word_keyword keyword) (needs_words _ _ values f))
-    ∙ ap (λ known. read_known first line None known texts) (keyword_of-keyword_text keyword)
-    ∙ ap (λ stand. in_order stand (read_keyword keyword texts)) stands
-    ∙ ap (spelled keyword) (needs_read _ _ values f)
+    let said = keyword_read most (after_old line) keyword values f in
+    ap (λ wrong. read_words program most first line wrong (words_of (front wrong line))) (none_wrong line (command_right most keyword values f))
+    ∙ ap (read_words program most first line None) (words_said (keyword_text keyword) values (word_keyword keyword) said.words)
+    ∙ ap (λ known. read_known most first line None known texts) (known_word program keyword known)
+    ∙ ap (λ stand. in_order stand (read_keyword most (after_old line) keyword texts)) stands
+    ∙ said.read

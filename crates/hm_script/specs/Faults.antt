@@ -1,5 +1,5 @@
 -- What is wrong with a script, and its text.
-use Rattle.std.specs.Prelude.{◌≡◌, ◌⊎◌, ℕ, Result, Ok, Err, List, ◌++◌, codes}
+use Rattle.std.specs.Prelude.{◌≡◌, ◌⊎◌, ℕ, Bool, true, Result, Ok, Err, List, ◌++◌, codes}
 use Rattle.std.specs.Fmt.{decimal}
 use Rattle.hm_names.specs.declared.fault.NameFault.{NameFault}
 use Rattle.hm_names.specs.declared.fault.NameFault.TheVariants as N
@@ -38,7 +38,7 @@ why_of (N.TooLong n) = W.Name (N.TooLong n)
 why_of (N.BadByte at) = W.Name (N.BadByte at)
 why_of (N.BadNumber at) = W.Name (N.BadNumber at)
 
--- the answer is what was read, in the form that it has as a value, or memory ran out
-abbrev pub IsAnswer : {A B : Type 0} → (A → B) → Result A Why → Result B Why → Type 0
-IsAnswer form (Ok value) reading = reading ≡ Ok (form value)
-IsAnswer form (Err why) reading = (why ≡ W.Memory) ⊎ (reading ≡ Err why)
+-- the answer is what was read, in the form that it has as a value, or memory ran out where it may
+abbrev pub IsAnswer : {A B : Type 0} → (A → B) → Result A Why → Result B Why → Bool → Type 0
+IsAnswer form (Ok value) reading may_run_out = reading ≡ Ok (form value)
+IsAnswer form (Err why) reading may_run_out = ((why ≡ W.Memory) × (may_run_out ≡ true)) ⊎ (reading ≡ Err why)

@@ -1,8 +1,10 @@
 pub mod Lines
 pub mod Keywords
+pub mod Programs
 pub mod Faults
 pub mod Values
 pub mod Shapes
+pub mod Memory
 pub mod Spellings
 pub mod Reading
 pub mod Script

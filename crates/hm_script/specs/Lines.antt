@@ -1,5 +1,5 @@
 -- The lines of a script and the words of a line.
-use Rattle.std.specs.Prelude.{◌≡◌, ◌≢◌, ◌⊎◌, ℕ, Bool, true, false, ◌==◌, ◌&&◌, not, nat_le, if◌then◌else◌, Option, Some, None, unwrap_or, List, [], ◌∷◌, ◌++◌, length, filter, position, take}
+use Rattle.std.specs.Prelude.{◌≡◌, ◌≢◌, ◌⊎◌, ℕ, Bool, true, false, ◌==◌, ◌&&◌, not, nat_le, if◌then◌else◌, Option, Some, None, unwrap_or, List, [], ◌∷◌, ◌+◌, ◌++◌, length, filter, position, take, drop}
 use Rattle.std.specs.List.{slice_split}
 
 -- the byte before the first line
@@ -38,6 +38,10 @@ front (Some at) line = take at line
 -- how many spaces a line begins with, if it has anything else
 abbrev pub indent_of : List ℕ → ℕ
 indent_of line = unwrap_or (position (λ b. not (b == 32)) line) 0
+
+-- the place of a line's second word, where its first word is `old` and there is a second
+abbrev pub after_old : List ℕ → ℕ
+after_old line = let end = indent_of line + 3 in end + indent_of (drop end line)
 
 -- the words of a line, which spaces separate
 abbrev pub words_of : List ℕ → List (List ℕ)

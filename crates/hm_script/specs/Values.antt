@@ -16,9 +16,11 @@ use Rattle.hm_names.specs.Servers.{server_text, read_server}
 use Rattle.hm_names.specs.Tables.{table_text, read_table}
 use Rattle.hm_script.specs.declared.bad.Why.{Why}
 use Rattle.hm_script.specs.declared.bad.Why.TheVariants.{Number, Extra}
+use Rattle.hm_script.specs.declared.keyword.Keyword.{Keyword}
 use Rattle.hm_script.specs.Faults.{why_of}
+use Rattle.hm_script.specs.Keywords.{keyword_text}
 
--- what a word has to be: a name, a decimal up to a number, a server or the word `storage`, or the word `json`
+-- what a word has to be: a name, a decimal from one number to another, a server or the word `storage`, or the word `json`
 pub data Need : Type 0 where
   nonce : Need
   ns : Need
@@ -26,7 +28,7 @@ pub data Need : Type 0 where
   region : Need
   key : Need
   server : Need
-  number : ℕ → Need
+  number : ℕ → ℕ → Need
   target : Need
   json : Need
 
@@ -41,6 +43,7 @@ pub data Value : Type 0 where
   of_number : ℕ → Value
   of_storage : Value
   of_json : Value
+  of_keyword : Keyword → Value
 
 -- a name read as a value
 abbrev pub named : {A : Type 0} → (A → Value) → Result A NameFault → Result Value Why
@@ -60,9 +63,21 @@ read table word = named of_table (read_table word)
 read region word = named of_region (read_region word)
 read key word = named of_key (read_key word)
 read server word = named of_server (read_server word)
-read (number most) word = numbered (within 0 most (number_of word))
+read (number least most) word = numbered (within least most (number_of word))
 read target word = if bytes_eq word (codes "storage") then Ok of_storage else named of_server (read_server word)
 read json word = if bytes_eq word (codes "json") then Ok of_json else Err Extra
+
+-- what is kept of such a word takes memory
+abbrev pub takes_memory : Need → Bool
+takes_memory nonce = false
+takes_memory ns = true
+takes_memory table = true
+takes_memory region = true
+takes_memory key = true
+takes_memory server = true
+takes_memory (number least most) = false
+takes_memory target = true
+takes_memory json = false
 
 -- how a value is printed
 abbrev pub value_text : Value → List ℕ
@@ -75,6 +90,7 @@ value_text (of_server v) = server_text v
 value_text (of_number n) = decimal n
 value_text of_storage = codes "storage"
 value_text of_json = codes "json"
+value_text (of_keyword keyword) = keyword_text keyword
 
 -- a server, or the storage where there is none
 abbrev pub target_value : Option Server → Value

@@ -69,6 +69,14 @@ pub enum Command {
     Expire {
         server: ServerName,
     },
+    /// A server gets no regions any more, and gives away those that it has.
+    Drain {
+        server: ServerName,
+    },
+    /// A server may get regions again.
+    Undrain {
+        server: ServerName,
+    },
     /// A server refuses its next regions.
     Refuse {
         server: ServerName,
@@ -94,10 +102,99 @@ pub enum Command {
     Regions,
     Locks,
     Servers,
+    /// The delay after which an open that failed is tried again begins with so many ticks.
+    Backoff {
+        ticks: u8,
+    },
+    /// The time goes on by so many ticks.
+    Tick {
+        ticks: u64,
+    },
+    Timers,
+    /// A group has these servers.
+    Group {
+        name: Ns,
+        servers: List<ServerName>,
+    },
+    /// A table may be on the servers of a group alone.
+    TableGroup {
+        table: TableName,
+        name: Ns,
+    },
+    /// What the master and the servers that run don't agree on.
+    Hbck,
+    /// An image takes the place of the log's entries.
+    Roll,
     /// The disk fails after so many changes, and so many bytes of the next.
     Cut {
         changes: u64,
         bytes: u64,
     },
     Reopen,
+    /// The second master reads what is durable.
+    Follow,
+    /// The second master takes the first one's place.
+    Takeover,
+    /// The first master, which was deposed, is given an order.
+    Old {
+        order: Order,
+    },
+}
+
+/// What a master that was deposed may still be told: the commands of the same names.
+#[derive(Drop)]
+pub enum Order {
+    Namespace {
+        nonce: Nonce,
+        ns: Ns,
+    },
+    DropNamespace {
+        nonce: Nonce,
+        ns: Ns,
+    },
+    Create {
+        nonce: Nonce,
+        table: TableName,
+        keys: List<RowKey>,
+    },
+    Delete {
+        nonce: Nonce,
+        table: TableName,
+    },
+    Enable {
+        nonce: Nonce,
+        table: TableName,
+    },
+    Disable {
+        nonce: Nonce,
+        table: TableName,
+    },
+    Modify {
+        nonce: Nonce,
+        table: TableName,
+        version: u64,
+    },
+    Split {
+        nonce: Nonce,
+        region: RegionName,
+        key: RowKey,
+    },
+    Merge {
+        nonce: Nonce,
+        regions: List<RegionName>,
+    },
+    Move {
+        nonce: Nonce,
+        region: RegionName,
+        to: Option<ServerName>,
+    },
+    Abort {
+        pid: Pid,
+    },
+    Expire {
+        server: ServerName,
+    },
+    Step {
+        count: u64,
+    },
 }

@@ -17,7 +17,7 @@ pub enum Keyword {
     Modify,
     /// A nonce, a region and a key.
     Split,
-    /// A nonce and two regions.
+    /// A nonce and two regions or more.
     Merge,
     /// A nonce, a region and perhaps a server.
     Move,
@@ -27,10 +27,20 @@ pub enum Keyword {
     OfServer(ServerWord),
     /// A server or the storage, and a number.
     Refuse,
+    /// A number of at most 7.
+    Backoff,
+    /// A number from 1 to 1,000,000.
+    Tick,
+    /// A namespace as a name, and one server or more.
+    Group,
+    /// A table, and a namespace as a name.
+    TableGroup,
     /// Perhaps the word `json`.
     Procs,
     /// Two numbers.
     Cut,
+    /// The line of another command.
+    Old,
     /// Nothing.
     Alone(LoneWord),
 }
@@ -59,6 +69,8 @@ pub enum ServerWord {
     Server,
     Die,
     Expire,
+    Drain,
+    Undrain,
 }
 
 #[derive(Clone, Copy)]
@@ -71,10 +83,15 @@ pub enum LoneWord {
     Locks,
     Servers,
     Reopen,
+    Roll,
+    Timers,
+    Hbck,
+    Follow,
+    Takeover,
 }
 
 // Each word that begins a line.
-const KEYWORDS: [Keyword; 27] = [
+const KEYWORDS: [Keyword; 39] = [
     Keyword::Workers,
     Keyword::OfNs(NsWord::Namespace),
     Keyword::OfNs(NsWord::DropNamespace),
@@ -91,9 +108,16 @@ const KEYWORDS: [Keyword; 27] = [
     Keyword::OfServer(ServerWord::Server),
     Keyword::OfServer(ServerWord::Die),
     Keyword::OfServer(ServerWord::Expire),
+    Keyword::OfServer(ServerWord::Drain),
+    Keyword::OfServer(ServerWord::Undrain),
     Keyword::Refuse,
+    Keyword::Backoff,
+    Keyword::Tick,
+    Keyword::Group,
+    Keyword::TableGroup,
     Keyword::Procs,
     Keyword::Cut,
+    Keyword::Old,
     Keyword::Alone(LoneWord::Settle),
     Keyword::Alone(LoneWord::Lose),
     Keyword::Alone(LoneWord::Repeat),
@@ -102,6 +126,11 @@ const KEYWORDS: [Keyword; 27] = [
     Keyword::Alone(LoneWord::Locks),
     Keyword::Alone(LoneWord::Servers),
     Keyword::Alone(LoneWord::Reopen),
+    Keyword::Alone(LoneWord::Roll),
+    Keyword::Alone(LoneWord::Timers),
+    Keyword::Alone(LoneWord::Hbck),
+    Keyword::Alone(LoneWord::Follow),
+    Keyword::Alone(LoneWord::Takeover),
 ];
 
 impl Keyword {
@@ -126,9 +155,16 @@ impl Keyword {
             Keyword::OfServer(ServerWord::Server) => "server",
             Keyword::OfServer(ServerWord::Die) => "die",
             Keyword::OfServer(ServerWord::Expire) => "expire",
+            Keyword::OfServer(ServerWord::Drain) => "drain",
+            Keyword::OfServer(ServerWord::Undrain) => "undrain",
             Keyword::Refuse => "refuse",
+            Keyword::Backoff => "backoff",
+            Keyword::Tick => "tick",
+            Keyword::Group => "group",
+            Keyword::TableGroup => "table-group",
             Keyword::Procs => "procs",
             Keyword::Cut => "cut",
+            Keyword::Old => "old",
             Keyword::Alone(LoneWord::Settle) => "settle",
             Keyword::Alone(LoneWord::Lose) => "lose",
             Keyword::Alone(LoneWord::Repeat) => "repeat",
@@ -137,6 +173,11 @@ impl Keyword {
             Keyword::Alone(LoneWord::Locks) => "locks",
             Keyword::Alone(LoneWord::Servers) => "servers",
             Keyword::Alone(LoneWord::Reopen) => "reopen",
+            Keyword::Alone(LoneWord::Roll) => "roll",
+            Keyword::Alone(LoneWord::Timers) => "timers",
+            Keyword::Alone(LoneWord::Hbck) => "hbck",
+            Keyword::Alone(LoneWord::Follow) => "follow",
+            Keyword::Alone(LoneWord::Takeover) => "takeover",
         }
     }
 

@@ -6,11 +6,13 @@ mod command;
 mod keyword;
 mod line;
 mod printing;
+mod program;
 mod reading;
 mod script;
 mod words;
 
 pub use bad::{Bad, Why};
-pub use command::Command;
+pub use command::{Command, Order};
 pub use printing::print;
-pub use script::{Commands, Whole, parse, parse_for};
+pub use program::Program;
+pub use script::{Commands, Pair, Run, parse, parse_for};

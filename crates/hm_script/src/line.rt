@@ -1,6 +1,6 @@
 //! The lines of a script.
 ghost use Rattle.std.specs.Prelude.{◌≡◌, ◌≢◌, ◌==◌, ◌<◌, ◌≤◌, ◌+◌, ◌++◌, ◌∷◌, length, take, drop, All, IfSome, IfNone, not, position};
-ghost use Rattle.hm_script.specs.Lines.{IsLineOf, lines_of, is_skipped, is_right, front as front_of, indent_of};
+ghost use Rattle.hm_script.specs.Lines.{IsLineOf, lines_of, is_skipped, is_right, front as front_of, indent_of, after_old as after_old_of};
 
 // The place of the first such byte.
 pub fn find_byte(bytes: &[u8], wanted: u8) -> Option<usize>
@@ -81,4 +81,15 @@ pub fn indent(line: &[u8]) -> usize
     ensures within { result ≤ length line.now }
 {
     first_letter(line).unwrap_or(0)
+}
+
+// The place of the second word of a line whose first word is `old`.
+pub fn after_old(line: &[u8]) -> usize
+    ensures { result ≡ after_old_of line.now }
+{
+    let end = indent(line) + 3;
+    match line.get(end..) {
+        Some(rest) => end + indent(rest),
+        None => end,
+    }
 }

@@ -1,5 +1,5 @@
-use Rattle.std.proofs.Common.{◌-◌, ◌^◌, refl}
+use Rattle.std.proofs.Common.{◌-◌, ◌^◌, refl, arith}
 use Rattle.hm_script.proofs.printing.put_refuse_storage.Goals as goal
 
 pub returns-clause-fit : goal.returns-clause-fit
-returns-clause-fit c small = ((refl, refl), (c.in_ok-put_number.ensures.read_back (2 ^ 32 - 1) small, tt))
+returns-clause-fit c small = ((refl, refl), (c.in_ok-put_number.ensures.read_back 0 (2 ^ 32 - 1) (omega arith) small, tt))
