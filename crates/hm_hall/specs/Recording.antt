@@ -38,7 +38,7 @@ AllFit kept = All EntryFits kept.entries
 abbrev pub with_next : Recording → Entry → Recording
 with_next kept entry = record kept { next = Some entry }
 
--- the bytes of a log of these entries: ten, and for each 5 more than its spelling has
+-- the bytes of a log of these entries: eleven, and for each 5 more than its spelling has
 abbrev pub bytes_of : List Entry → ℕ
 bytes_of entries = 11 + sum_by (λ entry. length (spelling entry) + 5) entries
 

@@ -1,11 +1,10 @@
 -- The frames after a place of a whole log.
-use Rattle.std.proofs.Common.{◌≡◌, inl, inr, ℕ, ◌+◌, ◌≤◌, List, [], ◌∷◌, ◌++◌, length, take, drop, refl, sym, ◌∙◌, ap, subst, arith, append_assoc, length-append, take-append-drop}
+use Rattle.std.proofs.Common.{◌≡◌, inl, inr, ℕ, ◌+◌, ◌≤◌, List, [], ◌∷◌, ◌++◌, length, take, drop, refl, sym, ◌∙◌, ap, arith, append_assoc, length-append, take-append-drop}
 use Rattle.std.proofs.lemmas.List.{length-drop, drop_at, take_all, take-append-le}
 use Rattle.std.proofs.lemmas.List.Elements.{All-drop}
 use Rattle.std.specs.Prelude.{sum_by}
-use Rattle.hm_disk.specs.Disk.{Only}
 use Rattle.hm_log.specs.Format.{head, spelled, IsFrame, IsWhole, IsOpenBad, RunsTo}
-use Rattle.hm_log.specs.Pieces.{EndsAt, body_in}
+use Rattle.hm_log.specs.Pieces.{body_in}
 use Rattle.hm_log.specs.Tail.{IsCursor}
 use Rattle.hm_log.specs.declared.tail.Cursor.{Cursor}
 use Rattle.hm_log.proofs.Ends.{same_ends, head_of}

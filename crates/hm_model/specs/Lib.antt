@@ -65,5 +65,6 @@ pub mod Calls
 pub mod RowLaws
 pub mod Laws
 pub mod Actors
+pub mod Findings
 pub mod Storages
 pub mod Layouts

@@ -1,8 +1,8 @@
 -- Where memory may run out in reading a line: from the first word on of which something is kept, where that word is right and
 -- so are those before it.
-use Rattle.std.specs.Prelude.{ℕ, Bool, true, false, ◌&&◌, ◌||◌, List, [], ◌∷◌, drop, is_ok}
-use Rattle.hm_script.specs.Shapes.{Rest, nothing, maybe, upto, many, first_read, read_rest}
-use Rattle.hm_script.specs.Values.{Need, read, takes_memory}
+use Rattle.std.specs.Prelude.{ℕ, Bool, false, ◌&&◌, ◌||◌, List, [], ◌∷◌, drop, is_ok}
+use Rattle.hm_script.specs.Shapes.{Rest, nothing, maybe, upto, many, first_read}
+use Rattle.hm_script.specs.Values.{Need, takes_memory}
 
 -- the first word is right, and what is kept of it takes memory
 abbrev pub first_kept : Need → List (List ℕ) → Bool

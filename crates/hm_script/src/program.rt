@@ -42,7 +42,7 @@ fn of_pair_alone(keyword: Keyword) -> bool
 }
 
 impl Program {
-    // Whether lines of the program's scripts may begin with a word.
+    /// Whether lines of the program's scripts may begin with a word.
     pub fn knows(self, keyword: Keyword) -> bool
         ensures { result ≡ is_word_of self keyword }
     {
@@ -53,7 +53,7 @@ impl Program {
     }
 }
 
-// Whether a line may follow `old` that begins with a word.
+/// Whether a line may follow `old` that begins with a word.
 pub fn may_be_old(keyword: Keyword) -> bool
     ensures { result ≡ may_say keyword }
 {

@@ -1,5 +1,6 @@
 -- Region servers and the storage, as they are kept.
-use Rattle.std.specs.Prelude.{◌≡◌, ℕ, List, [], Option, Some, None, Bool, false, is_some}
+use Rattle.std.specs.Prelude.{◌≡◌, ◌↔◌, ℕ, List, [], ◌∷◌, Option, Some, None, Bool, true, false, is_some, if◌then◌else◌}
+use Rattle.std.specs.List.Sorted.{IsStrictlySortedBy}
 use Rattle.std.specs.Option.{option_map}
 use Rattle.hm_names.specs.Order.{region_cmp, server_cmp, pid_cmp}
 use Rattle.hm_names.specs.Region.{Region}
@@ -7,7 +8,8 @@ use Rattle.hm_names.specs.Server.{Server}
 use Rattle.hm_names.specs.declared.pid.Pid.{Pid}
 use Rattle.hm_data.specs.declared.call.Told.{Told}
 use Rattle.hm_index.specs.Index.{IndexView, find}
-use Rattle.hm_model.specs.Actors.{Actor, Served, Service}
+use Rattle.hm_model.specs.Actors.{Actor, Served, Service, holds}
+use Rattle.hm_model.specs.Locks.{IsIn}
 use Rattle.hm_model.specs.Storages.{Storage}
 use Rattle.hm_server.specs.declared.actor.Doing.{Doing}
 use Rattle.hm_server.specs.declared.duty.Duty.{Duty}
@@ -77,6 +79,20 @@ pub record IsStorage (one other : Storage) : Type 0 where
 abbrev pub duties_of : Option (IndexView Region Duty) → List (Region × Duty)
 duties_of None = []
 duties_of (Some index) = index.pairs
+
+-- the same of those that are left
+abbrev pub left_in : Option (List (Region × Duty)) → List (Region × Duty)
+left_in None = []
+left_in (Some duties) = duties
+
+-- the regions that are held
+abbrev pub held_in : List (Region × Duty) → List Region
+held_in [] = []
+held_in ((region, duty) ∷ more) = if duty.holds then region ∷ held_in more else held_in more
+
+-- the regions that a server holds, in name order, each once
+abbrev pub AreHeldBy : Actor → List Region → Type 0
+AreHeldBy actor list = IsStrictlySortedBy region_cmp list × ((region : Region) → IsIn region list ↔ (holds actor region ≡ true))
 
 -- what a new call does, as calls are told of it
 abbrev pub service : Doing → Service

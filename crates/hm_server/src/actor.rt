@@ -2,10 +2,11 @@
 ghost use Rattle.std.specs.Prelude.{◌≡◌, IfOk, OnErr, Some};
 ghost use Rattle.std.specs.Option.{option_map};
 ghost use Rattle.hm_model.specs.Actors.{begun, serve, serve_by, age, opening, closing, holds, once_more, reported, behind};
-ghost use Rattle.hm_server.specs.Actors.{actor_of, last_in, service, IsActor};
+ghost use Rattle.hm_server.specs.Actors.{actor_of, held_in, last_in, service, AreHeldBy, IsActor};
 
-use crate::duties::{Duties, age_of, keep, last_of};
+use crate::duties::{Duties, age_of, each_of, keep, last_of};
 use crate::duty::Duty;
+use crate::held::Held;
 use hm_data::{Call, Peer, ReportMsg, Told, Verb};
 use hm_names::{Copied, Pid, RegionName, ServerName};
 use std::alloc::{AllocError, Global};
@@ -94,6 +95,14 @@ impl Actor {
             Some(last) => last.holds,
             None => false,
         }
+    }
+
+    /// The regions that it holds. It takes time in all that it served a call about.
+    pub fn held(&self) -> Held<'_>
+        ensures list { result ≡ held_in self.now.duties }
+        ensures held { AreHeldBy (actor_of self.now) result }
+    {
+        Held::new(each_of(&self.duties))
     }
 
     // What a new call to open a region does.

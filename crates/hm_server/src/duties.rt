@@ -4,12 +4,12 @@ ghost use Rattle.std.specs.Option.{option_copied, option_map};
 ghost use Rattle.std.specs.Ordering.{is_eq};
 ghost use Rattle.hm_names.specs.Order.{region_cmp};
 ghost use Rattle.hm_names.specs.Region.{Region};
-ghost use Rattle.hm_index.specs.Index.{find};
+ghost use Rattle.hm_index.specs.Index.{find, IsRising};
 ghost use Rattle.hm_model.specs.Actors.{age};
-ghost use Rattle.hm_server.specs.Actors.{duties_of, served};
+ghost use Rattle.hm_server.specs.Actors.{duties_of, left_in, served};
 
 use crate::duty::Duty;
-use hm_index::Index;
+use hm_index::{Index, Iter};
 use hm_names::{Pid, RegionName};
 use std::alloc::{AllocError, Global};
 use std::cmp::Ordering;
@@ -23,6 +23,21 @@ pub(crate) fn last_of<'a>(duties: &'a Duties, region: &RegionName) -> Option<&'a
 {
     match duties {
         Some(index) => index.get(region),
+        None => None,
+    }
+}
+
+// What was last served about each region, in name order.
+pub(crate) fn each_of(duties: &Duties) -> Option<Iter<'_, RegionName, Duty>>
+    ensures pairs { left_in result ≡ duties_of duties.now }
+    ensures rising { IsRising region_cmp (duties_of duties.now) }
+{
+    match duties {
+        Some(index) => {
+            let pairs = index.view();
+            let _count = pairs.len();
+            Some(pairs.iter())
+        }
         None => None,
     }
 }

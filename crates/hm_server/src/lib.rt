@@ -4,8 +4,10 @@
 mod actor;
 mod duties;
 mod duty;
+mod held;
 mod storage;
 
 pub use actor::Actor;
 pub use duty::Duty;
+pub use held::Held;
 pub use storage::StorageActor;

@@ -1,4 +1,4 @@
-use Rattle.std.proofs.Common.{◌≡◌, inr, ℕ, ◌+◌, ◌-◌, ◌≤◌, ◌<◌, ◌^◌, ◌++◌, ◌∷◌, [], List, length, sym, arith}
+use Rattle.std.proofs.Common.{◌≡◌, inr, ◌+◌, ◌-◌, ◌++◌, ◌∷◌, [], sym, arith}
 use Rattle.hm_disk.proofs.Moments.{joined, weaker}
 use Rattle.hm_log.specs.Format.{image_of, image_size, spelled, frames_of, OldOrNew, Reads}
 use Rattle.hm_log.proofs.Moves.{front_kept, replace_behind, replace_switch, staged_log, staged_long, staged_switched, staged_torn, written_whole}

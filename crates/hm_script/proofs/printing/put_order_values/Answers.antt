@@ -1,4 +1,4 @@
-use Rattle.std.proofs.Common.{◌≡◌, ◌∷◌, List, length, map, subst, sym}
+use Rattle.std.proofs.Common.{◌∷◌, List, length, map, subst, sym}
 use Rattle.std.specs.Prelude.{OnOk}
 use Rattle.hm_names.specs.Region.{Region}
 use Rattle.hm_script.specs.declared.command.Order.{Order}

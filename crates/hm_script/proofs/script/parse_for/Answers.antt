@@ -4,7 +4,7 @@ use Rattle.std.proofs.lemmas.List.{length-map, map-append}
 use Rattle.std.specs.Prelude.{is_err}
 use Rattle.hm_script.specs.declared.command.Command.{Command}
 use Rattle.hm_script.specs.Lines.{is_skipped, lines_of}
-use Rattle.hm_script.specs.Reading.{line_kept, read_line}
+use Rattle.hm_script.specs.Reading.{read_line}
 use Rattle.hm_script.specs.Script.{IsFull, read_lines, whole}
 use Rattle.hm_script.specs.Spellings.{spelling}
 use Rattle.hm_script.proofs.ScriptLemmas.{Passed, line_wrong, lines_asked, lines_left, lines_skip, not_none, on_err, on_ok, passed_said, passed_skip, runs_out, unless_lacked, script_asked, script_had, script_lacked, script_long, script_told, told_bad}

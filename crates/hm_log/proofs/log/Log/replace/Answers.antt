@@ -1,7 +1,6 @@
-use Rattle.std.proofs.Common.{◌≡◌, ◌+◌, List, ℕ, length, false, sym, ◌∙◌, ap, subst, arith}
+use Rattle.std.proofs.Common.{◌≡◌, ◌+◌, List, ℕ, length, sym, ◌∙◌, ap, subst, arith}
 use Rattle.hm_disk.specs.Disk.{Only}
-use Rattle.hm_log.specs.Format.{OldOrNew, Reads, frames_of, IsWhole}
-use Rattle.hm_log.specs.View.{LogView}
+use Rattle.hm_log.specs.Format.{Reads, frames_of, IsWhole}
 use Rattle.hm_log.proofs.Listed.{frames_of-reads, reads_as, reads_one_of, whole_as}
 use Rattle.hm_log.proofs.Spelling.{length-spelled, spelled_fewer}
 use Rattle.hm_log.proofs.Stages.{whole_reads}

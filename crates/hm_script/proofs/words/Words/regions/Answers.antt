@@ -1,8 +1,8 @@
-use Rattle.std.proofs.Common.{◌≡◌, ◌<◌, ◌+◌, ◌-◌, ◌++◌, ◌∷◌, [], List, ℕ, Result, map, true, vec_len, sym, ap, ◌∙◌, arith}
+use Rattle.std.proofs.Common.{◌<◌, ◌+◌, ◌-◌, ◌∷◌, [], map, vec_len, sym, ap, ◌∙◌, arith}
 use Rattle.std.proofs.lemmas.Grind.{common_steps}
 use Rattle.std.proofs.lemmas.List.{map-append}
 use Rattle.hm_script.specs.Shapes.{before, onto_all, read_rest, upto}
-use Rattle.hm_script.specs.Values.{Value, of_region, named, read, region}
+use Rattle.hm_script.specs.Values.{of_region, named, region}
 use Rattle.hm_script.proofs.Answering.{onto_all-onto, upto_next}
 use Rattle.hm_script.proofs.words.Words.regions.Goals as goal
 
