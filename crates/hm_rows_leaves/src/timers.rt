@@ -18,20 +18,23 @@ fn three_timers<L: Ledger>(rt: &impl Abort, alloc: Global, blank: Blank) -> Resu
 {
     let mut steps = Steps::<L>::new(blank);
     let mut wheel = Wheel::new(alloc)?;
+    assert_eq!(rt; wheel.count(), 0);
     wheel.reserve(alloc, 5)?;
     wheel.set(Pid(1), 511);
     wheel.set(Pid(2), 3);
     wheel.set(Pid(4), 3);
     wheel.set(Pid(3), 3);
-    assert_eq!(rt; wheel.due_of(Pid(4)), Some(3));
+    assert_eq!(rt; (wheel.count(), wheel.due_of(Pid(4))), (4, Some(3)));
     wheel.cancel(Pid(4));
-    assert_eq!(rt; wheel.due_of(Pid(4)), None);
-    let mut woken = Vec::with_capacity(alloc, 3)?;
+    assert_eq!(rt; (wheel.count(), wheel.due_of(Pid(4))), (3, None));
+    let mut woken = Vec::with_capacity(alloc, wheel.count())?;
     wheel.advance(2, &mut woken, &mut steps);
-    assert_eq!(rt; woken.len(), 0);
+    assert_eq!(rt; (wheel.count(), woken.len()), (3, 0));
+    wheel.advance(3, &mut woken, &mut steps);
+    assert_eq!(rt; (wheel.count(), woken.len()), (1, 2));
     wheel.advance(1_000_000, &mut woken, &mut steps);
     assert_eq!(rt; woken.as_slice(), [Pid(2), Pid(3), Pid(1)].as_slice());
-    assert_eq!(rt; wheel.due_of(Pid(1)), None);
+    assert_eq!(rt; (wheel.count(), wheel.due_of(Pid(1))), (0, None));
     Ok(())
 }
 

@@ -1,18 +1,21 @@
-//! Region servers and the storage by the calls that they serve, a fleet of them by what travels, places of regions, and
-//! which servers are live. Each line of standard input is a case, unless it begins with `#`; it is printed with what was
+//! Region servers and the storage by the calls that they serve, a fleet of them by what travels, places of regions, which
+//! servers are live, and groups of them. Each line of standard input is a case, unless it begins with `#`; it is printed with what was
 //! answered. `anew` forgets all that was before it.
 #![tactic(auto)]
 
 mod actors;
 mod calls;
 mod fleets;
+mod groups;
 mod placed;
 mod standing;
 
 use actors::{put_actor, put_storage};
 use calls::server;
 use fleets::{new_fleet, put_fleet};
+use groups::put_grouped;
 use hm_fleet::Fleet;
+use hm_groups::Groups;
 use hm_names::NameFault;
 use hm_places::{Places, Servers};
 use hm_server::{Actor, StorageActor};
@@ -35,11 +38,12 @@ struct Called {
     storage: StorageActor,
 }
 
-// Where regions are, and which servers came up.
+// Where regions are, which servers came up, and how they are grouped.
 #[derive(Drop)]
 struct Known {
     places: Places,
     servers: Servers,
+    groups: Groups,
 }
 
 // A fleet, and what is known beside it.
@@ -75,7 +79,12 @@ fn new_called(alloc: Global) -> Result<Called, NameFault> {
 fn new_known(alloc: Global) -> Result<Known, AllocError> {
     let places = Places::new(alloc)?;
     let servers = Servers::new(alloc)?;
-    Ok(Known { places, servers })
+    let groups = Groups::new(alloc)?;
+    Ok(Known {
+        places,
+        servers,
+        groups,
+    })
 }
 
 fn new_outside(alloc: Global) -> Result<Outside, NameFault> {
@@ -90,7 +99,7 @@ fn new_world(alloc: Global) -> Result<World, NameFault> {
     Ok(World { called, outside })
 }
 
-// Puts what is answered of who is live, or of where regions are.
+// Puts what is answered of who is live, of where regions are, or of groups.
 fn put_rest(
     alloc: Global,
     known: &mut Known,
@@ -100,6 +109,10 @@ fn put_rest(
     match words {
         ["servers"] => known.servers = Servers::new(alloc)?,
         ["place", words @ ..] => put_placed(alloc, &mut known.places, words, out)?,
+        ["groups", words @ ..] => {
+            let fleet = (&known.servers, &known.places);
+            put_grouped(alloc, &mut known.groups, fleet, words, out)?;
+        }
         words => put_standing(alloc, &mut known.servers, &known.places, words, out)?,
     }
     Ok(())

@@ -76,3 +76,8 @@ pub record IsWheel (now : ℕ) (dues : List ℕ) (m : Map) : Type 0 where
   pub later : (l pid : ℕ) → IsIn pid (list_at m.lists l) → now < slice_index dues pid
   pub near : (l pid : ℕ) → IsIn pid (list_at m.lists l) → slice_index dues pid ≤ now + 511
   pub place : (l pid : ℕ) → IsIn pid (list_at m.lists l) → slice_index dues pid % 512 ≡ l
+
+-- a wheel, and how many are set
+pub record IsCounted (now : ℕ) (dues : List ℕ) (m : Map) (count : ℕ) : Type 0 where
+  pub wheel : IsWheel now dues m
+  pub all : count ≡ length (timers now m.lists)

@@ -1,7 +1,7 @@
 ghost use Rattle.std.specs.Prelude.{◌≡◌, ◌+◌, ◌*◌, ◌-◌, ◌<◌, ◌≤◌, ◌++◌, ◌^◌, ℕ, List, [], ◌∷◌, length, map, max, slice_set, filter, not, ◌==◌, vec_len, IfOk, OnOk, OnErr, MatchOption};
 ghost use Rattle.std.specs.Vec.{vec_capacity};
 ghost use Rattle.hm_lists.specs.Chains.{IsIn, list_at};
-ghost use Rattle.hm_lists.specs.Map.{IsHeld, IsOut, without};
+ghost use Rattle.hm_lists.specs.Map.{AreApart, IsHeld, IsOut, without};
 ghost use Rattle.hm_timer.specs.Timers.{Has, IsSet, IsUnset, due_after, due_by, pid_of, put_in};
 
 use hm_lists::{Lists, Steps};
@@ -17,10 +17,12 @@ pub struct Wheel {
     lists: Lists,
     dues: Vec<u64>,
     tick: u64,
+    // How many are set.
+    count: usize,
 }
 
 impl Model for Wheel {
-    ghost use Rattle.hm_timer.specs.Timers.{View, IsWheel, timers};
+    ghost use Rattle.hm_timer.specs.Timers.{View, IsCounted, timers};
     ghost use Rattle.std.specs.Prelude.{length, ◌+◌};
     ghost use Rattle.std.specs.Vec.{vec_capacity};
 
@@ -28,10 +30,10 @@ impl Model for Wheel {
 
     ghost view = { λ s. record { now = s.tick; set = timers s.tick s.lists.lists; spare = length s.dues.items; room = vec_capacity s.dues + s.lists.room } };
 
-    ghost invariant = { λ s. IsWheel s.tick s.dues.items s.lists };
+    ghost invariant = { λ s. IsCounted s.tick s.dues.items s.lists s.count };
 }
 
-/// Puts a node into a list, with a count of steps of its own.
+/// Puts a node into a list, with a count of steps of its own. No node was twice in a list or in two.
 fn link<L: Ledger>(lists: &mut Lists, list: u32, node: u32, blank: Blank)
     requires name { blank.name ≡ L.name }
     requires parts { blank.parts ≡ L.parts }
@@ -39,24 +41,28 @@ fn link<L: Ledger>(lists: &mut Lists, list: u32, node: u32, blank: Blank)
     requires list { list < length lists.old.lists }
     requires node { node < lists.old.spare }
     requires out { IsOut lists.old.lists node }
+    ensures apart { AreApart lists.old.lists }
     ensures lists { lists.new.lists ≡ slice_set lists.old.lists list (list_at lists.old.lists list ++ node ∷ []) }
     ensures spare { lists.new.spare ≡ lists.old.spare }
     ensures memory { lists.new.room ≡ lists.old.room }
 {
+    let _in_none = lists.list_of(node);
     let mut steps = Steps::<L>::new(blank);
     lists.push_back(list, node, &mut steps);
 }
 
-/// Takes a node out of its list, with a count of steps of its own.
+/// Takes a node out of its list, with a count of steps of its own. No node was twice in a list or in two.
 fn unlink<L: Ledger>(lists: &mut Lists, node: u32, blank: Blank)
     requires name { blank.name ≡ L.name }
     requires parts { blank.parts ≡ L.parts }
     requires some { 1 ≤ L.parts }
     requires held { IsHeld lists.old.lists node }
+    ensures apart { AreApart lists.old.lists }
     ensures lists { lists.new.lists ≡ map (without node) lists.old.lists }
     ensures spare { lists.new.spare ≡ lists.old.spare }
     ensures memory { lists.new.room ≡ lists.old.room }
 {
+    let _in_one = lists.list_of(node);
     let mut steps = Steps::<L>::new(blank);
     lists.unlink(node, &mut steps);
 }
@@ -89,6 +95,7 @@ impl Wheel {
             lists,
             dues: Vec::new(alloc),
             tick: 0,
+            count: 0,
         })
     }
 
@@ -125,6 +132,7 @@ impl Wheel {
             pid.0 as u32,
             Blank::new(1),
         );
+        self.count += 1;
     }
 
     /// Ends what a procedure is set to.
@@ -136,6 +144,14 @@ impl Wheel {
         ensures memory { self.new.room ≡ self.old.room }
     {
         unlink::<Brand>(&mut self.lists, pid.0 as u32, Blank::new(1));
+        self.count -= 1;
+    }
+
+    /// How many procedures are set: as many as an advance may wake, so many it needs room for.
+    pub fn count(&self) -> usize
+        ensures { result ≡ length self.now.set }
+    {
+        self.count
     }
 
     /// The tick that a procedure is set to; none where it isn't set.
@@ -164,11 +180,13 @@ impl Wheel {
         ensures spare { self.new.spare ≡ self.old.spare }
         ensures memory { self.new.room ≡ self.old.room }
     {
+        let before = woken.len();
         let turns = (to - self.tick).min(511);
         for _ in 0..turns {
             self.tick += 1;
             wake(&mut self.lists, (self.tick % 512) as u32, woken, steps);
         }
         self.tick = to;
+        self.count -= woken.len() - before;
     }
 }

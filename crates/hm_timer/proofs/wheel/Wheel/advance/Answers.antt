@@ -1,6 +1,7 @@
-use Rattle.std.proofs.Common.{rules, ◌∙◌, refl, arith, set, ◌+◌, ◌%◌, []}
+use Rattle.std.proofs.Common.{rules, ◌∙◌, refl, arith, ap, length, set, ◌+◌, ◌%◌, []}
 use Rattle.hm_timer.proofs.Turning.{ticked, turned}
 use Rattle.hm_timer.proofs.Arrival.{comes_to, tick_length}
+use Rattle.hm_timer.proofs.Counted.{both_counted}
 use Rattle.hm_timer.proofs.wheel.Wheel.advance.Goals as goal
 
 pub wake-requires-clause-room : goal.wake-requires-clause-room
@@ -14,6 +15,7 @@ loop-preserved g c = record {
   now_is = (let e = c.loop.invariant.now_is in omega (arith, e));
   dues_are = c.loop.invariant.dues_are;
   memory_is = c.wake.ensures.memory ∙ c.loop.invariant.memory_is;
+  count_is = c.loop.invariant.count_is;
   capacity_is = c.wake.ensures.capacity ∙ c.loop.invariant.capacity_is;
   turns = turned _ _ _ _ c.loop.self-inside.dues.items _ _ _ _ c.loop.invariant.wheel c.loop.invariant.turns c.wake.ensures.lists c.wake.ensures.woken;
   room = (
@@ -29,19 +31,40 @@ loop-preserved g c = record {
       omega (arith, was, more, steps));
 }
 
+pub overflow_sub-self : goal.overflow_sub-self
+overflow_sub-self g c =
+    let most = c.loop.auto.counter-end in
+    let least = c.loop-test.false in
+    let turns = c.min-turns.ensures in
+    let there = comes_to _ _ _ c.args.to c.loop.counter _ _ _ _ _ _ _ c.self.view_is c.self.invariant.wheel c.loop.invariant.wheel c.loop.invariant.turns c.loop.invariant.now_is (omega (arith, most, least, turns)) (omega (arith, most, least, turns)) c.requires.later in
+    let longer = there.longer in
+    let both = both_counted c.args.to _ _ _ _ _ c.self.view_is in
+    let was = c.self.invariant.all in
+    let same = c.loop.invariant.count_is in
+    omega (arith, longer, both, was, same)
+
 pub invariant_of-self : goal.invariant_of-self
 invariant_of-self g c =
     let most = c.loop.auto.counter-end in
     let least = c.loop-test.false in
     let turns = c.min-turns.ensures in
-    (comes_to _ _ _ c.args.to c.loop.counter _ _ _ _ _ _ _ c.self.view_is c.self.invariant c.loop.invariant.wheel c.loop.invariant.turns c.loop.invariant.now_is (omega (arith, most, least, turns)) (omega (arith, most, least, turns)) c.requires.later).wheel
+    let there = comes_to _ _ _ c.args.to c.loop.counter _ _ _ _ _ _ _ c.self.view_is c.self.invariant.wheel c.loop.invariant.wheel c.loop.invariant.turns c.loop.invariant.now_is (omega (arith, most, least, turns)) (omega (arith, most, least, turns)) c.requires.later in record {
+      wheel = there.wheel;
+      all = (
+          let longer = there.longer in
+          let left = ap length there.set_is in
+          let both = both_counted c.args.to _ _ _ _ _ c.self.view_is in
+          let was = c.self.invariant.all in
+          let same = c.loop.invariant.count_is in
+          omega (arith, longer, left, both, was, same));
+    }
 
 pub returns : goal.returns
 returns g c =
     let most = c.loop.auto.counter-end in
     let least = c.loop-test.false in
     let turns = c.min-turns.ensures in
-    let there = comes_to _ _ _ c.args.to c.loop.counter _ _ _ _ _ _ _ c.self.view_is c.self.invariant c.loop.invariant.wheel c.loop.invariant.turns c.loop.invariant.now_is (omega (arith, most, least, turns)) (omega (arith, most, least, turns)) c.requires.later in
+    let there = comes_to _ _ _ c.args.to c.loop.counter _ _ _ _ _ _ _ c.self.view_is c.self.invariant.wheel c.loop.invariant.wheel c.loop.invariant.turns c.loop.invariant.now_is (omega (arith, most, least, turns)) (omega (arith, most, least, turns)) c.requires.later in
     let longer = there.longer in
     let steps = c.loop.invariant.steps_are in record {
       now = refl;

@@ -10,6 +10,7 @@ invariant-loop g l = record {
   now_is : l.self-inside.tick ≡ l.initial.self-inside.tick + l.counter;
   dues_are : l.self-inside.dues ≡ l.initial.self-inside.dues;
   memory_is : l.self-inside.lists.room ≡ l.initial.self-inside.lists.room;
+  count_is : l.self-inside.count ≡ l.initial.self-inside.count;
   capacity_is : vec_capacity l.woken ≡ vec_capacity l.initial.woken;
   turns : Turns l.initial.self-inside.tick (timers l.initial.self-inside.tick l.initial.self-inside.lists.lists) l.initial.woken.items l.self-inside.tick l.self-inside.lists.lists l.woken.items;
   room : vec_len l.woken + length (timers l.self-inside.tick l.self-inside.lists.lists) ≤ vec_capacity l.woken;

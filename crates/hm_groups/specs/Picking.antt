@@ -1,0 +1,66 @@
+-- Which server is picked, of those that the groups allow.
+use Rattle.std.specs.Prelude.{◌≡◌, ℕ, ◌≤◌, List, Option, Some, None, Bool, true, not, ◌==◌, ◌&&◌, ◌||◌}
+use Rattle.std.specs.List.{filter}
+use Rattle.hm_names.specs.Region.{Region}
+use Rattle.hm_names.specs.Server.{Server}
+use Rattle.hm_data.specs.declared.place.Place.{Place}
+use Rattle.hm_data.specs.declared.place.RegionState.TheVariants as place_is
+use Rattle.hm_data.specs.declared.step.StepIn.{StepIn}
+use Rattle.hm_model.specs.Choice.{lowest}
+use Rattle.hm_model.specs.Fleet.{same_server}
+use Rattle.hm_model.specs.Journal.{Past}
+use Rattle.hm_model.specs.Loads.{load_in, places_of}
+use Rattle.hm_model.specs.Picks.{fits_input}
+use Rattle.hm_model.specs.Places.{is_the_server, load}
+use Rattle.hm_model.specs.Rules.{IsLegal}
+use Rattle.hm_model.specs.Standings.{is_live_in, live_servers, standings_of}
+use Rattle.hm_model.specs.TransitActs.{is_state, told_place}
+use Rattle.hm_model.specs.Wanted.{wanted_of}
+use Rattle.hm_model.specs.Whereabouts.{moved_by}
+use Rattle.hm_model.specs.declared.standing.Standing.{Standing}
+use Rattle.hm_places.specs.Servers.{has_other_live_in}
+use Rattle.hm_groups.specs.Groups.{GroupsView, may}
+
+-- the first try goes to the server that is wanted, where that one is live
+abbrev pub is_as_wanted : List (Server × Standing) → Option Server → ℕ → Server → Bool
+is_as_wanted servers None tries server = true
+is_as_wanted servers (Some wanted) tries server =
+    not (tries == 0) || (not (is_live_in servers wanted) || same_server server wanted)
+
+-- not the server at which the region just failed to open, where another one is live
+abbrev pub is_another : List (Server × Standing) → Place → Server → Bool
+is_another servers place server =
+    not (is_state place_is.FailedOpen place) || (not (is_the_server server place.server) || not (has_other_live_in servers server))
+
+-- a live server fits what a step sees
+abbrev pub fits_among : List (Server × Standing) → StepIn → Server → Bool
+fits_among servers at server =
+    is_as_wanted servers (wanted_of at.args) at.tries server && is_another servers (told_place at.place) server
+
+-- the groups allow a server for the region that a step moves, if it moves one
+abbrev pub allows : GroupsView → Option Region → Server → Bool
+allows view None server = true
+allows view (Some region) server = may view region.table server
+
+-- the groups allow a live server for what a step sees, and it fits
+abbrev pub passes : GroupsView → List (Server × Standing) → StepIn → Server → Bool
+passes view servers at server = allows view (moved_by at.args) server && fits_among servers at server
+
+-- the server of the lowest load among those, the first in name order among equals
+abbrev pub picked : GroupsView → List (Server × Standing) → (Server → ℕ) → StepIn → Option Server
+picked view servers load at = lowest load (filter (passes view servers at) (live_servers servers))
+
+-- over a journal the groups allow a server for what a step sees, and it fits by the rule that the journal is judged by
+abbrev pub MayTake : GroupsView → Past → StepIn → Server → Type 0
+MayTake view J at server = (allows view (moved_by at.args) server ≡ true) × (fits_input J at server ≡ true)
+
+-- a server may be taken, and none that may has a lower load
+abbrev pub IsBest : GroupsView → Past → StepIn → Server → Type 0
+IsBest view J at server = MayTake view J at server × ((other : Server) → MayTake view J at other → load J server ≤ load J other)
+
+-- over a legal journal the pick is one of the lowest load of those that may be taken, and there is none exactly where none may
+abbrev pub PicksFit : Type 0
+PicksFit =
+    (view : GroupsView) (J : Past) (at : StepIn) → IsLegal J
+    → ((server : Server) → picked view (standings_of J) (load_in (places_of J)) at ≡ Some server → IsBest view J at server)
+    × (picked view (standings_of J) (load_in (places_of J)) at ≡ None → (server : Server) → MayTake view J at server → ⊥)
