@@ -1,25 +1,35 @@
 -- What a stay of one call leaves, by what the call answered.
-use Rattle.std.proofs.Common.{◌≡◌, ℕ, List, Bool, subst, ◌∙◌, true}
-use Rattle.std.specs.Prelude.{Option, Result, Ok, MatchResult, MatchOption, IfSome, option_map}
+use Rattle.std.proofs.Common.{◌≡◌, ◌⊎◌, inl, inr, ⊎_elim, ℕ, ◌≤◌, List, ◌++◌, length, Bool, Some, None, ap, append_assoc, arith, length-append, refl, subst, sym, ◌∙◌, true}
+use Rattle.std.specs.Prelude.{Option, Result, Ok, Err, MatchResult, MatchOption, IfNone, IfSome, OnOk, is_some, option_map}
 use Rattle.hm_data.specs.declared.entry.Entry.{Entry}
 use Rattle.hm_data.specs.declared.sheet.Sheet.{Sheet}
 use Rattle.hm_data.specs.declared.step.StepOut.{StepOut}
 use Rattle.hm_gate.specs.declared.view.View.{View}
+use Rattle.hm_gate.specs.Gate.{Begins}
 use Rattle.hm_gate.specs.Whole.{Whole}
 use Rattle.hm_gate.specs.Plays.{entered, left, Found, May}
 use Rattle.hm_hall.specs.declared.fault.HallFault.{HallFault}
+use Rattle.hm_hall.specs.declared.fault.HallFault.TheVariants as fault_is
+use Rattle.hm_hall.specs.declared.fault.Halt.{Halt}
 use Rattle.hm_hall.specs.declared.hall.Task.{Task}
 use Rattle.hm_hall.specs.declared.hall.Task.TheVariants as task_is
 use Rattle.hm_hall.specs.declared.taken.Given.{Given}
 use Rattle.hm_hall.specs.declared.taken.Taken.{Taken}
-use Rattle.hm_lend.specs.Hall.{Answers, AnswersBack, AnswersCarry, AnswersGive, AnswersLend, AnswersTake, GetsBack, Going, HallView, IsOut, MayComeBack}
+use Rattle.hm_lend.specs.Hall.{Answers, AnswersBack, AnswersCarry, AnswersGive, AnswersLend, AnswersTake, GetsBack, Going, HallView, HasNone, IsOut, MayComeBack}
 use Rattle.hm_lend.specs.Outs.{OutView, number_of}
+use Rattle.hm_lend.specs.Stays.{Grows}
 use Rattle.hm_lend.specs.Ties.{Ties}
 use Rattle.hm_lend.proofs.Calls as calls
+use Rattle.hm_lend.proofs.Stopping.{take_first}
 use Rattle.hm_lend.proofs.Tied.{told_is}
-use Rattle.hm_workers.specs.Ends.{HasLog, IsFree, IsServed, Owes, StopsBy, TaskIs}
+use Rattle.hm_workers.specs.Ends.{HasLog, IsFlushed, IsFree, IsServed, IsShut, Owes, StopsBy, TaskIs}
 use Rattle.hm_workers.specs.Ran.{Adds}
 use Rattle.hm_workers.proofs.Owing as owing
+
+-- what is there
+the_halt : (o : Option Halt) → is_some o ≡ true → (why : Halt) × (o ≡ Some why)
+the_halt None is = absurd cc
+the_halt (Some why) is = (why, refl)
 
 module _ {T S : Type 0} (shown : S → Whole Entry T) (editions_in : T → List (List Sheet)) where
   module _ (v : View Entry T) (x : S) (at : HallView) (tied : Ties editions_in (shown x) at) (found : Found shown v x) where
@@ -41,6 +51,12 @@ module _ {T S : Type 0} (shown : S → Whole Entry T) (editions_in : T → List 
     take_may can r answers =
         let took = calls.took shown editions_in x y at at' tied tied' can r answers in
         owing.may_leave shown at.editions 0 v u t x y e found (calls.take_grows shown editions_in x y at at' tied tied' terms can r answers) (owing.took_gone shown v x y found at r took) (owing.took_apart shown v x y found at r took)
+
+    -- a stopped hall hands out nothing
+    pub take_shut : (can : Going) (r : Result Task HallFault) → AnswersTake can at r at' → v.stopped ≡ true → IsShut r
+    take_shut can r answers was =
+        let why = the_halt at.stopped (sym tied.stopped ∙ found.stopped_is was) in
+        subst IsShut (sym (take_first at at' why.0 why.1 can r answers).0) refl
 
     -- so does giving
     pub give_may : (taken : Taken) (out : StepOut) → Owes v taken.pid.0 → IsServed editions_in v taken.was out → (r : Result Given (Taken × HallFault)) → AnswersGive at taken out r at' → May shown u y
@@ -129,3 +145,35 @@ module _ {T S : Type 0} (shown : S → Whole Entry T) (editions_in : T → List 
 
       pub return_fault : (out : OutView T) (r : Result ℕ HallFault) → AnswersBack at out r at' → MatchResult r (λ _. Unit {0}) (λ fault. StopsBy w fault)
       return_fault out r answers = let returned = calls.returned shown editions_in x y at at' tied tied' out r answers in owing.failed_so shown v w t x y is_left found r returned.1
+
+module _ {T S : Type 0} (shown : S → Whole Entry T) (hall : S → HallView) where
+  -- a longer list was flushed
+  pub flushed_before : (old mid : List Entry) (v : View Entry T) → Begins mid old → IsFlushed shown hall mid v → IsFlushed shown hall old v
+  flushed_before old mid v begins is = (
+    is.0,
+    is.1,
+    ⊎_elim
+        (λ (none : HasNone (hall is.0)). inl none)
+        (λ (few : length mid ≤ (hall is.0).durable). inr (let l = ap (λ (m : List Entry). length m) begins.1 in omega (arith, length-append old begins.0)))
+        is.2,
+  )
+
+  module _ (v u w : View Entry T) (t : ℕ) (x y : S) (l : w ≡ left shown u y) where
+    now_front : (shown y).items ≡ w.front
+    now_front = sym (ap (λ (z : View Entry T). z.front) l)
+
+    -- the list that the seat saw goes on
+    pub front_on : (editions : List (List Sheet)) (most : ℕ) → Found shown v x → Grows shown editions most x y → Begins w.front v.front
+    front_on editions most found grows =
+        let rest = found.items_begin in
+        (rest.0 ++ grows.more, sym now_front ∙ grows.items_are ∙ ap (λ (z : List Entry). z ++ grows.more) rest.1 ∙ append_assoc v.front rest.0 grows.more)
+
+    -- where nothing was lent, and where a log came back
+    pub lend_flushed : {O : Type 0} (view : O → OutView T) (r : Option O) (list : List Entry) → AnswersLend (hall x) (option_map view r) (hall y) → IfNone r (IsFlushed shown hall list w)
+    lend_flushed view None list answers = (y, now_front, inl (subst HasNone (sym answers.1) answers.0))
+    lend_flushed view (Some out) list answers = tt
+
+    pub return_flushed : (out : OutView T) (r : Result ℕ HallFault) → HasLog v out → AnswersBack (hall x) out r (hall y) → OnOk r (IsFlushed shown hall v.front w)
+    return_flushed out (Ok number) log answers =
+        (y, now_front, inr (let d = ap (λ (h : HallView). h.durable) answers.3 in let n = answers.1 in let e = ap (λ (z : List Entry). length z) log.list in omega arith))
+    return_flushed out (Err fault) log answers = tt

@@ -1,17 +1,18 @@
 -- How a seat of a hall stands, and what a worker knows.
-use Rattle.std.specs.Prelude.{◌≡◌, ℕ, true, List, [], Some}
+use Rattle.std.specs.Prelude.{◌≡◌, ◌⊎◌, ℕ, ◌≤◌, true, List, [], length, Some, Result, Ok, Err}
 use Rattle.hm_data.specs.declared.entry.Entry.{Entry}
 use Rattle.hm_data.specs.declared.sheet.Sheet.{Sheet}
 use Rattle.hm_data.specs.declared.step.StepIn.{StepIn}
 use Rattle.hm_data.specs.declared.step.StepOut.{StepOut}
 use Rattle.hm_gate.specs.Gate.{IsOutside}
 use Rattle.hm_gate.specs.Total.{times, same}
+use Rattle.hm_gate.specs.Whole.{Whole}
 use Rattle.hm_gate.specs.declared.view.View.{View}
 use Rattle.hm_hall.specs.declared.fault.HallFault.{HallFault}
 use Rattle.hm_hall.specs.declared.fault.HallFault.TheVariants as fault_is
 use Rattle.hm_hall.specs.declared.hall.Task.{Task}
 use Rattle.hm_hall.specs.declared.hall.Task.TheVariants as task_is
-use Rattle.hm_lend.specs.Hall.{Answers, CanBeServed}
+use Rattle.hm_lend.specs.Hall.{Answers, CanBeServed, HallView, HasNone}
 use Rattle.hm_lend.specs.Outs.{OutView, number_of}
 use Rattle.hm_workers.specs.declared.ended.WorkEnd.{WorkEnd}
 use Rattle.hm_workers.specs.declared.ended.WorkEnd.TheVariants as end_is
@@ -65,6 +66,10 @@ pub record HasLog {T : Type 0} (v : View Entry T) (out : OutView T) : Type 0 whe
   pub list : out.list ≡ v.front
   pub terms : v.terms ≡ Some out.terms
 
+-- in the hall, as the seat saw it last, there was nothing to lend, or all of this list is durable
+abbrev pub IsFlushed : {S T : Type 0} → (S → Whole Entry T) → (S → HallView) → List Entry → View Entry T → Type 0
+IsFlushed {S} {T} shown hall list v = (x : S) × ((shown x).items ≡ v.front) × (HasNone (hall x) ⊎ (length list ≤ (hall x).durable))
+
 -- how the seat stands at the end of a worker
 abbrev pub EndIs : {T : Type 0} → (T → List Entry → Type 0) → View Entry T → WorkEnd → Type 0
 EndIs rests v end_is.Idle = RestsAt rests v
@@ -75,3 +80,8 @@ EndIs rests v end_is.Memory = Unit {0}
 abbrev pub end_for : HallFault → WorkEnd
 end_for fault_is.Memory = end_is.Memory
 end_for fault = end_is.Halted
+
+-- nothing is handed out, by a fault that ends a worker as halted
+abbrev pub IsShut : Result Task HallFault → Type 0
+IsShut (Ok task) = ⊥
+IsShut (Err fault) = end_for fault ≡ end_is.Halted

@@ -1,7 +1,8 @@
 //! A flush: the log goes out in one stay, is written while others go in and out, and comes back in another stay.
-ghost use Rattle.std.specs.Prelude.{◌≡◌, true, MatchOption, MatchResult};
+ghost use Rattle.std.specs.Prelude.{◌≡◌, true, IfNone, MatchOption, MatchResult, OnOk};
+ghost use Rattle.hm_gate.specs.Gate.{Begins};
 ghost use Rattle.hm_gate.specs.Ready.{IsReady};
-ghost use Rattle.hm_workers.specs.Ends.{HasLog, IsFree, IsSamePart, StopsBy};
+ghost use Rattle.hm_workers.specs.Ends.{HasLog, IsFlushed, IsFree, IsSamePart, StopsBy};
 ghost use Rattle.hm_workers.specs.Ran.{Adds};
 
 use crate::door::Door;
@@ -18,6 +19,8 @@ fn go_out<H: Hall, G: Door<H>, R: Wait>(rt: &R, gate: &G, seat: &mut Seat<H>) ->
     ensures part { IsSamePart seat.old.view seat.new.view }
     ensures mine { Adds H.editions_in 0 seat.old.view seat.new.view }
     ensures goes { MatchOption result (IsFree seat.new.view) (λ out. HasLog seat.new.view (H.Out.out out)) }
+    ensures front { Begins seat.new.view.front seat.old.view.front }
+    ensures none { IfNone result (IsFlushed H.shown H.hall seat.old.view.front seat.new.view) }
 {
     let mut held = gate.enter(rt, seat);
     let out = held.value.lend();
@@ -39,6 +42,7 @@ fn come_back<H: Hall, G: Door<H>, R: Wait>(
     ensures part { IsSamePart seat.old.view seat.new.view }
     ensures mine { Adds H.editions_in 0 seat.old.view seat.new.view }
     ensures free { IsFree seat.new.view }
+    ensures flushed { OnOk result (IsFlushed H.shown H.hall seat.old.view.front seat.new.view) }
     ensures fault { MatchResult result (λ _. Unit {0}) (λ fault. StopsBy seat.new.view fault) }
 {
     let mut held = gate.enter(rt, seat);
@@ -59,6 +63,7 @@ pub(crate) fn flush<H: Hall, G: Door<H>, R: Wait>(
     ensures part { IsSamePart seat.old.view seat.new.view }
     ensures mine { Adds H.editions_in 0 seat.old.view seat.new.view }
     ensures free { IsFree seat.new.view }
+    ensures flushed { OnOk result (IsFlushed H.shown H.hall seat.old.view.front seat.new.view) }
     ensures fault { MatchResult result (λ _. Unit {0}) (λ fault. StopsBy seat.new.view fault) }
 {
     match go_out(rt, gate, seat) {

@@ -1,7 +1,7 @@
 //! The stays of a worker: each is one call of the hall, and no handler runs in it.
 ghost use Rattle.std.specs.Prelude.{◌≡◌, true, Err, MatchResult};
 ghost use Rattle.hm_gate.specs.Ready.{IsReady};
-ghost use Rattle.hm_workers.specs.Ends.{IsFree, IsSamePart, IsServed, Owes, StopsBy, TaskIs};
+ghost use Rattle.hm_workers.specs.Ends.{IsFree, IsSamePart, IsServed, IsShut, Owes, StopsBy, TaskIs};
 ghost use Rattle.hm_workers.specs.Ran.{Adds};
 
 use crate::door::Door;
@@ -25,6 +25,7 @@ pub(crate) fn start<H: Hall, G: Door<H>, R: Wait>(
     ensures part { IsSamePart seat.old.view seat.new.view }
     ensures mine { Adds H.editions_in 0 seat.old.view seat.new.view }
     ensures task { MatchResult result (TaskIs H.editions_in H.rests seat.new.view) (λ fault. IsFree seat.new.view × StopsBy seat.new.view fault) }
+    ensures shut { seat.old.view.stopped ≡ true → IsShut result }
 {
     let mut held = gate.enter(rt, seat);
     let task = held.value.take(alloc);

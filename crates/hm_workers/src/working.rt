@@ -1,7 +1,7 @@
 //! A worker.
-ghost use Rattle.std.specs.Prelude.{◌≡◌, IfErr, OnOk};
+ghost use Rattle.std.specs.Prelude.{◌≡◌, true, Err, IfErr, OnOk};
 ghost use Rattle.hm_gate.specs.Ready.{IsReady};
-ghost use Rattle.hm_workers.specs.Ends.{EndIs, IsFree, IsSamePart, IsServed, Knows, MayServe, Owes, TaskIs};
+ghost use Rattle.hm_workers.specs.Ends.{EndIs, IsFlushed, IsFree, IsSamePart, IsServed, Knows, MayServe, Owes, TaskIs};
 ghost use Rattle.hm_workers.specs.Ran.{Adds, RanFor, RanOnce};
 ghost use Rattle.hm_sheet.specs.Words.{risen};
 
@@ -119,6 +119,7 @@ fn write<H: Hall, G: Door<H>, R: Wait>(rt: &R, gate: &G, seat: &mut Seat<H>) -> 
     ensures free { IsFree seat.new.view }
     ensures part { IsSamePart seat.old.view seat.new.view }
     ensures mine { Adds H.editions_in 0 seat.old.view seat.new.view }
+    ensures flushed { OnOk result (IsFlushed H.shown H.hall seat.old.view.front seat.new.view) }
     ensures end { IfErr result (EndIs H.rests seat.new.view) }
 {
     match flush(rt, gate, seat) {
@@ -146,6 +147,7 @@ fn perform<H: Hall, S: Serves, G: Door<H>, R: Wait>(
     ensures part { IsSamePart seat.old.view seat.new.view }
     ensures editions { S.editions hands.new ≡ S.editions hands.old }
     ensures ran { RanOnce (S.editions hands.old) seat.old.view.mine seat.new.view.mine (S.runs hands.old) (S.runs hands.new) }
+    ensures flushed { task ≡ Task.Flush → OnOk result (IsFlushed H.shown H.hall seat.old.view.front seat.new.view) }
     ensures end { IfErr result (EndIs H.rests seat.new.view) }
 {
     match task {
@@ -189,6 +191,7 @@ fn turn<H: Hall, S: Serves, G: Door<H>, R: Wait>(
     ensures editions { S.editions hands.new ≡ S.editions hands.old }
     ensures ran { RanOnce (S.editions hands.old) seat.old.view.mine seat.new.view.mine (S.runs hands.old) (S.runs hands.new) }
     ensures end { IfErr result (EndIs H.rests seat.new.view) }
+    ensures shut { seat.old.view.stopped ≡ true → result ≡ Err WorkEnd.Halted }
 {
     let seen = gate.changes();
     match start(rt, alloc, gate, seat) {
@@ -216,6 +219,7 @@ pub fn work<H: Hall, S: Serves, G: Door<H>, R: Wait>(
     ensures editions { S.editions hands.new ≡ S.editions hands.old }
     ensures ran { RanFor (S.editions hands.old) seat.old.view.mine seat.new.view.mine (S.runs hands.old) (S.runs hands.new) }
     ensures end { EndIs H.rests seat.new.view result }
+    ensures shut { seat.old.view.stopped ≡ true → result ≡ WorkEnd.Halted }
 {
     for _ in rt.forever() {
         match turn(rt, alloc, gate, seat, hands) {

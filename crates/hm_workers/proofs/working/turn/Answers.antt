@@ -1,4 +1,4 @@
-use Rattle.std.proofs.Common.{inl, refl, rules, subst, sym}
+use Rattle.std.proofs.Common.{Err, ap, inl, refl, rules, subst, sym, ◌∙◌}
 use Rattle.hm_workers.specs.Ends.{EndIs}
 use Rattle.hm_workers.specs.declared.ended.WorkEnd.{WorkEnd}
 use Rattle.hm_workers.proofs.Running.{ends_by, known, knows_on, once_then, part_on}
@@ -39,3 +39,9 @@ returns-in-Err-clause-ready g c = c.start.ensures.ready
 
 pub returns-in-Err-clause-part : goal.returns-in-Err-clause-part
 returns-in-Err-clause-part g c = c.start.ensures.part
+
+pub returns-in-Ok-clause-shut : goal.returns-in-Ok-clause-shut
+returns-in-Ok-clause-shut g c = λ was. absurd (c.in-Ok.ensures.shut was)
+
+pub returns-in-Err-clause-shut : goal.returns-in-Err-clause-shut
+returns-in-Err-clause-shut g c = λ was. ap (λ (z : WorkEnd). Err z) (c.end_of.ensures ∙ c.in-Err.ensures.shut was)

@@ -1,4 +1,4 @@
-use Rattle.std.proofs.Common.{◌≡◌}
+use Rattle.std.proofs.Common.{◌≡◌, true}
 use Rattle.hm_gate.specs.Ready.{IsReady}
 use Rattle.hm_workers.specs.Ends.{IsFree, IsSamePart}
 use Rattle.hm_workers.specs.Ran.{RanFor}
@@ -11,4 +11,5 @@ invariant-loop g l = record {
   part : IsSamePart l.initial.seat.view l.seat.view;
   editions : g.S.Serves.editions l.hands ≡ g.S.Serves.editions l.initial.hands;
   ran : RanFor (g.S.Serves.editions l.initial.hands) l.initial.seat.view.mine l.seat.view.mine (g.S.Serves.runs l.initial.hands) (g.S.Serves.runs l.hands);
+  stopped : l.initial.seat.view.stopped ≡ true → l.seat.view.stopped ≡ true;
 }
