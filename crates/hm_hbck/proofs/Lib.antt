@@ -1,0 +1,11 @@
+mod Named
+mod Lists
+mod Crewed
+mod Order
+mod Meeting
+mod Paired
+mod Least
+mod Rows
+mod Placed
+mod Holders
+mod Gathered

@@ -1,0 +1,4 @@
+use Rattle.hm_hbck.proofs.holes.add_row.Goals as goal
+
+pub returns-in-Table-Table : goal.returns-in-Table-Table
+returns-in-Table-Table c = rw (c.in-Table-Table.is-0, c.in-Table-Table.is-1) c.add_hole.ensures

@@ -1,0 +1,4 @@
+pub mod Findings
+pub mod Found
+pub mod Holes
+pub mod Pairs
