@@ -1,21 +1,18 @@
-//! Region servers and the storage by the calls that they serve, a fleet of them by what travels, places of regions, which
-//! servers are live, and groups of them. Each line of standard input is a case, unless it begins with `#`; it is printed with what was
+//! Region servers and the storage by the calls that they serve, a fleet of them by what travels, places of regions, and
+//! which servers are live. Each line of standard input is a case, unless it begins with `#`; it is printed with what was
 //! answered. `anew` forgets all that was before it.
 #![tactic(auto)]
 
 mod actors;
 mod calls;
 mod fleets;
-mod groups;
 mod placed;
 mod standing;
 
 use actors::{put_actor, put_storage};
 use calls::server;
 use fleets::{new_fleet, put_fleet};
-use groups::put_grouped;
 use hm_fleet::Fleet;
-use hm_groups::Groups;
 use hm_names::NameFault;
 use hm_places::{Places, Servers};
 use hm_server::{Actor, StorageActor};
@@ -38,12 +35,11 @@ struct Called {
     storage: StorageActor,
 }
 
-// Where regions are, which servers came up, and how they are grouped.
+// Where regions are, and which servers came up.
 #[derive(Drop)]
 struct Known {
     places: Places,
     servers: Servers,
-    groups: Groups,
 }
 
 // A fleet, and what is known beside it.
@@ -79,12 +75,7 @@ fn new_called(alloc: Global) -> Result<Called, NameFault> {
 fn new_known(alloc: Global) -> Result<Known, AllocError> {
     let places = Places::new(alloc)?;
     let servers = Servers::new(alloc)?;
-    let groups = Groups::new(alloc)?;
-    Ok(Known {
-        places,
-        servers,
-        groups,
-    })
+    Ok(Known { places, servers })
 }
 
 fn new_outside(alloc: Global) -> Result<Outside, NameFault> {
@@ -99,7 +90,7 @@ fn new_world(alloc: Global) -> Result<World, NameFault> {
     Ok(World { called, outside })
 }
 
-// Puts what is answered of who is live, of where regions are, or of groups.
+// Puts what is answered of who is live, or of where regions are.
 fn put_rest(
     alloc: Global,
     known: &mut Known,
@@ -109,10 +100,6 @@ fn put_rest(
     match words {
         ["servers"] => known.servers = Servers::new(alloc)?,
         ["place", words @ ..] => put_placed(alloc, &mut known.places, words, out)?,
-        ["groups", words @ ..] => {
-            let fleet = (&known.servers, &known.places);
-            put_grouped(alloc, &mut known.groups, fleet, words, out)?;
-        }
         words => put_standing(alloc, &mut known.servers, &known.places, words, out)?,
     }
     Ok(())
