@@ -19,7 +19,7 @@ use crate::regions::key_of_region;
 use crate::splits::{add_region, mark, range_in};
 use crate::undo::{closed_by, closed_by_request};
 use hm_data::{Args, CatKey, CatRow, Cause, Edit, Status, StepOut};
-use hm_model::Part;
+use hm_model::Merged;
 use hm_names::{Copied, KeyRange, RegionName};
 use std::alloc::{AllocError, Global};
 
@@ -70,14 +70,18 @@ fn regions_live(rows: &Rows<'_>, regions: &[RegionName]) -> Option<Cause>
 }
 
 // The ranges of regions among rows, where they are known.
-fn parts_of(alloc: Global, rows: &Rows<'_>, regions: &[RegionName]) -> Result<Vec<Part>, AllocError>
+fn parts_of(
+    alloc: Global,
+    rows: &Rows<'_>,
+    regions: &[RegionName],
+) -> Result<Vec<Merged>, AllocError>
     ensures { IfOk result (λ v. v.items ≡ parts_in (row_of rows.now) regions.now) }
 {
     let mut parts = Vec::new(alloc);
     for region in regions {
         if let Some(range) = range_in(rows.region(region)) {
             let range = range.copy(alloc)?;
-            parts.push(Part {
+            parts.push(Merged {
                 id: region.id,
                 range,
             })?;
@@ -91,7 +95,7 @@ fn parts_by_start(
     alloc: Global,
     rows: &Rows<'_>,
     regions: &[RegionName],
-) -> Result<Vec<Part>, AllocError>
+) -> Result<Vec<Merged>, AllocError>
     ensures { IfOk result (λ v. v.items ≡ started (parts_in (row_of rows.now) regions.now)) }
 {
     let mut parts = parts_of(alloc, rows, regions)?;
@@ -107,7 +111,7 @@ fn meets(range: &KeyRange, next: &KeyRange) -> bool
 }
 
 // Each range meets the next, from a first one on.
-fn is_chain(first: &KeyRange, parts: &[Part]) -> bool
+fn is_chain(first: &KeyRange, parts: &[Merged]) -> bool
     ensures { result ≡ chained first.now parts.now }
 {
     let mut before = first;
@@ -120,7 +124,7 @@ fn is_chain(first: &KeyRange, parts: &[Part]) -> bool
     true
 }
 
-fn are_adjacent(parts: &[Part]) -> Option<Cause>
+fn are_adjacent(parts: &[Merged]) -> Option<Cause>
     ensures { result ≡ adjacent parts.now }
 {
     match parts {
@@ -166,7 +170,7 @@ pub(crate) fn check_merge(
 }
 
 // From the start of a range to the end of the last.
-fn hull(alloc: Global, first: &KeyRange, parts: &[Part]) -> Result<KeyRange, AllocError>
+fn hull(alloc: Global, first: &KeyRange, parts: &[Merged]) -> Result<KeyRange, AllocError>
     ensures { IfOk result (λ range. range ≡ hull_of first.now parts.now) }
 {
     let mut end = &first.end;
@@ -179,7 +183,7 @@ fn hull(alloc: Global, first: &KeyRange, parts: &[Part]) -> Result<KeyRange, All
     })
 }
 
-fn ids_of(alloc: Global, parts: &[Part]) -> Result<Vec<u64>, AllocError>
+fn ids_of(alloc: Global, parts: &[Merged]) -> Result<Vec<u64>, AllocError>
     ensures { IfOk result (λ v. v.items ≡ map (λ p. p.id) parts.now) }
 {
     let mut ids = Vec::new(alloc);

@@ -11,7 +11,6 @@ use Rattle.hm_data.specs.declared.request.Request.TheVariants as request_is
 use Rattle.hm_model.specs.Catalog.{row_at, set_to}
 use Rattle.hm_model.specs.Changes.{changed, add_ranges, remove_regions, split_edits, merge_edits}
 use Rattle.hm_model.specs.Checks.{namespace_free, namespace_empty, table_free, table_disabled, table_enabled, region_ready, can_split}
-use Rattle.hm_model.specs.declared.part.Part.{Part}
 use Rattle.hm_model.specs.Deeds.{Deed, cause_of_merge}
 use Rattle.hm_model.specs.Kinds.{table_of_first}
 use Rattle.hm_model.specs.NamespaceActs.{has_table}
@@ -19,7 +18,6 @@ use Rattle.hm_model.specs.Pieces.{ranges_between}
 use Rattle.hm_model.specs.RowsSaid.{Rows, all_among, in_state, in_status, in_version}
 use Rattle.hm_catalog.specs.declared.edits.Change.{Change}
 use Rattle.hm_catalog.specs.declared.edits.Change.TheVariants as change_is
-use Rattle.hm_catalog.specs.declared.edits.Piece.{Piece}
 use Rattle.hm_catalog.specs.declared.deeds.DeedWhy.{DeedWhy}
 use Rattle.hm_catalog.specs.declared.deeds.DeedWhy.TheVariants as why_is
 
@@ -34,10 +32,6 @@ abbrev pub made_by : Change → CatRow → CatRow
 made_by (change_is.State state) = in_state state
 made_by (change_is.Version version) = in_version version
 made_by (change_is.Status status) = in_status status
-
--- a region that is merged
-abbrev pub part_of : Piece → Part
-part_of piece = record { id = piece.id; range = piece.range.now }
 
 -- the first cause against a request among rows
 abbrev pub against : Request → Rows → Option Cause

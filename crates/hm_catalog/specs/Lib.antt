@@ -3,4 +3,5 @@ pub mod Rows
 pub mod Kept
 pub mod Spans
 pub mod Deeds
+pub mod Merges
 pub mod Laws

@@ -8,12 +8,11 @@ ghost use Rattle.hm_catalog.specs.Rows.{keys_in};
 
 use crate::catalog::Catalog;
 use crate::checks::{
-    against_merge, can_split, namespace_empty, namespace_free, region_ready, table_disabled,
-    table_enabled, table_free,
+    can_split, namespace_empty, namespace_free, region_ready, table_disabled, table_enabled,
+    table_free,
 };
-use crate::edits::{
-    Change, change_table, create_table, delete_table, merge_regions, one, setting, split_region,
-};
+use crate::edits::{Change, change_table, create_table, delete_table, one, setting, split_region};
+use crate::merges::{against_merge, merge_regions};
 use crate::name::Name;
 use hm_data::{CatKey, CatRow, Cause, Edit, Request, TableState};
 use hm_names::{Copied, List};
@@ -100,10 +99,7 @@ fn edits_for(
         }
         Request::SplitRegion { region, key } => split_region(alloc, catalog, region, key, first),
         Request::MergeRegions { regions } => {
-            let [region, other] = regions.as_slice() else {
-                unreachable!()
-            };
-            merge_regions(alloc, catalog, region, other, first)
+            merge_regions(alloc, catalog, regions.as_slice(), first)
         }
         Request::Move { region: _, to: _ } => Ok(Vec::new(alloc)),
     }

@@ -5,18 +5,16 @@ ghost use Rattle.hm_data.specs.declared.catalog.CatKey.TheVariants as Key_is;
 ghost use Rattle.hm_data.specs.declared.catalog.CatRow.TheVariants as Row_is;
 ghost use Rattle.hm_data.specs.declared.catalog.TableState.TheVariants as State_is;
 ghost use Rattle.hm_model.specs.Catalog.{row_at, set_to};
-ghost use Rattle.hm_model.specs.Changes.{add_ranges, changed as changed_of, live_row, mark_merged, merge_edits, merged_of, region_key, remove_regions, split_edits};
-ghost use Rattle.hm_model.specs.Checks.{are_adjacent, by_start, can_merge, can_split};
-ghost use Rattle.hm_model.specs.Locks.{in_name_order};
+ghost use Rattle.hm_model.specs.Changes.{add_ranges, changed as changed_of, live_row, region_key, remove_regions, split_edits};
+ghost use Rattle.hm_model.specs.Checks.{can_split};
 ghost use Rattle.hm_model.specs.Pieces.{ranges_between};
 ghost use Rattle.hm_model.specs.RowsSaid.{all_among, range_in};
-ghost use Rattle.hm_catalog.specs.Deeds.{made_by, part_of};
+ghost use Rattle.hm_catalog.specs.Deeds.{made_by};
 
 use crate::catalog::Catalog;
 use crate::checks::range_of;
 use crate::name::Name;
 use hm_data::{CatKey, CatRow, Edit, Status, TableState};
-use hm_names::laws::names_order_by_parts;
 use hm_names::{Copied, KeyRange, List, RegionName, RowKey, TableName};
 use std::alloc::{AllocError, Global};
 
@@ -75,7 +73,7 @@ pub(crate) fn setting(
 }
 
 // An edit that changes a row where it is there.
-fn changing(
+pub(crate) fn changing(
     alloc: Global,
     catalog: &Catalog,
     key: CatKey,
@@ -104,7 +102,7 @@ pub(crate) fn change_table(
 }
 
 // An edit that adds a live region.
-fn adding(
+pub(crate) fn adding(
     alloc: Global,
     catalog: &Catalog,
     table: &TableName,
@@ -225,111 +223,5 @@ pub(crate) fn split_region(
     edits.push(adding(alloc, catalog, table, first, front, parents)?)?;
     let parents = Vec::from_array(alloc, [region.id])?;
     edits.push(adding(alloc, catalog, table, first + 1, back, parents)?)?;
-    Ok(edits)
-}
-
-// Two regions are marked as merged, one after the other.
-fn marks(
-    alloc: Global,
-    catalog: &Catalog,
-    first: &RegionName,
-    second: &RegionName,
-) -> Result<Vec<Edit>, AllocError>
-    ensures { IfOk result (λ edits. edits.items ≡ mark_merged (row_at catalog.now.rows) (first.now ∷ second.now ∷ [])) }
-{
-    let merged = Change::Status(Status::Merged);
-    let key = CatKey::Region(first.copy(alloc)?);
-    let mut edits = one(alloc, changing(alloc, catalog, key, merged)?)?;
-    let key = CatKey::Region(second.copy(alloc)?);
-    edits.push(changing(alloc, catalog, key, merged)?)?;
-    Ok(edits)
-}
-
-// Two regions are marked as merged, in name order.
-fn mark_in_order(
-    alloc: Global,
-    catalog: &Catalog,
-    one: &RegionName,
-    other: &RegionName,
-) -> Result<Vec<Edit>, AllocError>
-    ensures { IfOk result (λ edits. edits.items ≡ mark_merged (row_at catalog.now.rows) (in_name_order (one.now ∷ other.now ∷ []))) }
-{
-    names_order_by_parts();
-    if one <= other {
-        return marks(alloc, catalog, one, other);
-    }
-    marks(alloc, catalog, other, one)
-}
-
-// A region that is merged, by its id, and its range.
-#[derive(Drop)]
-struct Piece<'a> {
-    id: u64,
-    range: &'a KeyRange,
-}
-
-// A region is added, from the start of one to the end of the next.
-fn add_joined(
-    alloc: Global,
-    catalog: &Catalog,
-    table: &TableName,
-    id: u64,
-    one: &Piece<'_>,
-    next: &Piece<'_>,
-) -> Result<Edit, AllocError>
-    requires first { 1 ≤ id }
-    requires next { are_adjacent (part_of one.now ∷ part_of next.now ∷ []) ≡ None }
-    ensures { IfOk result (λ edit. edit ∷ [] ≡ merged_of (row_at catalog.now.rows) table.now id (part_of one.now ∷ part_of next.now ∷ [])) }
-{
-    let range = one.range.copy(alloc)?;
-    let next_range = next.range.copy(alloc)?;
-    let parents = Vec::from_array(alloc, [one.id, next.id])?;
-    adding(alloc, catalog, table, id, range.join(next_range), parents)
-}
-
-// The region is added that two become, by their start keys.
-fn add_merged(
-    alloc: Global,
-    catalog: &Catalog,
-    table: &TableName,
-    id: u64,
-    one: &Piece<'_>,
-    other: &Piece<'_>,
-) -> Result<Edit, AllocError>
-    requires first { 1 ≤ id }
-    requires next { are_adjacent (by_start (part_of one.now ∷ part_of other.now ∷ [])) ≡ None }
-    ensures { IfOk result (λ edit. edit ∷ [] ≡ merged_of (row_at catalog.now.rows) table.now id (by_start (part_of one.now ∷ part_of other.now ∷ []))) }
-{
-    if one.range.start <= other.range.start {
-        return add_joined(alloc, catalog, table, id, one, other);
-    }
-    add_joined(alloc, catalog, table, id, other, one)
-}
-
-// Two adjacent regions of a table are merged.
-pub(crate) fn merge_regions(
-    alloc: Global,
-    catalog: &Catalog,
-    one: &RegionName,
-    other: &RegionName,
-    first: u64,
-) -> Result<Vec<Edit>, AllocError>
-    requires first { 1 ≤ first }
-    requires can { can_merge (row_at catalog.now.rows (Key_is.Table one.now.table)) (row_at catalog.now.rows) (one.now ∷ other.now ∷ []) ≡ None }
-    ensures { IfOk result (λ edits. edits.items ≡ merge_edits (row_at catalog.now.rows) (one.now ∷ other.now ∷ []) first) }
-{
-    let Some(range) = range_of(catalog.get(&Name::Region(one))) else {
-        unreachable!()
-    };
-    let Some(other_range) = range_of(catalog.get(&Name::Region(other))) else {
-        unreachable!()
-    };
-    let mut edits = mark_in_order(alloc, catalog, one, other)?;
-    let piece = Piece { id: one.id, range };
-    let other_piece = Piece {
-        id: other.id,
-        range: other_range,
-    };
-    edits.push(add_merged(alloc, catalog, &one.table, first, &piece, &other_piece)?)?;
     Ok(edits)
 }

@@ -7,6 +7,7 @@ mod checks;
 mod deeds;
 mod edits;
 pub mod laws;
+mod merges;
 mod name;
 mod requests;
 mod rows;

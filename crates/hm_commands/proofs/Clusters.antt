@@ -22,14 +22,17 @@ use Rattle.hm_data.specs.declared.step.StepOut.{StepOut}
 use Rattle.hm_data.specs.declared.step.Turn.{Turn}
 use Rattle.hm_data.specs.declared.step.Turn.TheVariants as turn_is
 use Rattle.hm_hall.specs.Recording.{Recording}
+use Rattle.hm_journal.specs.Since.{with_tail}
 use Rattle.hm_hall.specs.declared.fault.Halt.{Halt}
 use Rattle.hm_hall.specs.declared.fault.HallFault.{HallFault}
 use Rattle.hm_hall.specs.declared.fault.HallFault.TheVariants as fault_is
 use Rattle.hm_hall.specs.declared.fault.RecordFault.TheVariants as record_is
 use Rattle.hm_hall.specs.declared.hall.Task.TheVariants as task_is
+use Rattle.hm_hall.specs.declared.taken.Given.{Given}
+use Rattle.hm_hall.specs.declared.taken.Given.TheVariants as given_is
 use Rattle.hm_hall.specs.declared.taken.Taken.{Taken}
 use Rattle.hm_model.specs.Evaluation.{answer_of}
-use Rattle.hm_model.specs.Journal.{Past}
+use Rattle.hm_model.specs.Journal.{Past, back}
 use Rattle.hm_model.specs.Locks.{IsIn}
 use Rattle.hm_model.specs.Records.{record_at, record_of}
 use Rattle.hm_model.specs.Sheets.{row_in, sheet_for, sheets_of}
@@ -37,15 +40,17 @@ use Rattle.hm_model.specs.Tree.{Node, node_of}
 use Rattle.hm_model.specs.Claims.{Unclaims}
 use Rattle.hm_refusals.specs.declared.aborts.AbortRefused.{AbortRefused}
 use Rattle.hm_refusals.specs.declared.aborts.AbortRefused.TheVariants as abort_is
-use Rattle.hm_exec.specs.Claiming.{RefusesCommit, entry_by, entry_of}
+use Rattle.hm_exec.specs.Claiming.{IsHandedOut, RefusesCommit, entry_by, entry_of}
 use Rattle.hm_exec.specs.Moment.{IsGoing, Moment, past_of}
 use Rattle.hm_exec.specs.Submitting.{AnswersAbort}
 use Rattle.hm_world.specs.Carrying.{CanCarry, OnlyExec}
-use Rattle.hm_world.specs.Scene.{GoesOn, Scene, past_in}
+use Rattle.hm_model.proofs.Prefixes.{back-push}
+use Rattle.hm_world_model.specs.World as model
+use Rattle.hm_world.specs.Scene.{GoesOn, Scene, past_in, world_of}
 use Rattle.hm_world.specs.Taking.{Gives, IsStill, Returns, Takes}
 use Rattle.hm_commands.specs.Hands.{HandsUse, Ran, RunBy, one_step, steps_in}
 use Rattle.hm_commands.specs.RowNames.{act_at, act_by, act_of_row}
-use Rattle.hm_commands.specs.Scenes.{IsOnly, IsUnrecorded, claimed_at, journal_at, kept_at}
+use Rattle.hm_commands.specs.Scenes.{IsOnly, IsUnrecorded, claimed_at, journal_at, kept_at, whole}
 use Rattle.hm_commands.specs.Tasks.{Becomes, Carried, LacksMemory, RunsTo, Steps, Works}
 use Rattle.hm_commands.specs.Telling.{halt_of_fault, told_abort}
 use Rattle.hm_commands.specs.declared.tasks.Worked.{Worked}
@@ -97,6 +102,11 @@ one_by turn_is.Step p was out = refl
 one_by (turn_is.Undo edits) p was out = refl
 
 module _ (old : Scene) (taken : Taken) (out : StepOut) where
+  -- what was handed out is fresh still, so that its answer was recorded
+  pub is_kept : (new : Scene) (given : Given) → IsHandedOut (past_in old) taken → Gives old taken out (Ok given) new → (number : ℕ) × Gives old taken out (Ok (given_is.Kept number)) new
+  is_kept new (given_is.Kept number) handed gives = (number, gives)
+  is_kept new (given_is.Stale was now) handed gives = absurd (gives.0.1.1 (handed.picks, handed.sees))
+
   -- who was claimed still is where nothing was recorded
   pub still_claimed : (mid : Scene) (back : Taken) (fault : HallFault) → GoesOn old → IsIn taken.pid.0 (claimed_at old) → Gives old taken out (Err (back, fault)) mid → IsIn back.pid.0 (claimed_at mid)
   still_claimed mid back fault going claimed gives =
@@ -238,3 +248,11 @@ other_ran hands command quiet old answer new comes run = grown_ran (OtherMayAdd 
 pub submit_ran : (hands : HandsUse) (nonce : Nonce) (request : Request) (old : Scene) (answer : Option Answer) (new : Scene) → Submits nonce request old answer new → RunBy hands 0 → Ran hands (journal_at old) (journal_at new)
 submit_ran hands nonce request old answer new comes run =
     grown_ran (λ entry. entry ≡ entry_is.Submit nonce request) (λ entry is. ap one_step is) hands (kept_at old) (kept_at new) (submit_grows nonce request old.exec new.exec comes.0 comes.1) run
+
+-- a journal with the entry whose recording failed is that of its world
+pub whole_back : (at : Scene) → back (whole at) ≡ model.whole (world_of at)
+whole_back at = by (kept_at at).tail
+  where
+    by : (tail : Option Entry) → back (with_tail (journal_at at) tail) ≡ model.with_tail tail (past_in at)
+    by None = refl
+    by (Some entry) = back-push (journal_at at) entry

@@ -155,6 +155,8 @@ IsWork (entry_is.Report call told) = Unit {0}
 IsWork (entry_is.Up server) = ⊥
 IsWork (entry_is.Down server) = ⊥
 IsWork (entry_is.Abort pid) = ⊥
+IsWork (entry_is.Adopt sheets) = ⊥
+IsWork (entry_is.Base part) = ⊥
 
 -- a move of a region to a server, under no nonce
 abbrev pub IsMove : Entry → Type 0

@@ -1,6 +1,7 @@
 //! A journal on a disk, with what is outside its master.
 ghost use Rattle.std.specs.Prelude.{◌≡◌, ◌≢◌, [], IfErr, IfOk, None, length};
 ghost use Rattle.hm_model.specs.Journal.{back};
+ghost use Rattle.hm_model.specs.Plain.{ArePlain};
 ghost use Rattle.hm_model.specs.Rules.{IsLegal};
 ghost use Rattle.hm_world_model.specs.Safe.{IsKept};
 ghost use Rattle.hm_world_model.specs.Twice.{Twice};
@@ -54,12 +55,13 @@ impl<D: Disk> Cluster<D> {
         }
     }
 
-    /// What holds of each cluster: its journal is legal and has begun, and no region is held by two servers that run and aren't
+    /// What holds of each cluster: its journal is legal, plain and has begun, and no region is held by two servers that run and aren't
     /// fenced, nor are two whose ranges overlap. A law that does nothing.
     pub fn keeps(&self)
         ensures kept { IsKept (world_of (scene_in self.now)) }
         ensures once { Twice (past_in (scene_in self.now)) (scene_in self.now).outside → ⊥ }
         ensures legal { IsLegal (back (whole (scene_in self.now))) }
+        ensures plain { ArePlain (back (whole (scene_in self.now))) }
         ensures begun { back (journal_at (scene_in self.now)) ≢ [] }
         ensures idle { claimed_at (scene_in self.now) ≡ [] }
     {

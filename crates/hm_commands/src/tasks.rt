@@ -22,7 +22,7 @@ use crate::cluster::Cluster;
 use crate::telling::halt_by;
 use hm_data::{Answer as StepAnswer, StepIn, StepOut};
 use hm_disk::Disk;
-use hm_hall::{Given, HallFault, Halt, Taken};
+use hm_hall::{HallFault, Halt, Taken};
 use hm_journal::Journal;
 use hm_lists::Steps;
 use hm_names::List;
@@ -103,8 +103,10 @@ fn record<D: Disk>(
     ensures opened { world.new.recorder.opened ≡ world.old.recorder.opened }
 {
     match world.give(alloc, taken, out) {
-        Ok(Given::Kept(_)) => Ok(Worked::Done),
-        Ok(Given::Stale { was: _, now: _ }) => unreachable!(),
+        Ok(given) => {
+            drop(given);
+            Ok(Worked::Done)
+        }
         Err((taken, fault)) => {
             world.put_back(taken);
             halted_by(fault)

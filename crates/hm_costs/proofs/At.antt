@@ -34,16 +34,17 @@ use Rattle.hm_model.specs.Fleet.{is_live}
 use Rattle.hm_model.specs.Inputs.{made_at_step, rows_read}
 use Rattle.hm_model.specs.Journal.{Past}
 use Rattle.hm_model.specs.Kinds.{first_row_of, kind_of}
-use Rattle.hm_model.specs.Lists.{Line, exact_rows, lines_of}
+use Rattle.hm_model.specs.Lists.{Line, exact_rows, lines_of, orders_of}
+use Rattle.hm_model.specs.Locks.{IsIn}
 use Rattle.hm_model.specs.Places.{place_of}
 use Rattle.hm_model.specs.Rules.{IsLegal}
-use Rattle.hm_model.specs.Sheets.{sheet_for, sheets_of}
+use Rattle.hm_model.specs.Sheets.{sheet_for, sheets_by}
 use Rattle.hm_model.specs.Tree.{Node, child_of, node_of}
 use Rattle.hm_model.specs.Verbs.{verb_in}
 use Rattle.hm_model.specs.Views.{bounds_of}
 use Rattle.hm_model.specs.Wanted.{goal_in}
 use Rattle.hm_model.specs.Whereabouts.{moved_by}
-use Rattle.hm_model.proofs.ExactRows.{all_valid, sheet_is}
+use Rattle.hm_model.proofs.ExactRows.{sheet_is, valid_by}
 use Rattle.hm_model.proofs.StepDoes.{calls as calls_part, crash as crash_part, lined as lined_part, moves as moves_part, part_of}
 use Rattle.hm_model.proofs.ValidSheets.{Leads, valid_leads}
 use Rattle.hm_costs.proofs.Spend.{rows_counted, IsChildGoal, spend}
@@ -189,7 +190,7 @@ pub record Counting (J : Past) (q : ℕ) (x : Node) (n : ℕ) (lines : List Line
 pub record Lined (J : Past) (q : ℕ) (x : Node) (budget : ℕ) : Type 0 where
   pub lines : List Line
   pub n : ℕ
-  pub leads : (sheet : Sheet) → sheet_for (sheets_of J) (kind_of x.args) ≡ Some sheet → Leads sheet.rows (row_of J q x) lines
+  pub leads : (sheet : Sheet) → sheet_for (sheets_by J x.root) (kind_of x.args) ≡ Some sheet → Leads sheet.rows (row_of J q x) lines
   pub enough : left x.args n lines ≤ budget
   pub checks : ((last_answer J q ≡ None) × (x.above ≡ [])) ⊎ (no_checks lines ≡ true)
   pub later : no_checks (tail_of lines) ≡ true
@@ -275,19 +276,48 @@ module _ (J : Past) (q : ℕ) (x : Node) (budget : ℕ) where
     }
   ]
 
--- a procedure without a step, of a kind that lists lines
-pub start_lined : (J : Past) → IsLegal J → (q : ℕ) (x : Node) (n : ℕ) (line : Line) (lines : List Line) → exact_rows (kind_of x.args) ≡ [] → lines_of (kind_of x.args) ≡ line ∷ lines → first_row_of x.args ≡ 0 → last_answer J q ≡ None → (reading x.args (line ∷ lines) ≡ false) ⊎ Counting J q x n (line ∷ lines) → (x.above ≡ []) ⊎ (no_checks (line ∷ lines) ≡ true) → no_checks lines ≡ true → Lined J q x (left x.args n (line ∷ lines))
-start_lined J legal q x n line lines exact lists first last known checks later = record {
-  lines = line ∷ lines;
-  n = n;
-  leads = λ sheet found.
-      let s = sheet_is (sheets_of J) (all_valid J legal) (kind_of x.args) sheet found in
-      subst (λ n. Leads sheet.rows n (line ∷ lines)) (sym first ∙ ap (row_after (first_row_of x.args)) (sym last)) (valid_leads sheet line lines s.0 (ap exact_rows s.1 ∙ exact) (ap lines_of s.1 ∙ lists));
-  enough = omega arith;
-  checks = elim checks [ inl top ↦ inl (last, top) | inr none ↦ inr none ];
-  later = later;
-  known = known;
-}
+-- what lines want that are all to come
+pub record Starts (J : Past) (q : ℕ) (x : Node) (budget : ℕ) (lines : List Line) : Type 0 where
+  pub n : ℕ
+  pub enough : left x.args n lines ≤ budget
+  pub known : (reading x.args lines ≡ false) ⊎ Counting J q x n lines
+  pub checks : (x.above ≡ []) ⊎ (no_checks lines ≡ true)
+  pub later : no_checks (tail_of lines) ≡ true
+
+-- a procedure without a step, of a kind that lists lines, in any of its orders
+pub start_orders : (J : Past) → IsLegal J → (q : ℕ) (x : Node) (budget : ℕ) → exact_rows (kind_of x.args) ≡ [] → first_row_of x.args ≡ 0 → last_answer J q ≡ None
+    → ((lines : List Line) → IsIn lines (orders_of (kind_of x.args)) → Starts J q x budget lines) → Lined J q x budget
+start_orders J legal q x budget exact first last starts = by (sheet_for (sheets_by J x.root) (kind_of x.args)) refl
+  where
+    along : (lines : List Line) → IsIn lines (orders_of (kind_of x.args)) → ((sheet : Sheet) → sheet_for (sheets_by J x.root) (kind_of x.args) ≡ Some sheet → Leads sheet.rows 0 lines) → Lined J q x budget
+    along lines among leads =
+        let s = starts lines among in
+        record {
+          lines = lines;
+          n = s.n;
+          leads = λ sheet found. subst (λ n. Leads sheet.rows n lines) (sym first ∙ ap (row_after (first_row_of x.args)) (sym last)) (leads sheet found);
+          enough = s.enough;
+          checks = elim s.checks [ inl top ↦ inl (last, top) | inr none ↦ inr none ];
+          later = s.later;
+          known = s.known;
+        }
+
+    by : (o : Option Sheet) → sheet_for (sheets_by J x.root) (kind_of x.args) ≡ o → Lined J q x budget
+    by None none = along (lines_of (kind_of x.args)) (inl refl) (λ sheet found. absurd (none-some sheet (sym none ∙ found)))
+    by (Some sheet) some =
+        let s = sheet_is (sheets_by J x.root) (valid_by J legal x.root) (kind_of x.args) sheet some in
+        let led = valid_leads sheet s.0 (ap exact_rows s.1 ∙ exact) in
+        along led.0 (subst (λ k. IsIn led.0 (orders_of k)) s.1 led.1) (λ other found. subst (λ (t : Sheet). Leads t.rows 0 led.0) (same_Some sheet other (sym some ∙ found)) led.2)
+
+-- the same of a kind of one order
+pub start_lined : (J : Past) → IsLegal J → (q : ℕ) (x : Node) (n : ℕ) (line : Line) (lines : List Line) → exact_rows (kind_of x.args) ≡ [] → orders_of (kind_of x.args) ≡ (line ∷ lines) ∷ [] → first_row_of x.args ≡ 0 → last_answer J q ≡ None → (reading x.args (line ∷ lines) ≡ false) ⊎ Counting J q x n (line ∷ lines) → (x.above ≡ []) ⊎ (no_checks (line ∷ lines) ≡ true) → no_checks lines ≡ true → Lined J q x (left x.args n (line ∷ lines))
+start_lined J legal q x n line lines exact lists first last known checks later =
+    start_orders J legal q x (left x.args n (line ∷ lines)) exact first last (λ some among. subst (Starts J q x (left x.args n (line ∷ lines))) (sym (only some (subst (IsIn some) lists among)))
+    (record { n = n; enough = omega arith; known = known; checks = checks; later = later }))
+  where
+    only : (some : List Line) → IsIn some ((line ∷ lines) ∷ []) → some ≡ line ∷ lines
+    only some (inl same) = same
+    only some (inr never) = absurd never
 
 same_due : (goal : Goal) (n m : ℕ) → n ≡ m → due_at goal n ≤ due_at goal m
 same_due goal n m e = let same = ap (due_at goal) e in omega (arith, same)

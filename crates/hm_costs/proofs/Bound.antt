@@ -1,6 +1,6 @@
 -- The kinds are priced, so each tree that nothing disturbs is within its cost.
 use Rattle.std.proofs.Common.{◌⊎◌, ◌&&◌, ◌≡◌, ℕ, ◌+◌, ◌≤◌, List, [], ◌∷◌, ◌++◌, length, Bool, true, false, ◌==◌, cond, Option, Some, None, is_some, refl, ap, sym, ◌∙◌, subst, arith, inl, inr}
-use Rattle.hm_costs.proofs.At.{IsFreshCrash, at_crash, At, Fresh, IsFreshArgs, at_calls, at_lined, at_moves, call_due, left, start_call, start_lined, start_transit, IsIdle, CallGoes}
+use Rattle.hm_costs.proofs.At.{IsFreshCrash, at_crash, At, Fresh, IsFreshArgs, Starts, at_calls, at_lined, at_moves, call_due, left, start_call, start_lined, start_orders, start_transit, IsIdle, CallGoes}
 use Rattle.hm_costs.proofs.Counted.{lost_same, cost_same, first_counted}
 use Rattle.hm_costs.proofs.Live.{dead_stays, down_dead}
 use Rattle.hm_costs.proofs.Lost.{CrashDue, at_listed, moving_due}
@@ -46,7 +46,8 @@ use Rattle.hm_model.proofs.StepDoes.{CallerAt, calls as calls_part, crash as cra
 use Rattle.hm_costs.specs.Theorem.{CostBound}
 use Rattle.hm_costs.proofs.CallPaid.{call_paid}
 use Rattle.hm_model.specs.Inputs.{rows_read}
-use Rattle.hm_model.specs.Lists.{lines_of}
+use Rattle.hm_model.specs.Lists.{Line, lines_of, orders_of}
+use Rattle.hm_model.specs.Locks.{IsIn}
 use Rattle.hm_model.specs.RowsSaid.{all_among, is_live_status, live_among, status_in}
 use Rattle.hm_costs.proofs.Dead.{follower_fresh, live_unfenced}
 use Rattle.hm_costs.proofs.LinedPaid.{lined_paid}
@@ -78,6 +79,8 @@ new_fresh (entry_is.Down server) J legal r top none is at_top = elim (cases_eq r
   | inr old ↦ absurd (none-some top (sym none ∙ sym (cond-false (r == made J + 1) (Some (root_node r (args_are.Crash server) 1)) (node_of J r) (ne_eqb r (made J + 1) old)) ∙ is))
 ]
 new_fresh (entry_is.Abort pid) J legal r top none is at_top = absurd (none-some top (sym none ∙ is))
+new_fresh (entry_is.Adopt sheets) J legal r top none is at_top = absurd (none-some top (sym none ∙ is))
+new_fresh (entry_is.Base part) J legal r top none is at_top = absurd (none-some top is)
 
 one_at_least : (J : Past) (r : ℕ) (args : Args) → IsFreshArgs args → 1 ≤ cost J r args
 one_at_least J r (args_are.Root (request_is.CreateNamespace ns) first) fresh = omega arith
@@ -111,7 +114,12 @@ module _ (pid : Pid) (pick : Option Server) (out : StepOut) (J : Past) (legal : 
   begin_args (args_are.Root (request_is.DropNamespace ns) first) fresh last report = (_, at_lined J pid.0 (node _) _ refl refl refl (λ runs. start_lined J legal pid.0 (node _) 0 _ _ refl refl refl last (inl refl) (inl top_is) refl), omega arith)
   begin_args (args_are.Root (request_is.CreateTable table keys) first) fresh last report = (_, at_lined J pid.0 (node _) _ refl refl refl (λ runs. start_lined J legal pid.0 (node _) 0 _ _ refl refl refl last (inl refl) (inl top_is) refl), (let e = length_append keys ([] ∷ []) in omega (arith, e)))
   begin_args (args_are.Root (request_is.ModifyTable table version) first) fresh last report = (_, at_lined J pid.0 (node _) _ refl refl refl (λ runs. start_lined J legal pid.0 (node _) 0 _ _ refl refl refl last (inl refl) (inl top_is) refl), omega arith)
-  begin_args (args_are.Root (request_is.SplitRegion region key) first) fresh last report = (_, at_lined J pid.0 (node _) _ refl refl refl (λ runs. start_lined J legal pid.0 (node _) 0 _ _ refl refl refl last (inl refl) (inl top_is) refl), omega arith)
+  begin_args (args_are.Root (request_is.SplitRegion region key) first) fresh last report = (26, at_lined J pid.0 (node _) 26 refl refl refl (λ runs. start_orders J legal pid.0 (node _) 26 refl refl last either), omega arith)
+    where
+      either : (lines : List Line) → IsIn lines (orders_of 8) → Starts J pid.0 (node (args_are.Root (request_is.SplitRegion region key) first)) 26 lines
+      either lines (inl same) = subst (Starts J pid.0 (node (args_are.Root (request_is.SplitRegion region key) first)) 26) (sym same) (record { n = 0; enough = omega arith; known = inl refl; checks = inl top_is; later = refl })
+      either lines (inr (inl same)) = subst (Starts J pid.0 (node (args_are.Root (request_is.SplitRegion region key) first)) 26) (sym same) (record { n = 0; enough = omega arith; known = inl refl; checks = inl top_is; later = refl })
+      either lines (inr (inr never)) = absurd never
   begin_args (args_are.Root (request_is.MergeRegions regions) first) fresh last report = (_, at_lined J pid.0 (node _) _ refl refl refl (λ runs. start_lined J legal pid.0 (node _) 0 _ _ refl refl refl last (inl refl) (inl top_is) refl), omega arith)
   begin_args (args_are.Root (request_is.Move region to) first) fresh last report = (12, at_moves J pid.0 (node _) 12 region refl refl refl (start_transit J pid.0 (node _) region 5 refl last (λ e. top_is) (λ e. omega (arith, e)) (λ e. omega (arith, e))), omega arith)
   begin_args (args_are.Root (request_is.DeleteTable table) first) fresh last report =
@@ -263,8 +271,7 @@ one_or_crash J r args (inr crash) = let e = ap (cost J r) crash.1 in omega (arit
 fresh_stays : (entry : Entry) (J : Past) → IsLegal (entry ∷ J) → (r : ℕ) (top : Node) → Going J r top → Going (entry ∷ J) r top → last_answer (entry ∷ J) r ≡ None → Fresh J r top → Fresh (entry ∷ J) r top
 fresh_stays entry J legal r top going later last (inl fresh, at_top) = (inl fresh, at_top)
 fresh_stays entry J legal r top going later last (inr crash, at_top) =
-    let few = is_there J (grown_all J legal.0) r top going.is_top in
-    (inr (crash.0, crash.1, dead_stays entry J legal crash.0 crash.2, crash.3, crash.4 ∙ sym (lost_same entry J r few), within_stays entry J legal crash.0 crash.2 crash.3 crash.5), at_top)
+    (inr (crash.0, crash.1, dead_stays entry J legal crash.0 crash.2, crash.3, crash.4 ∙ sym (lost_same entry J legal r top going.is_top), within_stays entry J legal r top going.is_top crash.0 crash.2 crash.3 crash.5), at_top)
 
 begins_priced : (pid : Pid) (pick : Option Server) (out : StepOut) (J : Past) → IsLegal (entry_is.Step pid pick out ∷ J) → (top : Node) → Going J pid.0 top → last_answer J pid.0 ≡ None → Fresh J pid.0 top → (budget : ℕ) × At J pid.0 top budget × (1 + budget ≤ cost (entry_is.Step pid pick out ∷ J) pid.0 top.args)
 begins_priced pid pick out J legal top going last (inl fresh, at_top) =

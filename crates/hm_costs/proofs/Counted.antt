@@ -36,6 +36,7 @@ use Rattle.hm_model.specs.Rules.{IsLegal}
 use Rattle.hm_model.specs.Tree.{Node, made, node_of}
 use Rattle.hm_model.proofs.KeyTests.{key_cmp-same}
 use Rattle.hm_model.proofs.Rows.{has_key, in_with_keys, keys_in_order}
+use Rattle.hm_model.proofs.Parted.{no_node}
 use Rattle.hm_model.proofs.Trees.{grown_all, is_there}
 use Rattle.std.specs.Ordering.{ordering_reverse}
 use Rattle.hm_model.proofs.Rows.{in_with_key}
@@ -113,6 +114,8 @@ was_listed (entry_is.Report call told ∷ J) r begun key some = was_listed J r b
 was_listed (entry_is.Up server ∷ J) r begun key some = was_listed J r begun key some
 was_listed (entry_is.Down server ∷ J) r begun key some = was_listed J r begun key some
 was_listed (entry_is.Abort pid ∷ J) r begun key some = was_listed J r begun key some
+was_listed (entry_is.Adopt sheets ∷ J) r begun key some = was_listed J r begun key some
+was_listed (entry_is.Base part ∷ J) r begun key some = absurd (begun refl)
 
 -- the cost by the rows that are counted
 cost_rows : (args : Args) (lost : ℕ) (keys more : List CatKey) (there : Catalog) → ((table : TableName) → rows_at (is_region_in table (λ id. true)) there more ≡ rows_at (is_region_in table (λ id. true)) there keys) → cost_in args lost more there ≡ cost_in args lost keys there
@@ -122,10 +125,10 @@ cost_rows (args_are.Root (request_is.DisableTable table) first) lost keys more t
 cost_rows (args_are.Root request first) lost keys more there same = refl
 cost_rows args lost keys more there same = refl
 
-was_same : (entry : Entry) (J : Past) (r : ℕ) → last_answer J r ≢ None → was (entry ∷ J) r ≡ was J r
-was_same (entry_is.Start sheets) J r begun = refl
-was_same (entry_is.Submit nonce request) J r begun = refl
-was_same (entry_is.Step pid pick out) J r begun = cond-false ((r == pid.0) && is_none (last_answer J pid.0)) (cat J) (was J r) (elim (cases_eq r pid.0) [
+was_same : (entry : Entry) (J : Past) → IsLegal (entry ∷ J) → (r : ℕ) → last_answer J r ≢ None → was (entry ∷ J) r ≡ was J r
+was_same (entry_is.Start sheets) J legal r begun = refl
+was_same (entry_is.Submit nonce request) J legal r begun = refl
+was_same (entry_is.Step pid pick out) J legal r begun = cond-false ((r == pid.0) && is_none (last_answer J pid.0)) (cat J) (was J r) (elim (cases_eq r pid.0) [
   | inl same ↦ and_right (r == pid.0) (is_none (last_answer J pid.0)) (by (last_answer J pid.0) refl same)
   | inr differs ↦ and_left (r == pid.0) (is_none (last_answer J pid.0)) (ne_eqb r pid.0 differs)
 ])
@@ -133,37 +136,43 @@ was_same (entry_is.Step pid pick out) J r begun = cond-false ((r == pid.0) && is
     by : (o : Option Answer) → last_answer J pid.0 ≡ o → r ≡ pid.0 → is_none (last_answer J pid.0) ≡ false
     by None e same = absurd (begun (ap (last_answer J) same ∙ e))
     by (Some a) e same = ap is_none e
-was_same (entry_is.Undo pid row out) J r begun = refl
-was_same (entry_is.Report call told) J r begun = refl
-was_same (entry_is.Up server) J r begun = refl
-was_same (entry_is.Down server) J r begun = refl
-was_same (entry_is.Abort pid) J r begun = refl
+was_same (entry_is.Undo pid row out) J legal r begun = refl
+was_same (entry_is.Report call told) J legal r begun = refl
+was_same (entry_is.Up server) J legal r begun = refl
+was_same (entry_is.Down server) J legal r begun = refl
+was_same (entry_is.Abort pid) J legal r begun = refl
+was_same (entry_is.Adopt sheets) J legal r begun = refl
+was_same (entry_is.Base part) J legal r begun = absurd (begun ((grown_all J legal.0).unmade r (no_node part J legal.1.0 r)))
 
-pub lost_same : (entry : Entry) (J : Past) (r : ℕ) → r ≤ made J → regions_lost (entry ∷ J) r ≡ regions_lost J r
-lost_same (entry_is.Start sheets) J r few = refl
-lost_same (entry_is.Submit nonce request) J r few = refl
-lost_same (entry_is.Step pid pick out) J r few = refl
-lost_same (entry_is.Undo pid row out) J r few = refl
-lost_same (entry_is.Report call told) J r few = refl
-lost_same (entry_is.Up server) J r few = refl
-lost_same (entry_is.Down server) J r few = cond-false (r == made J + 1) _ (regions_lost J r) (ne_eqb r (made J + 1) (λ e. omega (arith, few, e)))
-lost_same (entry_is.Abort pid) J r few = refl
+pub lost_same : (entry : Entry) (J : Past) → IsLegal (entry ∷ J) → (r : ℕ) (top : Node) → node_of J r ≡ Some top → regions_lost (entry ∷ J) r ≡ regions_lost J r
+lost_same (entry_is.Start sheets) J legal r top is = refl
+lost_same (entry_is.Submit nonce request) J legal r top is = refl
+lost_same (entry_is.Step pid pick out) J legal r top is = refl
+lost_same (entry_is.Undo pid row out) J legal r top is = refl
+lost_same (entry_is.Report call told) J legal r top is = refl
+lost_same (entry_is.Up server) J legal r top is = refl
+lost_same (entry_is.Down server) J legal r top is = cond-false (r == made J + 1) _ (regions_lost J r) (ne_eqb r (made J + 1) (λ e. let few = is_there J (grown_all J legal.0) r top is in omega (arith, few, e)))
+lost_same (entry_is.Abort pid) J legal r top is = refl
+lost_same (entry_is.Adopt sheets) J legal r top is = refl
+lost_same (entry_is.Base part) J legal r top is = absurd (none-some top (sym (no_node part J legal.1.0 r) ∙ is))
 
-keys_more : (entry : Entry) (J : Past) (r : ℕ) → last_answer J r ≢ None → (asked : CatKey → Bool) → rows_at asked (was J r) (keys_of (entry ∷ J)) ≡ rows_at asked (was J r) (keys_of J)
-keys_more (entry_is.Start sheets) J r begun asked = refl
-keys_more (entry_is.Submit nonce request) J r begun asked = refl
-keys_more (entry_is.Step pid pick out) J r begun asked = more_edits asked (was J r) out.edits (keys_of J) (keys_in_order J) (was_listed J r begun)
-keys_more (entry_is.Undo pid row out) J r begun asked = more_edits asked (was J r) out.edits (keys_of J) (keys_in_order J) (was_listed J r begun)
-keys_more (entry_is.Report call told) J r begun asked = refl
-keys_more (entry_is.Up server) J r begun asked = refl
-keys_more (entry_is.Down server) J r begun asked = refl
-keys_more (entry_is.Abort pid) J r begun asked = refl
+keys_more : (entry : Entry) (J : Past) → IsLegal (entry ∷ J) → (r : ℕ) → last_answer J r ≢ None → (asked : CatKey → Bool) → rows_at asked (was J r) (keys_of (entry ∷ J)) ≡ rows_at asked (was J r) (keys_of J)
+keys_more (entry_is.Start sheets) J legal r begun asked = refl
+keys_more (entry_is.Submit nonce request) J legal r begun asked = refl
+keys_more (entry_is.Step pid pick out) J legal r begun asked = more_edits asked (was J r) out.edits (keys_of J) (keys_in_order J) (was_listed J r begun)
+keys_more (entry_is.Undo pid row out) J legal r begun asked = more_edits asked (was J r) out.edits (keys_of J) (keys_in_order J) (was_listed J r begun)
+keys_more (entry_is.Report call told) J legal r begun asked = refl
+keys_more (entry_is.Up server) J legal r begun asked = refl
+keys_more (entry_is.Down server) J legal r begun asked = refl
+keys_more (entry_is.Abort pid) J legal r begun asked = refl
+keys_more (entry_is.Adopt sheets) J legal r begun asked = refl
+keys_more (entry_is.Base part) J legal r begun asked = absurd (begun ((grown_all J legal.0).unmade r (no_node part J legal.1.0 r)))
 
 pub cost_same : (entry : Entry) (J : Past) → IsLegal (entry ∷ J) → (r : ℕ) (top : Node) → node_of J r ≡ Some top → last_answer J r ≢ None → cost (entry ∷ J) r top.args ≡ cost J r top.args
 cost_same entry J legal r top is begun =
-    ap (λ n. cost_in top.args n (keys_of (entry ∷ J)) (was (entry ∷ J) r)) (lost_same entry J r (is_there J (grown_all J legal.0) r top is))
-    ∙ ap (λ c. cost_in top.args (regions_lost J r) (keys_of (entry ∷ J)) c) (was_same entry J r begun)
-    ∙ cost_rows top.args (regions_lost J r) (keys_of J) (keys_of (entry ∷ J)) (was J r) (λ table. keys_more entry J r begun (is_region_in table (λ id. true)))
+    ap (λ n. cost_in top.args n (keys_of (entry ∷ J)) (was (entry ∷ J) r)) (lost_same entry J legal r top is)
+    ∙ ap (λ c. cost_in top.args (regions_lost J r) (keys_of (entry ∷ J)) c) (was_same entry J legal r begun)
+    ∙ cost_rows top.args (regions_lost J r) (keys_of J) (keys_of (entry ∷ J)) (was J r) (λ table. keys_more entry J legal r begun (is_region_in table (λ id. true)))
 
 -- a table's row adds no region
 no_region : (b : Bool) (table other : TableName) (test : CatRow → Bool) (row : Option CatRow) (more : Rows) → regions_among table test (keep b (key_is.Table other) row more) ≡ regions_among table test more

@@ -176,6 +176,8 @@ fencers_all (entry_is.Down server ∷ J) legal = fencers_rooted (entry_is.Down s
   | inr old ↦ inl (sym (cond-false (q == made J + 1) (Some (root_node q (args_are.Crash server) 1)) (node_of J q) (ne_eqb q (made J + 1) old)) ∙ is)
 ])
 fencers_all (entry_is.Abort pid ∷ J) legal = fencers_rooted (entry_is.Abort pid) J legal (fencers_all J legal.0) (λ q x is. inl is)
+fencers_all (entry_is.Adopt sheets ∷ J) legal = fencers_rooted (entry_is.Adopt sheets) J legal (fencers_all J legal.0) (λ q x is. inl is)
+fencers_all (entry_is.Base part ∷ J) legal = λ p node is. absurd (none-some node is)
 
 fenced_all : (J : Past) → IsLegal J → FencedDead J
 fenced_all [] legal = λ server fenced. absurd (false≢true fenced)

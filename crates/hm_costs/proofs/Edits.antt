@@ -1,5 +1,5 @@
 -- Of what a step edits the regions' rows are of the table that its procedure works on.
-use Rattle.std.proofs.Common.{◌≡◌, ℕ, ◌+◌, ◌==◌, List, [], ◌∷◌, ◌++◌, length, map, Bool, true, false, not, cond, Option, Some, None, refl, ap, sym, subst}
+use Rattle.std.proofs.Common.{◌≡◌, ℕ, ◌+◌, ◌==◌, List, [], ◌∷◌, ◌++◌, length, map, Bool, true, false, not, cond, Option, Some, None, refl, ap, sym, subst, inl, inr}
 use Rattle.std.proofs.lemmas.Bool.{and_parts, false≢true}
 use Rattle.std.proofs.lemmas.Option.{none-some, same_Some}
 use Rattle.std.specs.declared.cmp.Ordering.{Ordering}
@@ -25,7 +25,7 @@ use Rattle.hm_data.specs.declared.request.Request.{Request}
 use Rattle.hm_data.specs.declared.request.Request.TheVariants as request_is
 use Rattle.hm_data.specs.declared.step.StepIn.{StepIn}
 use Rattle.hm_data.specs.declared.step.StepOut.{StepOut}
-use Rattle.hm_model.specs.declared.part.Part.{Part}
+use Rattle.hm_model.specs.declared.merged.Merged.{Merged}
 use Rattle.hm_model.specs.Acts.{act_answer}
 use Rattle.hm_model.specs.Catalog.{Catalog, row_at, set_to}
 use Rattle.hm_model.specs.Changes.{add_merged, add_ranges, changed, mark_merged, merge_edits, merged_of, remove_regions, split_edits, split_range}
@@ -33,18 +33,19 @@ use Rattle.hm_model.specs.Checks.{by_start, can_split, namespace_empty, namespac
 use Rattle.hm_model.specs.CrashActs.{reassign_all}
 use Rattle.hm_model.specs.Keys.{same_table}
 use Rattle.hm_model.specs.Kinds.{table_of_first}
-use Rattle.hm_model.specs.Locks.{in_name_order, with_region, with_region_at}
+use Rattle.hm_model.specs.Locks.{IsIn, in_name_order, with_region, with_region_at}
 use Rattle.hm_model.specs.NamespaceActs.{has_table, version_of}
 use Rattle.hm_model.specs.Outs.{checked, edits_rows, given, spawns}
 use Rattle.hm_model.specs.Pieces.{adding, dropping, numbers_from, ranges_between, transits}
 use Rattle.hm_model.specs.RegionActs.{cut_of, merge_cause, regions_for}
-use Rattle.hm_model.specs.Requests.{is_pair, wrong_in}
+use Rattle.hm_model.specs.Requests.{are_siblings, wrong_in}
 use Rattle.hm_model.specs.RowsSaid.{all_among, in_state, in_version, range_in}
 use Rattle.hm_model.specs.Undoing.{closed_by, turned, turned_round}
 use Rattle.hm_model.specs.Views.{asked_of, bounds_of, first_id_of, namespace_of, region_of, regions_in, table_of}
 use Rattle.hm_model.specs.Wanted.{ids_of, server_of}
 use Rattle.hm_model.proofs.KeyTests.{same_table-is}
 use Rattle.hm_model.proofs.PlainActs.{is_plain}
+use Rattle.hm_model.proofs.Siblings.{merge_is, one_table}
 
 -- a region's key is of the table, if there is one
 abbrev pub IsKeyOf : Option TableName → CatKey → Type 0
@@ -66,20 +67,18 @@ AreRegionsOf table (region ∷ more) = (table ≡ Some region.table) × AreRegio
 abbrev pub ClosesItsOwn : Args → Type 0
 ClosesItsOwn args = AreRegionsOf (table_of args) (closed_by args)
 
+own_regions : (table : Option TableName) (list : List Region) → ((r : Region) → IsIn r list → table ≡ Some r.table) → AreRegionsOf table list
+own_regions table [] own = tt
+own_regions table (region ∷ more) own = (own region (inl refl), own_regions table more (λ r later. own r (inr later)))
+
 -- so it is where a request could be submitted
 pub asked_closes : (request : Request) (first : ℕ) → wrong_in request ≡ None → ClosesItsOwn (args_are.Root request first)
 asked_closes (request_is.SplitRegion region key) first fine = (refl, tt)
-asked_closes (request_is.MergeRegions regions) first fine = by regions (paired (is_pair regions) fine)
+asked_closes (request_is.MergeRegions regions) first fine = by regions (merge_is regions fine).siblings
   where
-    paired : (b : Bool) → cond {A = Option ℕ} b None (Some 4) ≡ None → b ≡ true
-    paired true e = refl
-    paired false e = absurd (none-some {A = ℕ} 4 (sym e))
-
-    by : (regions : List Region) → is_pair regions ≡ true → AreRegionsOf (table_of_first regions) regions
-    by [] h = absurd (false≢true h)
-    by (one ∷ []) h = absurd (false≢true h)
-    by (one ∷ other ∷ []) h = (refl, (ap Some (same_table-is one.table other.table (and_parts (same_table one.table other.table) (not (one.id == other.id)) h).0), tt))
-    by (one ∷ other ∷ third ∷ more) h = absurd (false≢true h)
+    by : (regions : List Region) → are_siblings regions ≡ true → AreRegionsOf (table_of_first regions) regions
+    by [] h = tt
+    by (region ∷ more) h = own_regions (Some region.table) (region ∷ more) (λ r among. ap Some (one_table region more h r among))
 asked_closes request first fine = tt
 
 -- one list of edits after another
@@ -133,7 +132,7 @@ marked_of : (table : Option TableName) (rows : Catalog) (list : List Region) →
 marked_of table rows [] all = tt
 marked_of table rows (region ∷ more) all = (all.0, marked_of table rows more all.1)
 
-one_merged : (rows : Catalog) (table : TableName) (first : ℕ) (parts : List Part) → AreEditsOf (Some table) (merged_of rows table first parts)
+one_merged : (rows : Catalog) (table : TableName) (first : ℕ) (parts : List Merged) → AreEditsOf (Some table) (merged_of rows table first parts)
 one_merged rows table first [] = tt
 one_merged rows table first (part ∷ more) = (refl, tt)
 

@@ -91,6 +91,8 @@ sound_all (entry_is.Report call told ∷ J) legal = let s = sound_all J legal.0 
 sound_all (entry_is.Up server ∷ J) legal = let s = sound_all J legal.0 in record { undone = s.undone; caused = s.caused }
 sound_all (entry_is.Down server ∷ J) legal = let grown = grown_all J legal.0 in sound_rooted J (entry_is.Down server ∷ J) (down_rooted server J grown) grown (λ r. refl) (sound_all J legal.0)
 sound_all (entry_is.Abort pid ∷ J) legal = let s = sound_all J legal.0 in record { undone = s.undone; caused = s.caused }
+sound_all (entry_is.Adopt sheets ∷ J) legal = let s = sound_all J legal.0 in record { undone = s.undone; caused = s.caused }
+sound_all (entry_is.Base part ∷ J) legal = record { undone = λ p is. none-some answer_is.Undone is; caused = λ p node is. absurd (none-some node is) }
 
 -- the last number below n that fails a test, if one does
 last_failing : (n : ℕ) (test : ℕ → Bool) → (all_below n test ≡ true) ⊎ ((q : ℕ) × (q < n) × (test q ≡ false) × ((k : ℕ) → q < k → k < n → test k ≡ true))

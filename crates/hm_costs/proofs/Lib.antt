@@ -33,6 +33,8 @@ pub mod TransitPaid
 pub mod LinedPaid
 pub mod CrashPaid
 pub mod Dead
+pub mod CrashFine
+pub mod Emptied
 pub mod Stays
 pub mod Counted
 pub mod Bound

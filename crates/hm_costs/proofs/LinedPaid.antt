@@ -38,7 +38,7 @@ use Rattle.hm_data.specs.declared.catalog.TableState.TheVariants as state_is
 use Rattle.hm_costs.proofs.RowsStay.{own_counts_stay}
 use Rattle.hm_costs.proofs.At.{Counting, CountsNow, IsIdle, counts_soon, goes_at_once}
 use Rattle.hm_model.specs.Rules.{IsLegal}
-use Rattle.hm_model.specs.Sheets.{sheet_for, sheets_of}
+use Rattle.hm_model.specs.Sheets.{sheet_for, sheets_by}
 use Rattle.hm_model.specs.Tree.{Node, args_in, child_of, made, node_of}
 use Rattle.hm_model.specs.Verbs.{verb_in}
 use Rattle.hm_model.specs.Views.{bounds_of}
@@ -140,8 +140,8 @@ module _ (pid : Pid) (pick : Option Server) (out : StepOut) (J : Past) (legal : 
   line_runs : is_stopped (last_answer J pid.0) ≡ false
   line_runs = ready_stops J pid.0 line_step.node (last_answer J pid.0) line_step.ready
 
-  sheet_found : sheet_for (sheets_of J) (kind_of me.args) ≡ Some line_step.sheet
-  sheet_found = ap (λ (n : Node). sheet_for (sheets_of J) (kind_of n.args)) (sym line_is_me) ∙ line_step.sheet_is
+  sheet_found : sheet_for (sheets_by J me.root) (kind_of me.args) ≡ Some line_step.sheet
+  sheet_found = ap (λ (n : Node). sheet_for (sheets_by J n.root) (kind_of n.args)) (sym line_is_me) ∙ line_step.sheet_is
 
   row_there : slice_get line_step.sheet.rows (row_of J pid.0 me) ≡ Some line_step.row
   row_there = ap (λ (n : Node). slice_get line_step.sheet.rows (row_of J pid.0 n)) (sym line_is_me) ∙ line_step.row_is
@@ -188,7 +188,7 @@ module _ (pid : Pid) (pick : Option Server) (out : StepOut) (J : Past) (legal : 
         inr (record { counter = c.counter; top = c.top; idle = idle; soon = p.1; counted = own_counts_stay pid pick out J me.args c.counter line_step.row.act (ap goes_at_once act ∙ once) line_step.row.next sees says n lines c.counted.1 })
   ]
 
-  by_lines : (n : ℕ) (lines : List Line) → Leads line_step.sheet.rows (row_of J pid.0 me) lines → left me.args n lines ≤ budget → ((last_answer J pid.0 ≡ None) × (me.above ≡ [])) ⊎ (no_checks lines ≡ true) → no_checks (tail_of lines) ≡ true → (reading me.args lines ≡ false) ⊎ Counting J pid.0 me n lines → ((sheet : Sheet) → sheet_for (sheets_of J) (kind_of me.args) ≡ Some sheet → sheet ≡ line_step.sheet) → IsPaid At Fresh price pid pick out J me budget
+  by_lines : (n : ℕ) (lines : List Line) → Leads line_step.sheet.rows (row_of J pid.0 me) lines → left me.args n lines ≤ budget → ((last_answer J pid.0 ≡ None) × (me.above ≡ [])) ⊎ (no_checks lines ≡ true) → no_checks (tail_of lines) ≡ true → (reading me.args lines ≡ false) ⊎ Counting J pid.0 me n lines → ((sheet : Sheet) → sheet_for (sheets_by J me.root) (kind_of me.args) ≡ Some sheet → sheet ≡ line_step.sheet) → IsPaid At Fresh price pid pick out J me budget
   by_lines n [] leads enough checks later known one = absurd (valid_end line_step.sheet line_step.valid line_step.row (ap (slice_get line_step.sheet.rows) (sym leads) ∙ row_there))
   by_lines n (line ∷ lines) leads enough checks later known one =
       let same : leads.0 ≡ line_step.row = same_Some leads.0 line_step.row (sym leads.1 ∙ row_there) in

@@ -7,14 +7,15 @@ use Rattle.hm_data.specs.declared.args.Args.{Args}
 use Rattle.hm_data.specs.declared.args.Args.TheVariants as args_are
 use Rattle.hm_data.specs.declared.entry.Entry.{Entry}
 use Rattle.hm_data.specs.declared.entry.Entry.TheVariants as entry_is
-use Rattle.hm_model.specs.Fleet.{came_up, fences_by, fences_if, has_newer, is_fenced, is_live, same_address, same_server, servers_of, with_server, with_server_at}
+use Rattle.hm_model.specs.Fleet.{came_up, fences_by, fences_if, has_newer, is_fenced, is_live, same_address, same_server, servers_of}
 use Rattle.hm_model.specs.Journal.{Past}
 use Rattle.hm_model.specs.Rules.{IsLegal}
 use Rattle.hm_model.specs.Tree.{Node, node_of}
-use Rattle.hm_model.proofs.NameTies.{same_server-is, same_server-refl, server_cmp-is}
-use Rattle.std.specs.declared.cmp.Ordering.{Ordering}
-use Rattle.std.specs.declared.cmp.Ordering.TheVariants.{Equal, Greater, Less}
-use Rattle.hm_names.specs.Order.{server_cmp}
+use Rattle.hm_model.proofs.CameUp.{came_now, came_on, live_came}
+use Rattle.hm_model.specs.Base.{PartFits}
+use Rattle.hm_data.specs.declared.part.Part.{Part}
+use Rattle.hm_data.specs.declared.part.Part.TheVariants as part_is
+use Rattle.hm_model.proofs.NameTies.{same_server-is, same_server-refl}
 use Rattle.std.proofs.lemmas.Bool.{and_left, and_right, le-ltb, or_from}
 use Rattle.hm_data.specs.Numbers.{told_number}
 use Rattle.hm_data.specs.declared.call.Told.TheVariants as told_is
@@ -22,42 +23,6 @@ use Rattle.hm_data.specs.declared.call.Told.TheVariants as told_is
 -- a server came up, and isn't live
 abbrev pub IsDead : Past → Server → Type 0
 IsDead J server = (came_up J server ≡ true) × (is_live J server ≡ false)
-
-any_with_at : (test : Server → Bool) (o : Ordering) (server first : Server) (more rest : List Server) → (list_any test more ≡ true → list_any test rest ≡ true) → list_any test (first ∷ more) ≡ true → list_any test (with_server_at o server first more rest) ≡ true
-any_with_at test Less server first more rest on h = or_right (test server) (list_any test (first ∷ more)) h
-any_with_at test Equal server first more rest on h = h
-any_with_at test Greater server first more rest on h = elim (or_cases (test first) (list_any test more) h) [
-  | inl here ↦ or_left (test first) (list_any test rest) here
-  | inr later ↦ or_right (test first) (list_any test rest) (on later)
-]
-
-any_with : (test : Server → Bool) (server : Server) (list : List Server) → list_any test list ≡ true → list_any test (with_server server list) ≡ true
-any_with test server [] h = absurd (false≢true h)
-any_with test server (first ∷ more) h = any_with_at test (server_cmp server first) server first more (with_server server more) (any_with test server more) h
-
-any_new_at : (test : Server → Bool) (o : Ordering) (server first : Server) (more rest : List Server) → server_cmp server first ≡ o → list_any test rest ≡ true → test server ≡ true → list_any test (with_server_at o server first more rest) ≡ true
-any_new_at test Less server first more rest e on h = or_left (test server) (list_any test (first ∷ more)) h
-any_new_at test Equal server first more rest e on h = or_left (test first) (list_any test more) (ap test (sym (server_cmp-is server first e)) ∙ h)
-any_new_at test Greater server first more rest e on h = or_right (test first) (list_any test rest) on
-
-any_new : (test : Server → Bool) (server : Server) (list : List Server) → test server ≡ true → list_any test (with_server server list) ≡ true
-any_new test server [] h = or_left (test server) false h
-any_new test server (first ∷ more) h = any_new_at test (server_cmp server first) server first more (with_server server more) refl (any_new test server more h) h
-
--- who is live came up
-live_came : (J : Past) (server : Server) → is_live J server ≡ true → came_up J server ≡ true
-live_came [] server live = absurd (false≢true live)
-live_came (entry_is.Start sheets ∷ J) server live = live_came J server live
-live_came (entry_is.Submit nonce request ∷ J) server live = live_came J server live
-live_came (entry_is.Step pid pick out ∷ J) server live = live_came J server live
-live_came (entry_is.Undo pid row out ∷ J) server live = live_came J server live
-live_came (entry_is.Report call told ∷ J) server live = live_came J server live
-live_came (entry_is.Up other ∷ J) server live = elim (or_cases (same_server server other) (is_live J server) live) [
-  | inl new ↦ any_new (λ x. same_server server x) other (servers_of J) new
-  | inr old ↦ any_with (λ x. same_server server x) other (servers_of J) (live_came J server old)
-]
-live_came (entry_is.Down other ∷ J) server live = live_came J server (and_parts (not (same_server server other)) (is_live J server) live).1
-live_came (entry_is.Abort pid ∷ J) server live = live_came J server live
 
 -- a server that came up comes up no second time
 newer_of : (server : Server) (list : List Server) → list_any (λ x. same_server server x) list ≡ true → list_any (λ x. same_address server x && not (nat_lt x.start server.start)) list ≡ true
@@ -70,6 +35,25 @@ newer_of server (x ∷ more) h = elim (or_cases (same_server server x) (list_any
   | inr later ↦ or_right (same_address server x && not (nat_lt x.start server.start)) _ (newer_of server more later)
 ]
 
+-- a server that came up isn't that of a part
+not_again : (J : Past) (server other : Server) → came_up J server ≡ true → has_newer J other ≡ false → same_server server other ≡ true → ⊥
+not_again J server other came rule same = true≢false (sym (subst (λ s. has_newer J s ≡ true) (same_server-is server other same) (newer_of server (servers_of J) came)) ∙ rule)
+
+dead_part : (part : Part) (J : Past) → PartFits part J → (server : Server) → IsDead J server → IsDead (entry_is.Base part ∷ J) server
+dead_part (part_is.Head entries last parts sheets) J fits server dead = dead
+dead_part (part_is.Namespace ns) J fits server dead = dead
+dead_part (part_is.Table table drawn own) J fits server dead = dead
+dead_part (part_is.Region region range status parents place) J fits server dead = dead
+dead_part (part_is.Server other fenced) J fits server dead = (
+  came_on J other server dead.0,
+  elim (cases_Bool (same_server server other)) [
+    | inl same ↦ absurd (not_again J server other dead.0 fits.1 same)
+    | inr differs ↦ or_from (same_server server other && not fenced) (is_live J server) (and_left (same_server server other) (not fenced) differs) dead.1
+  ],
+)
+dead_part (part_is.Root pid nonce args cause) J fits server dead = dead
+dead_part (part_is.Layout pid) J fits server dead = dead
+
 -- who is dead stays so
 pub dead_stays : (entry : Entry) (J : Past) → IsLegal (entry ∷ J) → (server : Server) → IsDead J server → IsDead (entry ∷ J) server
 dead_stays (entry_is.Start sheets) J legal server dead = dead
@@ -78,17 +62,16 @@ dead_stays (entry_is.Step pid pick out) J legal server dead = dead
 dead_stays (entry_is.Undo pid row out) J legal server dead = dead
 dead_stays (entry_is.Report call told) J legal server dead = dead
 dead_stays (entry_is.Up other) J legal server dead = (
-  any_with (λ x. same_server server x) other (servers_of J) dead.0,
+  came_on J other server dead.0,
   elim (cases_Bool (same_server server other)) [
-    | inl same ↦
-        let new = newer_of server (servers_of J) dead.0 in
-        let rule : has_newer J other ≡ false = legal.1.1.0 in
-        absurd (true≢false (sym (subst (λ s. has_newer J s ≡ true) (same_server-is server other same) new) ∙ rule))
+    | inl same ↦ absurd (not_again J server other dead.0 legal.1.1.0 same)
     | inr differs ↦ or_from (same_server server other) (is_live J server) differs dead.1
   ],
 )
 dead_stays (entry_is.Down other) J legal server dead = (dead.0, and_right (not (same_server server other)) (is_live J server) dead.1)
 dead_stays (entry_is.Abort pid) J legal server dead = dead
+dead_stays (entry_is.Adopt sheets) J legal server dead = dead
+dead_stays (entry_is.Base part) J legal server dead = dead_part part J legal.1.0 server dead
 
 pub down_dead : (server : Server) (J : Past) → IsLegal (entry_is.Down server ∷ J) → IsDead (entry_is.Down server ∷ J) server
 down_dead server J legal = (live_came J server legal.1.1.0, and_left (not (same_server server server)) (is_live J server) (ap not (same_server-refl server)))
@@ -125,6 +108,27 @@ FencersDead J = (p : ℕ) (node : Node) → node_of J p ≡ Some node → (serve
 abbrev pub FencedDead : Past → Type 0
 FencedDead J = (server : Server) → is_fenced J server ≡ true → IsDead J server
 
+-- a part that has a server fenced
+fenced_part : (part : Part) (J : Past) → PartFits part J → FencedDead J → FencedDead (entry_is.Base part ∷ J)
+fenced_part (part_is.Head entries last parts sheets) J fits old server fenced = old server fenced
+fenced_part (part_is.Namespace ns) J fits old server fenced = old server fenced
+fenced_part (part_is.Table table drawn own) J fits old server fenced = old server fenced
+fenced_part (part_is.Region region range status parents place) J fits old server fenced = old server fenced
+fenced_part (part_is.Root pid nonce args cause) J fits old server fenced = old server fenced
+fenced_part (part_is.Layout pid) J fits old server fenced = old server fenced
+fenced_part (part_is.Server other down) J fits old server fenced = elim (or_cases (same_server server other && down) (is_fenced J server) fenced) [
+  | inr was ↦ dead_part (part_is.Server other down) J fits server (old server was)
+  | inl now ↦
+      let both = and_parts (same_server server other) down now in (
+        subst (λ s. came_up (entry_is.Base (part_is.Server other down) ∷ J) s ≡ true) (sym (same_server-is server other both.0)) (came_now J other),
+        or_from (same_server server other && not down) (is_live J server) (and_right (same_server server other) (not down) (ap not both.1)) (by (is_live J server) refl both.0),
+      )
+]
+  where
+    by : (b : Bool) → is_live J server ≡ b → same_server server other ≡ true → b ≡ false
+    by false e same = refl
+    by true e same = absurd (not_again J server other (live_came J server e) fits.1 same)
+
 pub fenced_step : (entry : Entry) (J : Past) → IsLegal (entry ∷ J) → FencersDead J → FencedDead J → FencedDead (entry ∷ J)
 fenced_step (entry_is.Start sheets) J legal fencers old server fenced = dead_stays (entry_is.Start sheets) J legal server (old server fenced)
 fenced_step (entry_is.Submit nonce request) J legal fencers old server fenced = old server fenced
@@ -141,3 +145,5 @@ fenced_step (entry_is.Report call told) J legal fencers old server fenced = elim
 fenced_step (entry_is.Up other) J legal fencers old server fenced = dead_stays (entry_is.Up other) J legal server (old server fenced)
 fenced_step (entry_is.Down other) J legal fencers old server fenced = dead_stays (entry_is.Down other) J legal server (old server fenced)
 fenced_step (entry_is.Abort pid) J legal fencers old server fenced = old server fenced
+fenced_step (entry_is.Adopt sheets) J legal fencers old server fenced = old server fenced
+fenced_step (entry_is.Base part) J legal fencers old server fenced = fenced_part part J legal.1.0 old server fenced

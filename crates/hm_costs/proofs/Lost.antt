@@ -8,12 +8,14 @@ use Rattle.hm_names.specs.Order.{region_cmp}
 use Rattle.hm_names.specs.Region.{Region}
 use Rattle.hm_names.specs.Server.{Server}
 use Rattle.hm_data.specs.declared.entry.Entry.TheVariants as entry_is
+use Rattle.hm_data.specs.declared.part.Part.{Part}
+use Rattle.hm_data.specs.declared.part.Part.TheVariants as part_is
 use Rattle.hm_data.specs.declared.place.Place.{Place}
 use Rattle.hm_model.specs.Costs.{by_64s}
 use Rattle.hm_model.specs.Journal.{Past}
 use Rattle.hm_model.specs.Keys.{same_region}
 use Rattle.hm_model.specs.Locks.{IsIn}
-use Rattle.hm_model.specs.Places.{at_server, is_at, joined_at, joined_by, joined_if, place_of, placed, placed_by, region_if}
+use Rattle.hm_model.specs.Places.{at_server, is_at, joined_at, joined_by, joined_if, part_place, part_placed, place_of, placed, placed_by, region_if}
 use Rattle.hm_model.specs.Tree.{Node, child_of, node_of}
 use Rattle.hm_model.specs.Answers.{is_stopped, last_answer}
 use Rattle.hm_model.specs.Fleet.{is_fenced}
@@ -89,6 +91,20 @@ at_placed (entry_is.Report call told ∷ J) server y at = at_placed J server y a
 at_placed (entry_is.Up other ∷ J) server y at = at_placed J server y at
 at_placed (entry_is.Down other ∷ J) server y at = at_placed J server y at
 at_placed (entry_is.Abort pid ∷ J) server y at = at_placed J server y at
+at_placed (entry_is.Adopt sheets ∷ J) server y at = at_placed J server y at
+at_placed (entry_is.Base part ∷ J) server y at = by part (at_placed J server y) at
+  where
+    by : (part : Part) → (is_at server (place_of J y) ≡ true → IsIn y (placed J)) → is_at server (part_place part y (place_of J y)) ≡ true → IsIn y (part_placed part (placed J))
+    by (part_is.Head entries last parts sheets) on at = on at
+    by (part_is.Namespace ns) on at = on at
+    by (part_is.Table table drawn own) on at = on at
+    by (part_is.Server server fenced) on at = on at
+    by (part_is.Root pid nonce args cause) on at = on at
+    by (part_is.Layout pid) on at = on at
+    by (part_is.Region region range status parents given) on at = elim (cases_Bool (same_region y region)) [
+      | inl same ↦ in_joined y region (placed J) (inl (same_region-is y region same))
+      | inr differs ↦ in_joined y region (placed J) (inr (on (ap (is_at server) (sym (cond-false (same_region y region) given (place_of J y) differs)) ∙ at)))
+    ]
 
 in_filter : (test : Region → Bool) (y : Region) (list : List Region) → IsIn y list → test y ≡ true → IsIn y (filter test list)
 in_filter test y [] h on = elim h [ ]

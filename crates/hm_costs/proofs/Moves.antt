@@ -85,6 +85,10 @@ module _ (pid : Pid) (pick : Option Server) (out : StepOut) (J : Past) (legal : 
   on_region : (next : ℕ) (act : Region → StepOut) → given (region_of me.args) next act ≡ act region
   on_region next act = ap (λ o. given o next act) moving.region_is
 
+  -- the cause against a move
+  abbrev pub against : Option Cause
+  against = region_ready (row_at seen.rows (key_is.Table region.table)) (row_at seen.rows (key_is.Region region))
+
   -- what is answered at the row, where nothing cuts the step off
   abbrev pub Says : ℕ → Type 0
   Says zero = out ≡ candidate 1 (may_open_in seen.rows region) (place_of J region) seen.fenced pick
@@ -92,7 +96,7 @@ module _ (pid : Pid) (pick : Option Server) (out : StepOut) (J : Past) (legal : 
   Says (suc (suc zero)) = out ≡ opened_or_not 0 (place_of J region).server (is_told told_is.Opened seen.ends)
   Says (suc (suc (suc zero))) = out ≡ close_or_go 4 (goal_in me.args) region (place_of J region) (is_open (place_of J region) seen.fenced)
   Says (suc (suc (suc (suc zero)))) = out ≡ places (behind_close (goal_in me.args) told_is.Closed) (Some (nowhere (closed_or_lost (is_told told_is.Closed seen.ends))))
-  Says (suc (suc (suc (suc (suc zero))))) = (cause : Option Cause) × (out ≡ checked 3 cause)
+  Says (suc (suc (suc (suc (suc zero))))) = out ≡ checked 3 against
   Says (suc (suc (suc (suc (suc (suc n)))))) = ⊥
 
   row_found : slice_get (exact_rows 10) (row_of J pid.0 me) ≡ Some step.row
@@ -128,7 +132,7 @@ module _ (pid : Pid) (pick : Option Server) (out : StepOut) (J : Past) (legal : 
   by_row (suc (suc (suc (suc zero)))) there = said (fixed act_is.ConfirmClosed 0 true) (sym (same_Some _ step.row there))
   by_row (suc (suc (suc (suc (suc zero))))) there = elim (said (fixed act_is.CheckMove 3 false) (sym (same_Some _ step.row there))) [
     | inl cut ↦ inl cut
-    | inr is ↦ inr (region_ready (row_at seen.rows (key_is.Table region.table)) (row_at seen.rows (key_is.Region region)), is ∙ on_region 3 (λ region. checked 3 (region_ready (row_at seen.rows (key_is.Table region.table)) (row_at seen.rows (key_is.Region region)))))
+    | inr is ↦ inr (is ∙ on_region 3 (λ region. checked 3 (region_ready (row_at seen.rows (key_is.Table region.table)) (row_at seen.rows (key_is.Region region)))))
   ]
   by_row (suc (suc (suc (suc (suc (suc n)))))) there = absurd (none-some step.row there)
 
@@ -226,10 +230,10 @@ module _ (pid : Pid) (pick : Option Server) (out : StepOut) (J : Past) (legal : 
       by (suc (suc zero)) here (inr is) = by_told (is_told told_is.Opened seen.ends) is
       by (suc (suc (suc zero))) here (inr is) = by_close (is_open (place_of J region) seen.fenced) is
       by (suc (suc (suc (suc zero)))) here (inr is) = behind_far (goal_in me.args) told_is.Closed (ap (λ (o : StepOut). o.answer) is)
-      by (suc (suc (suc (suc (suc zero))))) here (inr is) = by_check is.0 is.1
+      by (suc (suc (suc (suc (suc zero))))) here (inr is) = by_check against is
       by (suc (suc (suc (suc (suc (suc n)))))) here (inr is) = absurd is
 
-  -- no region comes to a server that isn't live
+  -- no region comes to a server that isn't picked, as one that isn't live
   abbrev Comes : Server → Type 0
   Comes server = is_at server (place_of (entry_is.Step pid pick out ∷ J) region) ≡ true → is_at server (place_of J region) ≡ true
 
@@ -245,18 +249,15 @@ module _ (pid : Pid) (pick : Option Server) (out : StepOut) (J : Past) (legal : 
   placed_opened : (place : Place) → is_state place_is.Opened place ≡ true → is_placed place ≡ true
   placed_opened place e = or_right (is_state place_is.Opening place) (is_state place_is.Opened place || is_state place_is.Closing place) (or_left (is_state place_is.Opened place) (is_state place_is.Closing place) e)
 
-  pub comes_not : AtOpening J → (server : Server) → is_live J server ≡ false → Comes server
-  comes_not before server dead = by (row_of J pid.0 me) refl (answers (row_of J pid.0 me) refl)
+  pub comes_not : AtOpening J → (server : Server) → ((picked : Server) → pick ≡ Some picked → is_live J picked ≡ true → same_server server picked ≡ false) → Comes server
+  comes_not before server other = by (row_of J pid.0 me) refl (answers (row_of J pid.0 me) refl)
     where
       by_lost : (b : Bool) → out.place ≡ lost_if b → Comes server
       by_lost false is = was_at server is
       by_lost true is = not_at server (nowhere place_is.AbnormallyClosed) is refl
 
       by_pick : (o : Option Server) → pick ≡ o → (picked : Server) → o ≡ Some picked → is_live J picked ≡ true → is_the_server server o ≡ false
-      by_pick o e picked is live = ap (is_the_server server) is ∙ elim (cases_Bool (same_server server picked)) [
-        | inr off ↦ off
-        | inl on ↦ absurd (true≢false (sym live ∙ ap (is_live J) (sym (same_server-is server picked on)) ∙ dead))
-      ]
+      by_pick o e picked is live = ap (is_the_server server) is ∙ other picked (e ∙ is) live
 
       at_open : (opened : Bool) → is_open (place_of J region) seen.fenced ≡ opened → row_of J pid.0 me ≡ 0 → may_open_in seen.rows region ≡ true → out ≡ cond opened (ends_with told_is.Nothing) (places (answer_is.More 1) (Some (record { state = place_is.Opening; server = pick }))) → Comes server
       at_open true e here may is = was_at server (ap (λ (o : StepOut). o.place) is)
@@ -282,8 +283,8 @@ module _ (pid : Pid) (pick : Option Server) (out : StepOut) (J : Past) (legal : 
         where
           at : (o : Option Server) → (place_of J region).server ≡ o → out ≡ given o 4 (close_at 4 region) → Comes server
           at None k is = was_at server (ap (λ (o : StepOut). o.place) is)
-          at (Some other) k is = λ there. and_from (is_placed (place_of J region)) (is_the_server server (place_of J region).server) (placed_opened (place_of J region) (and_parts (is_state place_is.Opened (place_of J region)) (not seen.fenced) e).0)
-              (ap (is_the_server server) k ∙ sym (ap (is_at server) (place_now (record { state = place_is.Closing; server = Some other }) (ap (λ (o : StepOut). o.place) is))) ∙ there)
+          at (Some own) k is = λ there. and_from (is_placed (place_of J region)) (is_the_server server (place_of J region).server) (placed_opened (place_of J region) (and_parts (is_state place_is.Opened (place_of J region)) (not seen.fenced) e).0)
+              (ap (is_the_server server) k ∙ sym (ap (is_at server) (place_now (record { state = place_is.Closing; server = Some own }) (ap (λ (o : StepOut). o.place) is))) ∙ there)
 
       by_check : (cause : Option Cause) → out ≡ checked 3 cause → Comes server
       by_check None is = was_at server (ap (λ (o : StepOut). o.place) is)
@@ -296,5 +297,5 @@ module _ (pid : Pid) (pick : Option Server) (out : StepOut) (J : Past) (legal : 
       by (suc (suc zero)) here (inr is) = by_told (is_told told_is.Opened seen.ends) here is
       by (suc (suc (suc zero))) here (inr is) = by_close (is_open (place_of J region) seen.fenced) refl is
       by (suc (suc (suc (suc zero)))) here (inr is) = not_at server (nowhere (closed_or_lost (is_told told_is.Closed seen.ends))) (ap (λ (o : StepOut). o.place) is) (and_right (is_placed (nowhere (closed_or_lost (is_told told_is.Closed seen.ends)))) false refl)
-      by (suc (suc (suc (suc (suc zero))))) here (inr is) = by_check is.0 is.1
+      by (suc (suc (suc (suc (suc zero))))) here (inr is) = by_check against is
       by (suc (suc (suc (suc (suc (suc n)))))) here (inr is) = absurd is

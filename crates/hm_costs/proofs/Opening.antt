@@ -19,6 +19,7 @@ use Rattle.hm_data.specs.declared.request.Request.TheVariants as request_is
 use Rattle.hm_data.specs.declared.sheet.Row.{Row}
 use Rattle.hm_data.specs.declared.step.StepOut.{StepOut}
 use Rattle.hm_model.specs.Answers.{done_with, failing, is_stopped, last_answer, no_row, row_after, row_of}
+use Rattle.hm_model.specs.Fleet.{is_live, same_server}
 use Rattle.hm_model.specs.Holding.{HoldsWith}
 use Rattle.hm_model.specs.Journal.{Past}
 use Rattle.hm_model.specs.Keys.{same_region}
@@ -34,8 +35,10 @@ use Rattle.hm_model.proofs.CallSteps.{laying_not_caller}
 use Rattle.hm_model.proofs.Grown.{nodes_stay}
 use Rattle.hm_model.proofs.KeyTests.{same_region-is, same_region-refl}
 use Rattle.hm_model.proofs.LegalSteps.{StepFacts, ready_stops}
+use Rattle.hm_model.proofs.NameTies.{same_server-is}
 use Rattle.hm_model.proofs.PlainActs.{is_caller}
 use Rattle.hm_model.proofs.StepDoes.{Does}
+use Rattle.hm_model.proofs.Parted.{no_node}
 use Rattle.hm_model.proofs.Trees.{Grown, answer_now, does_of, grown_all, le_or_lt, new_child, node_same, other_answer, step_of}
 use Rattle.hm_model.proofs.Tops.{ended_top}
 use Rattle.hm_model.proofs.Free.{step_free}
@@ -125,7 +128,7 @@ fails_step pid pick out J legal p before x r is m top c failed = elim (le_or_lt 
     by was false e now = old was now
     by was true e now = by_cause was (eqb-true (root_of J pid.0) p e) (cause J p) refl now
 
-fails_all : (J : Past) → IsLegal J → (p : ℕ) → FailsItself J p
+pub fails_all : (J : Past) → IsLegal J → (p : ℕ) → FailsItself J p
 fails_all [] legal p = λ x r is. absurd (none-some x is)
 fails_all (entry_is.Start sheets ∷ J) legal p = fails_calm (entry_is.Start sheets) J legal p refl refl (fails_all J legal.0 p)
 fails_all (entry_is.Submit nonce request ∷ J) legal p = fails_calm (entry_is.Submit nonce request) J legal p refl refl (fails_all J legal.0 p)
@@ -135,6 +138,8 @@ fails_all (entry_is.Report call told ∷ J) legal p = fails_calm (entry_is.Repor
 fails_all (entry_is.Up server ∷ J) legal p = fails_calm (entry_is.Up server) J legal p refl refl (fails_all J legal.0 p)
 fails_all (entry_is.Down server ∷ J) legal p = fails_calm (entry_is.Down server) J legal p refl refl (fails_all J legal.0 p)
 fails_all (entry_is.Abort pid ∷ J) legal p = fails_calm (entry_is.Abort pid) J legal p refl refl (fails_all J legal.0 p)
+fails_all (entry_is.Adopt sheets ∷ J) legal p = fails_calm (entry_is.Adopt sheets) J legal p refl refl (fails_all J legal.0 p)
+fails_all (entry_is.Base part ∷ J) legal p = λ x r is. absurd (none-some x is)
 
 -- who has stopped is at no row
 stopped_row : (first : ℕ) (last : Option Answer) → is_stopped last ≡ true → row_after first last ≡ no_row
@@ -232,6 +237,8 @@ place_stays (entry_is.Report call told) J legal q x region is m holds spares = r
 place_stays (entry_is.Up server) J legal q x region is m holds spares = refl
 place_stays (entry_is.Down server) J legal q x region is m holds spares = refl
 place_stays (entry_is.Abort pid) J legal q x region is m holds spares = refl
+place_stays (entry_is.Adopt sheets) J legal q x region is m holds spares = refl
+place_stays (entry_is.Base part) J legal q x region is m holds spares = absurd spares
 
 -- at the rows that open it a region is being opened
 abbrev IsOpening : Past → Type 0
@@ -277,12 +284,20 @@ opening_all (entry_is.Report call told ∷ J) legal = opening_calm (entry_is.Rep
 opening_all (entry_is.Up server ∷ J) legal = opening_calm (entry_is.Up server) J legal (λ p. refl) (λ region. refl) (opening_all J legal.0)
 opening_all (entry_is.Down server ∷ J) legal = opening_calm (entry_is.Down server) J legal (λ p. refl) (λ region. refl) (opening_all J legal.0)
 opening_all (entry_is.Abort pid ∷ J) legal = opening_calm (entry_is.Abort pid) J legal (λ p. refl) (λ region. refl) (opening_all J legal.0)
+opening_all (entry_is.Adopt sheets ∷ J) legal = opening_calm (entry_is.Adopt sheets) J legal (λ p. refl) (λ region. refl) (opening_all J legal.0)
+opening_all (entry_is.Base part ∷ J) legal = λ p x region is. absurd (none-some x is)
 
--- no region comes to a server that went down
-pub none_comes : (entry : Entry) (J : Past) → IsLegal (entry ∷ J) → (server : Server) → IsDead J server → (region : Region) → is_at server (place_of (entry ∷ J) region) ≡ true → is_at server (place_of J region) ≡ true
-none_comes (entry_is.Start sheets) J legal server dead region at = at
-none_comes (entry_is.Submit nonce request) J legal server dead region at = at
-none_comes (entry_is.Step pid pick out) J legal server dead region at = by (moved_by step.node.args) refl
+-- an entry is no part of a base, and picks no such server
+abbrev pub PicksOther : Past → Server → Entry → Type 0
+PicksOther J server (entry_is.Step pid pick out) = (picked : Server) → pick ≡ Some picked → is_live J picked ≡ true → same_server server picked ≡ false
+PicksOther J server (entry_is.Base part) = ⊥
+PicksOther J server entry = Unit {0}
+
+-- no region comes to a server that isn't picked
+pub none_comes_other : (entry : Entry) (J : Past) → IsLegal (entry ∷ J) → (server : Server) → PicksOther J server entry → (region : Region) → is_at server (place_of (entry ∷ J) region) ≡ true → is_at server (place_of J region) ≡ true
+none_comes_other (entry_is.Start sheets) J legal server other region at = at
+none_comes_other (entry_is.Submit nonce request) J legal server other region at = at
+none_comes_other (entry_is.Step pid pick out) J legal server other region at = by (moved_by step.node.args) refl
   where
     step : StepFacts J pid.0 pick out
     step = step_of pid pick out J (grown_all J legal.0) legal
@@ -296,10 +311,34 @@ none_comes (entry_is.Step pid pick out) J legal server dead region at = by (move
       | inr off ↦ stays (λ m. true≢false (sym (same_region-refl region) ∙ ap (same_region region) (same_Some region own (sym m ∙ e)) ∙ off))
       | inl on ↦
           let m : moved_by step.node.args ≡ Some region = e ∙ ap Some (sym (same_region-is region own on)) in
-          comes_not pid pick out J legal step.node step.node_is region m (opening_all J legal.0 pid.0 step.node region step.node_is m) server dead.1 at
+          comes_not pid pick out J legal step.node step.node_is region m (opening_all J legal.0 pid.0 step.node region step.node_is m) server other at
     ]
-none_comes (entry_is.Undo pid row out) J legal server dead region at = at
-none_comes (entry_is.Report call told) J legal server dead region at = at
-none_comes (entry_is.Up other) J legal server dead region at = at
-none_comes (entry_is.Down other) J legal server dead region at = at
-none_comes (entry_is.Abort pid) J legal server dead region at = at
+none_comes_other (entry_is.Undo pid row out) J legal server other region at = at
+none_comes_other (entry_is.Report call told) J legal server other region at = at
+none_comes_other (entry_is.Up peer) J legal server other region at = at
+none_comes_other (entry_is.Down peer) J legal server other region at = at
+none_comes_other (entry_is.Abort pid) J legal server other region at = at
+none_comes_other (entry_is.Adopt sheets) J legal server other region at = at
+none_comes_other (entry_is.Base part) J legal server other region at = absurd other
+
+-- nor to one that went down
+pub none_comes : (entry : Entry) (J : Past) → IsLegal (entry ∷ J) → (p : ℕ) (x : Node) → node_of J p ≡ Some x → (server : Server) → IsDead J server → (region : Region) → is_at server (place_of (entry ∷ J) region) ≡ true → is_at server (place_of J region) ≡ true
+none_comes entry J legal p x is server dead region at = none_comes_other entry J legal server (other entry legal) region at
+  where
+    apart : (picked : Server) → is_live J picked ≡ true → same_server server picked ≡ false
+    apart picked live = elim (cases_Bool (same_server server picked)) [
+      | inr off ↦ off
+      | inl on ↦ absurd (true≢false (sym live ∙ ap (is_live J) (sym (same_server-is server picked on)) ∙ dead.1))
+    ]
+
+    other : (entry : Entry) → IsLegal (entry ∷ J) → PicksOther J server entry
+    other (entry_is.Step pid pick out) legal = λ picked e live. apart picked live
+    other (entry_is.Base part) legal = absurd (none-some x (sym (no_node part J legal.1.0 p) ∙ is))
+    other (entry_is.Start sheets) legal = tt
+    other (entry_is.Submit nonce request) legal = tt
+    other (entry_is.Undo pid row out) legal = tt
+    other (entry_is.Report call told) legal = tt
+    other (entry_is.Up peer) legal = tt
+    other (entry_is.Down peer) legal = tt
+    other (entry_is.Abort pid) legal = tt
+    other (entry_is.Adopt sheets) legal = tt

@@ -22,6 +22,7 @@ use Rattle.hm_model.specs.Rules.{IsLegal}
 use Rattle.hm_model.specs.Tree.{Node, args_in, child_of, made, node_of, root_in, root_of, is_root_in, is_top}
 use Rattle.hm_model.specs.Undo.{is_empty, pushed, stack, Undoable, unless_failed}
 use Rattle.hm_model.proofs.Apart.{others_stay}
+use Rattle.hm_model.proofs.Parted.{no_node}
 use Rattle.hm_model.proofs.Grown.{grown_all as made_all, made_up_to, nodes_stay}
 use Rattle.hm_model.proofs.LegalSteps.{StepFacts, ready_stops}
 use Rattle.hm_model.proofs.StepDoes.{Does, CallerAt, IsStepAnswer}
@@ -79,7 +80,7 @@ module _ (At : Past → ℕ → Node → ℕ → Type 0) (Fresh : Past → ℕ �
     few = is_there J (grown_all J legal.0) r top is
 
     entries_same : entries_of (entry ∷ J) r ≡ entries_of J r
-    entries_same = entries_other entry J r few other
+    entries_same = entries_other entry J legal r top is other
 
     ended_same : (b : Bool) → root_ended J r ≡ b → root_ended (entry ∷ J) r ≡ b
     ended_same b e =
@@ -100,19 +101,23 @@ module _ (At : Past → ℕ → Node → ℕ → Type 0) (Fresh : Past → ℕ �
     spared q x at of (entry_is.Up server) e = tt
     spared q x at of (entry_is.Down server) e = tt
     spared q x at of (entry_is.Abort pid) e = tt
+    spared q x at of (entry_is.Adopt sheets) e = tt
+    spared q x at of (entry_is.Base part) e = let own : IsLegal (entry_is.Base part ∷ J) = subst (λ n. IsLegal (n ∷ J)) e legal in none-some x (sym (no_node part J own.1.0 q) ∙ at)
 
     more_made : made J ≤ made (entry ∷ J)
-    more_made = by entry
+    more_made = by entry legal
       where
-        by : (e : Entry) → made J ≤ made (e ∷ J)
-        by (entry_is.Start sheets) = omega arith
-        by (entry_is.Submit nonce request) = omega arith
-        by (entry_is.Step pid pick out) = omega arith
-        by (entry_is.Undo pid row out) = omega arith
-        by (entry_is.Report call told) = omega arith
-        by (entry_is.Up server) = omega arith
-        by (entry_is.Down server) = omega arith
-        by (entry_is.Abort pid) = omega arith
+        by : (e : Entry) → IsLegal (e ∷ J) → made J ≤ made (e ∷ J)
+        by (entry_is.Start sheets) e = omega arith
+        by (entry_is.Submit nonce request) e = omega arith
+        by (entry_is.Step pid pick out) e = omega arith
+        by (entry_is.Undo pid row out) e = omega arith
+        by (entry_is.Report call told) e = omega arith
+        by (entry_is.Up server) e = omega arith
+        by (entry_is.Down server) e = omega arith
+        by (entry_is.Abort pid) e = omega arith
+        by (entry_is.Adopt sheets) e = omega arith
+        by (entry_is.Base part) e = absurd (none-some top (sym (no_node part J e.1.0 r) ∙ is))
 
     pub other_paid : Paid J r top → Paid (entry ∷ J) r top
     other_paid (over ended stepped within) =
@@ -534,6 +539,8 @@ module _ (At : Past → ℕ → Node → ℕ → Type 0) (Fresh : Past → ℕ �
   own_entry priced (entry_is.Up server) J legal r top is at_top quiet mine p = let up = (made_up_to J (made_all J legal.0) r top is).0 in absurd (omega (arith, up, mine))
   own_entry priced (entry_is.Down server) J legal r top is at_top quiet mine p = let few = is_there J (grown_all J legal.0) r top is in absurd (omega (arith, few, mine))
   own_entry priced (entry_is.Abort pid) J legal r top is at_top quiet mine p = absurd (own_abort pid J legal r mine quiet.1)
+  own_entry priced (entry_is.Adopt sheets) J legal r top is at_top quiet mine p = let up = (made_up_to J (made_all J legal.0) r top is).0 in absurd (omega (arith, up, mine))
+  own_entry priced (entry_is.Base part) J legal r top is at_top quiet mine p = absurd (none-some top (sym (no_node part J legal.1.0 r) ∙ is))
 
   new_entry : ArePriced At Fresh price → (entry : Entry) (J : Past) (legal : IsLegal (entry ∷ J)) (r : ℕ) (top : Node) → node_of J r ≡ None → node_of (entry ∷ J) r ≡ Some top → top.above ≡ [] → IsQuiet (entry ∷ J) r → Paid (entry ∷ J) r top
   new_entry priced (entry_is.Start sheets) J legal r top none is at_top quiet = absurd (none-some top (sym none ∙ is))
@@ -556,6 +563,8 @@ module _ (At : Past → ℕ → Node → ℕ → Type 0) (Fresh : Past → ℕ �
       new_lone priced (entry_is.Down server) J legal (down_rooted server J (grown_all J legal.0)) r top none is at_top quiet
       (one_if_true (r == made J + 1) (entries_of J r) (elim (cases_Bool (r == made J + 1)) [ inl on ↦ on | inr off ↦ absurd (none-some top (sym none ∙ sym (cond-false (r == made J + 1) _ (node_of J r) off) ∙ is)) ])) refl refl
   new_entry priced (entry_is.Abort pid) J legal r top none is at_top quiet = absurd (none-some top (sym none ∙ is))
+  new_entry priced (entry_is.Adopt sheets) J legal r top none is at_top quiet = absurd (none-some top (sym none ∙ is))
+  new_entry priced (entry_is.Base part) J legal r top none is at_top quiet = absurd (none-some top is)
 
   paid_on : ArePriced At Fresh price → (entry : Entry) (J : Past) (legal : IsLegal (entry ∷ J)) (r : ℕ) (top : Node) → node_of (entry ∷ J) r ≡ Some top → top.above ≡ [] → IsQuiet (entry ∷ J) r → (node_of J r ≡ Some top → Paid J r top) → Paid (entry ∷ J) r top
   paid_on priced entry J legal r top is at_top quiet before = by (node_of J r) refl
@@ -571,7 +580,7 @@ module _ (At : Past → ℕ → Node → ℕ → Type 0) (Fresh : Past → ℕ �
 
   pub paid_all : ArePriced At Fresh price → (J : Past) → IsLegal J → (r : ℕ) (top : Node) → node_of J r ≡ Some top → top.above ≡ [] → IsQuiet J r → Paid J r top
   paid_all priced [] legal r top is at_top quiet = absurd (none-some top is)
-  paid_all priced (entry ∷ J) legal r top is at_top quiet = paid_on priced entry J legal r top is at_top quiet (λ was. paid_all priced J legal.0 r top was at_top (quiet_before entry J r quiet))
+  paid_all priced (entry ∷ J) legal r top is at_top quiet = paid_on priced entry J legal r top is at_top quiet (λ was. paid_all priced J legal.0 r top was at_top (quiet_before entry J legal r quiet))
 
   -- the entries of a tree that nothing disturbs are within its cost
   pub all_within : ArePriced At Fresh price → (J : Past) → IsLegal J → (r : ℕ) (top : Node) → node_of J r ≡ Some top → top.above ≡ [] → IsQuiet J r → entries_of J r ≤ cost J r top.args

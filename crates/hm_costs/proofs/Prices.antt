@@ -36,6 +36,8 @@ Spares (entry_is.Report call told) q = q ≢ call.0
 Spares (entry_is.Up server) q = Unit {0}
 Spares (entry_is.Down server) q = Unit {0}
 Spares (entry_is.Abort pid) q = Unit {0}
+Spares (entry_is.Adopt sheets) q = Unit {0}
+Spares (entry_is.Base part) q = ⊥
 
 module _ (At : Past → ℕ → Node → ℕ → Type 0) (Fresh : Past → ℕ → Node → Type 0) (price : Args → ℕ) where
   -- each procedure of the tree may still cost some

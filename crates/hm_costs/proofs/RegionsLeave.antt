@@ -36,12 +36,14 @@ use Rattle.hm_costs.proofs.Lost.{Covered, Within}
 use Rattle.hm_costs.proofs.Moves.{Says, answers, place_now, seen}
 use Rattle.hm_costs.proofs.Opening.{none_comes}
 use Rattle.hm_costs.proofs.Prices.{AllAt}
+use Rattle.hm_model.proofs.Parted.{no_node}
+use Rattle.std.proofs.lemmas.Option.{none-some}
 use Rattle.hm_costs.proofs.Spend.{price}
 
 -- the regions at a server that went down are among those that were there: a transit places its region at a live server, and
 -- what it opens or closes there was there before
-pub within_stays : (entry : Entry) (J : Past) → IsLegal (entry ∷ J) → (server : Server) → IsDead J server → (rest : List Region) → Within J server rest → Within (entry ∷ J) server rest
-within_stays entry J legal server dead rest within = λ y at. within y (none_comes entry J legal server dead y at)
+pub within_stays : (entry : Entry) (J : Past) → IsLegal (entry ∷ J) → (p : ℕ) (y : Node) → node_of J p ≡ Some y → (server : Server) → IsDead J server → (rest : List Region) → Within J server rest → Within (entry ∷ J) server rest
+within_stays entry J legal p own is server dead rest within = λ y at. within y (none_comes entry J legal p own is server dead y at)
 
 -- where the server is fenced a transit of the crash that ends leaves its region elsewhere
 module _ (pid : Pid) (pick : Option Server) (out : StepOut) (J : Past) (legal : IsLegal (entry_is.Step pid pick out ∷ J)) (q : ℕ) (x : Node) (region : Region) (is_me : node_of J pid.0 ≡ Some (child_of q x (args_are.Transit region goal_is.Assign None))) (server : Server) (dead : IsDead J server) (fenced : is_fenced J server ≡ true) (budget : ℕ) (at : TransitAt J pid.0 (child_of q x (args_are.Transit region goal_is.Assign None)) region budget) (stops : is_stopped (Some out.answer) ≡ true) (there : is_at server (place_of (entry_is.Step pid pick out ∷ J) region) ≡ true) where
@@ -49,7 +51,7 @@ module _ (pid : Pid) (pick : Option Server) (out : StepOut) (J : Past) (legal : 
   me = child_of q x (args_are.Transit region goal_is.Assign None)
 
   was_there : is_at server (place_of J region) ≡ true
-  was_there = none_comes (entry_is.Step pid pick out) J legal server dead region there
+  was_there = none_comes (entry_is.Step pid pick out) J legal pid.0 me is_me server dead region there
 
   at_it : (o : Option Server) → is_the_server server o ≡ true → o ≡ Some server
   at_it None h = absurd (false≢true h)
@@ -132,9 +134,11 @@ module _ (J : Past) (r : ℕ) (all : AllAt At Fresh price J r) (q : ℕ) (x : No
   stops_off (entry_is.Up other) legal y there c is runs stops = true≢false (sym stops ∙ runs)
   stops_off (entry_is.Down other) legal y there c is runs stops = true≢false (sym stops ∙ runs)
   stops_off (entry_is.Abort pid) legal y there c is runs stops = true≢false (sym stops ∙ runs)
+  stops_off (entry_is.Adopt sheets) legal y there c is runs stops = true≢false (sym stops ∙ runs)
+  stops_off (entry_is.Base part) legal y there c is runs stops = none-some _ (sym (no_node part J legal.1.0 c) ∙ is)
 
-  pub covered_stays : (entry : Entry) → IsLegal (entry ∷ J) → Covered J q x server rest → Covered (entry ∷ J) q x server rest
-  covered_stays entry legal covered = λ y there. elim (covered y (none_comes entry J legal server dead y there)) [
+  pub covered_stays : (entry : Entry) → IsLegal (entry ∷ J) → node_of J q ≡ Some x → Covered J q x server rest → Covered (entry ∷ J) q x server rest
+  covered_stays entry legal is covered = λ y there. elim (covered y (none_comes entry J legal q x is server dead y there)) [
     | inl among ↦ inl among
     | inr c ↦ elim (cases_Bool (is_stopped (last_answer (entry ∷ J) c.0))) [
       | inr runs ↦ inr (c.0, nodes_stay entry J legal c.0 _ c.1, runs)

@@ -206,6 +206,8 @@ module _ (J : Past) (q : ℕ) (x : Node) (going : Going J q x) (begun : last_ans
   counts_stay (entry_is.Up server) legal spares = counts_kept J (entry_is.Up server ∷ J) [] (λ key. refl) refl x.args counter (λ table is. tt)
   counts_stay (entry_is.Down server) legal spares = counts_kept J (entry_is.Down server ∷ J) [] (λ key. refl) refl x.args counter (λ table is. tt)
   counts_stay (entry_is.Abort pid) legal spares = counts_kept J (entry_is.Abort pid ∷ J) [] (λ key. refl) refl x.args counter (λ table is. tt)
+  counts_stay (entry_is.Adopt sheets) legal spares = counts_kept J (entry_is.Adopt sheets ∷ J) [] (λ key. refl) refl x.args counter (λ table is. tt)
+  counts_stay (entry_is.Base part) legal spares = absurd spares
 
 given_aside : {A : Type 0} (table : TableName) (part : Option A) (next : ℕ) (act : A → StepOut) → ((y : A) → AreAside table (act y).edits) → AreAside table (given part next act).edits
 given_aside table None next act each = tt

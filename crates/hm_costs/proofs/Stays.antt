@@ -22,11 +22,12 @@ use Rattle.hm_model.specs.Inputs.{made_at_step}
 use Rattle.hm_model.specs.Journal.{Past}
 use Rattle.hm_model.specs.Kinds.{first_row_of, kind_of}
 use Rattle.hm_model.specs.Rules.{IsLegal}
-use Rattle.hm_model.specs.Sheets.{sheet_for, sheets_of}
+use Rattle.hm_model.specs.Sheets.{sheet_for}
 use Rattle.hm_model.specs.Tree.{Node, node_of}
 use Rattle.hm_model.proofs.Grown.{nodes_stay}
+use Rattle.hm_model.proofs.CameUp.{fenced_stays}
 use Rattle.hm_model.proofs.ValidSheets.{Leads}
-use Rattle.hm_model.proofs.Trees.{grown_all, other_answer, other_steps}
+use Rattle.hm_model.proofs.Trees.{grown_all, other_answer, other_steps, sheets_stay}
 use Rattle.hm_model.proofs.Tops.{ended_top}
 use Rattle.hm_costs.proofs.RowsStay.{counts_stay}
 use Rattle.hm_costs.proofs.Opening.{opens_holds, place_stays}
@@ -43,6 +44,8 @@ spared_last (entry_is.Report call told) J q spares = refl
 spared_last (entry_is.Up server) J q spares = refl
 spared_last (entry_is.Down server) J q spares = refl
 spared_last (entry_is.Abort pid) J q spares = refl
+spared_last (entry_is.Adopt sheets) J q spares = refl
+spared_last (entry_is.Base part) J q spares = absurd spares
 
 spared_report : (entry : Entry) (J : Past) (q : ℕ) → Spares entry q → report_of (entry ∷ J) q ≡ report_of J q
 spared_report (entry_is.Start sheets) J q spares = refl
@@ -53,6 +56,8 @@ spared_report (entry_is.Report call told) J q spares = cond-false (q == call.0) 
 spared_report (entry_is.Up server) J q spares = refl
 spared_report (entry_is.Down server) J q spares = refl
 spared_report (entry_is.Abort pid) J q spares = refl
+spared_report (entry_is.Adopt sheets) J q spares = refl
+spared_report (entry_is.Base part) J q spares = absurd spares
 
 spared_steps : (entry : Entry) (J : Past) (q : ℕ) → Spares entry q → made_at_step (entry ∷ J) q ≡ made_at_step J q
 spared_steps (entry_is.Start sheets) J q spares = refl
@@ -63,27 +68,8 @@ spared_steps (entry_is.Report call told) J q spares = refl
 spared_steps (entry_is.Up server) J q spares = refl
 spared_steps (entry_is.Down server) J q spares = refl
 spared_steps (entry_is.Abort pid) J q spares = refl
-
--- sheets stay where a procedure is there
-sheets_stay : (entry : Entry) (J : Past) → IsLegal (entry ∷ J) → (q : ℕ) (x : Node) → node_of J q ≡ Some x → sheets_of (entry ∷ J) ≡ sheets_of J
-sheets_stay (entry_is.Start sheets) J legal q x is = absurd (none-some x (sym (ap (λ j. node_of j q) legal.1.0.0) ∙ is))
-sheets_stay (entry_is.Submit nonce request) J legal q x is = refl
-sheets_stay (entry_is.Step pid pick out) J legal q x is = refl
-sheets_stay (entry_is.Undo pid row out) J legal q x is = refl
-sheets_stay (entry_is.Report call told) J legal q x is = refl
-sheets_stay (entry_is.Up server) J legal q x is = refl
-sheets_stay (entry_is.Down server) J legal q x is = refl
-sheets_stay (entry_is.Abort pid) J legal q x is = refl
-
-pub fenced_stays : (entry : Entry) (J : Past) (server : Server) → is_fenced J server ≡ true → is_fenced (entry ∷ J) server ≡ true
-fenced_stays (entry_is.Start sheets) J server fenced = fenced
-fenced_stays (entry_is.Submit nonce request) J server fenced = fenced
-fenced_stays (entry_is.Step pid pick out) J server fenced = fenced
-fenced_stays (entry_is.Undo pid row out) J server fenced = fenced
-fenced_stays (entry_is.Report call told) J server fenced = or_right _ (is_fenced J server) fenced
-fenced_stays (entry_is.Up other) J server fenced = fenced
-fenced_stays (entry_is.Down other) J server fenced = fenced
-fenced_stays (entry_is.Abort pid) J server fenced = fenced
+spared_steps (entry_is.Adopt sheets) J q spares = refl
+spared_steps (entry_is.Base part) J q spares = absurd spares
 
 -- a server that is live stays so while the root goes on
 live_stays : (entry : Entry) (J : Past) (r : ℕ) (top : Node) → Going J r top → Going (entry ∷ J) r top → (server : Server) → is_live J server ≡ true → is_live (entry ∷ J) server ≡ true
@@ -96,6 +82,8 @@ live_stays (entry_is.Up other) J r top going later server live = or_right (same_
 live_stays (entry_is.Down other) J r top going later server live =
     absurd (true≢false (sym (later.quiet.1 (λ none. none-some top (sym none ∙ going.is_top))) ∙ ended_top J r top going.is_top going.at_top ∙ going.unended))
 live_stays (entry_is.Abort pid) J r top going later server live = live
+live_stays (entry_is.Adopt sheets) J r top going later server live = live
+live_stays (entry_is.Base part) J r top going later server live = absurd (none-some top later.is_top)
 
 module _ (entry : Entry) (J : Past) (legal : IsLegal (entry ∷ J)) (r : ℕ) (top : Node) (going : Going J r top) (later : Going (entry ∷ J) r top) (stepped : last_answer J r ≢ None) (all : AllAt At Fresh price J r) (q : ℕ) (x : Node) (is : node_of J q ≡ Some x) (of : x.root ≡ r) (spares : Spares entry q) where
   last_stays : last_answer (entry ∷ J) q ≡ last_answer J q
@@ -163,8 +151,8 @@ module _ (entry : Entry) (J : Past) (legal : IsLegal (entry ∷ J)) (r : ℕ) (t
           counts_stay J q x own (λ none. stepped (ap (last_answer J) (sym here) ∙ none)) c.counter c.idle entry legal spares at.n at.lines c.counted
 
   moving_stays : (server : Server) (rest : List Region) → IsDead J server → Moving J q x server rest → Moving (entry ∷ J) q x server rest
-  moving_stays server rest dead (inl fencing) = inl (within_stays entry J legal server dead rest fencing.0, fencing.1, nodes_stay entry J legal fencing.1 _ fencing.2)
-  moving_stays server rest dead (inr moving) = inr (fenced_stays entry J server moving.0, covered_stays J r all q x of server dead moving.0 rest entry legal moving.1)
+  moving_stays server rest dead (inl fencing) = inl (within_stays entry J legal q x is server dead rest fencing.0, fencing.1, nodes_stay entry J legal fencing.1 _ fencing.2)
+  moving_stays server rest dead (inr moving) = inr (fenced_stays entry J server moving.0, covered_stays J r all q x of server dead moving.0 rest entry legal is moving.1)
 
   crash_stays : (budget : ℕ) (server : Server) → crashed_in x.args ≡ Some server → CrashAt J q x server budget → CrashAt (entry ∷ J) q x server budget
   crash_stays budget server c at = record {
@@ -173,7 +161,7 @@ module _ (entry : Entry) (J : Past) (legal : IsLegal (entry ∷ J)) (r : ℕ) (t
   }
     where
       by : (last : Option Answer) → CrashDue J q x server budget last → CrashDue (entry ∷ J) q x server budget last
-      by None d = (d.0, d.1, within_stays entry J legal server at.dead d.0 d.2)
+      by None d = (d.0, d.1, within_stays entry J legal q x is server at.dead d.0 d.2)
       by (Some (answer_is.More n)) d = d
       by (Some (answer_is.Wait n)) d = (d.0, d.1, d.2, moving_stays server d.1 at.dead d.3)
       by (Some (answer_is.Await n)) d = d

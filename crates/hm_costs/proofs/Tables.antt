@@ -261,6 +261,8 @@ tabled_all (entry_is.Report call told ∷ J) legal = tabled_same (entry_is.Repor
 tabled_all (entry_is.Up server ∷ J) legal = tabled_same (entry_is.Up server) J legal (tabled_all J legal.0) (λ q. refl) (λ r. refl)
 tabled_all (entry_is.Down server ∷ J) legal = tabled_rooted (entry_is.Down server) J legal (tabled_all J legal.0) (λ r top is all. all) (λ r none. (absent_all J legal.0 r none).stacked) (λ q x is. one_root J (grown_all J legal.0) (args_are.Crash server) 1 tt tt q x is)
 tabled_all (entry_is.Abort pid ∷ J) legal = tabled_same (entry_is.Abort pid) J legal (tabled_all J legal.0) (λ q. refl) (λ r. refl)
+tabled_all (entry_is.Adopt sheets ∷ J) legal = tabled_same (entry_is.Adopt sheets) J legal (tabled_all J legal.0) (λ q. refl) (λ r. refl)
+tabled_all (entry_is.Base part ∷ J) legal = record { own = λ q x is. absurd (none-some x is); tables = λ q x top is. absurd (none-some x is); undone = λ r top is. tt }
 
 -- a step edits regions' rows of its root's table alone
 pub step_edits : (pid : Pid) (pick : Option Server) (out : StepOut) (J : Past) → IsLegal (entry_is.Step pid pick out ∷ J) → (top : Node) → node_of J (root_of J pid.0) ≡ Some top → AreEditsOf (table_of top.args) out.edits

@@ -41,7 +41,7 @@ use Rattle.hm_model.specs.Whereabouts.{moved_by}
 use Rattle.hm_model.proofs.LegalSteps.{ReadyBy, StepFacts, ready_stops}
 use Rattle.hm_model.proofs.Trees.{Grown, answer_now, child_stopped, grown_all, is_there, node_new, other_answer, step_of, steps_now}
 use Rattle.hm_costs.proofs.At.{At, Fresh, OpensAt, TransitAt, WaitsFor, at_calls, at_moves, close_due, closed_due, due_at, start_call}
-use Rattle.hm_costs.proofs.Moves.{IsMoving, Says, answers, is_moving, picked_live, place_now, place_still, row_now as row_moved, seen}
+use Rattle.hm_costs.proofs.Moves.{IsMoving, Says, against, answers, is_moving, picked_live, place_now, place_still, row_now as row_moved, seen}
 use Rattle.hm_costs.proofs.Prices.{AllAt, IsPaid}
 use Rattle.hm_costs.proofs.Spend.{price}
 use Rattle.hm_costs.proofs.Sums.{total}
@@ -261,7 +261,7 @@ module _ (pid : Pid) (pick : Option Server) (out : StepOut) (J : Past) (legal : 
   by_row (suc (suc zero)) here (inr is) = confirm_paid here (is ∙ ap (opened_or_not 0 (place_of J region).server) (opened_told here))
   by_row (suc (suc (suc zero))) here (inr is) = close_paid here (is_open (place_of J region) (seen pid pick out J legal me is_me region moved).fenced) is
   by_row (suc (suc (suc (suc zero)))) here (inr is) = behind_paid (goal_in me.args) refl told_is.Closed (ap (λ (o : StepOut). o.answer) is) (ap (λ (o : StepOut). o.children) is) (due_here 4 here)
-  by_row (suc (suc (suc (suc (suc zero))))) here (inr is) = check_paid here is.0 is.1
+  by_row (suc (suc (suc (suc (suc zero))))) here (inr is) = check_paid here (against pid pick out J legal me is_me region moved) is
   by_row (suc (suc (suc (suc (suc (suc n)))))) here (inr is) = absurd is
 
   pub transit_paid : Paid

@@ -1,5 +1,6 @@
 -- In every legal journal the catalog has a whole table where no root asks for it alone: the deeds of the roots that go on,
 -- where they are done, come on top of those of the roots that ended.
+use Rattle.hm_model.specs.Base.{HasNoHalfBase}
 use Rattle.std.proofs.Common.{◌≡◌, ◌≢◌, ℕ, zero, suc, ◌+◌, ◌<◌, ◌≤◌, [], ◌∷◌, true, false, is_some, Option, Some, None, refl, ap, sym, ◌∙◌, subst, inl, inr, ◌⊎◌, arith}
 use Rattle.std.proofs.lemmas.Bool.{cases_Bool, cases_eq, true≢false}
 use Rattle.std.proofs.lemmas.Option.{none-some, same_Some}
@@ -57,7 +58,7 @@ pub wide_rows : (args : Args) → asks_regions args ≡ false → (t : TableName
 wide_rows (args_are.Root request first) h t id = wide_covers request first h t id
 wide_rows args h t id = absurd (true≢false h)
 
-module _ (n : ℕ) (big : 4096 < n) (J : Past) (legal : IsLegal J) where
+module _ (n : ℕ) (big : 4096 < n) (J : Past) (legal : IsLegal J) (begun : HasNoHalfBase J) where
   -- a root that holds, and asks for regions alone
   abbrev Acts : ℕ → Node → Type 0
   Acts r node = TopHolds J r node × (asks_regions node.args ≡ true)
@@ -129,8 +130,8 @@ module _ (n : ℕ) (big : 4096 < n) (J : Past) (legal : IsLegal J) where
 
         may : MayDo n there (keys_of J) request first
         may = record {
-          sound = (whole_all n big J legal).sound r node (record { request = request; first = first }) acts.0.0.0 asked;
-          free = λ u is i low high. agree (region_key u i) (cover_guards node.args (region_key u i) (covered_new u is i low high)) ∙ (whole_all n big J legal).free r node (record { request = request; first = first }) acts.0.0.0 asked (running_undone (last_answer J r) runs) u i (is, low, high);
+          sound = (whole_all n big J legal begun).sound r node (record { request = request; first = first }) acts.0.0.0 asked;
+          free = λ u is i low high. agree (region_key u i) (cover_guards node.args (region_key u i) (covered_new u is i low high)) ∙ (whole_all n big J legal begun).free r node (record { request = request; first = first }) acts.0.0.0 asked (running_undone (last_answer J r) runs) u i (is, low, high);
           low = λ u is i low high. (
               let le = (asked_ids (DrawnIn J) node.args (record { request = request; first = first }) ((drawn_all J legal).args r node acts.0.0.0) asked u i (is, low, high)).1 in
               let few = ids_within J legal u in
@@ -235,10 +236,10 @@ module _ (n : ℕ) (big : 4096 < n) (J : Past) (legal : IsLegal J) where
   reach : (k : ℕ) → Reached k
   reach zero = record {
     there = serial J;
-    whole = (whole_all n big J legal).whole;
+    whole = (whole_all n big J legal begun).whole;
     seen = λ u id. inr (none_first (region_key u id));
     off = λ key not_asked. refl;
-    listed = (whole_all n big J legal).listed;
+    listed = (whole_all n big J legal begun).listed;
   }
     where
       none_first : (key : CatKey) → Unasked 0 key

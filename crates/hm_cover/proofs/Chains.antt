@@ -16,7 +16,7 @@ use Rattle.hm_model.specs.Checks.{by_start, hull, is_chain, with_part}
 use Rattle.hm_model.specs.Counts.{one_if}
 use Rattle.hm_model.specs.Pieces.{ranges_between, ranges_from}
 use Rattle.hm_model.specs.Requests.{rise}
-use Rattle.hm_model.specs.declared.part.Part.{Part}
+use Rattle.hm_model.specs.declared.merged.Merged.{Merged}
 
 -- how many of the ranges have the key
 abbrev pub holders : List ℕ → List KeyRange → ℕ
@@ -24,7 +24,7 @@ holders k [] = 0
 holders k (r ∷ more) = one_if (holds r k) + holders k more
 
 -- how many of the parts have the key
-abbrev pub part_holders : List ℕ → List Part → ℕ
+abbrev pub part_holders : List ℕ → List Merged → ℕ
 part_holders k [] = 0
 part_holders k (p ∷ more) = one_if (holds p.range k) + part_holders k more
 
@@ -36,7 +36,7 @@ abbrev pub HaveKeys : List KeyRange → Type 0
 HaveKeys [] = Unit {0}
 HaveKeys (r ∷ rs) = HasKey r × HaveKeys rs
 
-abbrev pub PartsHaveKeys : List Part → Type 0
+abbrev pub PartsHaveKeys : List Merged → Type 0
 PartsHaveKeys [] = Unit {0}
 PartsHaveKeys (p ∷ more) = HasKey p.range × PartsHaveKeys more
 
@@ -84,19 +84,19 @@ joined_has_key : (r s : KeyRange) → HasKey r → HasKey s → not (length r.en
 joined_has_key r s p q some e =
     holds_start (joined r s) r.end (and_parts (holds (joined r s) r.end) (not (bytes_eq r.start r.end)) (meets r s p q some e)).0
 
-chain_same : (a b : KeyRange) (more : List Part) → a.end ≡ b.end → is_chain a more ≡ is_chain b more
+chain_same : (a b : KeyRange) (more : List Merged) → a.end ≡ b.end → is_chain a more ≡ is_chain b more
 chain_same a b [] e = refl
 chain_same a b (next ∷ more) e = rw e refl
 
 -- what a chain says of its first two
-chain_on : (r : KeyRange) (next : Part) (more : List Part) → is_chain r (next ∷ more) ≡ true → (not (length r.end == 0) ≡ true) × (r.end ≡ next.range.start) × (is_chain (joined r next.range) more ≡ true)
+chain_on : (r : KeyRange) (next : Merged) (more : List Merged) → is_chain r (next ∷ more) ≡ true → (not (length r.end == 0) ≡ true) × (r.end ≡ next.range.start) × (is_chain (joined r next.range) more ≡ true)
 chain_on r next more chain =
     let one = and_parts (not (length r.end == 0)) (bytes_eq r.end next.range.start && is_chain next.range more) chain in
     let two = and_parts (bytes_eq r.end next.range.start) (is_chain next.range more) one.1 in
     (one.0, bytes_eq-is r.end next.range.start two.0, chain_same (joined r next.range) next.range more refl ∙ two.1)
 
 -- each key of the hull is in one range of the chain, and no other key is in any
-pub chain_once : (r : KeyRange) (more : List Part) (k : List ℕ) → HasKey r → PartsHaveKeys more → is_chain r more ≡ true → one_if (holds r k) + part_holders k more ≡ one_if (holds (hull r more) k)
+pub chain_once : (r : KeyRange) (more : List Merged) (k : List ℕ) → HasKey r → PartsHaveKeys more → is_chain r more ≡ true → one_if (holds r k) + part_holders k more ≡ one_if (holds (hull r more) k)
 chain_once r [] k here keys chain = omega arith
 chain_once r (next ∷ more) k here keys chain =
     let on = chain_on r next more chain in
@@ -104,14 +104,14 @@ chain_once r (next ∷ more) k here keys chain =
     let rest = chain_once (joined r next.range) more k (joined_has_key r next.range here keys.0 on.0 on.1) keys.1 on.2 in
     omega (arith, two, rest)
 
-pub hull_has_key : (r : KeyRange) (more : List Part) → HasKey r → PartsHaveKeys more → is_chain r more ≡ true → HasKey (hull r more)
+pub hull_has_key : (r : KeyRange) (more : List Merged) → HasKey r → PartsHaveKeys more → is_chain r more ≡ true → HasKey (hull r more)
 hull_has_key r [] here keys chain = here
 hull_has_key r (next ∷ more) here keys chain =
     let on = chain_on r next more chain in
     hull_has_key (joined r next.range) more (joined_has_key r next.range here keys.0 on.0 on.1) keys.1 on.2
 
 -- the order of parts doesn't matter
-with_part_holders : (k : List ℕ) (p : Part) (ps : List Part) → part_holders k (with_part p ps) ≡ one_if (holds p.range k) + part_holders k ps
+with_part_holders : (k : List ℕ) (p : Merged) (ps : List Merged) → part_holders k (with_part p ps) ≡ one_if (holds p.range k) + part_holders k ps
 with_part_holders k p [] = refl
 with_part_holders k p (first ∷ more) = by (is_le (bytes_cmp p.range.start first.range.start)) (with_part_holders k p more)
   where
@@ -119,11 +119,11 @@ with_part_holders k p (first ∷ more) = by (is_le (bytes_cmp p.range.start firs
     by true rest = refl
     by false rest = omega (arith, rest)
 
-pub by_start_holders : (k : List ℕ) (ps : List Part) → part_holders k (by_start ps) ≡ part_holders k ps
+pub by_start_holders : (k : List ℕ) (ps : List Merged) → part_holders k (by_start ps) ≡ part_holders k ps
 by_start_holders k [] = refl
 by_start_holders k (p ∷ ps) = with_part_holders k p (by_start ps) ∙ ap (λ x. one_if (holds p.range k) + x) (by_start_holders k ps)
 
-with_part_keys : (p : Part) (ps : List Part) → HasKey p.range → PartsHaveKeys ps → PartsHaveKeys (with_part p ps)
+with_part_keys : (p : Merged) (ps : List Merged) → HasKey p.range → PartsHaveKeys ps → PartsHaveKeys (with_part p ps)
 with_part_keys p [] one more = (one, tt)
 with_part_keys p (first ∷ more) one keys = by (is_le (bytes_cmp p.range.start first.range.start)) (with_part_keys p more one keys.1)
   where
@@ -131,7 +131,7 @@ with_part_keys p (first ∷ more) one keys = by (is_le (bytes_cmp p.range.start 
     by true rest = (one, (keys.0, keys.1))
     by false rest = (keys.0, rest)
 
-pub by_start_keys : (ps : List Part) → PartsHaveKeys ps → PartsHaveKeys (by_start ps)
+pub by_start_keys : (ps : List Merged) → PartsHaveKeys ps → PartsHaveKeys (by_start ps)
 by_start_keys [] keys = tt
 by_start_keys (p ∷ ps) keys = with_part_keys p (by_start ps) keys.0 (by_start_keys ps keys.1)
 

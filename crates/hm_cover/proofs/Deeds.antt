@@ -1,7 +1,7 @@
 -- Each deed leaves each table whole, and gives rows to no regions but those that are there and those that were drawn.
 use Rattle.std.proofs.Common.{◌≡◌, ◌≢◌, ℕ, suc, ◌+◌, ◌<◌, ◌≤◌, Bool, true, false, not, ◌==◌, ◌||◌, cond, List, [], ◌∷◌, ◌++◌, length, length-append, Option, Some, None, refl, sym, ap, subst, ◌∙◌, arith}
 use Rattle.std.specs.Prelude.{is_none}
-use Rattle.std.specs.List.{list_any}
+use Rattle.std.specs.List.{list_all, list_any}
 use Rattle.std.specs.declared.result.Result.TheVariants.{Ok}
 use Rattle.std.proofs.lemmas.Bool.{and_parts, cond-false, eq-eqb, false≢true, true≢false, not-true}
 use Rattle.std.proofs.lemmas.Option.{none-some}
@@ -18,6 +18,7 @@ use Rattle.hm_data.specs.declared.catalog.TableState.TheVariants as state_is
 use Rattle.hm_data.specs.declared.request.Request.{Request}
 use Rattle.hm_data.specs.declared.request.Request.TheVariants as request_is
 use Rattle.hm_model.proofs.KeyTests.{same_table-is}
+use Rattle.hm_model.proofs.Siblings.{merge_is}
 use Rattle.hm_model.specs.Catalog.{Catalog, edited, set_to}
 use Rattle.hm_model.specs.Changes.{add_ranges, changed, merge_edits, region_key, remove_regions, split_edits}
 use Rattle.hm_model.specs.Checks.{are_adjacent, by_start, can_split, namespace_empty, namespace_free, namespace_there, parts_of, region_ready, regions_live, rows_of, table_absent, table_disabled, table_enabled, table_free}
@@ -28,7 +29,7 @@ use Rattle.hm_model.specs.Locks.{IsIn}
 use Rattle.hm_model.specs.NamespaceActs.{has_table}
 use Rattle.hm_model.specs.Pieces.{ranges_between, ranges_from}
 use Rattle.hm_model.specs.Phase.{or_else}
-use Rattle.hm_model.specs.Requests.{is_pair, rise, wrong_in, wrong_keys}
+use Rattle.hm_model.specs.Requests.{are_apart, are_siblings, rise, wrong_in, wrong_keys}
 use Rattle.hm_model.specs.RowsSaid.{in_state, in_version, is_live_status, status_in}
 use Rattle.hm_model.specs.Tree.{new_ids}
 use Rattle.hm_ids.proofs.Drawn.{AllDrawn, IsFirstDrawn, SeenDrawn, between_fine, merge_fine, remove_fine, split_fine}
@@ -64,22 +65,26 @@ pub absent_is : (o : Option CatRow) → table_absent o ≡ None → o ≡ None
 absent_is None e = refl
 absent_is (Some row) e = absurd (none-some cause_is.TableExists (sym e))
 
--- regions of a pair are two of one table
-pair_is : (u : TableName) (regions : List Region) → table_of_first regions ≡ Some u → is_pair regions ≡ true → Each (λ r. r.table ≡ u) regions × Distinct regions
-pair_is u [] is e = absurd (false≢true e)
-pair_is u (one ∷ []) is e = absurd (false≢true e)
-pair_is u (one ∷ other ∷ []) is e =
-    let parts = and_parts (same_table one.table other.table) (not (one.id == other.id)) e in
-    let own : one.table ≡ u = Rattle.std.proofs.lemmas.Option.same_Some one.table u is in
-    ((own, (sym (same_table-is one.table other.table parts.0) ∙ own, tt)), (((λ same. true≢false (sym (eq-eqb one.id other.id (ap (λ (r : Region). r.id) (sym same))) ∙ not-true (one.id == other.id) parts.1)), tt), (tt, tt)))
-pair_is u (one ∷ other ∷ third ∷ more) is e = absurd (false≢true e)
+-- regions of which each passes a test
+each_passes : (test : Region → Bool) (P : Region → Type 0) → ((r : Region) → test r ≡ true → P r) → (regions : List Region) → list_all test regions ≡ true → Each P regions
+each_passes test P tells [] h = tt
+each_passes test P tells (region ∷ more) h =
+    let parts = and_parts (test region) (list_all test more) h in
+    (tells region parts.0, each_passes test P tells more parts.1)
 
-pair_of : (regions : List Region) → wrong_in (request_is.MergeRegions regions) ≡ None → is_pair regions ≡ true
-pair_of regions e = by (is_pair regions) e
-  where
-    by : (b : Bool) → cond {A = Option ℕ} b None (Some 4) ≡ None → b ≡ true
-    by true h = refl
-    by false h = absurd (none-some {A = ℕ} 4 (sym h))
+-- siblings are different, and of one table
+apart_differs : (one other : Region) → are_apart one other ≡ true → other ≢ one
+apart_differs one other h same = true≢false (sym (eq-eqb one.id other.id (ap (λ (r : Region). r.id) (sym same))) ∙ not-true (one.id == other.id) (and_parts (same_table one.table other.table) (not (one.id == other.id)) h).1)
+
+siblings_distinct : (regions : List Region) → are_siblings regions ≡ true → Distinct regions
+siblings_distinct [] h = tt
+siblings_distinct (region ∷ more) h =
+    let parts = and_parts (list_all (are_apart region) more) (are_siblings more) h in
+    (each_passes (are_apart region) (λ other. other ≢ region) (apart_differs region) more parts.0, siblings_distinct more parts.1)
+
+siblings_own : (region : Region) (more : List Region) → are_siblings (region ∷ more) ≡ true → Each (λ r. r.table ≡ region.table) (region ∷ more)
+siblings_own region more h =
+    (refl, each_passes (are_apart region) (λ r. r.table ≡ region.table) (λ r apart. sym (same_table-is region.table r.table (and_parts (same_table region.table r.table) (not (region.id == r.id)) apart).0)) more (and_parts (list_all (are_apart region) more) (are_siblings more) h).0)
 
 -- each of regions against which nothing stands is live
 both_false : (a b : Bool) (one other : Cause) → cond a (Some one) (cond b (Some other) None) ≡ None → (a ≡ false) × (b ≡ false)
@@ -134,13 +139,13 @@ module _ (n : ℕ) (there : Catalog) (keys : List CatKey) (whole : (t : TableNam
       by false off = removed_off n there u keys listed t off (whole t)
 
   merge_stays : (regions : List Region) (first : ℕ) → MayDo n there keys (request_is.MergeRegions regions) first → cause_of_merge (table_of_first regions) there regions ≡ None → StaysWhole (merge_edits there regions first)
-  merge_stays [] first may none t = absurd (false≢true (pair_of [] may.sound))
+  merge_stays [] first may none t = let many = (merge_is [] may.sound).many in absurd (omega (arith, many))
   merge_stays (region ∷ more) first may none t =
-      let pair = pair_is region.table (region ∷ more) refl (pair_of (region ∷ more) may.sound) in
+      let siblings = (merge_is (region ∷ more) may.sound).siblings in
       let one = neither (table_enabled (there (key_is.Table region.table))) (or_else (regions_live (rows_of there (region ∷ more))) (are_adjacent (by_start (parts_of there (region ∷ more))))) none in
       let two = neither (regions_live (rows_of there (region ∷ more))) (are_adjacent (by_start (parts_of there (region ∷ more)))) one.1 in
       let low : first < n = may.low region.table refl first (omega arith) (omega arith) in
-      merge_whole there n first region more (live_each there region.table (region ∷ more) pair.0 two.0) pair.1 two.1 (enabled_there (there (key_is.Table region.table)) one.0) (may.free region.table refl first (omega arith) (omega arith)) low t (whole region.table) (whole t)
+      merge_whole there n first region more (live_each there region.table (region ∷ more) (siblings_own region more siblings) two.0) (siblings_distinct (region ∷ more) siblings) two.1 (enabled_there (there (key_is.Table region.table)) one.0) (may.free region.table refl first (omega arith) (omega arith)) low t (whole region.table) (whole t)
 
   split_stays : (region : Region) (key : List ℕ) (first : ℕ) → MayDo n there keys (request_is.SplitRegion region key) first → can_split (there (key_is.Table region.table)) (there (key_is.Region region)) key ≡ None → StaysWhole (split_edits there region key first)
   split_stays region key first may none t =

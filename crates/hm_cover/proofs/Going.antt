@@ -85,3 +85,5 @@ goes_all (entry_is.Report call told ∷ J) legal r node h = goes_all J legal.0 r
 goes_all (entry_is.Up server ∷ J) legal r node h = goes_all J legal.0 r node h
 goes_all (entry_is.Down server ∷ J) legal r node h = goes_all J legal.0 r node (held_before J (entry_is.Down server ∷ J) (down_rooted server J (grown_all J legal.0)) (grown_all J legal.0) r node refl refl refl h)
 goes_all (entry_is.Abort pid ∷ J) legal r node h = goes_all J legal.0 r node h
+goes_all (entry_is.Adopt sheets ∷ J) legal r node h = goes_all J legal.0 r node h
+goes_all (entry_is.Base part ∷ J) legal r node h = absurd (none-some node h.0.0)

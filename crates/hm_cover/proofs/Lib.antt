@@ -1,3 +1,4 @@
+mod Based
 pub mod Chains
 pub mod Tally
 pub mod Whole

@@ -88,6 +88,9 @@ split_ready : (region : Region) (key : List ℕ) (first : ℕ) (base : Catalog) 
 split_ready region key first base lines then Splitting.begins = inl refl
 split_ready region key first base lines then (Splitting.found can) = inl refl
 split_ready region key first base lines then (Splitting.closed can) = inl refl
+split_ready region key first base lines then Splitting.starts = inl refl
+split_ready region key first base lines then (Splitting.tested can) = inl refl
+split_ready region key first base lines then (Splitting.ahead can) = inl refl
 split_ready region key first base lines then (Splitting.laid can) = inl refl
 split_ready region key first base lines then (Splitting.told can) = inr (Splitting.opened can)
 split_ready region key first base lines then (Splitting.opened can) = inr (Splitting.opened can)

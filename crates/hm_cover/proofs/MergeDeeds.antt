@@ -27,7 +27,7 @@ use Rattle.hm_model.specs.Counts.{one_if}
 use Rattle.hm_model.specs.Keys.{same_table}
 use Rattle.hm_model.specs.Locks.{in_name_order, with_region, with_region_at}
 use Rattle.hm_model.specs.RowsSaid.{in_status, range_in}
-use Rattle.hm_model.specs.declared.part.Part.{Part}
+use Rattle.hm_model.specs.declared.merged.Merged.{Merged}
 use Rattle.hm_model.specs.GoingBack.{Tells}
 use Rattle.hm_cover.proofs.Chains.{PartsHaveKeys, by_start_holders, by_start_keys, chain_once, hull_has_key, part_holders}
 use Rattle.hm_cover.proofs.Edits.{AreApart, HasNot, IsOff, Reads, off_append, tells_apart, whole_off}
@@ -90,7 +90,7 @@ module _ (seen there : Catalog) where
   parts_seen [] all = refl
   parts_seen (r ∷ rs) all = ap (λ o. keep_part r.id (range_in o) (parts_of seen rs)) all.0 ∙ ap (keep_part r.id (range_in (there (key_is.Region r)))) (parts_seen rs all.1)
 
-  merged_seen : (u : TableName) (first : ℕ) (ps : List Part) → seen (region_key u first) ≡ there (region_key u first) → merged_of seen u first ps ≡ merged_of there u first ps
+  merged_seen : (u : TableName) (first : ℕ) (ps : List Merged) → seen (region_key u first) ≡ there (region_key u first) → merged_of seen u first ps ≡ merged_of there u first ps
   merged_seen u first [] same = refl
   merged_seen u first (p ∷ ps) same = ap (λ o. record { key = region_key u first; before = o; after = Some (live_row (hull p.range ps) (map (λ part. part.id) (p ∷ ps))) } ∷ []) same
 
@@ -213,10 +213,10 @@ module _ (there : Catalog) where
     abbrev marks : List Edit
     marks = mark_merged there (in_name_order regions)
 
-    abbrev one_of : Part → List Part → List Edit
+    abbrev one_of : Merged → List Merged → List Edit
     one_of part parts = set_to there (region_key u first) (Some (live_row (hull part.range parts) (map (λ p. p.id) (part ∷ parts)))) ∷ []
 
-    chain_of : (part : Part) (parts : List Part) → are_adjacent (part ∷ parts) ≡ None → is_chain part.range parts ≡ true
+    chain_of : (part : Merged) (parts : List Merged) → are_adjacent (part ∷ parts) ≡ None → is_chain part.range parts ≡ true
     chain_of part parts e = by (is_chain part.range parts) e
       where
         by : (b : Bool) → cond b None (Some cause_is.NotAdjacent) ≡ None → b ≡ true
@@ -251,7 +251,7 @@ module _ (there : Catalog) where
     live_ordered : Each (IsLiveOf there u) (in_name_order regions)
     live_ordered = each_ordered (IsLiveOf there u) regions live
 
-    module _ (whole : Whole n there u) (part : Part) (parts : List Part) (are : by_start (parts_of there regions) ≡ part ∷ parts) where
+    module _ (whole : Whole n there u) (part : Merged) (parts : List Merged) (are : by_start (parts_of there regions) ≡ part ∷ parts) where
       abbrev edits : List Edit
       edits = marks ++ one_of part parts
 
@@ -297,7 +297,7 @@ module _ (there : Catalog) where
     merge_whole t own all = by (by_start (parts_of there regions)) refl
       where
         -- with_part never gives none
-        some_with : (p : Part) (ps : List Part) → Rattle.hm_model.specs.Checks.with_part p ps ≡ [] → ⊥
+        some_with : (p : Merged) (ps : List Merged) → Rattle.hm_model.specs.Checks.with_part p ps ≡ [] → ⊥
         some_with p [] e = cc
         some_with p (first ∷ more) e = pick (Rattle.std.specs.Ordering.is_le (Rattle.hm_names.specs.Order.bytes_cmp p.range.start first.range.start)) e
           where
@@ -308,6 +308,6 @@ module _ (there : Catalog) where
         some_here : by_start (parts_of there regions) ≡ [] → ⊥
         some_here e = some_with (record { id = region.id; range = live.0.1 }) (by_start (parts_of there more)) (sym (ap (λ o. by_start (keep_part region.id (range_in o) (parts_of there more))) live.0.3) ∙ e)
 
-        by : (ps : List Part) → by_start (parts_of there regions) ≡ ps → Whole n (λ k. edited (marks ++ merged_of there u first (by_start (parts_of there regions))) k (there k)) t
+        by : (ps : List Merged) → by_start (parts_of there regions) ≡ ps → Whole n (λ k. edited (marks ++ merged_of there u first (by_start (parts_of there regions))) k (there k)) t
         by [] e = absurd (some_here e)
         by (part ∷ parts) e = subst (λ ps. Whole n (λ k. edited (marks ++ merged_of there u first ps) k (there k)) t) (sym e) (merged_by own part parts e t all (same_table t u) refl)

@@ -16,7 +16,7 @@ use Rattle.hm_model.specs.Checks.{are_adjacent, by_start, can_merge, parts_of, r
 use Rattle.hm_model.specs.Counts.{count_below, one_if}
 use Rattle.hm_model.specs.Locks.{IsIn, in_name_order}
 use Rattle.hm_model.specs.Phase.{or_else}
-use Rattle.hm_model.specs.declared.part.Part.{Part}
+use Rattle.hm_model.specs.declared.merged.Merged.{Merged}
 use Rattle.hm_model.proofs.Counting.{count_none, count_some}
 use Rattle.hm_model.proofs.Trees.{le_or_lt}
 use Rattle.hm_kinds.proofs.Within.{edited-append}
@@ -98,7 +98,7 @@ marks_off : (there : Catalog) (rs : List Region) (t : TableName) (row : Option C
 marks_off there [] t row = refl
 marks_off there (r ∷ rs) t row = marks_off there rs t row
 
-merged_off : (there : Catalog) (u : TableName) (first : ℕ) (parts : List Part) (t : TableName) (row : Option CatRow) → edited (merged_of there u first parts) (key_is.Table t) row ≡ row
+merged_off : (there : Catalog) (u : TableName) (first : ℕ) (parts : List Merged) (t : TableName) (row : Option CatRow) → edited (merged_of there u first parts) (key_is.Table t) row ≡ row
 merged_off there u first [] t row = refl
 merged_off there u first (part ∷ more) t row = refl
 

@@ -378,3 +378,5 @@ mixed_all (entry_is.Down server ∷ J) legal r node h wide =
     let rooted = down_rooted server J grown in
     made_mixed J (entry_is.Down server ∷ J) rooted grown refl refl refl r node (mixed_all J legal.0 r node (held_before J (entry_is.Down server ∷ J) rooted grown r node refl refl refl h) wide)
 mixed_all (entry_is.Abort pid ∷ J) legal r node h wide = let t = mixed_all J legal.0 r node h wide in record { rows = t.rows; kids = t.kids; mixes = t.mixes }
+mixed_all (entry_is.Adopt sheets ∷ J) legal r node h wide = let t = mixed_all J legal.0 r node h wide in record { rows = t.rows; kids = t.kids; mixes = t.mixes }
+mixed_all (entry_is.Base part ∷ J) legal r node h wide = absurd (none-some node h.0.0)

@@ -1,4 +1,6 @@
 -- Live regions of one table never overlap, also while the table is made, changed or deleted.
+use Rattle.hm_model.specs.Base.{HasNoHalfBase}
+use Rattle.hm_cover.proofs.Based.{half_or, parts_serial, regions_of_parts}
 use Rattle.std.proofs.Common.{◌≡◌, ◌≢◌, ℕ, ◌+◌, ◌<◌, ◌≤◌, List, [], ◌∷◌, ◌++◌, length, Bool, true, false, ◌||◌, is_some, Option, Some, None, refl, ap, sym, ◌∙◌, subst, inl, inr, ◌⊎◌, arith}
 use Rattle.std.proofs.lemmas.Bool.{cases_Bool, false≢true, true≢false}
 use Rattle.std.proofs.lemmas.Option.{none-some}
@@ -84,7 +86,7 @@ over true h = refl
 over false h = absurd (false≢true h)
 
 -- a root that holds and asks for the table alone
-module _ (n : ℕ) (big : 4096 < n) (J : Past) (legal : IsLegal J) (r : ℕ) (node : Node) (holds : TopHolds J r node) (wide : asks_regions node.args ≡ false) (t : TableName) (c : covers node.args (key_is.Table t) ≡ true) where
+module _ (n : ℕ) (big : 4096 < n) (J : Past) (legal : IsLegal J) (begun : HasNoHalfBase J) (r : ℕ) (node : Node) (holds : TopHolds J r node) (wide : asks_regions node.args ≡ false) (t : TableName) (c : covers node.args (key_is.Table t) ≡ true) where
   covered_row : (id : ℕ) → covers node.args (region_key t id) ≡ true
   covered_row id = wide_rows node.args wide t id ∙ c
 
@@ -92,7 +94,7 @@ module _ (n : ℕ) (big : 4096 < n) (J : Past) (legal : IsLegal J) (r : ℕ) (no
   whole_was : Whole n (was J r) t
   whole_was =
       let base = ((stands_all J legal).tree r node holds).base in
-      whole_same n (serial J) (was J r) t (λ id. sym (base (region_key t id) (cover_guards node.args (region_key t id) (covered_row id)))) (ap is_some (sym (base (key_is.Table t) (cover_guards node.args (key_is.Table t) c)))) ((whole_all n big J legal).whole t)
+      whole_same n (serial J) (was J r) t (λ id. sym (base (region_key t id) (cover_guards node.args (region_key t id) (covered_row id)))) (ap is_some (sym (base (key_is.Table t) (cover_guards node.args (key_is.Table t) c)))) ((whole_all n big J legal begun).whole t)
 
   mixed : (id : ℕ) → IsMixed node.args (was J r) (region_key t id) (cat J (region_key t id))
   mixed id = (mixed_all J legal r node holds wide).rows (region_key t id) refl (covered_row id)
@@ -114,7 +116,7 @@ module _ (n : ℕ) (big : 4096 < n) (J : Past) (legal : IsLegal J) (r : ℕ) (no
     asked = ap asked_of own
 
     rises : rise [] split ≡ true
-    rises = keys_rise split ((whole_all n big J legal).sound r node (record { request = request_is.CreateTable t split; first = first }) holds.0.0 asked)
+    rises = keys_rise split ((whole_all n big J legal begun).sound r node (record { request = request_is.CreateTable t split; first = first }) holds.0.0 asked)
 
     low : first + length (ranges_between ([] ∷ split ++ [] ∷ [])) ≤ n
     low =
@@ -170,20 +172,30 @@ module _ (n : ℕ) (big : 4096 < n) (J : Past) (legal : IsLegal J) (r : ℕ) (no
   busy_apart : IsTidy (cat J) t
   busy_apart = by_args node.args refl
 
-never_at : (n : ℕ) → 4096 < n → (J : Past) → IsLegal J → (t : TableName) → IsTidy (cat J) t
-never_at n big J legal t = elim (covered_or J (key_is.Table t) (made J + 1)) [
+never_at : (n : ℕ) → 4096 < n → (J : Past) → IsLegal J → HasNoHalfBase J → (t : TableName) → IsTidy (cat J) t
+never_at n big J legal begun t = elim (covered_or J (key_is.Table t) (made J + 1)) [
   | inl busy ↦ elim (cases_Bool (asks_regions busy.1.args)) [
     | inl local ↦ absurd (true≢false (sym busy.3 ∙ local_free busy.1.args local t))
-    | inr wide ↦ busy_apart n big J legal busy.0 busy.1 busy.2 wide t busy.3
+    | inr wide ↦ busy_apart n big J legal begun busy.0 busy.1 busy.2 wide t busy.3
   ]
-  | inr free ↦ whole_tidy n (cat J) t (cat_whole n big J legal t (λ r node h. free r node (let le = is_there J (grown_all J legal) r node h.0.0 in omega (arith, le)) h))
+  | inr free ↦ whole_tidy n (cat J) t (cat_whole n big J legal begun t (λ r node h. free r node (let le = is_there J (grown_all J legal) r node h.0.0 in omega (arith, le)) h))
 ]
 
 pub never_overlap : LiveRegionsNeverOverlap
-never_overlap J legal table = (never_at 4097 (omega arith) J legal table).0
+never_overlap J legal table = elim (half_or J legal) [
+  | inl parts ↦ (regions_of_parts J legal parts).apart table
+  | inr whole ↦ (never_at 4097 (omega arith) J legal whole table).0
+]
 
 pub have_keys : LiveRangesHaveKeys
-have_keys J legal table = (filled_key (cat J) table (never_at 4097 (omega arith) J legal table).1, deeds_have_keys 4097 (omega arith))
+have_keys J legal table = elim (half_or J legal) [
+  | inl parts ↦
+      let filled = (regions_of_parts J legal parts).filled in (
+        filled_key (cat J) table (λ id. filled (record { table = table; id = id })),
+        filled_key (serial J) table (λ id. subst IsFilled (sym (parts_serial J parts (region_key table id))) (filled (record { table = table; id = id }))),
+      )
+  | inr whole ↦ (filled_key (cat J) table (never_at 4097 (omega arith) J legal whole table).1, deeds_have_keys 4097 (omega arith) whole)
+]
   where
-    deeds_have_keys : (n : ℕ) → 4096 < n → RangesHaveKeys (serial J) table
-    deeds_have_keys n big = filled_key (serial J) table ((whole_all n big J legal).whole table).filled
+    deeds_have_keys : (n : ℕ) → 4096 < n → HasNoHalfBase J → RangesHaveKeys (serial J) table
+    deeds_have_keys n big whole = filled_key (serial J) table ((whole_all n big J legal whole).whole table).filled

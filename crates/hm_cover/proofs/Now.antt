@@ -1,4 +1,5 @@
 -- What holds of the tables of the catalog of now that nobody asks for alone.
+use Rattle.hm_model.specs.Base.{HasNoHalfBase}
 use Rattle.std.proofs.Common.{◌≡◌, ℕ, ◌<◌, false, arith, inl, inr}
 use Rattle.std.proofs.lemmas.Bool.{cases_Bool}
 use Rattle.hm_names.specs.declared.table.TableName.{TableName}
@@ -15,8 +16,8 @@ use Rattle.hm_cover.proofs.Whole.{Whole, bare_at, covered}
 use Rattle.hm_cover.specs.Theorem.{LiveRegionsCover, MissingTablesAreBare}
 
 -- a table that isn't busy is whole
-pub free_whole : (n : ℕ) → 4096 < n → (J : Past) → IsLegal J → (t : TableName) → (IsBusy J (key_is.Table t) → ⊥) → Whole n (cat J) t
-free_whole n big J legal t free = cat_whole n big J legal t free_root
+pub free_whole : (n : ℕ) → 4096 < n → (J : Past) → IsLegal J → HasNoHalfBase J → (t : TableName) → (IsBusy J (key_is.Table t) → ⊥) → Whole n (cat J) t
+free_whole n big J legal begun t free = cat_whole n big J legal begun t free_root
   where
     free_root : (r : ℕ) (node : Node) → TopHolds J r node → covers node.args (key_is.Table t) ≡ false
     free_root r node h = elim (cases_Bool (covers node.args (key_is.Table t))) [
@@ -25,13 +26,13 @@ free_whole n big J legal t free = cat_whole n big J legal t free_root
     ]
 
 pub live_cover : LiveRegionsCover
-live_cover J legal table free some = at 4097 (omega arith)
+live_cover J legal begun table free some = at 4097 (omega arith)
   where
     at : (n : ℕ) → 4096 < n → IsCovered (cat J) table
-    at n big = covered n (cat J) table (free_whole n big J legal table free) some
+    at n big = covered n (cat J) table (free_whole n big J legal begun table free) some
 
 pub missing_bare : MissingTablesAreBare
-missing_bare J legal table free none = at 4097 (omega arith)
+missing_bare J legal begun table free none = at 4097 (omega arith)
   where
     at : (n : ℕ) → 4096 < n → IsBare (cat J) table
-    at n big = bare_at n (cat J) table (free_whole n big J legal table free) none
+    at n big = bare_at n (cat J) table (free_whole n big J legal begun table free) none

@@ -60,6 +60,10 @@ use Rattle.hm_ids.proofs.Drawn.{ArgsDrawn, IsDrawnAt, SeenDrawn}
 use Rattle.hm_ids.proofs.DrawnAll.{DrawnIn, at_more, drawn_all, drawn_more, edited_drawn}
 use Rattle.hm_cover.proofs.Whole.{Whole, bare_at, covered, none_overlap, whole_none, whole_same}
 use Rattle.hm_cover.specs.Theorem.{DeedsKeepRanges}
+use Rattle.hm_model.specs.Base.{HasNoHalfBase}
+use Rattle.hm_model.proofs.Grown.{all_parts}
+use Rattle.hm_model.proofs.Parted.{no_half}
+use Rattle.hm_cover.proofs.Based.{base_whole}
 use Rattle.hm_model.specs.Ranges.{IsBare, IsCovered, NoneOverlap}
 
 -- an id of a table is one of those that a request drew
@@ -399,35 +403,50 @@ start_none id t = refl
 start_listed : (key : CatKey) → serial [] key ≢ None → IsIn key (keys_of [])
 start_listed key some = has_key [] key some
 
-pub whole_all : (n : ℕ) → 4096 < n → (J : Past) → IsLegal J → IsWhole n J
-whole_all n big [] legal = record {
+nothing_whole : (n : ℕ) → IsWhole n []
+nothing_whole n = record {
   whole = λ t. whole_none n (serial []) t refl (λ id. refl);
   sound = λ p x a is. absurd (none-some x is);
   apart = λ p q x y a b differs is. absurd (none-some x is);
   free = λ p x a is. absurd (none-some x is);
   listed = start_listed;
-  rows = (drawn_all [] legal).rows;
+  rows = (drawn_all [] tt).rows;
 }
-whole_all n big (entry_is.Start sheets ∷ J) legal = calm_whole n J (entry_is.Start sheets ∷ J) (whole_all n big J legal.0) (λ key. refl) (λ p x a is asked. is) (λ p. refl) (λ key at. at) (λ t. refl)
-whole_all n big (entry_is.Submit nonce request ∷ J) legal = submit_whole n nonce request J legal (whole_all n big J legal.0)
-whole_all n big (entry_is.Step pid pick out ∷ J) legal = step_whole n big pid pick out J legal (whole_all n big J legal.0)
-whole_all n big (entry_is.Undo pid row out ∷ J) legal = calm_whole n J (entry_is.Undo pid row out ∷ J) (whole_all n big J legal.0) (λ key. refl) (undo_old pid row out J legal) (λ p. refl) (λ key at. in_with_keys key out.edits (keys_of J) at) (λ t. refl)
-whole_all n big (entry_is.Report call told ∷ J) legal = calm_whole n J (entry_is.Report call told ∷ J) (whole_all n big J legal.0) (λ key. refl) (λ p x a is asked. is) (λ p. refl) (λ key at. at) (λ t. refl)
-whole_all n big (entry_is.Up server ∷ J) legal = calm_whole n J (entry_is.Up server ∷ J) (whole_all n big J legal.0) (λ key. refl) (λ p x a is asked. is) (λ p. refl) (λ key at. at) (λ t. refl)
-whole_all n big (entry_is.Down server ∷ J) legal = calm_whole n J (entry_is.Down server ∷ J) (whole_all n big J legal.0) (λ key. refl) (down_old server J) (λ p. refl) (λ key at. at) (λ t. refl)
-whole_all n big (entry_is.Abort pid ∷ J) legal = calm_whole n J (entry_is.Abort pid ∷ J) (whole_all n big J legal.0) (λ key. refl) (λ p x a is asked. is) (λ p. refl) (λ key at. at) (λ t. refl)
+
+pub whole_all : (n : ℕ) → 4096 < n → (J : Past) → IsLegal J → HasNoHalfBase J → IsWhole n J
+whole_all n big [] legal begun = nothing_whole n
+whole_all n big (entry_is.Start sheets ∷ J) legal begun = calm_whole n J (entry_is.Start sheets ∷ J) (subst (IsWhole n) (sym legal.1.0.0) (nothing_whole n)) (λ key. refl) (λ p x a is asked. is) (λ p. refl) (λ key at. at) (λ t. refl)
+whole_all n big (entry_is.Submit nonce request ∷ J) legal begun = submit_whole n nonce request J legal (whole_all n big J legal.0 (no_half J legal.1.0))
+whole_all n big (entry_is.Step pid pick out ∷ J) legal begun = step_whole n big pid pick out J legal (whole_all n big J legal.0 (no_half J legal.1.0))
+whole_all n big (entry_is.Undo pid row out ∷ J) legal begun = calm_whole n J (entry_is.Undo pid row out ∷ J) (whole_all n big J legal.0 (no_half J legal.1.0)) (λ key. refl) (undo_old pid row out J legal) (λ p. refl) (λ key at. in_with_keys key out.edits (keys_of J) at) (λ t. refl)
+whole_all n big (entry_is.Report call told ∷ J) legal begun = calm_whole n J (entry_is.Report call told ∷ J) (whole_all n big J legal.0 (no_half J legal.1.0)) (λ key. refl) (λ p x a is asked. is) (λ p. refl) (λ key at. at) (λ t. refl)
+whole_all n big (entry_is.Up server ∷ J) legal begun = calm_whole n J (entry_is.Up server ∷ J) (whole_all n big J legal.0 (no_half J legal.1.0)) (λ key. refl) (λ p x a is asked. is) (λ p. refl) (λ key at. at) (λ t. refl)
+whole_all n big (entry_is.Down server ∷ J) legal begun = calm_whole n J (entry_is.Down server ∷ J) (whole_all n big J legal.0 (no_half J legal.1.0)) (λ key. refl) (down_old server J) (λ p. refl) (λ key at. at) (λ t. refl)
+whole_all n big (entry_is.Abort pid ∷ J) legal begun = calm_whole n J (entry_is.Abort pid ∷ J) (whole_all n big J legal.0 (no_half J legal.1.0)) (λ key. refl) (λ p x a is asked. is) (λ p. refl) (λ key at. at) (λ t. refl)
+whole_all n big (entry_is.Adopt sheets ∷ J) legal begun = calm_whole n J (entry_is.Adopt sheets ∷ J) (whole_all n big J legal.0 (no_half J legal.1.0)) (λ key. refl) (λ p x a is asked. is) (λ p. refl) (λ key at. at) (λ t. refl)
+whole_all n big (entry_is.Base part ∷ J) legal begun = record {
+  whole = λ t. whole_same n (cat (entry_is.Base part ∷ J)) (serial (entry_is.Base part ∷ J)) t (λ id. sym (same (region_key t id))) (ap is_some (sym (same (key_is.Table t)))) (base_whole n big (entry_is.Base part ∷ J) legal (all_parts (entry_is.Base part ∷ J) legal refl) begun t);
+  sound = λ p x a is. absurd (none-some x is);
+  apart = λ p q x y a b differs is. absurd (none-some x is);
+  free = λ p x a is. absurd (none-some x is);
+  listed = λ key some. has_key (entry_is.Base part ∷ J) key (λ none. some (sym (same key) ∙ none));
+  rows = λ key. subst (IsDrawnAt (DrawnIn (entry_is.Base part ∷ J)) key) (same key) ((drawn_all (entry_is.Base part ∷ J) legal).rows key);
+}
+  where
+    same : (key : CatKey) → cat (entry_is.Base part ∷ J) key ≡ serial (entry_is.Base part ∷ J) key
+    same key = catalog_is (entry_is.Base part ∷ J) legal key (λ busy. none-some busy.1 busy.2)
 
 -- where no root holds, the catalog has whole tables too
-pub rest_whole : (n : ℕ) → 4096 < n → (J : Past) → IsLegal J → ((r : ℕ) (x : Node) → TopHolds J r x → ⊥) → (t : TableName) → Whole n (cat J) t
-rest_whole n big J legal none t =
+pub rest_whole : (n : ℕ) → 4096 < n → (J : Past) → IsLegal J → HasNoHalfBase J → ((r : ℕ) (x : Node) → TopHolds J r x → ⊥) → (t : TableName) → Whole n (cat J) t
+rest_whole n big J legal begun none t =
     let free : (key : CatKey) → IsBusy J key → ⊥ = (λ key busy. let top = holds_root J (grown_all J legal) busy.0 busy.1 busy.2 busy.3 in none busy.1.root top.0 top.1) in
-    whole_same n (serial J) (cat J) t (λ id. catalog_is J legal (region_key t id) (free (region_key t id))) (ap is_some (catalog_is J legal (key_is.Table t) (free (key_is.Table t)))) ((whole_all n big J legal).whole t)
+    whole_same n (serial J) (cat J) t (λ id. catalog_is J legal (region_key t id) (free (region_key t id))) (ap is_some (catalog_is J legal (key_is.Table t) (free (key_is.Table t)))) ((whole_all n big J legal begun).whole t)
 
 -- so the live regions of the deeds' catalog never overlap, cover every key, and a table that isn't there has none
 pub deeds_keep : DeedsKeepRanges
-deeds_keep J legal table = at 4097 (omega arith)
+deeds_keep J legal begun table = at 4097 (omega arith)
   where
     at : (n : ℕ) → 4096 < n → NoneOverlap (serial J) table × (serial J (key_is.Table table) ≢ None → IsCovered (serial J) table) × (serial J (key_is.Table table) ≡ None → IsBare (serial J) table)
     at n big =
-        let whole = (whole_all n big J legal).whole table in
+        let whole = (whole_all n big J legal begun).whole table in
         (none_overlap n (serial J) table whole, covered n (serial J) table whole, bare_at n (serial J) table whole)

@@ -40,7 +40,7 @@ use Rattle.hm_model.specs.Outs.{fails}
 use Rattle.hm_model.specs.Phase.{cause, or_else}
 use Rattle.hm_model.specs.Reads.{covers}
 use Rattle.hm_model.specs.Rules.{IsLegal}
-use Rattle.hm_model.specs.Sheets.{next_row, row_in, sheet_for, sheets_of, undo_by, undo_of_next}
+use Rattle.hm_model.specs.Sheets.{next_row, row_in, sheet_for, sheets_by, undo_by, undo_of_next}
 use Rattle.hm_model.specs.Tree.{Node, is_top, node_of, root_in, root_of}
 use Rattle.hm_model.specs.Undo.{Undoable, pushed, rest_of, row_if_there, stack}
 use Rattle.hm_model.specs.Undoing.{turned_round, undo_edits}
@@ -50,7 +50,7 @@ use Rattle.hm_model.proofs.ExactRows.{is_late_next, is_listed}
 use Rattle.hm_model.proofs.LegalSteps.{StepFacts, ready_stops}
 use Rattle.hm_model.proofs.PlainActs.{GoesTo, plain_act}
 use Rattle.hm_model.proofs.StepDoes.{Does}
-use Rattle.hm_model.proofs.Trees.{Grown, answer_now, does_of, down_rooted, grown_all, step_of, submit_rooted}
+use Rattle.hm_model.proofs.Trees.{Grown, answer_now, does_of, down_rooted, grown_all, sheets_stay, step_of, submit_rooted}
 use Rattle.hm_model.proofs.ValidSheets.{Leads, valid_end}
 use Rattle.hm_serial.proofs.Apart.{Aside, step_top}
 use Rattle.hm_kinds.proofs.Editless.{none_act}
@@ -208,7 +208,7 @@ module _ (pid : Pid) (pick : Option Server) (out : StepOut) (J : Past) (grown : 
   next_root : step.node.above ≡ [] → next_row J' step.node.root top ≡ slice_get step.sheet.rows (row_after (first_row_of step.node.args) (Some out.answer))
   next_root e =
       ap (next_row (entry_is.Step pid pick out ∷ J) step.node.root) (root_step e).1
-      ∙ ap (λ o. row_in (sheet_for (sheets_of J) (kind_of step.node.args)) (row_after (first_row_of step.node.args) o)) (last_root e)
+      ∙ ap (λ o. row_in (sheet_for (sheets_by J step.node.root) (kind_of step.node.args)) (row_after (first_row_of step.node.args) o)) (last_root e)
       ∙ ap (λ s. row_in s (row_after (first_row_of step.node.args) (Some out.answer))) step.sheet_is
 
   next_before : step.node.above ≡ [] → next_row J step.node.root top ≡ Some step.row
@@ -310,7 +310,7 @@ module _ (pid : Pid) (pick : Option Server) (out : StepOut) (J : Past) (grown : 
     kid_back (inl listless) = inl listless
     kid_back (inr (inr may)) =
         let last = other_last pid pick out J grown falls step d aside kid in
-        inr (inr (ap is_stopped (sym last) ∙ may.0, may.1, subst (λ o. row_in (sheet_for (sheets_of J) (kind_of top.args)) (row_after (first_row_of top.args) o) ≡ Some may.1) last may.2, may.3))
+        inr (inr (ap is_stopped (sym last) ∙ may.0, may.1, subst (λ o. row_in (sheet_for (sheets_by J top.root) (kind_of top.args)) (row_after (first_row_of top.args) o) ≡ Some may.1) last may.2, may.3))
     kid_back (inr (inl failed)) = by (cause J step.node.root) refl (failing out.answer) refl
       where
         by : (c : Option Cause) → cause J step.node.root ≡ c → (f : Option Cause) → failing out.answer ≡ f → MayFall J step.node.root top
@@ -407,7 +407,7 @@ module _ (pid : Pid) (pick : Option Server) (out : StepOut) (J : Past) (legal : 
   step_spared r node h may = elim (cases_eq r made.node.root) [
     | inr differs ↦
         let left = step_left pid pick out J (grown_all J legal.0) made does r node (step_top pid pick out J made r node h.0) differs in
-        subst (Spares node.args) (sym left.stack_is) (before r node (holds_left J (entry_is.Step pid pick out ∷ J) r node left h) (may_on (entry_is.Step pid pick out ∷ J) J r node (sym left.cause_is) (sym left.last) (sym left.sheets) may))
+        subst (Spares node.args) (sym left.stack_is) (before r node (holds_left J (entry_is.Step pid pick out ∷ J) r node left h) (may_on (entry_is.Step pid pick out ∷ J) J r node (sym left.cause_is) (sym left.last) refl may))
     | inl same ↦
         let was = step_top pid pick out J made r node h.0 in
         let is : its.0 ≡ node = same_Some its.0 node (sym its.1.0 ∙ ap (node_of J) (sym same) ∙ was.0) in
@@ -421,7 +421,8 @@ rest_spared args (latest ∷ more) below e each = subst (Spares args) e each.1
 
 undo_spared : (pid : Pid) (row : ℕ) (out : StepOut) (J : Past) (legal : IsLegal (entry_is.Undo pid row out ∷ J)) → AllSpared J → AllSpared (entry_is.Undo pid row out ∷ J)
 undo_spared pid row out J legal before r node h may =
-    let old = before r node (undo_back pid row out J legal (grown_all J legal.0) (falls_all J legal.0).falls r node h) (may_on (entry_is.Undo pid row out ∷ J) J r node refl refl refl may) in
+    let held = undo_back pid row out J legal (grown_all J legal.0) (falls_all J legal.0).falls r node h in
+    let old = before r node held (may_on (entry_is.Undo pid row out ∷ J) J r node refl refl (sym (sheets_stay (entry_is.Undo pid row out) J legal r node held.0.0)) may) in
     elim (cases_eq (root_of J pid.0) r) [
       | inl same ↦ rest_spared node.args (stack J r) (stack (entry_is.Undo pid row out ∷ J) r) (sym (cond-true (root_of J pid.0 == r) (rest_of (stack J r)) (stack J r) (eq-eqb (root_of J pid.0) r same))) old
       | inr differs ↦ subst (Spares node.args) (sym (cond-false (root_of J pid.0 == r) (rest_of (stack J r)) (stack J r) (ne_eqb (root_of J pid.0) r differs))) old
@@ -432,11 +433,15 @@ pub spared_all : (J : Past) → IsLegal J → AllSpared J
 spared_all [] legal r node h may = absurd (none-some node h.0.0)
 spared_all (entry_is.Start sheets ∷ J) legal r node h may = absurd (none-some node (sym (none_at J legal.1.0.0 r) ∙ h.0.0))
 spared_all (entry_is.Submit nonce request ∷ J) legal r node h may =
-    spared_all J legal.0 r node (held_before J (entry_is.Submit nonce request ∷ J) (submit_rooted nonce request J (grown_all J legal.0)) (grown_all J legal.0) r node refl refl refl h) (may_on (entry_is.Submit nonce request ∷ J) J r node refl refl refl may)
+    let held = held_before J (entry_is.Submit nonce request ∷ J) (submit_rooted nonce request J (grown_all J legal.0)) (grown_all J legal.0) r node refl refl refl h in
+    spared_all J legal.0 r node held (may_on (entry_is.Submit nonce request ∷ J) J r node refl refl (sym (sheets_stay (entry_is.Submit nonce request) J legal r node held.0.0)) may)
 spared_all (entry_is.Step pid pick out ∷ J) legal r node h may = step_spared pid pick out J legal (spared_all J legal.0) r node h may
 spared_all (entry_is.Undo pid row out ∷ J) legal r node h may = undo_spared pid row out J legal (spared_all J legal.0) r node h may
 spared_all (entry_is.Report call told ∷ J) legal r node h may = spared_all J legal.0 r node h may
 spared_all (entry_is.Up server ∷ J) legal r node h may = spared_all J legal.0 r node h may
 spared_all (entry_is.Down server ∷ J) legal r node h may =
-    spared_all J legal.0 r node (held_before J (entry_is.Down server ∷ J) (down_rooted server J (grown_all J legal.0)) (grown_all J legal.0) r node refl refl refl h) (may_on (entry_is.Down server ∷ J) J r node refl refl refl may)
+    let held = held_before J (entry_is.Down server ∷ J) (down_rooted server J (grown_all J legal.0)) (grown_all J legal.0) r node refl refl refl h in
+    spared_all J legal.0 r node held (may_on (entry_is.Down server ∷ J) J r node refl refl (sym (sheets_stay (entry_is.Down server) J legal r node held.0.0)) may)
 spared_all (entry_is.Abort pid ∷ J) legal r node h may = spared_all J legal.0 r node h may
+spared_all (entry_is.Adopt sheets ∷ J) legal r node h may = spared_all J legal.0 r node h may
+spared_all (entry_is.Base part ∷ J) legal r node h may = absurd (none-some node h.0.0)

@@ -1,5 +1,6 @@
 -- What holds of the regions of every legal journal.
-use Rattle.std.specs.Prelude.{◌≡◌, ◌≢◌, None, true}
+use Rattle.hm_model.specs.Base.{HasNoHalfBase}
+use Rattle.std.specs.Prelude.{◌≡◌, ◌≢◌, ℕ, ◌≤◌, None, true}
 use Rattle.hm_names.specs.Ranges.{holds}
 use Rattle.hm_names.specs.Region.{Region}
 use Rattle.hm_names.specs.declared.range.KeyRange.{KeyRange}
@@ -16,7 +17,7 @@ use Rattle.hm_model.specs.Serial.{serial}
 -- no region's row
 abbrev pub DeedsKeepRanges : Type 0
 DeedsKeepRanges =
-    (J : Past) → IsLegal J → (table : TableName)
+    (J : Past) → IsLegal J → HasNoHalfBase J → (table : TableName)
     → NoneOverlap (serial J) table
     × (serial J (key_is.Table table) ≢ None → IsCovered (serial J) table)
     × (serial J (key_is.Table table) ≡ None → IsBare (serial J) table)
@@ -24,13 +25,13 @@ DeedsKeepRanges =
 -- where no unfinished procedure with a step asks for a table alone and the table is there, each key lies in a live region
 abbrev pub LiveRegionsCover : Type 0
 LiveRegionsCover =
-    (J : Past) → IsLegal J → (table : TableName) → (IsBusy J (key_is.Table table) → ⊥) → cat J (key_is.Table table) ≢ None
+    (J : Past) → IsLegal J → HasNoHalfBase J → (table : TableName) → (IsBusy J (key_is.Table table) → ⊥) → cat J (key_is.Table table) ≢ None
     → IsCovered (cat J) table
 
 -- where none does and the table isn't there, it has no region's row
 abbrev pub MissingTablesAreBare : Type 0
 MissingTablesAreBare =
-    (J : Past) → IsLegal J → (table : TableName) → (IsBusy J (key_is.Table table) → ⊥) → cat J (key_is.Table table) ≡ None
+    (J : Past) → IsLegal J → HasNoHalfBase J → (table : TableName) → (IsBusy J (key_is.Table table) → ⊥) → cat J (key_is.Table table) ≡ None
     → IsBare (cat J) table
 
 -- the range of each live region of a table has a key: its start lies in it, below its end or with an open end

@@ -1,4 +1,5 @@
 use crate::call::Told;
+use crate::part::Part;
 use crate::request::Request;
 use crate::sheet::Sheet;
 use crate::step::StepOut;
@@ -39,6 +40,14 @@ pub enum Entry {
     Abort {
         pid: Pid,
     },
+    /// A part of what the entries before it came to, which it stands for.
+    Base {
+        part: Part,
+    },
+    /// From here on roots belong to these sheets.
+    Adopt {
+        sheets: List<Sheet>,
+    },
 }
 
 impl Copied for Entry {
@@ -72,6 +81,12 @@ impl Copied for Entry {
                 server: server.copy(alloc)?,
             }),
             Entry::Abort { pid } => Ok(Entry::Abort { pid: *pid }),
+            Entry::Base { part } => Ok(Entry::Base {
+                part: part.copy(alloc)?,
+            }),
+            Entry::Adopt { sheets } => Ok(Entry::Adopt {
+                sheets: sheets.copy(alloc)?,
+            }),
         }
     }
 }
@@ -129,6 +144,16 @@ impl Same for Entry {
             },
             Entry::Abort { pid } => match other {
                 Entry::Abort { pid: other_pid } => pid.same(other_pid),
+                _ => false,
+            },
+            Entry::Base { part } => match other {
+                Entry::Base { part: other_part } => part.same(other_part),
+                _ => false,
+            },
+            Entry::Adopt { sheets } => match other {
+                Entry::Adopt {
+                    sheets: other_sheets,
+                } => sheets.same(other_sheets),
                 _ => false,
             },
         }

@@ -48,6 +48,8 @@ pub struct Record {
     pub parent: Option<Pid>,
     pub root: Pid,
     pub kind: u8,
+    /// How often sheets had been adopted when its root was made.
+    pub edition: u64,
     /// The row that it runs next.
     pub row: u8,
     pub args: Args,
@@ -64,6 +66,7 @@ impl Copied for Record {
             parent: self.parent,
             root: self.root,
             kind: self.kind,
+            edition: self.edition,
             row: self.row,
             args: self.args.copy(alloc)?,
             tries: self.tries,
@@ -79,6 +82,7 @@ impl Same for Record {
             && self.parent.same(&other.parent)
             && self.root.same(&other.root)
             && self.kind == other.kind
+            && self.edition == other.edition
             && self.row == other.row
             && self.args.same(&other.args)
             && self.tries == other.tries

@@ -81,6 +81,8 @@ pub struct StepIn {
     pub pid: Pid,
     pub root: Pid,
     pub kind: u8,
+    /// How often sheets had been adopted when its root was made.
+    pub edition: u64,
     pub row: u8,
     pub args: Args,
     /// How often the region of a transit failed to open.
@@ -130,11 +132,12 @@ impl StepIn {
     fn same_procedure(&self, other: &StepIn) -> bool
         ensures { IsTrue result
             ↔ ((self.now.pid ≡ other.now.pid) × (self.now.root ≡ other.now.root) × (self.now.kind ≡ other.now.kind)
-            × (self.now.row ≡ other.now.row) × (self.now.args ≡ other.now.args)) }
+            × (self.now.edition ≡ other.now.edition) × (self.now.row ≡ other.now.row) × (self.now.args ≡ other.now.args)) }
     {
         self.pid.same(&other.pid)
             && self.root.same(&other.root)
             && self.kind == other.kind
+            && self.edition == other.edition
             && self.row == other.row
             && self.args.same(&other.args)
     }
@@ -173,6 +176,7 @@ impl Copied for StepIn {
             pid: self.pid,
             root: self.root,
             kind: self.kind,
+            edition: self.edition,
             row: self.row,
             args,
             tries: self.tries,

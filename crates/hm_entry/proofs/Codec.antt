@@ -4,7 +4,7 @@ use Rattle.hm_wire.specs.Input.{Input}
 use Rattle.hm_wire.specs.Wire.{Takes}
 use Rattle.hm_wire.specs.Laws.{IsBytes, taken_fits, then_takes}
 use Rattle.hm_entry.specs.declared.fault.EntryFault.{EntryFault}
-use Rattle.hm_entry.specs.Reading.{◌>>=◌, ReaderOf, of_one, of_two, of_three, of_four}
+use Rattle.hm_entry.specs.Reading.{◌>>=◌, ReaderOf, of_one, of_two, of_three, of_four, of_five}
 
 abbrev pub input : ℕ → List ℕ → Input
 input at rest = record { at = at; rest = rest }
@@ -174,6 +174,28 @@ four_codec {R = R} {a = a} {sa = sa} {b = b} {sb = sb} {c = c} {sc = sc} {d = d}
       (subst (λ (s : List ℕ). Takes i s y.1) (sym g.0 ∙ ap spell t.4) t.5, subst fits t.4 g.1);
   again = λ v f. let s = parts v f in moved (of_four make a b c d) spell (sa s.0 ++ (sb s.1 ++ (sc s.2 ++ sd s.3))) (make s.0 s.1 s.2 s.3) v s.8 (good s.0 s.1 s.2 s.3 s.4 s.5 s.6 s.7).0 (again_four ca cb cc' cd make s.0 s.1 s.2 s.3 s.4 s.5 s.6 s.7);
 }
+
+-- ---- of five
+
+pub takes_five : {A B C D E R : Type 0} {a : ReaderOf A} {sa : A → List ℕ} {fa : A → Type 0} {b : ReaderOf B} {sb : B → List ℕ} {fb : B → Type 0} {c : ReaderOf C} {sc : C → List ℕ} {fc : C → Type 0} {d : ReaderOf D} {sd : D → List ℕ} {fd : D → Type 0} {e : ReaderOf E} {se : E → List ℕ} {fe : E → Type 0} → IsCodec a sa fa → IsCodec b sb fb → IsCodec c sc fc → IsCodec d sd fd → IsCodec e se fe
+    → (make : A → B → C → D → E → R) (i : Input) (y : R × Input) → IsBytes i.rest → of_five make a b c d e i ≡ Ok y
+    → (p : A) × (q : B) × (r : C) × (s : D) × (t : E) × (make p q r s t ≡ y.0) × Takes i (sa p ++ (sb q ++ (sc r ++ (sd s ++ se t)))) y.1 × fa p × fb q × fc r × fd s × fe t
+takes_five {sa = sa} {b = b} {sb = sb} {c = c} {sc = sc} {d = d} {sd = sd} {e = e} {se = se} ca cb cc' cd ce make i y bytes is =
+    let x = first ca (λ x. of_four (λ q r s t. make x.0 q r s t) b c d e x.1) i y bytes is in
+    let z = takes_four cb cc' cd ce (λ q r s t. make x.0.0 q r s t) x.0.1 y x.3 x.4 in
+    (x.0.0, z.0, z.1, z.2, z.3, z.4, then_takes i (sa x.0.0) x.0.1 (sb z.0 ++ (sc z.1 ++ (sd z.2 ++ se z.3))) y.1 x.1 z.5, x.2, z.6, z.7, z.8, z.9)
+
+pub again_five : {A B C D E R : Type 0} {a : ReaderOf A} {sa : A → List ℕ} {fa : A → Type 0} {b : ReaderOf B} {sb : B → List ℕ} {fb : B → Type 0} {c : ReaderOf C} {sc : C → List ℕ} {fc : C → Type 0} {d : ReaderOf D} {sd : D → List ℕ} {fd : D → Type 0} {e : ReaderOf E} {se : E → List ℕ} {fe : E → Type 0} → IsCodec a sa fa → IsCodec b sb fb → IsCodec c sc fc → IsCodec d sd fd → IsCodec e se fe
+    → (make : A → B → C → D → E → R) (p : A) (q : B) (r : C) (s : D) (t : E) → fa p → fb q → fc r → fd s → fe t → Again (of_five make a b c d e) (sa p ++ (sb q ++ (sc r ++ (sd s ++ se t)))) (make p q r s t)
+again_five {A} {a = a} {sa = sa} {b = b} {sb = sb} {c = c} {sc = sc} {d = d} {sd = sd} {e = e} {se = se} ca cb cc' cd ce make p q r s t fp fq fr fs ft at rest =
+    let text : List ℕ = sb q ++ (sc r ++ (sd s ++ se t)) in
+    let x = ca.again p fp at (text ++ rest) in
+    let y = again_four cb cc' cd ce (λ q r s t. make p q r s t) q r s t fq fr fs ft x.0 rest in (
+      y.0,
+      ap (λ (l : List ℕ). of_five make a b c d e (input at l)) (append_assoc (sa p) text rest)
+          ∙ ap (λ (g : Result (A × Input) EntryFault). g >>= λ x. of_four (λ q r s t. make x.0 q r s t) b c d e x.1) x.1
+          ∙ y.1,
+    )
 
 -- ---- of six
 

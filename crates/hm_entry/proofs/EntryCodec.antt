@@ -10,7 +10,7 @@ use Rattle.hm_data.specs.declared.entry.Entry.{Entry}
 use Rattle.hm_data.specs.declared.entry.Entry.TheVariants as entry_is
 use Rattle.hm_entry.specs.declared.fault.EntryFault.{EntryFault}
 use Rattle.hm_entry.specs.declared.fault.EntryFault.TheVariants.{Short, Field, Rest, Memory}
-use Rattle.hm_entry.specs.Spelling.{byte, option, list, pid, server, nonce, sheet, request, out, entry}
+use Rattle.hm_entry.specs.Spelling.{byte, option, list, pid, server, nonce, sheet, request, out, part, entry}
 use Rattle.hm_entry.specs.Fits.{EntryFits}
 use Rattle.hm_entry.specs.Reading.{◌>>=◌, GivesAll, entry_of, entry_at, all_of}
 use Rattle.hm_entry.proofs.Codec.{IsCodec, input, done, ok_is, bind_ok, again_one, again_two, again_three}
@@ -20,6 +20,7 @@ use Rattle.hm_entry.proofs.CodeCodecs.{told_codec}
 use Rattle.hm_entry.proofs.NameCodecs.{pid_codec, server_codec, nonce_codec}
 use Rattle.hm_entry.proofs.RequestCodecs.{sheet_codec, request_codec}
 use Rattle.hm_entry.proofs.StepCodecs.{out_codec}
+use Rattle.hm_entry.proofs.PartCodecs.{part_codec}
 
 entry_arms : (place kind : ℕ) (i : Input) → IsBytes i.rest → IsArm kind entry EntryFits i (entry_of place kind i)
 unfolding entry_of entry
@@ -32,7 +33,9 @@ entry_arms place kind i bytes =
     or_else kind 5 (one_arm server_codec entry_is.Up (λ p fp. (refl, fp)) i bytes) (
     or_else kind 6 (one_arm server_codec entry_is.Down (λ p fp. (refl, fp)) i bytes) (
     or_else kind 7 (one_arm pid_codec entry_is.Abort (λ p fp. (refl, fp)) i bytes) (
-    no_arm (Field place)))))))))
+    or_else kind 8 (one_arm part_codec entry_is.Base (λ p fp. (refl, fp)) i bytes) (
+    or_else kind 9 (one_arm (list_codec sheet_codec) entry_is.Adopt (λ p fp. (refl, fp)) i bytes) (
+    no_arm (Field place)))))))))))
 
 entry_chosen : (v : Entry) → EntryFits v → Chosen entry_of entry v
 unfolding entry_of entry
@@ -44,6 +47,8 @@ entry_chosen (entry_is.Report call told) f = (4, lit< tt, pid call ++ byte (told
 entry_chosen (entry_is.Up s) f = (5, lit< tt, server s, refl, λ place. again_one server_codec entry_is.Up s f)
 entry_chosen (entry_is.Down s) f = (6, lit< tt, server s, refl, λ place. again_one server_codec entry_is.Down s f)
 entry_chosen (entry_is.Abort p) f = (7, lit< tt, pid p, refl, λ place. again_one pid_codec entry_is.Abort p f)
+entry_chosen (entry_is.Base own) f = (8, lit< tt, part own, refl, λ place. again_one part_codec entry_is.Base own f)
+entry_chosen (entry_is.Adopt sheets) f = (9, lit< tt, list sheet sheets, refl, λ place. again_one (list_codec sheet_codec) entry_is.Adopt sheets f)
 
 pub entry_codec : IsCodec entry_at entry EntryFits
 unfolding entry_at

@@ -12,8 +12,8 @@ use Rattle.hm_entry.specs.declared.fault.EntryFault.{EntryFault}
 use Rattle.hm_entry.specs.declared.fault.EntryFault.TheVariants.{Field}
 use Rattle.hm_entry.specs.Spelling.{byte, option, list}
 use Rattle.hm_entry.specs.Fits.{AllFit}
-use Rattle.hm_entry.specs.Reading.{◌>>=◌, ReaderOf, of_one, of_two, of_three, by_kind, option_of, option_at, items_at, list_at}
-use Rattle.hm_entry.proofs.Codec.{IsCodec, Again, input, done, ok_is, bind_ok, first, takes_one, takes_two, takes_three, again_one}
+use Rattle.hm_entry.specs.Reading.{◌>>=◌, ReaderOf, of_one, of_two, of_three, of_four, of_five, by_kind, option_of, option_at, items_at, list_at}
+use Rattle.hm_entry.proofs.Codec.{IsCodec, Again, input, done, ok_is, bind_ok, first, takes_one, takes_two, takes_three, takes_four, takes_five, again_one}
 use Rattle.hm_entry.proofs.FieldCodecs.{byte_codec, byte_again, u16_codec}
 
 -- what is read after a kind is a value of that kind
@@ -59,6 +59,26 @@ three_arm {spell = spell} {fits = fits} {sa = sa} {sb = sb} {sc = sc} ca cb cc' 
       let t = takes_three ca cb cc' make i y bytes is in
       let g = good t.0 t.1 t.2 t.5 t.6 t.7 in
       (sa t.0 ++ (sb t.1 ++ sc t.2), ap spell (sym t.3) ∙ g.0, t.4, subst fits t.3 g.1);
+}
+
+pub four_arm : {A B C D R : Type 0} {kind : ℕ} {spell : R → List ℕ} {fits : R → Type 0} {a : ReaderOf A} {sa : A → List ℕ} {fa : A → Type 0} {b : ReaderOf B} {sb : B → List ℕ} {fb : B → Type 0} {c : ReaderOf C} {sc : C → List ℕ} {fc : C → Type 0} {d : ReaderOf D} {sd : D → List ℕ} {fd : D → Type 0} → IsCodec a sa fa → IsCodec b sb fb → IsCodec c sc fc → IsCodec d sd fd
+    → (make : A → B → C → D → R) → ((p : A) (q : B) (r : C) (s : D) → fa p → fb q → fc r → fd s → (spell (make p q r s) ≡ byte kind ++ (sa p ++ (sb q ++ (sc r ++ sd s)))) × fits (make p q r s))
+    → (i : Input) → IsBytes i.rest → IsArm kind spell fits i (of_four make a b c d i)
+four_arm {spell = spell} {fits = fits} {sa = sa} {sb = sb} {sc = sc} {sd = sd} ca cb cc' cd make good i bytes = record {
+  takes = λ y is.
+      let t = takes_four ca cb cc' cd make i y bytes is in
+      let g = good t.0 t.1 t.2 t.3 t.6 t.7 t.8 t.9 in
+      (sa t.0 ++ (sb t.1 ++ (sc t.2 ++ sd t.3)), ap spell (sym t.4) ∙ g.0, t.5, subst fits t.4 g.1);
+}
+
+pub five_arm : {A B C D E R : Type 0} {kind : ℕ} {spell : R → List ℕ} {fits : R → Type 0} {a : ReaderOf A} {sa : A → List ℕ} {fa : A → Type 0} {b : ReaderOf B} {sb : B → List ℕ} {fb : B → Type 0} {c : ReaderOf C} {sc : C → List ℕ} {fc : C → Type 0} {d : ReaderOf D} {sd : D → List ℕ} {fd : D → Type 0} {e : ReaderOf E} {se : E → List ℕ} {fe : E → Type 0} → IsCodec a sa fa → IsCodec b sb fb → IsCodec c sc fc → IsCodec d sd fd → IsCodec e se fe
+    → (make : A → B → C → D → E → R) → ((p : A) (q : B) (r : C) (s : D) (u : E) → fa p → fb q → fc r → fd s → fe u → (spell (make p q r s u) ≡ byte kind ++ (sa p ++ (sb q ++ (sc r ++ (sd s ++ se u))))) × fits (make p q r s u))
+    → (i : Input) → IsBytes i.rest → IsArm kind spell fits i (of_five make a b c d e i)
+five_arm {spell = spell} {fits = fits} {sa = sa} {sb = sb} {sc = sc} {sd = sd} {se = se} ca cb cc' cd ce make good i bytes = record {
+  takes = λ y is.
+      let t = takes_five ca cb cc' cd ce make i y bytes is in
+      let g = good t.0 t.1 t.2 t.3 t.4 t.7 t.8 t.9 t.10 t.11 in
+      (sa t.0 ++ (sb t.1 ++ (sc t.2 ++ (sd t.3 ++ se t.4))), ap spell (sym t.5) ∙ g.0, t.6, subst fits t.5 g.1);
 }
 
 decided : {R : Type 0} {spell : R → List ℕ} {fits : R → Type 0} {i : Input} (b : Bool) (kind n : ℕ) (x y : Result (R × Input) EntryFault) → (b ≡ true → kind ≡ n) → IsArm n spell fits i x → IsArm kind spell fits i y → IsArm kind spell fits i (cond b x y)

@@ -6,5 +6,6 @@ pub mod CodeCodecs
 pub mod NameCodecs
 pub mod RequestCodecs
 pub mod StepCodecs
+pub mod PartCodecs
 pub mod EntryCodec
 pub mod Room

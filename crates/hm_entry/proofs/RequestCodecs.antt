@@ -1,5 +1,5 @@
 -- The codecs of sheets and requests.
-use Rattle.std.proofs.Common.{ℕ, ◌++◌, refl, lit<}
+use Rattle.std.proofs.Common.{◌≡◌, ℕ, true, false, eqb, nat_lt, ◌++◌, refl, lit<}
 use Rattle.hm_wire.specs.Input.{Input}
 use Rattle.hm_wire.specs.Wire.{text}
 use Rattle.hm_wire.specs.Laws.{IsBytes}
@@ -27,7 +27,7 @@ sheet_codec = two_codec byte_codec (list_codec row_codec) (λ kind rows. record 
     (λ p q fp fq. (refl, (fp, fq)))
     (λ v f. (v.kind, v.rows, f.0, f.1, refl))
 
-request_arms : (place kind : ℕ) (i : Input) → IsBytes i.rest → IsArm kind request RequestFits i (request_of place kind i)
+pub request_arms : (place kind : ℕ) (i : Input) → IsBytes i.rest → IsArm kind request RequestFits i (request_of place kind i)
 unfolding request_of request
 request_arms place kind i bytes =
     or_else kind 1 (one_arm ns_codec request_is.CreateNamespace (λ p fp. (refl, fp)) i bytes) (
@@ -42,7 +42,7 @@ request_arms place kind i bytes =
     or_else kind 10 (two_arm region_codec (option_codec server_codec) request_is.Move (λ p q fp fq. (refl, (fp, fq))) i bytes) (
     no_arm (Field place)))))))))))
 
-request_chosen : (v : Request) → RequestFits v → Chosen request_of request v
+pub request_chosen : (v : Request) → RequestFits v → Chosen request_of request v
 unfolding request_of request
 request_chosen (request_is.CreateNamespace ns) f = (1, lit< tt, text ns, refl, λ place. again_one ns_codec request_is.CreateNamespace ns f)
 request_chosen (request_is.DropNamespace ns) f = (2, lit< tt, text ns, refl, λ place. again_one ns_codec request_is.DropNamespace ns f)
@@ -54,6 +54,20 @@ request_chosen (request_is.ModifyTable t version) f = (7, lit< tt, table t ++ nu
 request_chosen (request_is.SplitRegion r key) f = (8, lit< tt, region r ++ text key, refl, λ place. again_two region_codec key_codec request_is.SplitRegion r key f.0 f.1)
 request_chosen (request_is.MergeRegions rs) f = (9, lit< tt, list region rs, refl, λ place. again_one (list_codec region_codec) request_is.MergeRegions rs f)
 request_chosen (request_is.Move r to) f = (10, lit< tt, region r ++ option server to, refl, λ place. again_two region_codec (option_codec server_codec) request_is.Move r to f.0 f.1)
+
+-- requests are of kinds below 11
+pub request_small : (asked : Request) (f : RequestFits asked) → (eqb (request_chosen asked f).0 255 ≡ false) × (nat_lt (request_chosen asked f).0 11 ≡ true)
+unfolding request_chosen
+request_small (request_is.CreateNamespace ns) f = (refl, refl)
+request_small (request_is.DropNamespace ns) f = (refl, refl)
+request_small (request_is.CreateTable t keys) f = (refl, refl)
+request_small (request_is.DeleteTable t) f = (refl, refl)
+request_small (request_is.EnableTable t) f = (refl, refl)
+request_small (request_is.DisableTable t) f = (refl, refl)
+request_small (request_is.ModifyTable t version) f = (refl, refl)
+request_small (request_is.SplitRegion r key) f = (refl, refl)
+request_small (request_is.MergeRegions rs) f = (refl, refl)
+request_small (request_is.Move r to) f = (refl, refl)
 
 pub request_codec : IsCodec request_at request RequestFits
 unfolding request_at

@@ -73,7 +73,7 @@ edit_codec = three_codec cat_key_codec (option_codec cat_row_codec) (option_code
     (λ p q r fp fq fr. (refl, (fp, fq, fr)))
     (λ v f. (v.key, v.before, v.after, f.0, f.1, f.2, refl))
 
-args_arms : (place kind : ℕ) (i : Input) → IsBytes i.rest → IsArm kind args ArgsFit i (args_of place kind i)
+pub args_arms : (place kind : ℕ) (i : Input) → IsBytes i.rest → IsArm kind args ArgsFit i (args_of place kind i)
 unfolding args_of args
 args_arms place kind i bytes =
     or_else kind 11 (one_arm server_codec args_are.Crash (λ p fp. (refl, fp)) i bytes) (

@@ -23,6 +23,9 @@ use Rattle.hm_data.specs.declared.catalog.CatRow.TheVariants as row_is
 use Rattle.hm_data.specs.declared.catalog.Edit.{Edit}
 use Rattle.hm_data.specs.declared.entry.Entry.{Entry}
 use Rattle.hm_data.specs.declared.entry.Entry.TheVariants as entry_is
+use Rattle.hm_data.specs.declared.catalog.TableState.{TableState}
+use Rattle.hm_data.specs.declared.part.Part.{Part}
+use Rattle.hm_data.specs.declared.part.Part.TheVariants as part_is
 use Rattle.hm_data.specs.declared.place.Place.{Place}
 use Rattle.hm_data.specs.declared.request.Request.{Request}
 use Rattle.hm_data.specs.declared.request.Request.TheVariants as request_is
@@ -125,6 +128,33 @@ pub record OutFits (o : StepOut) : Type 0 where
   pub place : IfSome o.place PlaceFits
   pub followers : AllFit ChildFits o.followers
 
+-- what a root of a base did, a request and a transit by themselves too
+abbrev pub RootArgsFit : Args → Type 0
+RootArgsFit (args_are.Root asked first) = RequestFits asked × IsNumber first
+RootArgsFit (args_are.Transit r goal to) = IsRegion r × IfSome to IsServer
+RootArgsFit (args_are.Crash s) = ArgsFit (args_are.Crash s)
+RootArgsFit (args_are.AddRegions t first bounds) = ArgsFit (args_are.AddRegions t first bounds)
+RootArgsFit (args_are.DropRegions t ids) = ArgsFit (args_are.DropRegions t ids)
+RootArgsFit (args_are.AssignCall r s) = ArgsFit (args_are.AssignCall r s)
+RootArgsFit (args_are.CloseCall r s) = ArgsFit (args_are.CloseCall r s)
+RootArgsFit (args_are.FenceCall s) = ArgsFit (args_are.FenceCall s)
+RootArgsFit (args_are.LayoutCall root) = ArgsFit (args_are.LayoutCall root)
+RootArgsFit (args_are.SweepLayout root) = ArgsFit (args_are.SweepLayout root)
+
+-- the version of a table fits
+abbrev pub TableRowFits : TableState × ℕ → Type 0
+TableRowFits both = IsNumber both.1
+
+-- a part of a base that has a spelling
+abbrev pub PartFits : Part → Type 0
+PartFits (part_is.Head entries last parts sheets) = IsNumber entries × PidFits last × IsNumber parts × AllFit SheetFits sheets
+PartFits (part_is.Namespace ns) = IsNs ns
+PartFits (part_is.Table t drawn own) = IsTable t × IsNumber drawn × IfSome own TableRowFits
+PartFits (part_is.Region r bounds status parents at) = IsRegion r × RangeFits bounds × AllFit IsNumber parents × PlaceFits at
+PartFits (part_is.Server s fenced) = IsServer s
+PartFits (part_is.Root p given work cause) = PidFits p × IsNonce given × RootArgsFit work
+PartFits (part_is.Layout p) = PidFits p
+
 -- an entry that has a spelling
 abbrev pub EntryFits : Entry → Type 0
 EntryFits (entry_is.Start sheets) = AllFit SheetFits sheets
@@ -135,6 +165,8 @@ EntryFits (entry_is.Report call told) = PidFits call
 EntryFits (entry_is.Up s) = IsServer s
 EntryFits (entry_is.Down s) = IsServer s
 EntryFits (entry_is.Abort p) = PidFits p
+EntryFits (entry_is.Base own) = PartFits own
+EntryFits (entry_is.Adopt sheets) = AllFit SheetFits sheets
 
 -- an args that one procedure gives another has a spelling
 abbrev pub IsSpelled : Args → Type 0
@@ -166,3 +198,5 @@ EntryIsSpelled (entry_is.Report call told) = Unit {0}
 EntryIsSpelled (entry_is.Up s) = Unit {0}
 EntryIsSpelled (entry_is.Down s) = Unit {0}
 EntryIsSpelled (entry_is.Abort p) = Unit {0}
+EntryIsSpelled (entry_is.Base own) = Unit {0}
+EntryIsSpelled (entry_is.Adopt sheets) = Unit {0}

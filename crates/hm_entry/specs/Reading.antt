@@ -1,5 +1,5 @@
 -- Reading an entry from left to right, with the first fault that is met and its place.
-use Rattle.std.specs.Prelude.{◌≡◌, ℕ, zero, suc, Bool, true, false, List, [], ◌∷◌, length, Option, Some, None, Result, Ok, Err, ◌==◌, if◌then◌else◌}
+use Rattle.std.specs.Prelude.{◌≡◌, ℕ, zero, suc, Bool, true, false, List, [], ◌∷◌, length, Option, Some, None, Result, Ok, Err, ◌==◌, nat_lt, if◌then◌else◌}
 use Rattle.hm_wire.specs.Input.{Input}
 use Rattle.hm_wire.specs.Wire.{number_at, text_at}
 use Rattle.hm_wire.specs.declared.fault.WireFault.{WireFault}
@@ -35,6 +35,8 @@ use Rattle.hm_data.specs.declared.catalog.Status.{Status}
 use Rattle.hm_data.specs.declared.catalog.TableState.{TableState}
 use Rattle.hm_data.specs.declared.entry.Entry.{Entry}
 use Rattle.hm_data.specs.declared.entry.Entry.TheVariants as entry_is
+use Rattle.hm_data.specs.declared.part.Part.{Part}
+use Rattle.hm_data.specs.declared.part.Part.TheVariants as part_is
 use Rattle.hm_data.specs.declared.place.Goal.{Goal}
 use Rattle.hm_data.specs.declared.place.Place.{Place}
 use Rattle.hm_data.specs.declared.place.RegionState.{RegionState}
@@ -107,6 +109,12 @@ of_four make a b c d i = do
   z ← c y.1
   w ← d z.1
   Ok (make x.0 y.0 z.0 w.0, w.1)
+
+-- of five
+abbrev pub of_five : {A B C D E R : Type 0} → (A → B → C → D → E → R) → ReaderOf A → ReaderOf B → ReaderOf C → ReaderOf D → ReaderOf E → Input → Result (R × Input) EntryFault
+of_five make a b c d e i = do
+  x ← a i
+  of_four (λ q r s t. make x.0 q r s t) b c d e x.1
 
 -- a fault of a field, as one of an entry: a text that is too long is no value
 abbrev pub wire : {A : Type 0} → Result A WireFault → Result A EntryFault
@@ -401,6 +409,37 @@ out_at i = do
   followers ← list_at child_at place.1
   Ok (record { answer = answer.0; edits = edits.0; children = children.0; call = call.0; place = place.0; followers = followers.0 }, followers.1)
 
+-- what a root of a base did: a transit after FF, a request and its first id, or what else a procedure of a kind works on
+unfoldable pub root_args_of : ℕ → ℕ → ReaderOf Args
+root_args_of place kind i =
+    if kind == 255 then of_three args_are.Transit region_at goal_at (option_at server_at) i
+    else (if nat_lt kind 11 then of_two args_are.Root (request_of place kind) u64_at i
+    else args_of place kind i)
+
+-- what a root of a base did, after its kind
+unfoldable pub root_args_at : ReaderOf Args
+root_args_at = by_kind root_args_of
+
+-- the state of a table and its version
+unfoldable pub table_row_at : ReaderOf (TableState × ℕ)
+table_row_at = of_two (λ state version. (state, version)) table_state_at u64_at
+
+-- a part of a base of a sort
+unfoldable pub part_of : ℕ → ℕ → ReaderOf Part
+part_of place kind i =
+    if kind == 0 then of_four part_is.Head u64_at pid_at u64_at (list_at sheet_at) i
+    else (if kind == 1 then of_one part_is.Namespace ns_at i
+    else (if kind == 2 then of_three part_is.Table table_at u64_at (option_at table_row_at) i
+    else (if kind == 3 then of_five part_is.Region region_at range_at status_at (list_at u64_at) place_at i
+    else (if kind == 4 then of_two part_is.Server server_at flag_at i
+    else (if kind == 5 then of_four part_is.Root pid_at nonce_at root_args_at (option_at cause_at) i
+    else (if kind == 6 then of_one part_is.Layout pid_at i
+    else Err (Field place)))))))
+
+-- a part of a base: its sort and its fields in their order
+unfoldable pub part_at : ReaderOf Part
+part_at = by_kind part_of
+
 -- the fields of an entry of a kind
 unfoldable pub entry_of : ℕ → ℕ → ReaderOf Entry
 entry_of place kind i =
@@ -412,7 +451,9 @@ entry_of place kind i =
     else (if kind == 5 then of_one entry_is.Up server_at i
     else (if kind == 6 then of_one entry_is.Down server_at i
     else (if kind == 7 then of_one entry_is.Abort pid_at i
-    else Err (Field place))))))))
+    else (if kind == 8 then of_one entry_is.Base part_at i
+    else (if kind == 9 then of_one entry_is.Adopt (list_at sheet_at) i
+    else Err (Field place))))))))))
 
 -- an entry: its tag and its fields in their order
 unfoldable pub entry_at : ReaderOf Entry

@@ -12,6 +12,7 @@ use Rattle.hm_names.specs.declared.table.TableName.{TableName}
 use Rattle.hm_data.specs.Numbers.{table_state_number, status_number, region_state_number, goal_number, told_number, act_number, back_number, cause_number}
 use Rattle.hm_data.specs.declared.answer.Answer.{Answer}
 use Rattle.hm_data.specs.declared.answer.Answer.TheVariants as answer_is
+use Rattle.hm_data.specs.declared.answer.Cause.{Cause}
 use Rattle.hm_data.specs.declared.args.Args.{Args}
 use Rattle.hm_data.specs.declared.args.Args.TheVariants as args_are
 use Rattle.hm_data.specs.declared.args.Child.{Child}
@@ -23,8 +24,11 @@ use Rattle.hm_data.specs.declared.catalog.CatKey.TheVariants as key_is
 use Rattle.hm_data.specs.declared.catalog.CatRow.{CatRow}
 use Rattle.hm_data.specs.declared.catalog.CatRow.TheVariants as row_is
 use Rattle.hm_data.specs.declared.catalog.Edit.{Edit}
+use Rattle.hm_data.specs.declared.catalog.TableState.{TableState}
 use Rattle.hm_data.specs.declared.entry.Entry.{Entry}
 use Rattle.hm_data.specs.declared.entry.Entry.TheVariants as entry_is
+use Rattle.hm_data.specs.declared.part.Part.{Part}
+use Rattle.hm_data.specs.declared.part.Part.TheVariants as part_is
 use Rattle.hm_data.specs.declared.place.Place.{Place}
 use Rattle.hm_data.specs.declared.request.Request.{Request}
 use Rattle.hm_data.specs.declared.request.Request.TheVariants as request_is
@@ -162,6 +166,39 @@ out o =
     answer o.answer
     ++ (list edit o.edits ++ (list child o.children ++ (option verb o.call ++ (option place o.place ++ list child o.followers))))
 
+-- what a root of a base did: a request after its kind, and its first id; a transit that no request made, after FF; or what else a
+-- procedure works on
+unfoldable pub root_args : Args → List ℕ
+root_args (args_are.Root asked first) = request asked ++ number first
+root_args (args_are.Transit r goal to) = byte 255 ++ (region r ++ (byte (goal_number goal) ++ option server to))
+root_args (args_are.Crash s) = args (args_are.Crash s)
+root_args (args_are.AddRegions t first bounds) = args (args_are.AddRegions t first bounds)
+root_args (args_are.DropRegions t ids) = args (args_are.DropRegions t ids)
+root_args (args_are.AssignCall r s) = args (args_are.AssignCall r s)
+root_args (args_are.CloseCall r s) = args (args_are.CloseCall r s)
+root_args (args_are.FenceCall s) = args (args_are.FenceCall s)
+root_args (args_are.LayoutCall root) = args (args_are.LayoutCall root)
+root_args (args_are.SweepLayout root) = args (args_are.SweepLayout root)
+
+-- the state of a table and its version
+unfoldable pub table_row : TableState × ℕ → List ℕ
+table_row both = byte (table_state_number both.0) ++ number both.1
+
+-- why a procedure failed
+abbrev pub cause_byte : Cause → List ℕ
+cause_byte cause = byte (cause_number cause)
+
+-- a part of a base: its sort and its fields in their order
+unfoldable pub part : Part → List ℕ
+part (part_is.Head entries last parts sheets) = byte 0 ++ (number entries ++ (pid last ++ (number parts ++ list sheet sheets)))
+part (part_is.Namespace ns) = byte 1 ++ text ns
+part (part_is.Table t drawn own) = byte 2 ++ (table t ++ (number drawn ++ option table_row own))
+part (part_is.Region r bounds status parents at) =
+    byte 3 ++ (region r ++ (range bounds ++ (byte (status_number status) ++ (list number parents ++ place at))))
+part (part_is.Server s fenced) = byte 4 ++ (server s ++ flag fenced)
+part (part_is.Root p given work cause) = byte 5 ++ (pid p ++ (nonce given ++ (root_args work ++ option cause_byte cause)))
+part (part_is.Layout p) = byte 6 ++ pid p
+
 -- an entry: its tag and its fields in their order
 unfoldable pub entry : Entry → List ℕ
 entry (entry_is.Start sheets) = byte 0 ++ list sheet sheets
@@ -172,3 +209,5 @@ entry (entry_is.Report call told) = byte 4 ++ (pid call ++ byte (told_number tol
 entry (entry_is.Up s) = byte 5 ++ server s
 entry (entry_is.Down s) = byte 6 ++ server s
 entry (entry_is.Abort p) = byte 7 ++ pid p
+entry (entry_is.Base own) = byte 8 ++ part own
+entry (entry_is.Adopt sheets) = byte 9 ++ list sheet sheets

@@ -10,6 +10,7 @@ use crate::fault::EntryFault;
 use crate::fields::byte;
 use crate::get::{list, option};
 use crate::names::{nonce, pid, server};
+use crate::parts::part;
 use crate::requests::request;
 use crate::steps::out;
 use hm_data::Entry;
@@ -50,6 +51,12 @@ fn entry_behind(alloc: Global, place: u64, kind: u8, r: &mut Reader) -> Result<E
             server: server(alloc, r)?,
         }),
         7 => Ok(Entry::Abort { pid: pid(r)? }),
+        8 => Ok(Entry::Base {
+            part: part(alloc, r)?,
+        }),
+        9 => Ok(Entry::Adopt {
+            sheets: list(alloc, r)?,
+        }),
         _ => Err(EntryFault::Field(place)),
     }
 }
@@ -71,6 +78,7 @@ fn all(alloc: Global, bytes: &[u8]) -> Result<Entry, EntryFault>
     let mut r = Reader::new(bytes);
     let entry = entry(alloc, &mut r)?;
     if r.left() > 0 {
+        drop(entry);
         return Err(EntryFault::Rest(r.at()));
     }
     Ok(entry)

@@ -160,6 +160,8 @@ impl Put for Entry {
             Entry::Report { .. } => 10,
             Entry::Up { server } | Entry::Down { server } => server.length().saturating_add(1),
             Entry::Abort { .. } => 9,
+            Entry::Base { part } => part.length().saturating_add(1),
+            Entry::Adopt { sheets } => sheets.length().saturating_add(1),
         }
     }
 
@@ -211,6 +213,14 @@ impl Put for Entry {
             Entry::Abort { pid } => {
                 put_byte(out, 7);
                 pid.put(out);
+            }
+            Entry::Base { part } => {
+                put_byte(out, 8);
+                part.put(out);
+            }
+            Entry::Adopt { sheets } => {
+                put_byte(out, 9);
+                sheets.put(out);
             }
         }
     }

@@ -10,7 +10,7 @@ use std::alloc::Global;
 
 // A request of this kind, which stood at the place.
 #[tactic(auto, unfolding(crate::specs::Reading::request_of))]
-fn request_behind(
+pub(crate) fn request_behind(
     alloc: Global,
     place: u64,
     kind: u8,

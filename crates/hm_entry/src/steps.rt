@@ -11,7 +11,12 @@ use std::alloc::Global;
 
 // What a procedure of this kind works on. The kind stood at the place.
 #[tactic(auto, unfolding(crate::specs::Reading::args_of))]
-fn args_behind(alloc: Global, place: u64, kind: u8, r: &mut Reader) -> Result<Args, EntryFault>
+pub(crate) fn args_behind(
+    alloc: Global,
+    place: u64,
+    kind: u8,
+    r: &mut Reader,
+) -> Result<Args, EntryFault>
     ensures { Gives result (args_of place kind r.old) r.new }
 {
     match kind {

@@ -1,5 +1,6 @@
 -- What aborts and reports are answered.
-use Rattle.std.proofs.Common.{Err, false, refl}
+use Rattle.std.proofs.Common.{◌≡◌, Result, Ok, Err, false, refl, subst, sym}
+use Rattle.std.specs.Result.{IsErrAnd}
 use Rattle.hm_names.specs.declared.pid.Pid.{Pid}
 use Rattle.hm_data.specs.declared.call.ReportMsg.{ReportMsg}
 use Rattle.hm_data.specs.declared.entry.Entry.TheVariants as entry_is
@@ -10,6 +11,7 @@ use Rattle.hm_refusals.specs.Reports.{IsHeard}
 use Rattle.hm_refusals.specs.declared.aborts.AbortRefused.{AbortRefused}
 use Rattle.hm_refusals.specs.declared.aborts.AbortRefused.TheVariants as abort_is
 use Rattle.hm_exec.specs.Hearing.{AnswersReport, report_entry}
+use Rattle.hm_exec.specs.declared.answers.Heard.{Heard}
 use Rattle.hm_exec.specs.Moment.{FaultsAt, IsGoing, Moment, past_of}
 use Rattle.hm_exec.specs.Submitting.{AnswersAbort}
 
@@ -27,3 +29,9 @@ abort_faults old new pid fault is faults = (is, faults)
 pub report_faults : (old new : Moment) (message : ReportMsg) (fault : HallFault) → IsHeard (past_of old) message → FaultsAt old (report_entry message) fault new → AnswersReport old message (Err fault) new
 report_faults old new message (fault_is.Halted why) is faults = faults
 report_faults old new message fault is faults = (is, faults)
+
+-- the same, as a failed call passes it on
+pub report_passed : (old new : Moment) (message : ReportMsg) (fault : HallFault) (result : Result Heard HallFault) → IsErrAnd result (λ why. why ≡ fault) → IsHeard (past_of old) message → FaultsAt old (report_entry message) fault new
+    → AnswersReport old message result new
+report_passed old new message fault (Ok heard) told is faults = absurd told
+report_passed old new message fault (Err why) told is faults = subst (λ f. AnswersReport old message (Err f) new) (sym told) (report_faults old new message fault is faults)

@@ -1,5 +1,5 @@
 -- What servers that come and go are answered.
-use Rattle.std.proofs.Common.{◌≡◌, ◌≢◌, ◌+◌, ◌++◌, ℕ, List, [], length, length-append, arith, Bool, true, false, Option, None, Some, Result, Err, Ok, refl, inl, inr, ap, sym, subst, ◌∙◌}
+use Rattle.std.proofs.Common.{◌≡◌, ◌≢◌, ◌+◌, ◌++◌, ℕ, List, length, length-append, arith, Bool, true, false, Option, None, Some, Result, Err, Ok, refl, inl, inr, ap, sym, subst, ◌∙◌}
 use Rattle.std.specs.Option.{IfNone, IfSome}
 use Rattle.std.specs.Result.{IfErr, IsErrAnd}
 use Rattle.std.proofs.lemmas.Option.{none-some}
@@ -13,8 +13,10 @@ use Rattle.hm_exec.specs.Adding.{Adds}
 use Rattle.hm_hall.specs.Recording.{Accepts, Passes, halt_of}
 use Rattle.hm_hall.specs.declared.fault.HallFault.{HallFault}
 use Rattle.hm_hall.specs.declared.fault.HallFault.TheVariants as fault_is
+use Rattle.hm_model.specs.Base.{IsBegun}
 use Rattle.hm_model.specs.Fleet.{has_older_live, is_live, same_address}
 use Rattle.hm_model.specs.Journal.{Past}
+use Rattle.hm_model.specs.Plain.{ArePlain}
 use Rattle.hm_model.specs.Rules.{Allowed, IsLegal}
 use Rattle.hm_model.specs.Standings.{standings_of}
 use Rattle.hm_places.specs.Laws.{StandingsTell}
@@ -47,7 +49,7 @@ down_faults old new server (fault_is.Halted why) live faults = faults
 down_faults old new server fault live faults = (live, faults)
 
 -- memory runs out before anything is recorded of a server that may come up
-pub first_memory : (old : Moment) (server : Server) → IsGoing old → past_of old ≢ [] → StandingsTell (past_of old) → CanUp (past_of old) server → FaultsFirst old server fault_is.Memory old
+pub first_memory : (old : Moment) (server : Server) → IsGoing old → IsBegun (past_of old) → StandingsTell (past_of old) → CanUp (past_of old) server → FaultsFirst old server fault_is.Memory old
 first_memory old server going begun tell can = by (has_older_live (past_of old) server) refl
   where
     by : (b : Bool) → has_older_live (past_of old) server ≡ b → FaultsFirst old server fault_is.Memory old
@@ -87,7 +89,7 @@ up_first old new server (fault_is.Halted why) can faults last = elim faults [ in
 up_first old new server fault can faults last = (can, inl faults, last)
 
 -- what the recorder refuses to record of a server that may come up is refused of what comes first
-pub up_refused : (old new : Moment) (server : Server) (fault : HallFault) → IsGoing old → past_of old ≢ [] → StandingsTell (past_of old) → CanUp (past_of old) server → (Accepts old.kept (entry_is.Up server) → ⊥)
+pub up_refused : (old new : Moment) (server : Server) (fault : HallFault) → IsGoing old → IsBegun (past_of old) → StandingsTell (past_of old) → CanUp (past_of old) server → (Accepts old.kept (entry_is.Up server) → ⊥)
     → Adds old.kept (entry_is.Up server) (Err fault) new.kept → new.claimed ≡ old.claimed → AnswersUp old server (Err (up_why.Fault fault)) new
 up_refused old new server (fault_is.Halted why) going begun tell can full adds same = absurd (none-some why (sym going ∙ adds.0))
 up_refused old new server fault_is.LogFault going begun tell can full adds same = absurd (full (adds.0, adds.1))
@@ -108,13 +110,13 @@ at_fault P (Ok x) fault told holds = absurd told
 at_fault P (Err why) fault told holds = subst P (sym told) holds
 
 -- after the end of the older one of its address a server may come up
-pub up_after : (old new : Moment) (server older : Server) → IsLegal (past_of old) → StandingsTell (past_of old) → CanUp (past_of old) server → IsOlder (past_of old) server older → IsAdded old (entry_is.Down older) new
+pub up_after : (old new : Moment) (server older : Server) → IsLegal (past_of old) → ArePlain (past_of old) → StandingsTell (past_of old) → CanUp (past_of old) server → IsOlder (past_of old) server older → IsAdded old (entry_is.Down older) new
     → Allowed (past_of new) (entry_is.Up server)
-up_after old new server older legal tell can is added =
+up_after old new server older legal plain tell can is added =
     let kept = old.kept in
     let later = new.kept in
     subst (λ J. Allowed J (entry_is.Up server)) (sym (past_more kept.entries later.entries old.kept new.kept (entry_is.Down older) added.2.0 refl refl added.2.1))
-    (up_behind (past_of old) legal server older is (newest (past_of old) server tell can))
+    (up_behind (past_of old) legal plain server older is (newest (past_of old) server tell can))
 
 -- the older server of the address that went down first, if there was one
 module _ (old mid : Moment) (server : Server) (down : Option (Server × Pid)) (none : IfNone down ((has_older_live (past_of old) server ≡ false) × (mid ≡ old))) (some : IfSome down (λ older. PutsDown old server older.0 older.1 mid)) where

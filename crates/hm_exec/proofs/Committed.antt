@@ -12,13 +12,15 @@ use Rattle.hm_hall.specs.declared.fault.HallFault.{HallFault}
 use Rattle.hm_hall.specs.declared.fault.HallFault.TheVariants as fault_is
 use Rattle.hm_hall.specs.declared.taken.Taken.{Taken}
 use Rattle.hm_judge.specs.Fresh.{FreshStepsFollow, FreshUndosFollow}
+use Rattle.hm_judge.proofs.Plainly.{own_sheets}
 use Rattle.hm_locks.specs.Book.{NoneClash}
 use Rattle.hm_model.specs.Evaluation.{answer_of}
 use Rattle.hm_model.specs.Holding.{IsFree}
 use Rattle.hm_model.specs.Journal.{Past, back}
 use Rattle.hm_model.specs.Locks.{IsIn}
+use Rattle.hm_model.specs.Plain.{ArePlain}
 use Rattle.hm_model.specs.Rules.{Allowed, IsLegal}
-use Rattle.hm_model.specs.Sheets.{sheets_of}
+use Rattle.hm_model.specs.Sheets.{sheets_by, sheets_of}
 use Rattle.hm_model.specs.Tree.{made, root_of}
 use Rattle.hm_model.specs.Claims.{Unclaims}
 use Rattle.hm_roster.specs.Behind.{IsUndoOf}
@@ -53,18 +55,22 @@ undo_is taken out other = by taken.was.turn refl
     by (turn_is.Undo edits) is = ap (λ (t : Turn). entry_by t taken.pid.0 taken.was out) is
 
 -- a fresh answer of a claimed procedure may follow
-module _ (J : Past) (desk : Desk) (taken : Taken) (out : StepOut) (legal : IsLegal J) (follows : Follows J desk) (able : AreAble J desk) (mine : IsIn taken.pid.0 (claims_on desk)) (fresh : IsFresh J taken) (answer : answer_of (sheets_of J) taken.was ≡ Some out) where
+module _ (J : Past) (desk : Desk) (taken : Taken) (out : StepOut) (legal : IsLegal J) (plain : ArePlain J) (follows : Follows J desk) (able : AreAble J desk) (mine : IsIn taken.pid.0 (claims_on desk)) (fresh : IsFresh J taken) (answer : answer_of (sheets_of J) taken.was ≡ Some out) where
+  -- it is by the sheets of its root
+  own_answer : answer_of (sheets_by J fresh.1.0.root) taken.was ≡ Some out
+  own_answer = ap (λ sheets. answer_of sheets taken.was) (own_sheets J legal plain taken.pid.0 fresh.1.0 fresh.1.1) ∙ answer
+
   pub step_allowed : FreshStepsFollow → NoneClash (rows_on desk) → taken.was.turn ≡ turn_is.Step → Allowed J (entry_is.Step taken.pid taken.was.pick out)
   step_allowed follow apart turn =
       follow J taken.pid fresh.1.0 taken.was out legal fresh.1.1 (able taken.pid.0 mine) fresh.0 fresh.1.2 turn
-      (claimed_free J (number_on desk) (roster_of desk) taken.pid.0 follows.tied apart mine) answer
+      (claimed_free J (number_on desk) (roster_of desk) taken.pid.0 follows.tied apart mine) own_answer
 
   pub undo_allowed : FreshUndosFollow → taken.was.turn ≢ turn_is.Step → Allowed J (entry_is.Undo taken.was.pid taken.was.row out) × (root_of J taken.was.pid.0 ≡ taken.pid.0)
   undo_allowed follow other = by taken.was.turn refl
     where
       by : (turn : Turn) → taken.was.turn ≡ turn → Allowed J (entry_is.Undo taken.was.pid taken.was.row out) × (root_of J taken.was.pid.0 ≡ taken.pid.0)
       by turn_is.Step is = absurd (other is)
-      by (turn_is.Undo edits) is = follow J taken.pid fresh.1.0 taken.was edits out legal fresh.1.1 (able taken.pid.0 mine) fresh.0 fresh.1.2 is answer
+      by (turn_is.Undo edits) is = follow J taken.pid fresh.1.0 taken.was edits out legal fresh.1.1 (able taken.pid.0 mine) fresh.0 fresh.1.2 is own_answer
 
 -- all but the newest entry
 abbrev older : Past → Past
@@ -158,11 +164,11 @@ module _ (kept : Recording) (entries : List Entry) (desk : Desk) (was : IsExec k
   answer_now = subst (λ (l : List Entry). answer_of (sheets_of (back l)) taken.was ≡ Some out) was.same can.3
 
   -- its entry may follow
-  pub step_now : IsLegal (back entries) → FreshStepsFollow → NoneClash (rows_on desk) → taken.was.turn ≡ turn_is.Step → Allowed (back entries) (entry_is.Step taken.pid taken.was.pick out)
-  step_now legal = step_allowed (back entries) desk taken out legal was.follows was.able can.1 fresh_now answer_now
+  pub step_now : IsLegal (back entries) → ArePlain (back entries) → FreshStepsFollow → NoneClash (rows_on desk) → taken.was.turn ≡ turn_is.Step → Allowed (back entries) (entry_is.Step taken.pid taken.was.pick out)
+  step_now legal plain = step_allowed (back entries) desk taken out legal plain was.follows was.able can.1 fresh_now answer_now
 
-  pub undo_now : IsLegal (back entries) → FreshUndosFollow → taken.was.turn ≢ turn_is.Step → Allowed (back entries) (entry_is.Undo taken.was.pid taken.was.row out) × (root_of (back entries) taken.was.pid.0 ≡ taken.pid.0)
-  undo_now legal = undo_allowed (back entries) desk taken out legal was.follows was.able can.1 fresh_now answer_now
+  pub undo_now : IsLegal (back entries) → ArePlain (back entries) → FreshUndosFollow → taken.was.turn ≢ turn_is.Step → Allowed (back entries) (entry_is.Undo taken.was.pid taken.was.row out) × (root_of (back entries) taken.was.pid.0 ≡ taken.pid.0)
+  undo_now legal plain = undo_allowed (back entries) desk taken out legal plain was.follows was.able can.1 fresh_now answer_now
 
   -- what is told where it was recorded, and where it wasn't
   module _ (entry : Entry) (is : entry_of taken out ≡ entry) (allowed : Allowed (back entries) entry) (new : Recording) (after : List ℕ) where

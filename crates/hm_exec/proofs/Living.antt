@@ -1,5 +1,5 @@
 -- At one address no two servers are live; so where one goes down, none is, and a newer one may come up.
-use Rattle.std.proofs.Common.{◌≡◌, ◌≢◌, ◌<◌, List, [], ◌∷◌, Bool, true, false, not, ◌&&◌, ◌||◌, ◌==◌, ◌⊎◌, if◌then◌else◌, nat_lt, max, Option, None, Some, Result, Ok, Err, refl, inl, inr, ap, sym, subst, ◌∙◌, arith}
+use Rattle.std.proofs.Common.{◌≡◌, ◌<◌, List, [], ◌∷◌, Bool, true, false, not, ◌&&◌, ◌||◌, ◌==◌, ◌⊎◌, if◌then◌else◌, nat_lt, max, Option, None, Some, Result, Ok, Err, refl, inl, inr, ap, sym, subst, ◌∙◌, arith}
 use Rattle.std.specs.List.{list_any}
 use Rattle.std.specs.Option.{IfNone, IfSome}
 use Rattle.std.specs.Result.{IfOk}
@@ -11,6 +11,7 @@ use Rattle.hm_names.specs.Server.{Server}
 use Rattle.hm_data.specs.declared.entry.Entry.TheVariants as entry_is
 use Rattle.hm_model.specs.Fleet.{came_up, has_newer, has_older_live, is_live, same_address, same_server, servers_of}
 use Rattle.hm_model.specs.Journal.{Past}
+use Rattle.hm_model.specs.Plain.{ArePlain}
 use Rattle.hm_model.specs.Rules.{Allowed, IsLegal}
 use Rattle.hm_model.specs.Standings.{MayComeUp, greatest_start, is_live_in, live_servers, standings_of}
 use Rattle.hm_model.proofs.CameUp.{live_came}
@@ -77,41 +78,40 @@ none_beside J server one may live there = by (nat_lt one.start server.start) ref
     by false e = true≢false (sym (newer_met J server one (live_came J one live) there e) ∙ may.1.0)
 
 -- at one address no two are live
-pub alone : (J : Past) → IsLegal J → (a b : Server) → is_live J a ≡ true → is_live J b ≡ true → same_address a b ≡ true → a ≡ b
-alone [] legal a b on there same = absurd (true≢false (sym on))
-alone (entry_is.Start sheets ∷ J) legal a b on there same = alone J legal.0 a b on there same
-alone (entry_is.Submit nonce request ∷ J) legal a b on there same = alone J legal.0 a b on there same
-alone (entry_is.Step pid pick out ∷ J) legal a b on there same = alone J legal.0 a b on there same
-alone (entry_is.Undo pid row out ∷ J) legal a b on there same = alone J legal.0 a b on there same
-alone (entry_is.Report call told ∷ J) legal a b on there same = alone J legal.0 a b on there same
-alone (entry_is.Up server ∷ J) legal a b on there same =
-    both (or_cases (same_server a server) (is_live J a) on) (or_cases (same_server b server) (is_live J b) there) (alone J legal.0 a b)
+pub alone : (J : Past) → IsLegal J → ArePlain J → (a b : Server) → is_live J a ≡ true → is_live J b ≡ true → same_address a b ≡ true → a ≡ b
+alone [] legal plain a b on there same = absurd (true≢false (sym on))
+alone (entry_is.Start sheets ∷ J) legal plain a b on there same = alone J legal.0 plain.0 a b on there same
+alone (entry_is.Submit nonce request ∷ J) legal plain a b on there same = alone J legal.0 plain.0 a b on there same
+alone (entry_is.Step pid pick out ∷ J) legal plain a b on there same = alone J legal.0 plain.0 a b on there same
+alone (entry_is.Undo pid row out ∷ J) legal plain a b on there same = alone J legal.0 plain.0 a b on there same
+alone (entry_is.Report call told ∷ J) legal plain a b on there same = alone J legal.0 plain.0 a b on there same
+alone (entry_is.Up server ∷ J) legal plain a b on there same =
+    both (or_cases (same_server a server) (is_live J a) on) (or_cases (same_server b server) (is_live J b) there) (alone J legal.0 plain.0 a b)
   where
     both : (same_server a server ≡ true) ⊎ (is_live J a ≡ true) → (same_server b server ≡ true) ⊎ (is_live J b ≡ true) → (is_live J a ≡ true → is_live J b ≡ true → same_address a b ≡ true → a ≡ b) → a ≡ b
     both (inl one) (inl other) before = same_server-is a server one ∙ sym (same_server-is b server other)
     both (inl one) (inr was) before = absurd (none_beside J server b legal.1 was (subst (λ s. same_address s b ≡ true) (same_server-is a server one) same))
     both (inr was) (inl other) before = absurd (none_beside J server a legal.1 was (subst (λ s. same_address s a ≡ true) (same_server-is b server other) (address_back a b same)))
     both (inr was) (inr were) before = before was were same
-alone (entry_is.Down server ∷ J) legal a b on there same =
-    alone J legal.0 a b (and_parts (not (same_server a server)) (is_live J a) on).1 (and_parts (not (same_server b server)) (is_live J b) there).1 same
-alone (entry_is.Abort pid ∷ J) legal a b on there same = alone J legal.0 a b on there same
-
-more_than_none : (older : Server) (J : Past) → (entry_is.Down older ∷ J) ≢ []
-more_than_none older J e = cc
+alone (entry_is.Down server ∷ J) legal plain a b on there same =
+    alone J legal.0 plain.0 a b (and_parts (not (same_server a server)) (is_live J a) on).1 (and_parts (not (same_server b server)) (is_live J b) there).1 same
+alone (entry_is.Abort pid ∷ J) legal plain a b on there same = alone J legal.0 plain.0 a b on there same
+alone (entry_is.Adopt sheets ∷ J) legal plain a b on there same = absurd plain.1
+alone (entry_is.Base part ∷ J) legal plain a b on there same = absurd plain.1
 
 -- after the end of the one that was live at its address a newer server may come up
-pub up_behind : (J : Past) → IsLegal J → (server older : Server) → IsOlder J server older → has_newer J server ≡ false → Allowed (entry_is.Down older ∷ J) (entry_is.Up server)
-up_behind J legal server older is newest =
+pub up_behind : (J : Past) → IsLegal J → ArePlain J → (server older : Server) → IsOlder J server older → has_newer J server ≡ false → Allowed (entry_is.Down older ∷ J) (entry_is.Up server)
+up_behind J legal plain server older is newest =
     let none : has_older_live (entry_is.Down older ∷ J) server ≡ false = false_from_ne_true (has_older_live (entry_is.Down older ∷ J) server) (λ any.
     let found = some_one (λ other. same_address server other && (nat_lt other.start server.start && (not (same_server other older) && is_live J other))) (servers_of J) any in
     let other = found.0 in
     let at = and_parts (same_address server other) (nat_lt other.start server.start && (not (same_server other older) && is_live J other)) found.1 in
     let more = and_parts (nat_lt other.start server.start) (not (same_server other older) && is_live J other) at.1 in
     let lives = and_parts (not (same_server other older)) (is_live J other) more.1 in
-    let one : other ≡ older = alone J legal other older lives.1 is.0 (address_on server other older at.0 is.1) in
+    let one : other ≡ older = alone J legal plain other older lives.1 is.0 (address_on server other older at.0 is.1) in
     let self : same_server other older ≡ true = ap (λ s. same_server s older) one ∙ same_server-refl older in
     true≢false (sym lives.0 ∙ ap not self)) in
-    (more_than_none older J, (newest, (none, tt)))
+    (tt, (newest, (none, tt)))
 
 -- an older one that is live
 pub older_there : (J : Past) (server : Server) → has_older_live J server ≡ true → (older : Server) × IsOlder J server older

@@ -4,6 +4,7 @@ ghost use Rattle.hm_ports.specs.Faults.{Rose};
 ghost use Rattle.hm_exec.specs.Adding.{Adds};
 ghost use Rattle.hm_hall.specs.Recording.{Accepts, CanBeRecorded, entries_of, halt_of};
 ghost use Rattle.hm_model.specs.Journal.{back};
+ghost use Rattle.hm_model.specs.Plain.{IsPlain};
 ghost use Rattle.hm_model.specs.Rules.{Allowed};
 
 use hm_data::Entry;
@@ -45,7 +46,9 @@ pub(crate) fn refuse<R: Recorder>(
     ensures later { R.faults recorder.old ≤ R.faults recorder.new }
     ensures opened { R.opened recorder.new ≡ R.opened recorder.old }
 {
-    record(recorder, alloc, &entry)
+    let refused = record(recorder, alloc, &entry);
+    drop(entry);
+    refused
 }
 
 // The same of an entry that would be recorded: the state makes room for it first.
@@ -58,6 +61,7 @@ fn admit<R: Recorder>(
     requires same { entries_of (R.kept recorder.old) ≡ state.old.entries }
     requires going { halt_of (R.kept recorder.old) ≡ None }
     requires allowed { Allowed (back state.old.entries) entry }
+    requires plain { IsPlain entry }
     requires fits { CanBeRecorded entry }
     requires accepted { Accepts (R.kept recorder.old) entry }
     ensures adds { Adds (R.kept recorder.old) entry result (R.kept recorder.new) }
@@ -91,6 +95,7 @@ pub(crate) fn add<R: Recorder>(
     requires same { entries_of (R.kept recorder.old) ≡ state.old.entries }
     requires going { halt_of (R.kept recorder.old) ≡ None }
     requires allowed { Allowed (back state.old.entries) entry }
+    requires plain { IsPlain entry }
     requires fits { CanBeRecorded entry }
     ensures adds { Adds (R.kept recorder.old) entry result (R.kept recorder.new) }
     ensures entries { entries_of (R.kept recorder.new) ≡ state.new.entries }

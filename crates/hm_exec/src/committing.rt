@@ -45,7 +45,10 @@ fn step_entry(
 {
     match pick.copy(alloc) {
         Ok(pick) => Ok(Entry::Step { pid, pick, out }),
-        Err(fault) => Err(fault),
+        Err(fault) => {
+            drop(out);
+            Err(fault)
+        }
     }
 }
 

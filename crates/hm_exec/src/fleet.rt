@@ -1,5 +1,5 @@
 //! Servers that come up and go down.
-ghost use Rattle.std.specs.Prelude.{◌≡◌, ◌≢◌, ◌≤◌, ◌+◌, [], IfErr, IfOk, IfNone, IfSome, OnOk, IsErrOf, true, false};
+ghost use Rattle.std.specs.Prelude.{◌≡◌, ◌≤◌, ◌+◌, IfErr, IfOk, IfNone, IfSome, OnOk, IsErrOf, true, false};
 ghost use Rattle.hm_ports.specs.Faults.{Rose};
 ghost use Rattle.hm_data.specs.declared.entry.Entry.TheVariants as entry_is;
 ghost use Rattle.hm_exec.specs.Fleet.{AnswersDown, AnswersUp, BringsUp, CanUp, CannotDown, CannotUp, IsOlder, FaultsCopying, FaultsFirst, PutsDown};
@@ -7,8 +7,10 @@ ghost use Rattle.hm_exec.specs.Moment.{FaultsAt, IsAdded, IsGoing, past_of};
 ghost use Rattle.hm_exec.specs.Sparing.{SparesDown, SparesUp};
 ghost use Rattle.hm_exec.specs.View.{moment_of};
 ghost use Rattle.hm_hall.specs.Recording.{Accepts};
+ghost use Rattle.hm_model.specs.Base.{IsBegun};
 ghost use Rattle.hm_model.specs.Fleet.{has_older_live as older_lives, is_live as lives};
 ghost use Rattle.hm_model.specs.Journal.{back};
+ghost use Rattle.hm_model.specs.Plain.{ArePlain};
 ghost use Rattle.hm_model.specs.Rules.{Allowed, IsLegal};
 ghost use Rattle.hm_model.specs.Tree.{made};
 ghost use Rattle.hm_places.specs.Laws.{StandingsTell};
@@ -27,8 +29,9 @@ use std::alloc::{AllocError, Global};
 
 // The journal of a state has begun, and its servers tell who is live: a law that does nothing.
 fn fleet_is_told(state: &State)
-    ensures begun { back state.now.entries ≢ [] }
+    ensures begun { IsBegun (back state.now.entries) }
     ensures legal { IsLegal (back state.now.entries) }
+    ensures plain { ArePlain (back state.now.entries) }
     ensures tell { StandingsTell (back state.now.entries) }
 {
     servers_follow();

@@ -5,6 +5,7 @@ ghost use Rattle.hm_exec.specs.Adding.{Adds};
 ghost use Rattle.hm_data.specs.declared.entry.Entry.{Entry};
 ghost use Rattle.hm_hall.specs.Recording.{Accepts, CanBeRecorded, entries_of, halt_of};
 ghost use Rattle.hm_model.specs.Journal.{back};
+ghost use Rattle.hm_model.specs.Plain.{IsPlain};
 ghost use Rattle.hm_model.specs.Rules.{Allowed};
 ghost use Rattle.hm_procedures.specs.Kept.{args_made};
 ghost use Rattle.hm_records.specs.Parts.{size_of};
@@ -51,6 +52,7 @@ fn enter<R: Recorder>(
     requires going { halt_of (R.kept recorder.old) ≡ None }
     requires past { ready.past ≡ back state.old.entries }
     requires allowed { Allowed (back state.old.entries) ready.entry }
+    requires plain { IsPlain ready.entry }
     requires room { size_of ready.entry ≤ state.old.spare }
     requires fits { CanBeRecorded ready.entry }
     requires accepted { Accepts (R.kept recorder.old) ready.entry }
@@ -92,6 +94,7 @@ fn enlist_and_enter<R: Recorder>(
     requires going { halt_of (R.kept recorder.old) ≡ None }
     requires past { ready.past ≡ back state.old.entries }
     requires allowed { Allowed (back state.old.entries) ready.entry }
+    requires plain { IsPlain ready.entry }
     requires room { size_of ready.entry ≤ state.old.spare }
     requires fits { CanBeRecorded ready.entry }
     requires accepted { Accepts (R.kept recorder.old) ready.entry }
@@ -128,6 +131,7 @@ fn admit_made<R: Recorder>(
     requires same { entries_of (R.kept recorder.old) ≡ state.old.entries }
     requires going { halt_of (R.kept recorder.old) ≡ None }
     requires allowed { Allowed (back state.old.entries) entry }
+    requires plain { IsPlain entry }
     requires fits { CanBeRecorded entry }
     requires accepted { Accepts (R.kept recorder.old) entry }
     requires parent { parent_made entry ≡ parent }
@@ -159,6 +163,7 @@ pub(crate) fn add_made<R: Recorder>(
     requires same { entries_of (R.kept recorder.old) ≡ state.old.entries }
     requires going { halt_of (R.kept recorder.old) ≡ None }
     requires allowed { Allowed (back state.old.entries) entry }
+    requires plain { IsPlain entry }
     requires fits { CanBeRecorded entry }
     requires parent { parent_made entry ≡ parent }
     requires follows { Follows (back state.old.entries) desk.old }

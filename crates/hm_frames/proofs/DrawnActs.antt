@@ -62,7 +62,7 @@ use Rattle.hm_data.specs.declared.request.Request.TheVariants as request_is
 use Rattle.hm_data.specs.declared.step.Turn.{Turn}
 use Rattle.hm_data.specs.declared.step.Turn.TheVariants as turn_is
 use Rattle.hm_names.specs.declared.range.KeyRange.{KeyRange}
-use Rattle.hm_model.specs.declared.part.Part.{Part}
+use Rattle.hm_model.specs.declared.merged.Merged.{Merged}
 use Rattle.hm_model.specs.Tree.{new_ids}
 use Rattle.hm_frames.proofs.ShortForms.{Each}
 
@@ -112,11 +112,11 @@ pub record SeesLow (d : TableName → ℕ) (at : StepIn) : Type 0 where
   pub turn : IsLowTurn d at.turn
 
 module _ (d : TableName → ℕ) where
-  ns_low : (ns : List ℕ) (row : Option CatRow) → IfLow d (key_is.Ns ns) row
+  pub ns_low : (ns : List ℕ) (row : Option CatRow) → IfLow d (key_is.Ns ns) row
   ns_low ns None = tt
   ns_low ns (Some row) = tt
 
-  table_low : (table : TableName) (row : Option CatRow) → IfLow d (key_is.Table table) row
+  pub table_low : (table : TableName) (row : Option CatRow) → IfLow d (key_is.Table table) row
   table_low table None = tt
   table_low table (Some row) = tt
 
@@ -267,7 +267,7 @@ module _ (d : TableName → ℕ) where
     marked_low [] = tt
     marked_low (r ∷ regions) = (changed_low (key_is.Region r) (in_status status_is.Merged), marked_low regions)
 
-    merged_low : (t : TableName) (first : ℕ) (parts : List Part) → 1 ≤ first → first ≤ d t → Each (IsLowEdit d) (merged_of there t first parts)
+    merged_low : (t : TableName) (first : ℕ) (parts : List Merged) → 1 ≤ first → first ≤ d t → Each (IsLowEdit d) (merged_of there t first parts)
     merged_low t first [] one low = tt
     merged_low t first (part ∷ more) one low = ((rows (region_key t first), (one, low)), tt)
 

@@ -1,9 +1,9 @@
 -- The regions of legal journals have ids that were drawn.
-use Rattle.std.proofs.Common.{◌≡◌, ℕ, zero, suc, ◌+◌, ◌-◌, ◌≤◌, Bool, true, false, ◌||◌, ◌==◌, if◌then◌else◌, is_some, List, [], ◌∷◌, ◌++◌, slice_get, Option, Some, None, refl, sym, subst, ◌∙◌, inl, inr, arith}
+use Rattle.std.proofs.Common.{◌≡◌, ℕ, zero, suc, ◌+◌, ◌-◌, ◌≤◌, Bool, true, false, ◌||◌, ◌==◌, if◌then◌else◌, is_some, List, [], ◌∷◌, ◌++◌, slice_get, Option, Some, None, refl, ap, sym, subst, ◌∙◌, inl, inr, arith}
 use Rattle.std.specs.Option.{option_map}
 use Rattle.std.specs.Prelude.{codes}
 use Rattle.std.specs.Str.{bytes_eq}
-use Rattle.std.proofs.lemmas.Bool.{cases_eq, cond-true}
+use Rattle.std.proofs.lemmas.Bool.{cases_Bool, cases_eq, cond-true}
 use Rattle.std.proofs.lemmas.Option.{none-some, same_Some}
 use Rattle.hm_names.specs.Server.{Server}
 use Rattle.hm_names.specs.declared.nonce.Nonce.{Nonce}
@@ -21,27 +21,33 @@ use Rattle.hm_data.specs.declared.catalog.CatRow.{CatRow}
 use Rattle.hm_data.specs.declared.catalog.CatRow.TheVariants as row_is
 use Rattle.hm_data.specs.declared.catalog.Edit.{Edit}
 use Rattle.hm_data.specs.declared.entry.Entry.TheVariants as entry_is
+use Rattle.hm_data.specs.declared.part.Part.{Part}
+use Rattle.hm_data.specs.declared.part.Part.TheVariants as part_is
 use Rattle.hm_data.specs.declared.place.Goal.{Goal}
 use Rattle.hm_data.specs.declared.request.Request.{Request}
+use Rattle.hm_data.specs.declared.sheet.Sheet.{Sheet}
 use Rattle.hm_data.specs.declared.step.StepIn.{StepIn}
 use Rattle.hm_data.specs.declared.step.StepOut.{StepOut}
 use Rattle.hm_model.specs.Answers.{failing}
+use Rattle.hm_model.specs.Base.{PartFits}
 use Rattle.hm_model.specs.Catalog.{Catalog, at_start, cat, edited, keep, keys_of, row_at, rows_at}
 use Rattle.hm_model.specs.Evaluation.{answer_of}
 use Rattle.hm_model.specs.Inputs.{IsEvaluated, input, latest_input, step_input, turn_input, undo_input, undoes}
 use Rattle.hm_model.specs.Journal.{Past}
 use Rattle.hm_model.specs.Keys.{same_key, same_table}
 use Rattle.hm_model.specs.Kinds.{table_of_request}
+use Rattle.hm_model.specs.Parts.{part_row}
 use Rattle.hm_model.specs.Reads.{reads}
 use Rattle.hm_model.specs.Rules.{IsLegal}
-use Rattle.hm_model.specs.Sheets.{sheet_for, sheets_of, undo_of_next}
+use Rattle.hm_model.specs.Sheets.{sheet_for, sheets_by, undo_of_next}
 use Rattle.hm_model.specs.Tree.{Node, args_in, child_args, made, node_of, root_node, root_of, submitted, drawn, first_of, ids_for, new_ids}
 use Rattle.hm_model.specs.Undo.{Undoable, pushed, rest_of, row_if_there, stack}
 use Rattle.hm_model.proofs.Grown.{down_new, down_old, submit_new, submit_old, undo_new}
 use Rattle.hm_model.proofs.Said.{said_by}
 use Rattle.hm_model.proofs.Trees.{grown_all, le_or_lt, new_child, node_same, undo_rooted}
-use Rattle.hm_model.proofs.KeyTests.{same_table-refl, same_key-is}
-use Rattle.hm_frames.proofs.DrawnActs.{IfLow, IsLow, IsLowArgs, IsLowChild, IsLowEdit, IsLowOut, SeesLow, turn_low}
+use Rattle.hm_model.proofs.KeyTests.{same_table-is, same_table-refl, same_key-is}
+use Rattle.hm_model.proofs.Rising.{table_new}
+use Rattle.hm_frames.proofs.DrawnActs.{IfLow, IsLow, IsLowArgs, IsLowChild, IsLowEdit, IsLowOut, SeesLow, ns_low, table_low, turn_low}
 use Rattle.hm_frames.proofs.ShortForms.{Each}
 
 abbrev AreLowEdits : (TableName → ℕ) → Undoable → Type 0
@@ -118,13 +124,13 @@ module _ (d : TableName → ℕ) (J : Past) (low : IsLowPast d J) where
       by true = latest_sees (step_input J p node pick) (stack J p) (step_sees p node pick is) (low.steps p)
       by false = step_sees p node pick is
 
-  answered_low : (at : StepIn) (out : StepOut) → SeesLow d at → answer_of (sheets_of J) at ≡ Some out → IsLowOut d out
-  answered_low at out sees is =
-      let said = said_by (sheet_for (sheets_of J) at.kind) at out is in
+  answered_low : (sheets : List Sheet) (at : StepIn) (out : StepOut) → SeesLow d at → answer_of sheets at ≡ Some out → IsLowOut d out
+  answered_low sheets at out sees is =
+      let said = said_by (sheet_for sheets at.kind) at out is in
       subst (IsLowOut d) (sym said.4) (turn_low d said.2 at sees)
 
   evaluated_low : (p : ℕ) (pick : Option Server) (out : StepOut) → IsEvaluated J p pick out → IsLowOut d out
-  evaluated_low p pick out is = answered_low (input J p is.0 pick) out (input_sees p is.0 pick (low.nodes p is.0 is.1)) is.2
+  evaluated_low p pick out is = answered_low (sheets_by J is.0.root) (input J p is.0 pick) out (input_sees p is.0 pick (low.nodes p is.0 is.1)) is.2
 
   -- the procedures that children stand for
   of_batch : (table : TableName) (ids : List ℕ) (goal : Goal) (rest : List Args) (i : ℕ) (own : Args)
@@ -241,6 +247,31 @@ start_low d (key_is.Ns ns) = by (bytes_eq ns (codes "default") || bytes_eq ns (c
 start_low d (key_is.Table table) = tt
 start_low d (key_is.Region region) = tt
 
+-- a part of a base leaves regions with ids that were drawn: tables come first
+part_low : (own : Part) (J : Past) → IsLegal J → PartFits own J → ((key : CatKey) → IfLow (drawn J) key (cat J key)) → (key : CatKey) → IfLow (drawn (entry_is.Base own ∷ J)) key (part_row own key (cat J key))
+part_low own J legal fits was (key_is.Ns ns) = ns_low (drawn (entry_is.Base own ∷ J)) ns (part_row own (key_is.Ns ns) (cat J (key_is.Ns ns)))
+part_low own J legal fits was (key_is.Table table) = table_low (drawn (entry_is.Base own ∷ J)) table (part_row own (key_is.Table table) (cat J (key_is.Table table)))
+part_low (part_is.Head entries last parts sheets) J legal fits was (key_is.Region r) = tt
+part_low (part_is.Namespace ns) J legal fits was (key_is.Region r) = was (key_is.Region r)
+part_low (part_is.Table own ids row) J legal fits was (key_is.Region r) = by (cat J (key_is.Region r)) (was (key_is.Region r))
+  where
+    by : (there : Option CatRow) → IfLow (drawn J) (key_is.Region r) there → IfLow (drawn (entry_is.Base (part_is.Table own ids row) ∷ J)) (key_is.Region r) there
+    by None is = tt
+    by (Some there) is = elim (cases_Bool (same_table own r.table)) [
+      | inl on ↦
+          let none : drawn J r.table ≡ 0 = ap (drawn J) (sym (same_table-is own r.table on)) ∙ (table_new own ids row J legal fits).1 in
+          absurd (omega (arith, is.0, is.1, none))
+      | inr off ↦ (is.0, rw off is.1)
+    ]
+part_low (part_is.Region own range status parents place) J legal fits was (key_is.Region r) = by (same_key (key_is.Region r) (key_is.Region own)) refl
+  where
+    by : (b : Bool) → same_key (key_is.Region r) (key_is.Region own) ≡ b → IfLow (drawn J) (key_is.Region r) (if b then Some (row_is.Region range status parents) else cat J (key_is.Region r))
+    by true e = subst (IsLow (drawn J)) (sym (same_key-is (key_is.Region r) (key_is.Region own) e)) (fits.1, fits.2)
+    by false e = was (key_is.Region r)
+part_low (part_is.Server server fenced) J legal fits was (key_is.Region r) = was (key_is.Region r)
+part_low (part_is.Root pid given work cause) J legal fits was (key_is.Region r) = was (key_is.Region r)
+part_low (part_is.Layout pid) J legal fits was (key_is.Region r) = was (key_is.Region r)
+
 -- each region that is there has an id that was drawn
 pub past_low : (J : Past) → IsLegal J → IsLowPast (drawn J) J
 past_low [] legal = record { nodes = λ p node is. absurd (none-some node is); rows = start_low (drawn []); steps = λ r. tt }
@@ -262,3 +293,5 @@ past_low (entry_is.Down server ∷ J) legal =
     let now = down_past (drawn J) J low server in
     record { nodes = now.nodes; rows = now.rows; steps = now.steps }
 past_low (entry_is.Abort pid ∷ J) legal = let low = past_low J legal.0 in record { nodes = low.nodes; rows = low.rows; steps = low.steps }
+past_low (entry_is.Adopt sheets ∷ J) legal = let low = past_low J legal.0 in record { nodes = low.nodes; rows = low.rows; steps = low.steps }
+past_low (entry_is.Base own ∷ J) legal = record { nodes = λ p node is. absurd (none-some node is); rows = part_low own J legal.0 legal.1.0 (past_low J legal.0).rows; steps = λ r. tt }

@@ -1,9 +1,9 @@
 -- How many bytes names and requests have as they are spelled.
-use Rattle.std.proofs.Common.{◌≡◌, ℕ, ◌+◌, ◌*◌, ◌≤◌, ◌==◌, nat_lt, Bool, true, false, not, cond, if◌then◌else◌, List, [], ◌∷◌, ◌++◌, length, Option, Some, None, All, refl, arith, length-append}
+use Rattle.std.proofs.Common.{◌≡◌, ℕ, ◌+◌, ◌*◌, ◌≤◌, ◌==◌, ◌&&◌, nat_le, nat_lt, Bool, true, false, not, cond, if◌then◌else◌, List, [], ◌∷◌, ◌++◌, length, Option, Some, None, All, refl, arith, length-append}
 use Rattle.std.specs.Int.{bytes_low_first}
 use Rattle.std.specs.List.{flat_map}
 use Rattle.std.specs.Prelude.{IfSome}
-use Rattle.std.proofs.lemmas.Bool.{ltb-false}
+use Rattle.std.proofs.lemmas.Bool.{and_parts, leb-true, ltb-false}
 use Rattle.std.proofs.lemmas.List.Elements.{All-head, All-tail}
 use Rattle.hm_wire.specs.Wire.{text}
 use Rattle.hm_names.specs.Names.{IsNs, IsQualifier, IsHost, first_wrong, first_wrong_of_qualifier, is_ns_byte, is_host_byte}
@@ -21,7 +21,7 @@ use Rattle.hm_data.specs.declared.request.Request.{Request}
 use Rattle.hm_data.specs.declared.request.Request.TheVariants as request_is
 use Rattle.hm_entry.specs.Fits.{KeyFits, RequestFits}
 use Rattle.hm_entry.specs.Spelling.{list, number, nonce, option, region, request, server, table}
-use Rattle.hm_model.specs.Requests.{rise, wrong_in}
+use Rattle.hm_model.specs.Requests.{are_siblings, may_merge, rise, wrong_in}
 
 not_long : (empty long : Bool) (a b : NameFault) (wrong : Option NameFault) → cond empty (Some a) (cond long (Some b) wrong) ≡ None → long ≡ false
 not_long true long a b wrong e = absurd cc
@@ -44,7 +44,7 @@ pub nonce_long : (n : Nonce) → length (nonce n) ≡ 16
 unfolding nonce
 nonce_long n = omega arith
 
-text_long : (s : List ℕ) → length (text s) ≡ length s + 2
+pub text_long : (s : List ℕ) → length (text s) ≡ length s + 2
 text_long s = omega arith
 
 pub table_short : (t : TableName) → IsTable t → length (table t) ≤ 196
@@ -77,14 +77,23 @@ few_keys true true e = absurd cc
 few_keys true false e = refl
 few_keys false long e = absurd cc
 
-pair_short : (rs : List Region) → All IsRegion rs → wrong_in (request_is.MergeRegions rs) ≡ None → length (flat_map region rs) ≤ 408
-pair_short [] fit e = omega arith
-pair_short (one ∷ []) fit e = absurd cc
-pair_short (one ∷ other ∷ []) fit e =
-    let first = All-head IsRegion one (other ∷ []) fit in
-    let second = All-head IsRegion other [] (All-tail IsRegion one (other ∷ []) fit) in
-    omega (arith, region_short one first.0, region_short other second.0, length-append (region one) (region other ++ []), length-append (region other) [])
-pair_short (one ∷ other ∷ third ∷ more) fit e = absurd cc
+-- two to ten regions are merged
+abbrev wrong_unless : Bool → Option ℕ
+wrong_unless may = if may then None else Some 4
+
+wrong_merge : (may : Bool) → wrong_unless may ≡ None → may ≡ true
+wrong_merge true e = refl
+wrong_merge false e = absurd cc
+
+pub few_merge : (rs : List Region) → wrong_in (request_is.MergeRegions rs) ≡ None → length rs ≤ 10
+few_merge rs right =
+    let may = and_parts (nat_le 2 (length rs)) (nat_le (length rs) 10 && are_siblings rs) (wrong_merge (may_merge rs) right) in
+    leb-true (length rs) 10 (and_parts (nat_le (length rs) 10) (are_siblings rs) may.1).0
+
+regions_short : (rs : List Region) → All IsRegion rs → length (flat_map region rs) ≤ 204 * length rs
+regions_short [] fit = omega arith
+regions_short (r ∷ rs) fit =
+    omega (arith, region_short r (All-head IsRegion r rs fit).0, regions_short rs (All-tail IsRegion r rs fit), length-append (region r) (flat_map region rs))
 
 -- a request that nothing is wrong with
 pub request_short : (asked : Request) → wrong_in asked ≡ None → RequestFits asked → length (request asked) ≤ 33349
@@ -106,6 +115,6 @@ request_short (request_is.ModifyTable t version) right fits = omega (arith, tabl
 request_short (request_is.SplitRegion r key) right fits =
     omega (arith, region_short r fits.0.0, fits.1.0, text_long key, length-append (region r) (text key))
 request_short (request_is.MergeRegions rs) right fits =
-    omega (arith, pair_short rs fits.1 right)
+    omega (arith, regions_short rs fits.1, few_merge rs right)
 request_short (request_is.Move r to) right fits =
     omega (arith, region_short r fits.0.0, server_if_short to fits.1, length-append (region r) (option server to))

@@ -20,7 +20,7 @@ use Rattle.hm_data.specs.declared.catalog.Status.{Status}
 use Rattle.hm_data.specs.declared.catalog.Status.TheVariants as status_is
 use Rattle.hm_data.specs.declared.catalog.TableState.{TableState}
 use Rattle.hm_entry.specs.Spelling.{byte, catalog_row, edit, key, list, number, option, range}
-use Rattle.hm_model.specs.declared.part.Part.{Part}
+use Rattle.hm_model.specs.declared.merged.Merged.{Merged}
 use Rattle.hm_model.specs.Catalog.{Catalog, set_to}
 use Rattle.hm_model.specs.Changes.{add_merged, add_ranges, changed, live_row, mark_merged, merge_edits, merged_of, region_key, remove_regions, split_edits, split_range}
 use Rattle.hm_model.specs.Checks.{by_start, hull, keep_part, parts_of, with_part}
@@ -31,7 +31,7 @@ use Rattle.hm_model.specs.Undoing.{turned, turned_round}
 use Rattle.hm_frames.proofs.NameSizes.{ns_short, region_short, table_short}
 use Rattle.hm_frames.proofs.ShortForms.{Each, If, IsOfTable, IsShortCatKey, IsShortEdit, IsShortKey, IsShortRange, IsShortRow}
 
-range_short : (r : KeyRange) → IsShortRange r → length (range r) ≤ 260
+pub range_short : (r : KeyRange) → IsShortRange r → length (range r) ≤ 260
 unfolding range
 range_short r is = omega (arith, is.0, is.1, length-append r.start (text r.end))
 
@@ -39,14 +39,14 @@ pub numbers_long : (ids : List ℕ) → length (flat_map number ids) ≡ 8 * len
 numbers_long [] = refl
 numbers_long (id ∷ ids) = omega (arith, numbers_long ids)
 
-row_short : (row : CatRow) → IsShortRow row → length (catalog_row row) ≤ 280
+row_short : (row : CatRow) → IsShortRow row → length (catalog_row row) ≤ 344
 unfolding catalog_row
 row_short row_is.Ns is = omega arith
 row_short (row_is.Table state version) is = omega arith
 row_short (row_is.Region bounds status parents) is =
     omega (arith, range_short bounds is.0, is.1, numbers_long parents, length-append (range bounds) (byte (status_number status) ++ list number parents))
 
-row_if_short : (row : Option CatRow) → If IsShortRow row → length (option catalog_row row) ≤ 281
+row_if_short : (row : Option CatRow) → If IsShortRow row → length (option catalog_row row) ≤ 345
 row_if_short None is = omega arith
 row_if_short (Some row) is = omega (arith, row_short row is)
 
@@ -56,7 +56,7 @@ key_short (key_is.Ns ns) is = omega (arith, ns_short ns is)
 key_short (key_is.Table t) is = omega (arith, table_short t is)
 key_short (key_is.Region r) is = omega (arith, region_short r is)
 
-edit_short : (e : Edit) → IsShortEdit e → length (edit e) ≤ 767
+edit_short : (e : Edit) → IsShortEdit e → length (edit e) ≤ 895
 unfolding edit
 edit_short e is =
     omega (
@@ -68,12 +68,12 @@ edit_short e is =
       length-append (option catalog_row e.before) (option catalog_row e.after),
     )
 
-edits_long : (edits : List Edit) → Each IsShortEdit edits → length (flat_map edit edits) ≤ 767 * length edits
+edits_long : (edits : List Edit) → Each IsShortEdit edits → length (flat_map edit edits) ≤ 895 * length edits
 edits_long [] are = omega arith
 edits_long (e ∷ edits) are = omega (arith, edit_short e are.0, edits_long edits are.1, length-append (edit e) (flat_map edit edits))
 
 -- 64 edits
-pub edits_short : (edits : List Edit) → Each IsShortEdit edits → length edits ≤ 64 → length (list edit edits) ≤ 49090
+pub edits_short : (edits : List Edit) → Each IsShortEdit edits → length edits ≤ 64 → length (list edit edits) ≤ 57282
 edits_short edits are few = omega (arith, few, edits_long edits are)
 
 -- turned round they are as short
@@ -147,10 +147,10 @@ module _ (there : Catalog) (rows : (k : CatKey) → If IsShortRow (there k)) whe
       )
 
   -- parts of regions
-  abbrev IsShortPart : Part → Type 0
+  abbrev IsShortPart : Merged → Type 0
   IsShortPart part = IsShortRange part.range
 
-  keep_short : (id : ℕ) (o : Option KeyRange) (more : List Part) → If IsShortRange o → Each IsShortPart more → Each IsShortPart (keep_part id o more) × (length (keep_part id o more) ≤ length more + 1)
+  keep_short : (id : ℕ) (o : Option KeyRange) (more : List Merged) → If IsShortRange o → Each IsShortPart more → Each IsShortPart (keep_part id o more) × (length (keep_part id o more) ≤ length more + 1)
   keep_short id None more is are = (are, omega arith)
   keep_short id (Some bounds) more is are = ((is, are), omega arith)
 
@@ -161,7 +161,7 @@ module _ (there : Catalog) (rows : (k : CatKey) → If IsShortRow (there k)) whe
       let here = keep_short r.id (range_in (there (key_is.Region r))) (parts_of there regions) (range_of (there (key_is.Region r)) (rows (key_is.Region r))) rest.0 in
       (here.0, omega (arith, here.1, rest.1))
 
-  with_short : (part : Part) (parts : List Part) → IsShortPart part → Each IsShortPart parts → Each IsShortPart (with_part part parts) × (length (with_part part parts) ≤ length parts + 1)
+  with_short : (part : Merged) (parts : List Merged) → IsShortPart part → Each IsShortPart parts → Each IsShortPart (with_part part parts) × (length (with_part part parts) ≤ length parts + 1)
   with_short part [] is are = ((is, tt), omega arith)
   with_short part (first ∷ more) is are = by (is_le (bytes_cmp part.range.start first.range.start)) (with_short part more is are.1)
     where
@@ -170,27 +170,27 @@ module _ (there : Catalog) (rows : (k : CatKey) → If IsShortRow (there k)) whe
       by true rest = ((is, are), omega arith)
       by false rest = ((are.0, rest.0), omega (arith, rest.1))
 
-  ordered_short : (parts : List Part) → Each IsShortPart parts → Each IsShortPart (by_start parts) × (length (by_start parts) ≤ length parts)
+  ordered_short : (parts : List Merged) → Each IsShortPart parts → Each IsShortPart (by_start parts) × (length (by_start parts) ≤ length parts)
   ordered_short [] are = (tt, omega arith)
   ordered_short (part ∷ more) are =
       let rest = ordered_short more are.1 in
       let here = with_short part (by_start more) are.0 rest.0 in
       (here.0, omega (arith, here.1, rest.1))
 
-  hull_short : (r : KeyRange) (parts : List Part) → IsShortRange r → Each IsShortPart parts → IsShortRange (hull r parts)
+  hull_short : (r : KeyRange) (parts : List Merged) → IsShortRange r → Each IsShortPart parts → IsShortRange (hull r parts)
   hull_short r [] is are = is
   hull_short r (part ∷ more) is are = hull_short (joined r part.range) more (is.0, are.0.1) are.1
 
-  ids_long : (parts : List Part) → length (map (λ (p : Part). p.id) parts) ≡ length parts
+  ids_long : (parts : List Merged) → length (map (λ (p : Merged). p.id) parts) ≡ length parts
   ids_long [] = refl
   ids_long (p ∷ parts) = omega (arith, ids_long parts)
 
-  merged_short : (t : TableName) → IsTable t → (first : ℕ) (parts : List Part) → Each IsShortPart parts → length parts ≤ 2 → Each IsShortEdit (merged_of there t first parts) × (length (merged_of there t first parts) ≤ 1)
+  merged_short : (t : TableName) → IsTable t → (first : ℕ) (parts : List Merged) → Each IsShortPart parts → length parts ≤ 10 → Each IsShortEdit (merged_of there t first parts) × (length (merged_of there t first parts) ≤ 1)
   merged_short t named first [] are few = (tt, omega arith)
   merged_short t named first (part ∷ more) are few =
       ((set_short (region_key t first) _ named (hull_short part.range more are.0 are.1, omega (arith, ids_long more, few)), tt), omega arith)
 
-  add_merged_short : (first : ℕ) (regions all : List Region) → Each IsOfTable regions → length all ≤ 2 → Each IsShortEdit (add_merged there first regions all) × (length (add_merged there first regions all) ≤ 1)
+  add_merged_short : (first : ℕ) (regions all : List Region) → Each IsOfTable regions → length all ≤ 10 → Each IsShortEdit (add_merged there first regions all) × (length (add_merged there first regions all) ≤ 1)
   add_merged_short first [] all are few = (tt, omega arith)
   add_merged_short first (r ∷ more) all are few =
       let parts = parts_short all in
@@ -205,8 +205,8 @@ module _ (there : Catalog) (rows : (k : CatKey) → If IsShortRow (there k)) whe
   marked_long [] = refl
   marked_long (r ∷ regions) = omega (arith, marked_long regions)
 
-  pub merge_short : (regions : List Region) (first : ℕ) → Each IsOfTable regions → Each IsOfTable (in_name_order regions) → length regions ≤ 2 → length (in_name_order regions) ≤ 2
-      → Each IsShortEdit (merge_edits there regions first) × (length (merge_edits there regions first) ≤ 3)
+  pub merge_short : (regions : List Region) (first : ℕ) → Each IsOfTable regions → Each IsOfTable (in_name_order regions) → length regions ≤ 10 → length (in_name_order regions) ≤ 10
+      → Each IsShortEdit (merge_edits there regions first) × (length (merge_edits there regions first) ≤ 11)
   merge_short regions first are are' few few' =
       let one = add_merged_short first regions regions are few in (
         each_more IsShortEdit (mark_merged there (in_name_order regions)) (add_merged there first regions regions) (marked_short (in_name_order regions) are') one.0,

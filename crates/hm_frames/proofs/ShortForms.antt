@@ -46,11 +46,11 @@ IsShortKey key = length key ≤ 128
 abbrev pub IsShortRange : KeyRange → Type 0
 IsShortRange range = IsShortKey range.start × IsShortKey range.end
 
--- a region has two parents at most
+-- a region has ten parents at most
 abbrev pub IsShortRow : CatRow → Type 0
 IsShortRow row_is.Ns = Unit {0}
 IsShortRow (row_is.Table state version) = Unit {0}
-IsShortRow (row_is.Region range status parents) = IsShortRange range × (length parents ≤ 2)
+IsShortRow (row_is.Region range status parents) = IsShortRange range × (length parents ≤ 10)
 
 -- a region of a table with a right name
 abbrev pub IsOfTable : Region → Type 0

@@ -21,14 +21,14 @@ use Rattle.hm_model.specs.Keys.{same_table}
 use Rattle.hm_model.specs.Kinds.{table_of_first, table_of_request}
 use Rattle.hm_model.specs.Pieces.{numbers_from}
 use Rattle.hm_model.specs.RegionActs.{cut_of, regions_for}
-use Rattle.hm_model.specs.Requests.{rise, wrong_in}
+use Rattle.hm_model.specs.Requests.{rise}
 use Rattle.hm_model.specs.RowsSaid.{Rows, is_live_status, keep_region, regions_among, status_in}
 use Rattle.hm_model.specs.Undoing.{closed_by}
 use Rattle.hm_model.specs.Views.{asked_of, bounds_of, namespace_of, namespace_of_request, region_of, regions_in, table_of}
 use Rattle.hm_model.specs.Wanted.{ids_of, server_of}
 use Rattle.hm_model.proofs.KeyTests.{same_table-is}
 use Rattle.hm_frames.proofs.ShortChildren.{IsOf}
-use Rattle.hm_frames.proofs.NameSizes.{few_keys}
+use Rattle.hm_frames.proofs.NameSizes.{few_keys, few_merge}
 use Rattle.hm_frames.proofs.ShortForms.{Each, If, IsOfTable, IsShortArgs, IsShortKey, IsShortRequest}
 
 each_of : {A : Type 0} (P Q : A → Type 0) → ((x : A) → P x → Q x) → (xs : List A) → All P xs → Each Q xs
@@ -199,13 +199,7 @@ server_in (args_are.LayoutCall root) is = tt
 server_in (args_are.SweepLayout root) is = tt
 
 -- the regions to close
-pair_few : (rs : List Region) → wrong_in (request_is.MergeRegions rs) ≡ None → length rs ≤ 2
-pair_few [] e = omega arith
-pair_few (one ∷ []) e = omega arith
-pair_few (one ∷ other ∷ []) e = omega arith
-pair_few (one ∷ other ∷ third ∷ more) e = absurd cc
-
-pub closed_in : (args : Args) → IsShortArgs args → Each IsOfTable (closed_by args) × (length (closed_by args) ≤ 2)
+pub closed_in : (args : Args) → IsShortArgs args → Each IsOfTable (closed_by args) × (length (closed_by args) ≤ 10)
 closed_in (args_are.Root (request_is.CreateNamespace ns) first) is = (tt, omega arith)
 closed_in (args_are.Root (request_is.DropNamespace ns) first) is = (tt, omega arith)
 closed_in (args_are.Root (request_is.CreateTable t keys) first) is = (tt, omega arith)
@@ -214,7 +208,7 @@ closed_in (args_are.Root (request_is.EnableTable t) first) is = (tt, omega arith
 closed_in (args_are.Root (request_is.DisableTable t) first) is = (tt, omega arith)
 closed_in (args_are.Root (request_is.ModifyTable t version) first) is = (tt, omega arith)
 closed_in (args_are.Root (request_is.SplitRegion r key) first) is = ((is.1.0.0, tt), omega arith)
-closed_in (args_are.Root (request_is.MergeRegions rs) first) is = (each_of IsRegion IsOfTable (λ r fits. fits.0) rs is.1.1, pair_few rs is.0)
+closed_in (args_are.Root (request_is.MergeRegions rs) first) is = (each_of IsRegion IsOfTable (λ r fits. fits.0) rs is.1.1, few_merge rs is.0)
 closed_in (args_are.Root (request_is.Move r to) first) is = (tt, omega arith)
 closed_in (args_are.Transit region goal to) is = (tt, omega arith)
 closed_in (args_are.Crash server) is = (tt, omega arith)

@@ -1,7 +1,7 @@
 -- What legal journals hold is short.
-use Rattle.std.proofs.Common.{◌≡◌, ℕ, zero, suc, ◌+◌, ◌-◌, Bool, true, false, not, ◌||◌, ◌==◌, if◌then◌else◌, is_some, List, [], ◌∷◌, ◌++◌, slice_get, Option, Some, None, All, refl, sym, subst, ◌∙◌, inl, inr}
+use Rattle.std.proofs.Common.{◌≡◌, ℕ, zero, suc, ◌+◌, ◌-◌, Bool, true, false, not, ◌&&◌, ◌||◌, ◌==◌, if◌then◌else◌, is_some, List, [], ◌∷◌, ◌++◌, slice_get, Option, Some, None, All, refl, sym, subst, ◌∙◌, inl, inr}
 use Rattle.std.specs.Option.{option_map}
-use Rattle.std.specs.Prelude.{codes}
+use Rattle.std.specs.Prelude.{codes, IfSome}
 use Rattle.std.specs.Str.{bytes_eq}
 use Rattle.std.proofs.lemmas.Bool.{and_parts, cases_eq, false≢true}
 use Rattle.std.proofs.lemmas.List.Elements.{All-head, All-tail}
@@ -24,17 +24,22 @@ use Rattle.hm_data.specs.declared.catalog.CatRow.{CatRow}
 use Rattle.hm_data.specs.declared.catalog.CatRow.TheVariants as row_is
 use Rattle.hm_data.specs.declared.catalog.Edit.{Edit}
 use Rattle.hm_data.specs.declared.entry.Entry.TheVariants as entry_is
+use Rattle.hm_data.specs.declared.catalog.TableState.{TableState}
+use Rattle.hm_data.specs.declared.part.Part.{Part}
+use Rattle.hm_data.specs.declared.part.Part.TheVariants as part_is
 use Rattle.hm_data.specs.declared.place.Goal.{Goal}
 use Rattle.hm_data.specs.declared.place.Place.{Place}
 use Rattle.hm_data.specs.declared.request.Request.{Request}
 use Rattle.hm_data.specs.declared.step.StepOut.{StepOut}
-use Rattle.hm_entry.specs.Fits.{EntryFits, RequestFits}
+use Rattle.hm_entry.specs.Fits.{EntryFits, PartFits, RequestFits}
 use Rattle.hm_model.specs.Answers.{failing}
+use Rattle.hm_model.specs.Base.{PartFits as IsAllowedPart}
 use Rattle.hm_model.specs.Catalog.{at_start, cat, edited}
-use Rattle.hm_model.specs.Fleet.{is_live, same_server}
+use Rattle.hm_model.specs.Fleet.{is_live, part_live, same_server}
 use Rattle.hm_model.specs.Journal.{Past}
-use Rattle.hm_model.specs.Keys.{same_key}
-use Rattle.hm_model.specs.Places.{joined_if, place_of, placed, placed_by, region_if}
+use Rattle.hm_model.specs.Keys.{same_key, same_region}
+use Rattle.hm_model.specs.Parts.{part_row, table_row}
+use Rattle.hm_model.specs.Places.{joined_if, part_place, part_placed, place_of, placed, placed_by, region_if}
 use Rattle.hm_model.specs.Reports.{is_the_region}
 use Rattle.hm_model.specs.Requests.{wrong_in}
 use Rattle.hm_model.specs.Rules.{IsLegal}
@@ -211,6 +216,81 @@ module _ (J : Past) (legal : IsLegal J) (was : IsShortPast J) where
           pushed_short (undo_of_next J pid.0 (node_of J pid.0)) (is_some (failing out.answer)) pid.0 (row_if_there J pid.0 (node_of J pid.0)) out.edits (stack J r) is_short.edits (was.steps r)
       pushes r false = was.steps r
 
+-- what a part of a base leaves is short
+server_if_fits : (s : Option Server) → IfSome s IsServer → If IsServer s
+server_if_fits None is = tt
+server_if_fits (Some s) is = is
+
+table_row_short : (own : Option (TableState × ℕ)) → If IsShortRow (table_row own)
+table_row_short None = tt
+table_row_short (Some both) = tt
+
+part_row_short : (own : Part) (J : Past) → IsAllowedPart own J → PartFits own → (key : CatKey) (row : Option CatRow) → If IsShortRow row → If IsShortRow (part_row own key row)
+part_row_short (part_is.Head entries last parts sheets) J may fits key row is = tt
+part_row_short (part_is.Namespace ns) J may fits key row is = by (same_key key (key_is.Ns ns))
+  where
+    by : (b : Bool) → If IsShortRow (if b then Some row_is.Ns else row)
+    by true = tt
+    by false = is
+part_row_short (part_is.Table table ids own) J may fits key row is = by (same_key key (key_is.Table table))
+  where
+    by : (b : Bool) → If IsShortRow (if b then table_row own else row)
+    by true = table_row_short own
+    by false = is
+part_row_short (part_is.Region region range status parents place) J may fits key row is = by (same_key key (key_is.Region region))
+  where
+    by : (b : Bool) → If IsShortRow (if b then Some (row_is.Region range status parents) else row)
+    by true = ((fits.1.0.0, fits.1.1.0), may.3)
+    by false = is
+part_row_short (part_is.Server server fenced) J may fits key row is = is
+part_row_short (part_is.Root pid given work cause) J may fits key row is = is
+part_row_short (part_is.Layout pid) J may fits key row is = is
+
+part_place_short : (own : Part) → PartFits own → (region : Region) (place : Place) → If IsServer place.server → If IsServer (let p = part_place own region place in p.server)
+part_place_short (part_is.Head entries last parts sheets) fits region place at = at
+part_place_short (part_is.Namespace ns) fits region place at = at
+part_place_short (part_is.Table table ids own) fits region place at = at
+part_place_short (part_is.Region own range status parents given) fits region place at = by (same_region region own)
+  where
+    by : (b : Bool) → If IsServer (let p = if b then given else place in p.server)
+    by true = server_if_fits given.server fits.3
+    by false = at
+part_place_short (part_is.Server server fenced) fits region place at = at
+part_place_short (part_is.Root pid given work cause) fits region place at = at
+part_place_short (part_is.Layout pid) fits region place at = at
+
+part_placed_short : (own : Part) → PartFits own → (regions : List Region) → Each IsOfTable regions → Each IsOfTable (part_placed own regions)
+part_placed_short (part_is.Head entries last parts sheets) fits regions are = are
+part_placed_short (part_is.Namespace ns) fits regions are = are
+part_placed_short (part_is.Table table ids own) fits regions are = are
+part_placed_short (part_is.Region own range status parents given) fits regions are = each_joined IsOfTable own regions fits.0.0 are
+part_placed_short (part_is.Server server fenced) fits regions are = are
+part_placed_short (part_is.Root pid given work cause) fits regions are = are
+part_placed_short (part_is.Layout pid) fits regions are = are
+
+part_live_short : (own : Part) → PartFits own → (s : Server) (before : Bool) → (before ≡ true → IsServer s) → part_live own s before ≡ true → IsServer s
+part_live_short (part_is.Head entries last parts sheets) fits s before was is = was is
+part_live_short (part_is.Namespace ns) fits s before was is = was is
+part_live_short (part_is.Table table ids own) fits s before was is = was is
+part_live_short (part_is.Region own range status parents given) fits s before was is = was is
+part_live_short (part_is.Server server fenced) fits s before was is = by (same_server s server) refl is
+  where
+    by : (b : Bool) → same_server s server ≡ b → ((b && not fenced) || before) ≡ true → IsServer s
+    by true e is = subst IsServer (sym (same_server-is s server e)) fits
+    by false e is = was is
+part_live_short (part_is.Root pid given work cause) fits s before was is = was is
+part_live_short (part_is.Layout pid) fits s before was is = was is
+
+part_past : (own : Part) (J : Past) → IsAllowedPart own J → PartFits own → IsShortPast J → IsShortPast (entry_is.Base own ∷ J)
+part_past own J may fits was = record {
+  nodes = λ p node is. absurd (none-some node is);
+  rows = λ key. part_row_short own J may fits key (cat J key) (was.rows key);
+  places = λ region. part_place_short own fits region (place_of J region) (was.places region);
+  placed = part_placed_short own fits (placed J) was.placed;
+  steps = λ r. tt;
+  live = λ s is. part_live_short own fits s (is_live J s) (was.live s) is;
+}
+
 -- each legal journal is so
 pub past_short : (J : Past) → IsLegal J → All EntryFits J → IsShortPast J
 past_short [] legal fit = nothing_short
@@ -239,3 +319,8 @@ past_short (entry_is.Down server ∷ J) legal fit =
 past_short (entry_is.Abort pid ∷ J) legal fit =
     let was = past_short J legal.0 (All-tail EntryFits (entry_is.Abort pid) J fit) in
     record { nodes = was.nodes; rows = was.rows; places = was.places; placed = was.placed; steps = was.steps; live = was.live }
+past_short (entry_is.Adopt sheets ∷ J) legal fit =
+    let was = past_short J legal.0 (All-tail EntryFits (entry_is.Adopt sheets) J fit) in
+    record { nodes = was.nodes; rows = was.rows; places = was.places; placed = was.placed; steps = was.steps; live = was.live }
+past_short (entry_is.Base own ∷ J) legal fit =
+    part_past own J legal.1.0 (All-head EntryFits (entry_is.Base own) J fit) (past_short J legal.0 (All-tail EntryFits (entry_is.Base own) J fit))

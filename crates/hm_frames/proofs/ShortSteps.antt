@@ -36,13 +36,13 @@ use Rattle.hm_model.specs.Places.{at_server, is_at, joined_at, joined_by, place_
 use Rattle.hm_model.specs.Reads.{reads}
 use Rattle.hm_model.specs.Rules.{IsLegal}
 use Rattle.hm_model.specs.RowsSaid.{regions_among}
-use Rattle.hm_model.specs.Sheets.{sheet_for, sheets_of}
+use Rattle.hm_model.specs.Sheets.{sheet_for, sheets_by}
 use Rattle.hm_model.specs.TransitActs.{told_place}
 use Rattle.hm_model.specs.Tree.{Node, node_of}
 use Rattle.hm_model.specs.Undo.{Undoable, stack}
-use Rattle.hm_model.specs.Validity.{IsValid, first_broken, is_among, is_not, misfit, row_rules, rules_of_row}
+use Rattle.hm_model.specs.Validity.{AllValid, IsValid, first_broken, is_among, is_not, misfit, row_rules, rules_of_row}
 use Rattle.hm_model.specs.Whereabouts.{crashed_in, moved_by}
-use Rattle.hm_model.proofs.ExactRows.{all_valid, sheet_is}
+use Rattle.hm_model.proofs.ExactRows.{sheet_is, valid_by}
 use Rattle.hm_model.proofs.Said.{said_by}
 use Rattle.hm_frames.proofs.ShortActs.{FewBounds, turn_short}
 use Rattle.hm_frames.proofs.ShortForms.{AreShortEdits, Each, If, IsOfTable, IsShortArgs, IsShortOut, IsShortRow, SeesShort}
@@ -212,17 +212,17 @@ module _ (J : Past) (legal : IsLegal J) (short : IsShortPast J) (few : FewRegion
       by true = latest_sees (step_input J p node pick) (stack J p) at (short.steps p)
       by false = at
 
-  answered_short : (at : StepIn) (out : StepOut) → Sees at → answer_of (sheets_of J) at ≡ Some out → IsShortOut out
-  answered_short at out sees is =
-      let said = said_by (sheet_for (sheets_of J) at.kind) at out is in
-      let valid = sheet_is (sheets_of J) (all_valid J legal) at.kind said.0 said.1 in
+  answered_short : (sheets : List Sheet) → AllValid sheets → (at : StepIn) (out : StepOut) → Sees at → answer_of sheets at ≡ Some out → IsShortOut out
+  answered_short sheets all at out sees is =
+      let said = said_by (sheet_for sheets at.kind) at out is in
+      let valid = sheet_is sheets all at.kind said.0 said.1 in
       subst IsShortOut (sym said.4)
       (turn_short said.2 at sees.0 (λ adds. few_bounds at.args sees.0.args (sym sees.1 ∙ sym valid.1 ∙ kind_20 said.0.kind said.2.act adds (right_act said.0 valid.0 at.row said.2 said.3))))
 
   -- what a legal entry answers
   pub evaluated_short : (p : ℕ) (pick : Option Server) (out : StepOut) → If IsServer pick → IsEvaluated J p pick out → IsShortOut out
   evaluated_short p pick out picked is =
-      answered_short (input J p is.0 pick) out (input_sees p is.0 pick (short.nodes p is.0 is.1) picked) is.2
+      answered_short (sheets_by J is.0.root) (valid_by J legal is.0.root) (input J p is.0 pick) out (input_sees p is.0 pick (short.nodes p is.0 is.1) picked) is.2
 
   pub pick_short : (p : ℕ) (pick : Option Server) → PicksRight J p pick → If IsServer pick
   pick_short p None right = tt

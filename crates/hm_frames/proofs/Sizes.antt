@@ -9,7 +9,7 @@ use Rattle.hm_entry.specs.Spelling.{byte, flag, row, sheet}
 use Rattle.hm_model.specs.Validity.{IsValid, AllValid}
 use Rattle.hm_model.proofs.ValidSheets.{valid_row}
 
-flag_long : (b : Bool) → length (flag b) ≡ 1
+pub flag_long : (b : Bool) → length (flag b) ≡ 1
 flag_long true = refl
 flag_long false = refl
 

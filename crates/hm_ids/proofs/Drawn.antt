@@ -54,7 +54,7 @@ use Rattle.hm_model.specs.Tree.{new_ids}
 use Rattle.hm_model.specs.Undoing.{closed_by, turned, turned_round, undo_edits, undo_followers}
 use Rattle.hm_model.specs.Views.{asked_of, bounds_of, first_id_of, namespace_of, region_of, regions_in, table_of}
 use Rattle.hm_model.specs.Wanted.{ids_of, layout_of, server_of}
-use Rattle.hm_model.specs.declared.part.Part.{Part}
+use Rattle.hm_model.specs.declared.merged.Merged.{Merged}
 use Rattle.hm_kinds.proofs.Kids.{AllMade}
 
 -- the ids that a procedure will give rows to are drawn
@@ -227,7 +227,7 @@ module _ (d : TableName → ℕ → Type 0) where
     mark_fine [] = tt
     mark_fine (region ∷ more) = (rows (key_is.Region region), map_drawn (key_is.Region region) (in_status status_is.Merged) (seen (key_is.Region region)) (rows (key_is.Region region)), mark_fine more)
 
-    merged_fine : (table : TableName) (first : ℕ) (parts : List Part) → d table first → AllDrawn d (merged_of seen table first parts)
+    merged_fine : (table : TableName) (first : ℕ) (parts : List Merged) → d table first → AllDrawn d (merged_of seen table first parts)
     merged_fine table first [] le = tt
     merged_fine table first (part ∷ more) le = (rows (region_key table first), (λ some. le), tt)
 

@@ -1,4 +1,13 @@
 -- In every legal journal a region's row has an id that its table has drawn.
+use Rattle.hm_data.specs.declared.catalog.CatRow.TheVariants as row_is
+use Rattle.hm_names.specs.Region.{Region}
+use Rattle.hm_model.proofs.Rising.{table_new}
+use Rattle.hm_model.proofs.KeyTests.{same_table-is}
+use Rattle.std.proofs.lemmas.Bool.{cases_Bool}
+use Rattle.hm_model.specs.Base.{PartFits}
+use Rattle.hm_data.specs.declared.part.Part.{Part}
+use Rattle.hm_data.specs.declared.part.Part.TheVariants as part_is
+use Rattle.hm_model.specs.Parts.{part_row}
 use Rattle.std.proofs.Common.{◌≡◌, ℕ, ◌+◌, ◌-◌, ◌≤◌, Bool, true, false, cond, nat_lt, ◌==◌, List, [], ◌∷◌, Option, Some, None, refl, sym, ap, subst, ◌∙◌, inl, inr, arith, slice_get}
 use Rattle.std.specs.Option.{option_map}
 use Rattle.std.proofs.lemmas.Bool.{cases_eq, cond-true, cond-false, eq-eqb, ne_eqb, lt-ltb, le-ltb}
@@ -216,6 +225,26 @@ down_args server J kept p node is = elim (cases_eq p (made J + 1)) [
   | inr differs ↦ kept.args p node (sym (cond-false (p == made J + 1) (Some (root_node p (args_are.Crash server) 1)) (node_of J p) (ne_eqb p (made J + 1) differs)) ∙ is)
 ]
 
+part_drawn_at : (part : Part) (J : Past) → IsLegal J → PartFits part J → SeenDrawn (DrawnIn J) (cat J) → (key : CatKey) → IsDrawnAt (DrawnIn (entry_is.Base part ∷ J)) key (part_row part key (cat J key))
+part_drawn_at part J legal fits was (key_is.Ns ns) = tt
+part_drawn_at part J legal fits was (key_is.Table table) = tt
+part_drawn_at (part_is.Head entries last parts sheets) J legal fits was (key_is.Region r) = λ some. absurd (some refl)
+part_drawn_at (part_is.Namespace ns) J legal fits was (key_is.Region r) = was (key_is.Region r)
+part_drawn_at (part_is.Server server fenced) J legal fits was (key_is.Region r) = was (key_is.Region r)
+part_drawn_at (part_is.Root pid nonce args cause) J legal fits was (key_is.Region r) = was (key_is.Region r)
+part_drawn_at (part_is.Layout pid) J legal fits was (key_is.Region r) = was (key_is.Region r)
+part_drawn_at (part_is.Table own ids row) J legal fits was (key_is.Region r) = λ some. (let had = was (key_is.Region r) some in elim (cases_Bool (same_table own r.table)) [
+  | inl on ↦ let none : drawn J r.table ≡ 0 = ap (drawn J) (sym (same_table-is own r.table on)) ∙ (table_new own ids row J legal fits).1 in absurd (omega (arith, had.0, had.1, none))
+  | inr off ↦ (had.0, rw off had.1)
+])
+part_drawn_at (part_is.Region own range status parents place) J legal fits was (key_is.Region r) = λ some. elim (cases_key (key_is.Region r) (key_is.Region own)) [
+  | inl same ↦ subst (λ (q : Region). (1 ≤ q.id) × (q.id ≤ drawn J q.table)) (own_is same.1) (fits.1, fits.2)
+  | inr differs ↦ was (key_is.Region r) (λ none. some (cond-false (same_key (key_is.Region r) (key_is.Region own)) (Some (row_is.Region range status parents)) (cat J (key_is.Region r)) differs.0 ∙ none))
+]
+  where
+    own_is : key_is.Region r ≡ key_is.Region own → own ≡ r
+    own_is e = cc
+
 pub drawn_all : (J : Past) → IsLegal J → IsDrawn J
 drawn_all [] legal = record { rows = start_drawn; args = λ p node is. absurd (none-some node is); stacks = λ r. tt }
 drawn_all (entry_is.Start sheets ∷ J) legal = let k = drawn_all J legal.0 in record { rows = k.rows; args = k.args; stacks = k.stacks }
@@ -226,6 +255,8 @@ drawn_all (entry_is.Report call told ∷ J) legal = let k = drawn_all J legal.0 
 drawn_all (entry_is.Up server ∷ J) legal = let k = drawn_all J legal.0 in record { rows = k.rows; args = k.args; stacks = k.stacks }
 drawn_all (entry_is.Down server ∷ J) legal = let k = drawn_all J legal.0 in record { rows = k.rows; args = down_args server J k; stacks = k.stacks }
 drawn_all (entry_is.Abort pid ∷ J) legal = let k = drawn_all J legal.0 in record { rows = k.rows; args = k.args; stacks = k.stacks }
+drawn_all (entry_is.Adopt sheets ∷ J) legal = let k = drawn_all J legal.0 in record { rows = k.rows; args = k.args; stacks = k.stacks }
+drawn_all (entry_is.Base part ∷ J) legal = record { rows = λ key. part_drawn_at part J legal.0 legal.1.0 (drawn_all J legal.0).rows key; args = λ p node is. absurd (none-some node is); stacks = λ r. tt }
 
 pub ids_are_drawn : RegionIdsAreDrawn
 ids_are_drawn J legal table id some = (drawn_all J legal).rows (key_is.Region (record { table = table; id = id })) some

@@ -29,7 +29,12 @@ use Rattle.hm_model.specs.Inputs.{regions_on, step_input}
 use Rattle.hm_model.specs.Journal.{Past}
 use Rattle.hm_model.specs.Kinds.{kind_of, table_of_request}
 use Rattle.hm_model.specs.Lists.{exact_rows}
-use Rattle.hm_model.specs.Places.{at_server, is_at, joined_if, place_of, placed, region_if}
+use Rattle.hm_model.specs.Base.{PartFits}
+use Rattle.hm_data.specs.declared.part.Part.{Part}
+use Rattle.hm_data.specs.declared.part.Part.TheVariants as part_is
+use Rattle.hm_model.specs.Laws.{are_parts}
+use Rattle.hm_model.proofs.Grown.{all_parts}
+use Rattle.hm_model.specs.Places.{part_placed, at_server, is_at, joined_if, place_of, placed, region_if}
 use Rattle.hm_model.specs.Reads.{reads}
 use Rattle.hm_model.specs.Rules.{IsLegal}
 use Rattle.hm_model.specs.Tree.{Node, args_in, first_of, made, node_of, root_node, submitted}
@@ -159,6 +164,28 @@ down_args server J kept p node is = elim (cases_eq p (made J + 1)) [
   | inr differs ↦ kept.args p node (sym (cond-false (p == made J + 1) (Some (root_node p (args_are.Crash server) 1)) (node_of J p) (ne_eqb p (made J + 1) differs)) ∙ is)
 ]
 
+part_ids : (part : Part) (J : Past) → PartFits part J → AreRegions (placed J) → AreRegions (part_placed part (placed J))
+part_ids (part_is.Head entries last parts sheets) J fits was = was
+part_ids (part_is.Namespace ns) J fits was = was
+part_ids (part_is.Table own ids row) J fits was = was
+part_ids (part_is.Server server fenced) J fits was = was
+part_ids (part_is.Root pid nonce args cause) J fits was = was
+part_ids (part_is.Layout pid) J fits was = was
+part_ids (part_is.Region own range status parents place) J fits was = join_one own (placed J) fits.1 was
+
+parts_placed : (J : Past) → IsLegal J → are_parts J ≡ true → AreRegions (placed J)
+parts_placed [] legal is = tt
+parts_placed (entry_is.Base part ∷ J) legal is = part_ids part J legal.1.0 (parts_placed J legal.0 is)
+parts_placed (entry_is.Start sheets ∷ J) legal is = absurd (false≢true is)
+parts_placed (entry_is.Submit nonce request ∷ J) legal is = absurd (false≢true is)
+parts_placed (entry_is.Step pid pick out ∷ J) legal is = absurd (false≢true is)
+parts_placed (entry_is.Undo pid row out ∷ J) legal is = absurd (false≢true is)
+parts_placed (entry_is.Report call told ∷ J) legal is = absurd (false≢true is)
+parts_placed (entry_is.Up server ∷ J) legal is = absurd (false≢true is)
+parts_placed (entry_is.Down server ∷ J) legal is = absurd (false≢true is)
+parts_placed (entry_is.Abort pid ∷ J) legal is = absurd (false≢true is)
+parts_placed (entry_is.Adopt sheets ∷ J) legal is = absurd (false≢true is)
+
 pub ids_kept : (J : Past) → IsLegal J → AreNamed J → IdsKept J
 ids_kept [] legal named = record { args = λ p node is. absurd (none-some node is); places = tt }
 ids_kept (entry_is.Start sheets ∷ J) legal named = let k = ids_kept J legal.0 named in record { args = k.args; places = k.places }
@@ -169,6 +196,8 @@ ids_kept (entry_is.Report call told ∷ J) legal named = let k = ids_kept J lega
 ids_kept (entry_is.Up server ∷ J) legal named = let k = ids_kept J legal.0 named in record { args = k.args; places = k.places }
 ids_kept (entry_is.Down server ∷ J) legal named = let k = ids_kept J legal.0 named in record { args = down_args server J k; places = k.places }
 ids_kept (entry_is.Abort pid ∷ J) legal named = let k = ids_kept J legal.0 named in record { args = k.args; places = k.places }
+ids_kept (entry_is.Adopt sheets ∷ J) legal named = let k = ids_kept J legal.0 named in record { args = k.args; places = k.places }
+ids_kept (entry_is.Base part ∷ J) legal named = record { args = λ p node is. absurd (none-some node is); places = parts_placed (entry_is.Base part ∷ J) legal (all_parts (entry_is.Base part ∷ J) legal refl) }
 
 pub ids_named : IdsAreNamed
 ids_named J legal named p node is = (ids_kept J legal named).args p node is
@@ -182,3 +211,5 @@ none_ask (entry_is.Report call told) J legal named asks = false≢true asks
 none_ask (entry_is.Up server) J legal named asks = false≢true asks
 none_ask (entry_is.Down server) J legal named asks = false≢true asks
 none_ask (entry_is.Abort pid) J legal named asks = false≢true asks
+none_ask (entry_is.Adopt sheets) J legal named asks = false≢true asks
+none_ask (entry_is.Base part) J legal named asks = false≢true asks

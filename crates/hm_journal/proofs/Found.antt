@@ -28,7 +28,7 @@ no_frames (frame ∷ frames) none = absurd (omega (arith, none))
 pub new_journal : (sheets : List Sheet) (frames : List (List ℕ)) (entries : List Entry) → length frames ≡ 0 → entries ≡ entry_is.Start sheets ∷ []
     → (journal : List Entry) × IsJournal sheets journal × (frames_of journal ≡ frames) × (entries ≡ opened sheets journal)
 new_journal sheets frames entries none are =
-    ([], record { legal = tt; fits = All-nil EntryFits; begins = λ some. absurd (some refl) }, no_frames frames none, are)
+    ([], record { legal = tt; plain = tt; fits = All-nil EntryFits; begins = λ some. absurd (some refl) }, no_frames frames none, are)
 
 -- the frames of a journal
 pub found_journal : (sheets : List Sheet) (frames : List (List ℕ)) (own : List (Vec ℕ)) (journal entries : List Entry) → IsJournal sheets journal → frames_of journal ≡ frames

@@ -45,6 +45,8 @@ entry_some (entry_is.Report call told) = omega arith
 entry_some (entry_is.Up s) = omega arith
 entry_some (entry_is.Down s) = omega arith
 entry_some (entry_is.Abort p) = omega arith
+entry_some (entry_is.Base part) = omega arith
+entry_some (entry_is.Adopt sheets) = omega arith
 
 -- one frame more
 pub entries_more : (frames : List (Vec ℕ)) (frame : Vec ℕ) (entry : Entry) → EntryFits entry → frame.items ≡ spelling entry

@@ -10,7 +10,8 @@ use Rattle.hm_entry.specs.Fits.{EntryFits}
 use Rattle.hm_entry.specs.Spelling.{entry as spelling}
 use Rattle.hm_entry.proofs.EntryCodec.{one_entry}
 use Rattle.hm_model.specs.Journal.{back}
-use Rattle.hm_model.specs.Rules.{Breaks, IsLegal}
+use Rattle.hm_model.specs.Plain.{ArePlain, BreaksPlainly}
+use Rattle.hm_model.specs.Rules.{IsLegal}
 use Rattle.hm_model.specs.Sheets.{sheets_of}
 use Rattle.hm_journal.specs.Stored.{SameSheets, frames_of}
 use Rattle.hm_journal.specs.Judged.{IsBadFrom, IsBegun, IsNotAdded, IsNotAddedFrom, Spells, SpellsAt}
@@ -63,8 +64,9 @@ not_added sheets frames number front entries entry (why_is.Illegal n rule) so_fa
       entry = entry;
       there = ap (slice_get entries) at ∙ spelled_at frames entries number entry spells here;
       legal = subst (λ (es : List Entry). IsLegal (back es)) (sym cut) begun.legal;
+      plain = subst (λ (es : List Entry). ArePlain (back es)) (sym cut) begun.plain;
       begins = λ some. subst (λ (es : List Entry). SameSheets sheets (sheets_of (back es))) (sym cut) begun.begins;
-      breaks = subst (λ (es : List Entry). Breaks (back es) entry rule) (sym cut) none.1;
+      breaks = subst (λ (es : List Entry). BreaksPlainly (back es) entry rule) (sym cut) none.1;
     }
 not_added sheets frames number front entries entry (why_is.SheetsDiffer kind) so_far begun spells here none = absurd none
 not_added sheets frames number front entries entry why_is.Memory so_far begun spells here none = tt

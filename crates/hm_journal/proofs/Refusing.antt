@@ -1,5 +1,5 @@
 -- No journal is refused.
-use Rattle.std.proofs.Common.{◌≡◌, ◌⊎◌, ℕ, zero, suc, ◌+◌, List, [], ◌∷◌, ◌++◌, take, length, slice_get, Some, Result, Ok, Err, All, refl, sym, ap, ◌∙◌, subst, inl, inr, ⊎_elim}
+use Rattle.std.proofs.Common.{◌≡◌, ◌⊎◌, ℕ, zero, suc, ◌+◌, List, [], ◌∷◌, ◌++◌, drop, take, length, slice_get, Some, Result, Ok, Err, All, refl, sym, ap, ◌∙◌, subst, inl, inr, ⊎_elim}
 use Rattle.std.proofs.lemmas.List.{reverse-append}
 use Rattle.std.proofs.lemmas.List.Elements.{All-head, All-tail}
 use Rattle.std.proofs.lemmas.Option.{none-some, same_Some}
@@ -17,9 +17,10 @@ use Rattle.hm_entry.specs.Reading.{all_of}
 use Rattle.hm_entry.specs.Spelling.{entry as spelling}
 use Rattle.hm_entry.proofs.EntryCodec.{all_again, one_entry}
 use Rattle.hm_model.specs.Journal.{Past, back}
-use Rattle.hm_model.specs.Rules.{AllHold, Allowed, FirstFails, IsLegal, rules}
+use Rattle.hm_model.specs.Plain.{ArePlain, BreaksPlainly, IsPlain}
+use Rattle.hm_model.specs.Rules.{AllHold, Allowed, Breaks, FirstFails, IsLegal, rules}
 use Rattle.hm_model.specs.Sheets.{sheet_for, sheets_of}
-use Rattle.hm_model.proofs.Prefixes.{back-push, legal_cut}
+use Rattle.hm_model.proofs.Prefixes.{back-cut, back-push, legal_cut}
 use Rattle.hm_journal.specs.Stored.{IsJournal, IsJournalByKind, frames_of}
 use Rattle.hm_journal.specs.Judged.{IsNoJournalIn, of_log}
 use Rattle.hm_journal.specs.Verdict.{FailsAt, HasOthers, IsFirstBad, IsFirstIllegal, IsNoEntry, IsNoJournal, IsUnjudged, Refuses}
@@ -58,21 +59,46 @@ unbroken k [] hold fails = fails
 unbroken k (rule ∷ more) hold (inl fails) = fails.1 hold.0
 unbroken k (rule ∷ more) hold (inr fails) = unbroken k more hold.1 fails.1
 
+-- the older entries of a plain journal are plain
+plain_before : (newer older : Past) → ArePlain (newer ++ older) → ArePlain older
+plain_before [] older plain = plain
+plain_before (entry ∷ newer) older plain = plain_before newer older plain.0
+
+plain_cut : (k : ℕ) (journal : List Entry) → ArePlain (back journal) → ArePlain (back (take k journal))
+plain_cut k journal plain = plain_before (back (drop k journal)) (back (take k journal)) (subst ArePlain (back-cut k journal) plain)
+
+-- the entries up to a place end with the one there
+with_item : (journal : List Entry) (number : ℕ) (entry : Entry) → slice_get journal number ≡ Some entry → back (take (number + 1) journal) ≡ entry ∷ back (take number journal)
+with_item journal number entry here = ap back (take_item journal number entry here) ∙ back-push (take number journal) entry
+
+-- each entry of a plain journal is plain
+plain_at : (journal : List Entry) (number : ℕ) (entry : Entry) → ArePlain (back journal) → slice_get journal number ≡ Some entry → IsPlain entry
+plain_at journal number entry plain here =
+    let both : ArePlain (entry ∷ back (take number journal)) = subst ArePlain (with_item journal number entry here) (plain_cut (number + 1) journal plain) in
+    both.1
+
+-- the rule that refuses a plain entry is one that it breaks
+plainly_breaks : (before : Past) (entry : Entry) (k : ℕ) → IsPlain entry → BreaksPlainly before entry k → Breaks before entry k
+plainly_breaks before (entry_is.Adopt sheets) k plain breaks = absurd plain
+plainly_breaks before (entry_is.Base part) k plain breaks = absurd plain
+plainly_breaks before entry k plain breaks = breaks
+
 -- the entry at a place of a legal journal is allowed there
 allowed_at : (journal : List Entry) (number : ℕ) (entry : Entry) → IsLegal (back journal) → slice_get journal number ≡ Some entry → Allowed (back (take number journal)) entry
 allowed_at journal number entry legal here =
-    let is : back (take (number + 1) journal) ≡ entry ∷ back (take number journal) = ap back (take_item journal number entry here) ∙ back-push (take number journal) entry in
-    let both : IsLegal (entry ∷ back (take number journal)) = subst IsLegal is (legal_cut (number + 1) journal legal) in
+    let both : IsLegal (entry ∷ back (take number journal)) = subst IsLegal (with_item journal number entry here) (legal_cut (number + 1) journal legal) in
     both.1
 
-none_illegal : (sheets : List Sheet) (journal : List Entry) (number rule : ℕ) → IsLegal (back journal) → IsFirstIllegal sheets journal number rule → ⊥
-none_illegal sheets journal number rule legal illegal =
-    unbroken rule (rules (back (take number journal)) illegal.entry) (allowed_at journal number illegal.entry legal illegal.there) illegal.breaks
+none_illegal : (sheets : List Sheet) (journal : List Entry) (number rule : ℕ) → IsLegal (back journal) → ArePlain (back journal) → IsFirstIllegal sheets journal number rule → ⊥
+none_illegal sheets journal number rule legal plain illegal =
+    let before = back (take number journal) in
+    unbroken rule (rules before illegal.entry) (allowed_at journal number illegal.entry legal illegal.there)
+    (plainly_breaks before illegal.entry rule (plain_at journal number illegal.entry plain illegal.there) illegal.breaks)
 
--- the sheets of a legal journal are those of its first entry
-sheets_first : (newer : Past) (own : List Sheet) → IsLegal (newer ++ entry_is.Start own ∷ []) → sheets_of (newer ++ entry_is.Start own ∷ []) ≡ own
-sheets_first [] own legal = refl
-sheets_first (entry ∷ newer) own legal = sheets_stay (newer ++ entry_is.Start own ∷ []) entry (some newer) legal.1 ∙ sheets_first newer own legal.0
+-- the sheets of a legal, plain journal are those of its first entry
+sheets_first : (newer : Past) (own : List Sheet) → IsLegal (newer ++ entry_is.Start own ∷ []) → ArePlain (newer ++ entry_is.Start own ∷ []) → sheets_of (newer ++ entry_is.Start own ∷ []) ≡ own
+sheets_first [] own legal plain = refl
+sheets_first (entry ∷ newer) own legal plain = sheets_stay (newer ++ entry_is.Start own ∷ []) entry (some newer) legal.1 plain.1 ∙ sheets_first newer own legal.0 plain.0
   where
     some : (newer : Past) → newer ++ entry_is.Start own ∷ [] ≡ [] → ⊥
     some [] e = cc
@@ -82,7 +108,7 @@ none_others : (sheets : List Sheet) (journal : List Entry) (kind : ℕ) → IsJo
 none_others sheets journal kind (given, same, is) others =
     let cut : back journal ≡ back others.more ++ entry_is.Start others.own ∷ [] = ap back others.starts ∙ reverse-append (entry_is.Start others.own ∷ []) others.more in
     let begins : sheets_of (back journal) ≡ given = is.begins (λ none. absurd (let e : entry_is.Start others.own ∷ others.more ≡ [] = sym others.starts ∙ none in cc)) in
-    let own : sheets_of (back journal) ≡ others.own = ap sheets_of cut ∙ sheets_first (back others.more) others.own (subst IsLegal cut is.legal) in
+    let own : sheets_of (back journal) ≡ others.own = ap sheets_of cut ∙ sheets_first (back others.more) others.own (subst IsLegal cut is.legal) (subst ArePlain cut is.plain) in
     others.differs.differs (same kind others.differs.is_kind ∙ ap (λ (s : List Sheet). sheet_for s kind) (sym begins ∙ own))
 
 -- where a journal was refused, memory had run out
@@ -91,7 +117,7 @@ none_of sheets journal why_is.Fault is none = absurd none
 none_of sheets journal (why_is.NotALog place) is none = absurd none
 none_of sheets journal (why_is.BadFrame place) is none = absurd none
 none_of sheets journal (why_is.BadEntry number at) is none = absurd none
-none_of sheets journal (why_is.Illegal number rule) is none = absurd (none_illegal sheets journal number rule is.2.legal none)
+none_of sheets journal (why_is.Illegal number rule) is none = absurd (none_illegal sheets journal number rule is.2.legal is.2.plain none)
 none_of sheets journal (why_is.SheetsDiffer kind) is none = absurd (none_others sheets journal kind is none)
 none_of sheets journal why_is.Memory is none = refl
 

@@ -4,7 +4,7 @@ use Rattle.std.proofs.lemmas.Bool.{and_parts, eq-eqb, leb-true, ltb-true, ne_eqb
 use Rattle.std.proofs.lemmas.Option.{same_Some}
 use Rattle.hm_data.specs.declared.sheet.Sheet.{Sheet}
 use Rattle.hm_model.specs.Kinds.{all_kinds}
-use Rattle.hm_model.specs.Rules.{AreSheets}
+use Rattle.hm_model.specs.Base.{AreSheets}
 use Rattle.hm_model.specs.Sheets.{sheet_for}
 use Rattle.hm_journal.specs.Stored.{SameSheets}
 

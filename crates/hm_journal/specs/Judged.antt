@@ -11,7 +11,8 @@ use Rattle.hm_entry.specs.Spelling.{entry as spelling}
 use Rattle.hm_entry.specs.declared.fault.EntryFault.{EntryFault}
 use Rattle.hm_entry.specs.declared.fault.EntryFault.TheVariants as entry_fault_is
 use Rattle.hm_model.specs.Journal.{back}
-use Rattle.hm_model.specs.Rules.{Breaks, IsLegal}
+use Rattle.hm_model.specs.Plain.{ArePlain, BreaksPlainly}
+use Rattle.hm_model.specs.Rules.{IsLegal}
 use Rattle.hm_model.specs.Sheets.{sheets_of}
 use Rattle.hm_judge.specs.Judge.{IsUnrefused}
 use Rattle.hm_journal.specs.Stored.{IsJournal, SameSheets, frames_of, opened}
@@ -43,9 +44,10 @@ pub record Spells (frames : List (List ℕ)) (entries : List Entry) : Type 0 whe
   pub are : frames_of entries ≡ frames
   pub fits : All EntryFits entries
 
--- these entries are a legal journal that has begun, and has the same sheet of each kind as these
+-- these entries are a legal, plain journal that has begun, and has the same sheet of each kind as these
 pub record IsBegun (sheets : List Sheet) (entries : List Entry) : Type 0 where
   pub legal : IsLegal (back entries)
+  pub plain : ArePlain (back entries)
   pub some : back entries ≢ []
   pub begins : SameSheets sheets (sheets_of (back entries))
 
@@ -65,7 +67,7 @@ IsNotAdded entries entry why_is.Fault = ⊥
 IsNotAdded entries entry (why_is.NotALog place) = ⊥
 IsNotAdded entries entry (why_is.BadFrame place) = ⊥
 IsNotAdded entries entry (why_is.BadEntry number at) = ⊥
-IsNotAdded entries entry (why_is.Illegal number rule) = (number ≡ length entries) × Breaks (back entries) entry rule
+IsNotAdded entries entry (why_is.Illegal number rule) = (number ≡ length entries) × BreaksPlainly (back entries) entry rule
 IsNotAdded entries entry (why_is.SheetsDiffer kind) = ⊥
 IsNotAdded entries entry why_is.Memory = IsUnrefused (back entries) entry
 

@@ -9,6 +9,7 @@ use Rattle.hm_data.specs.declared.sheet.Sheet.{Sheet}
 use Rattle.hm_entry.specs.Fits.{EntryFits}
 use Rattle.hm_entry.specs.Spelling.{entry as spelling}
 use Rattle.hm_model.specs.Journal.{back}
+use Rattle.hm_model.specs.Plain.{ArePlain}
 use Rattle.hm_model.specs.Rules.{IsLegal}
 use Rattle.hm_model.specs.Sheets.{sheet_for, sheets_of}
 use Rattle.hm_hall.specs.Recording.{Recording}
@@ -17,9 +18,10 @@ use Rattle.hm_hall.specs.Recording.{Recording}
 abbrev pub frames_of : List Entry → List (List ℕ)
 frames_of entries = map spelling entries
 
--- a legal journal whose entries have spellings, and which begins with these sheets where it has begun
+-- a legal, plain journal whose entries have spellings, and which begins with these sheets where it has begun
 pub record IsJournal (sheets : List Sheet) (journal : List Entry) : Type 0 where
   pub legal : IsLegal (back journal)
+  pub plain : ArePlain (back journal)
   pub fits : All EntryFits journal
   pub begins : journal ≢ [] → sheets_of (back journal) ≡ sheets
 

@@ -9,7 +9,9 @@ use Rattle.hm_entry.specs.Reading.{all_of}
 use Rattle.hm_entry.specs.declared.fault.EntryFault.{EntryFault}
 use Rattle.hm_entry.specs.declared.fault.EntryFault.TheVariants as entry_fault_is
 use Rattle.hm_model.specs.Journal.{back}
-use Rattle.hm_model.specs.Rules.{AreSheets, Breaks, IsLegal}
+use Rattle.hm_model.specs.Plain.{ArePlain, BreaksPlainly}
+use Rattle.hm_model.specs.Rules.{IsLegal}
+use Rattle.hm_model.specs.Base.{AreSheets}
 use Rattle.hm_model.specs.Sheets.{sheet_for, sheets_of}
 use Rattle.hm_journal.specs.Stored.{SameSheets, frames_of}
 use Rattle.hm_journal.specs.declared.why.JournalWhy.{JournalWhy}
@@ -37,14 +39,16 @@ pub record IsSpelledOn (bytes : List ℕ) (entries : List Entry) : Type 0 where
   pub opens : HoldsFrames bytes (frames_of entries)
   pub fits : All EntryFits entries
 
--- The entry of this number is the first that may not stand where it does, and this is the lowest rule that it breaks.
+-- The entry of this number is the first that may not stand where it does in a plain journal, and this is the rule that refuses it:
+-- the lowest that it breaks, and of a base or of new sheets their own.
 -- Where it isn't the first entry, the journal begins with these sheets, kind by kind.
 pub record IsFirstIllegal (sheets : List Sheet) (entries : List Entry) (number rule : ℕ) : Type 0 where
   pub entry : Entry
   pub there : slice_get entries number ≡ Some entry
   pub legal : IsLegal (back (take number entries))
+  pub plain : ArePlain (back (take number entries))
   pub begins : number ≢ 0 → SameSheets sheets (sheets_of (back (take number entries)))
-  pub breaks : Breaks (back (take number entries)) entry rule
+  pub breaks : BreaksPlainly (back (take number entries)) entry rule
 
 -- the kind is the lowest whose sheets differ
 pub record IsLowestDifference (sheets others : List Sheet) (kind : ℕ) : Type 0 where

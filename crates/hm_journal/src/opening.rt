@@ -8,7 +8,7 @@ ghost use Rattle.hm_log.specs.Opening.{IsBlank, IsInPlace, IsMaking, IsUsed, Onl
 ghost use Rattle.hm_data.specs.declared.entry.Entry.{Entry as EntryValue};
 ghost use Rattle.hm_data.specs.declared.sheet.Sheet.{Sheet as SheetValue};
 ghost use Rattle.hm_entry.specs.Fits.{EntryFits};
-ghost use Rattle.hm_model.specs.Rules.{AreSheets};
+ghost use Rattle.hm_model.specs.Base.{AreSheets};
 ghost use Rattle.hm_hall.specs.Recording.{with_next};
 ghost use Rattle.hm_journal.specs.Stored.{IsJournal, IsOnDisk, IsOnDiskByKind, HoldsJournal, Spares, SameFrames, GetsFirst, IsOpening, frames_of, opened};
 ghost use Rattle.hm_journal.specs.Since.{Began, IsUnbegun};

@@ -3,7 +3,9 @@ ghost use Rattle.std.specs.Prelude.{◌≡◌, ◌<◌, [], ◌∷◌, ◌++◌,
 ghost use Rattle.hm_data.specs.declared.entry.Entry.{Entry as EntryValue};
 ghost use Rattle.hm_data.specs.declared.sheet.Sheet.{Sheet as SheetValue};
 ghost use Rattle.hm_model.specs.Journal.{back};
-ghost use Rattle.hm_model.specs.Rules.{Allowed, AreSheets};
+ghost use Rattle.hm_model.specs.Plain.{BreaksPlainly, IsPlain};
+ghost use Rattle.hm_model.specs.Rules.{Allowed};
+ghost use Rattle.hm_model.specs.Base.{AreSheets};
 ghost use Rattle.hm_journal.specs.Stored.{IsJournal, IsJournalByKind, frames_of, opened};
 ghost use Rattle.hm_journal.specs.Judged.{IsBadFrom, IsBegun, IsFound, IsNoJournalIn, IsNotAdded, IsNotAddedFrom, Spells, SpellsAt, bad_entry};
 ghost use Rattle.hm_journal.specs.Verdict.{IsNoEntry, IsNoJournal};
@@ -53,6 +55,17 @@ fn check_entries(alloc: Global, frames: &Frames) -> Result<(), JournalWhy>
     Ok(())
 }
 
+// The rule that refuses an entry in the first place that is no start: 18 for a part of a base, and 1 for each other.
+fn first_rule(first: &Entry) -> u8
+    requires { (sheets : List SheetValue) → first.now ≡ EntryValue.Start sheets → ⊥ }
+    ensures { BreaksPlainly [] first.now result }
+{
+    match first {
+        Entry::Base { part: _ } => 18,
+        _ => 1,
+    }
+}
+
 // The state of a journal that has this entry alone, if that starts one that has the same sheet of each kind.
 fn state_with(alloc: Global, first: &Entry, sheets: &[Sheet]) -> Result<State, JournalWhy>
     ensures state { IfOk result (λ state. state.entries ≡ first.now ∷ []) }
@@ -60,7 +73,10 @@ fn state_with(alloc: Global, first: &Entry, sheets: &[Sheet]) -> Result<State, J
     ensures why { IfErr result (λ why. (more : List EntryValue) → IsNoJournal sheets.now (first.now ∷ more) why) }
 {
     let Entry::Start { sheets: own } = first else {
-        return Err(JournalWhy::Illegal { number: 0, rule: 1 });
+        return Err(JournalWhy::Illegal {
+            number: 0,
+            rule: first_rule(first),
+        });
     };
     if !are_sheets(own.as_slice()) {
         return Err(JournalWhy::Illegal { number: 0, rule: 1 });
@@ -74,6 +90,7 @@ fn state_with(alloc: Global, first: &Entry, sheets: &[Sheet]) -> Result<State, J
 // Whether an entry may stand after those that are there, and else why not.
 fn may_stand(alloc: Global, state: &State, entry: &Entry) -> Result<(), JournalWhy>
     ensures allowed { OnOk result (Allowed (back state.now.entries) entry.now) }
+    ensures plain { OnOk result (IsPlain entry.now) }
     ensures why { IfErr result (IsNotAdded state.now.entries entry.now) }
 {
     let number = state.entries();
@@ -86,7 +103,8 @@ fn may_stand(alloc: Global, state: &State, entry: &Entry) -> Result<(), JournalW
 
 // Adds an entry that may stand after those that are there.
 fn add_allowed(alloc: Global, state: &mut State, entry: Entry) -> Result<(), AllocError>
-    requires { Allowed (back state.old.entries) entry }
+    requires allowed { Allowed (back state.old.entries) entry }
+    requires plain { IsPlain entry }
     ensures { OnOk result (state.new.entries ≡ state.old.entries ++ entry ∷ []) }
 {
     let ready = state.prepare_own(alloc, entry)?;
@@ -98,6 +116,7 @@ fn add_allowed(alloc: Global, state: &mut State, entry: Entry) -> Result<(), All
 fn add_entry(alloc: Global, state: &mut State, entry: Entry) -> Result<(), JournalWhy>
     ensures entries { OnOk result (state.new.entries ≡ state.old.entries ++ entry ∷ []) }
     ensures allowed { OnOk result (Allowed (back state.old.entries) entry) }
+    ensures plain { OnOk result (IsPlain entry) }
     ensures why { IfErr result (IsNotAdded state.old.entries entry) }
 {
     if let Err(why) = may_stand(alloc, state, &entry) {
@@ -132,7 +151,7 @@ fn read_next(
 ) -> Result<(), JournalWhy>
     requires { number < length frames.now }
     ensures added { OnOk result ((entry : EntryValue) × SpellsAt frames.now number entry × (state.new.entries ≡ state.old.entries ++ entry ∷ [])
-        × Allowed (back state.old.entries) entry) }
+        × Allowed (back state.old.entries) entry × IsPlain entry) }
     ensures why { IfErr result (IsNotAddedFrom state.old.entries frames.now number) }
 {
     let entry = read_entry(alloc, frames, number)?;

@@ -1,6 +1,6 @@
 //! Tests of the sheets that a journal begins with.
 ghost use Rattle.std.specs.Prelude.{◌≡◌, ◌↔◌, map, option_copied, IsTrue, IfOk, IfSome, IfNone};
-ghost use Rattle.hm_model.specs.Rules.{AreSheets};
+ghost use Rattle.hm_model.specs.Base.{AreSheets};
 ghost use Rattle.hm_model.specs.Sheets.{sheet_for as first_of};
 ghost use Rattle.hm_model.specs.Validity.{AllValid, IsValid};
 ghost use Rattle.hm_journal.specs.Stored.{SameSheets};

@@ -17,7 +17,7 @@ pub enum JournalWhy {
     /// The frame of this number spells no entry, from this byte of it on.
     #[error("frame {number} spells no entry from byte {at} on")]
     BadEntry { number: u64, at: u64 },
-    /// The entry of this number breaks this rule, and none of a lower number.
+    /// This rule refuses the entry of this number: the lowest that it breaks, and of a base or of new sheets their own.
     #[error("entry {number} breaks rule {rule}")]
     Illegal { number: u64, rule: u8 },
     /// The journal began with another sheet of this kind, and with the same of each lower kind.

@@ -17,19 +17,21 @@ use Rattle.hm_model.specs.Inputs.{input, latest_input, step_input, turn_input, u
 use Rattle.hm_model.specs.Journal.{Past}
 use Rattle.hm_model.specs.Kinds.{kind_of}
 use Rattle.hm_model.specs.Picks.{PicksRight, is_pick_right, needs_server}
+use Rattle.hm_model.specs.Plain.{ArePlain}
 use Rattle.hm_model.specs.RegionIds.{NamesIds}
 use Rattle.hm_model.specs.Rest.{MayStep}
 use Rattle.hm_model.specs.Rules.{IsLegal}
-use Rattle.hm_model.specs.Sheets.{row_in, sheet_for, sheets_of, undo_by, undo_of_next}
+use Rattle.hm_model.specs.Sheets.{row_in, sheet_for, sheets_by, sheets_of, undo_by, undo_of_next}
 use Rattle.hm_model.specs.Tree.{Node, node_of, root_of}
 use Rattle.hm_model.specs.Undo.{Undoable, is_empty, pushed, rest_of, row_if_there, stack}
-use Rattle.hm_model.proofs.ExactRows.{all_valid, sheet_is}
-use Rattle.hm_model.proofs.Grown.{sheets_are}
+use Rattle.hm_model.proofs.ExactRows.{sheet_is, valid_by}
 use Rattle.hm_model.proofs.Running.{ready_runs, run_last, run_none}
+use Rattle.hm_model.proofs.Trees.{at_top, grown_all}
 use Rattle.hm_model.proofs.UndoMakes.{AllThere, stacked_all}
 use Rattle.hm_model.proofs.ValidSheets.{sheet_there}
 use Rattle.hm_judge.specs.Inputs.{CanEvaluate, IsInput}
 use Rattle.hm_judge.proofs.Picking.{needs_step, no_pick}
+use Rattle.hm_judge.proofs.Plainly.{all_kinds_by, own_sheets}
 use Rattle.hm_judge.proofs.RowsThere.{row_there}
 use Rattle.hm_judge.proofs.Undoing.{undoes_parts}
 
@@ -41,19 +43,15 @@ AllNameIds J = (p : ℕ) (node : Node) → node_of J p ≡ Some node → NamesId
 pub steps_only : (J : Past) → IsLegal J → (p : ℕ) (may : MayStep J p) → undoes J p may.0 ≡ false
 steps_only J legal p may = run_none J legal p may.0 may.1 (ready_runs J p may.0 may.2)
 
--- a journal that made a procedure isn't empty
-pub begun : (J : Past) (p : ℕ) (node : Node) → node_of J p ≡ Some node → J ≢ []
-begun J p node is e = none-some node (sym (ap (λ b. node_of b p) e) ∙ is)
-
 -- the kind of a procedure that may make a step has a sheet
-sheet_of_step : (J : Past) → IsLegal J → (p : ℕ) (may : MayStep J p) → (sheet : Sheet) × (sheet_for (sheets_of J) (kind_of may.0.args) ≡ Some sheet) × (sheet.kind ≡ (kind_of may.0.args))
+sheet_of_step : (J : Past) → IsLegal J → (p : ℕ) (may : MayStep J p) → (sheet : Sheet) × (sheet_for (sheets_by J may.0.root) (kind_of may.0.args) ≡ Some sheet) × (sheet.kind ≡ (kind_of may.0.args))
 sheet_of_step J legal p may =
     let node = may.0 in
-    let found = sheet_there (sheets_of J) (sheets_are J legal (begun J p node may.1)) node.args in
+    let found = sheet_there (sheets_by J node.root) (all_kinds_by J legal p node may.1) node.args in
     (found.0, found.1, found.3)
 
 -- where a server has to be picked, one is
-picked_by : (J : Past) (p : ℕ) (node : Node) → node_of J p ≡ Some node → undoes J p node ≡ false → (sheet : Sheet) → sheet_for (sheets_of J) (kind_of node.args) ≡ Some sheet
+picked_by : (J : Past) (p : ℕ) (node : Node) → node_of J p ≡ Some node → undoes J p node ≡ false → (sheet : Sheet) → sheet_for (sheets_by J node.root) (kind_of node.args) ≡ Some sheet
     → (pick : Option Server) → is_pick_right J p node pick (needs_server J p node) ≡ true → picks sheet (step_input J p node pick) ≡ true → IsSome pick
 picked_by J p node is off sheet found (Some server) right needed = refl
 picked_by J p node is off sheet found None right needed =
@@ -62,7 +60,7 @@ picked_by J p node is off sheet found None right needed =
     absurd (true≢false (sym needed ∙ sym needs ∙ not-true (needs_server J p node) right))
 
 -- a step can be asked for
-asks_step : (J : Past) → IsLegal J → AllNameIds J → (p : ℕ) (pick : Option Server) (may : MayStep J p) → PicksRight J p pick → CanRun (sheets_of J) (input J p may.0 pick)
+asks_step : (J : Past) → IsLegal J → AllNameIds J → (p : ℕ) (pick : Option Server) (may : MayStep J p) → PicksRight J p pick → CanRun (sheets_by J may.0.root) (input J p may.0 pick)
 asks_step J legal names p pick may right =
     let node = may.0 in
     let off = steps_only J legal p may in
@@ -77,8 +75,8 @@ asks_step J legal names p pick may right =
       first = named.1;
       pick = picked_by J p node may.1 off found.0 found.1 pick (subst (λ n. is_pick_right J p n pick (needs_server J p n) ≡ true) same right.2);
     } in
-    let here : CanRun (sheets_of J) at = subst (λ o. CanBeAsked o at) (sym found.1) can in
-    subst (CanRun (sheets_of J)) (sym (ap (λ b. turn_input J b (stack J p) at) off)) here
+    let here : CanRun (sheets_by J node.root) at = subst (λ o. CanBeAsked o at) (sym found.1) can in
+    subst (CanRun (sheets_by J node.root)) (sym (ap (λ b. turn_input J b (stack J p) at) off)) here
 
 -- each of the steps has an undo
 abbrev AllBack : List Undoable → Type 0
@@ -104,18 +102,14 @@ back_if false one other h k = k
 
 stacked_back : (J : Past) (r : ℕ) → AllBack (stack J r)
 stacked_back [] r = tt
-stacked_back (entry_is.Start sheets ∷ before) r = stacked_back before r
-stacked_back (entry_is.Submit nonce request ∷ before) r = stacked_back before r
 stacked_back (entry_is.Step pid pick out ∷ before) r =
     let undo = undo_of_next before pid.0 (node_of before pid.0) in
     let failed = is_some (failing out.answer) in
     let row = row_if_there before pid.0 (node_of before pid.0) in
     back_if (root_of before pid.0 == r) (pushed undo failed pid.0 row out.edits (stack before r)) (stack before r) (back_pushed undo failed pid.0 row out.edits (stack before r) (stacked_back before r)) (stacked_back before r)
 stacked_back (entry_is.Undo pid row out ∷ before) r = back_if (root_of before pid.0 == r) (rest_of (stack before r)) (stack before r) (back_rest (stack before r) (stacked_back before r)) (stacked_back before r)
-stacked_back (entry_is.Report call told ∷ before) r = stacked_back before r
-stacked_back (entry_is.Up server ∷ before) r = stacked_back before r
-stacked_back (entry_is.Down server ∷ before) r = stacked_back before r
-stacked_back (entry_is.Abort pid ∷ before) r = stacked_back before r
+stacked_back (entry_is.Base part ∷ before) r = tt
+stacked_back (entry ∷ before) r = stacked_back before r
 
 -- a row that has an undo is in its sheet
 row_by_undo : (sheet : Option Sheet) (place : ℕ) → undo_by (row_in sheet place) ≢ back_is.Nothing → (s : Sheet) × (sheet ≡ Some s) × (place < length s.rows)
@@ -127,14 +121,15 @@ row_by_undo (Some sheet) place some = by (slice_get sheet.rows place) refl some
     by (Some row) e h = (sheet, refl, slice_get_within sheet.rows place row e)
 
 -- what undoes a step can be asked for
-asks_undo : (J : Past) → IsLegal J → AllNameIds J → (step : Undoable) (its : Node) (own : StepIn) → node_of J step.pid ≡ Some its → undo_by (row_in (sheet_for (sheets_of J) (kind_of its.args)) step.row) ≡ step.undo → step.undo ≢ back_is.Nothing
-    → CanRun (sheets_of J) (undo_input step its own)
+asks_undo : (J : Past) → IsLegal J → AllNameIds J → (step : Undoable) (its : Node) (own : StepIn) → node_of J step.pid ≡ Some its → undo_by (row_in (sheet_for (sheets_by J its.root) (kind_of its.args)) step.row) ≡ step.undo → step.undo ≢ back_is.Nothing
+    → CanRun (sheets_by J its.root) (undo_input step its own)
 asks_undo J legal names step its own is by some =
     let at : StepIn = undo_input step its own in
-    let found = row_by_undo (sheet_for (sheets_of J) (kind_of its.args)) step.row (λ none. some (sym by ∙ none)) in
+    let sheets = sheets_by J its.root in
+    let found = row_by_undo (sheet_for sheets (kind_of its.args)) step.row (λ none. some (sym by ∙ none)) in
     let named = names step.pid its is in
     let can : CanStep found.0 at = record {
-      kind = (sheet_is (sheets_of J) (all_valid J legal) (kind_of its.args) found.0 found.1).1;
+      kind = (sheet_is sheets (valid_by J legal its.root) (kind_of its.args) found.0 found.1).1;
       row = found.2;
       ids = named.0;
       first = named.1;
@@ -142,19 +137,31 @@ asks_undo J legal names step its own is by some =
     } in
     subst (λ o. CanBeAsked o at) (sym found.1) can
 
-asks_latest : (J : Past) → IsLegal J → AllNameIds J → (steps : List Undoable) (own : StepIn) → is_empty steps ≡ false → AllThere J steps → AllBack steps → CanRun (sheets_of J) (latest_input J steps own)
-asks_latest J legal names [] own some there back = absurd (true≢false some)
-asks_latest J legal names (step ∷ below) own some there back =
-    subst (CanRun (sheets_of J)) (sym (ap (λ n. elim n as (λ x. StepIn) [ None ↦ own | Some its ↦ undo_input step its own ]) there.0.1))
-    (asks_undo J legal names step there.0.0 own there.0.1 there.0.2 back.0)
+asks_latest : (J : Past) → IsLegal J → AllNameIds J → (r : ℕ) (steps : List Undoable) (own : StepIn) → is_empty steps ≡ false → AllThere J r steps → AllBack steps → CanRun (sheets_by J r) (latest_input J steps own)
+asks_latest J legal names r [] own some there back = absurd (true≢false some)
+asks_latest J legal names r (step ∷ below) own some there back =
+    let its = there.0.0 in
+    subst (CanRun (sheets_by J r)) (sym (ap (λ n. elim n as (λ x. StepIn) [ None ↦ own | Some its ↦ undo_input step its own ]) there.0.1))
+    (subst (λ s. CanRun (sheets_by J s) (undo_input step its own)) there.0.3 (asks_undo J legal names step its own there.0.1 there.0.2 back.0))
 
 -- of whatever procedure can be called, its sheet can be asked
-pub can_run : (J : Past) → IsLegal J → AllNameIds J → (p : ℕ) (pick : Option Server) (at : StepIn) → IsInput J p pick at → CanEvaluate J p pick → CanRun (sheets_of J) at
-can_run J legal names p pick at sees (inl steps) =
+runs_own : (J : Past) → IsLegal J → AllNameIds J → (p : ℕ) (pick : Option Server) (at : StepIn) → IsInput J p pick at → CanEvaluate J p pick → (node : Node) × (node_of J p ≡ Some node) × CanRun (sheets_by J node.root) at
+runs_own J legal names p pick at sees (inl steps) =
     let may = steps.0 in
-    subst (CanRun (sheets_of J)) (sym (sees may.0 may.1)) (asks_step J legal names p pick may steps.1)
-can_run J legal names p pick at sees (inr turns) =
-    let own : StepIn = step_input J p turns.0 pick in
-    let parts = undoes_parts J p turns.0 turns.2 in
-    subst (CanRun (sheets_of J)) (sym (sees turns.0 turns.1 ∙ ap (λ b. turn_input J b (stack J p) own) turns.2))
-    (asks_latest J legal names (stack J p) own parts.3 (stacked_all J legal p) (stacked_back J p))
+    (may.0, may.1, subst (CanRun (sheets_by J may.0.root)) (sym (sees may.0 may.1)) (asks_step J legal names p pick may steps.1))
+runs_own J legal names p pick at sees (inr turns) =
+    let node = turns.0 in
+    let own : StepIn = step_input J p node pick in
+    let parts = undoes_parts J p node turns.2 in
+    let here = asks_latest J legal names p (stack J p) own parts.3 (stacked_all J legal p) (stacked_back J p) in (
+      node,
+      turns.1,
+      subst (λ r. CanRun (sheets_by J r) at) (sym (at_top J (grown_all J legal) p node turns.1 parts.0))
+          (subst (CanRun (sheets_by J p)) (sym (sees node turns.1 ∙ ap (λ b. turn_input J b (stack J p) own) turns.2)) here),
+    )
+
+-- of a plain journal that is one of the sheets in force
+pub can_run : (J : Past) → IsLegal J → ArePlain J → AllNameIds J → (p : ℕ) (pick : Option Server) (at : StepIn) → IsInput J p pick at → CanEvaluate J p pick → CanRun (sheets_of J) at
+can_run J legal plain names p pick at sees can =
+    let runs = runs_own J legal names p pick at sees can in
+    subst (λ sheets. CanRun sheets at) (own_sheets J legal plain p runs.0 runs.1) runs.2

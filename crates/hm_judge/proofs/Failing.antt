@@ -9,16 +9,20 @@ use Rattle.hm_data.specs.declared.entry.Entry.{Entry}
 use Rattle.hm_data.specs.declared.entry.Entry.TheVariants as entry_is
 use Rattle.hm_data.specs.declared.record.Phase.{Phase}
 use Rattle.hm_data.specs.declared.record.Record.{Record}
+use Rattle.hm_data.specs.declared.sheet.Row.{Row}
 use Rattle.hm_model.specs.Answers.{failing, last_answer}
 use Rattle.hm_model.specs.Journal.{Past}
 use Rattle.hm_model.specs.Phase.{cause, children_ended, ended, or_else, own_phase, phase_table, rolled_back}
+use Rattle.hm_model.specs.Plain.{ArePlain}
 use Rattle.hm_model.specs.Records.{record_of}
-use Rattle.hm_model.specs.Rules.{CanAbort, IsLegal}
+use Rattle.hm_model.specs.Rules.{CanAbort, IsBeforePoint, IsLegal}
+use Rattle.hm_model.specs.Sheets.{next_row, row_in, sheet_for, sheets_of}
 use Rattle.hm_model.specs.Tree.{Node, is_root, is_root_in, is_top, node_of, root_in, root_of}
 use Rattle.hm_model.proofs.Forest.{forest_all, top_is, top_is_own}
 use Rattle.hm_model.proofs.Grown.{grown_all, nodes_stay}
 use Rattle.hm_judge.specs.Aborts.{is_failed}
-use Rattle.hm_judge.proofs.Found.{there_of}
+use Rattle.hm_judge.proofs.Found.{shown_of, there_of}
+use Rattle.hm_judge.proofs.Plainly.{next_is}
 use Rattle.hm_judge.proofs.Stepping.{not_true}
 
 -- a root that has a step after an entry was one before it
@@ -51,7 +55,6 @@ either_cause false one other h k = k
 -- a root whose last step failed has a cause
 pub fails_tell : (J : Past) → IsLegal J → (p : ℕ) (c : Cause) → is_root J p ≡ true → last_answer J p ≡ Some (answer_is.Fail c) → cause J p ≢ None
 fails_tell [] legal p c top is = absurd (none-some (answer_is.Fail c) is)
-fails_tell (entry_is.Start sheets ∷ before) legal p c top is = fails_tell before legal.0 p c top is
 fails_tell (entry_is.Submit nonce request ∷ before) legal p c top is =
     fails_tell before legal.0 p c (root_before (entry_is.Submit nonce request) before legal p (some_last c (last_answer before p) is) top) is
 fails_tell (entry_is.Step pid pick out ∷ before) legal p c top is = elim (cases_eq p pid.0) [
@@ -73,11 +76,10 @@ fails_tell (entry_is.Step pid pick out ∷ before) legal p c top is = elim (case
 ]
 fails_tell (entry_is.Undo pid row out ∷ before) legal p c top is =
     fails_tell before legal.0 p c (root_before (entry_is.Undo pid row out) before legal p (some_last c (last_answer before p) is) top) is
-fails_tell (entry_is.Report call told ∷ before) legal p c top is = fails_tell before legal.0 p c top is
-fails_tell (entry_is.Up server ∷ before) legal p c top is = fails_tell before legal.0 p c top is
 fails_tell (entry_is.Down server ∷ before) legal p c top is =
     fails_tell before legal.0 p c (root_before (entry_is.Down server) before legal p (some_last c (last_answer before p) is) top) is
-fails_tell (entry_is.Abort pid ∷ before) legal p c top is = fails_tell before legal.0 p c top is
+fails_tell (entry_is.Base part ∷ before) legal p c top is = absurd (none-some (answer_is.Fail c) is)
+fails_tell (entry ∷ before) legal p c top is = fails_tell before legal.0 p c top is
 
 -- the phase of a root that hasn't failed has no cause
 unfailed : (cause : Option Cause) (rolled : Bool) (own : Phase) → is_failed (phase_table cause rolled true own) ≡ false → cause ≡ None
@@ -115,3 +117,19 @@ abort_iff J legal p its some root unaborted unended failed said =
           ∙ own_goes_on (last_answer J p) (children_ended J p) (λ c fails. fails_tell J legal p c root fails can.2)
           ),
     )
+
+-- one that is shown is before the point where the row that it runs next isn't after it
+pub point_iff : (J : Past) → IsLegal J → ArePlain J → (p : ℕ) (its : Record) → Some its ≡ record_of J p → (o : Option Row) → o ≡ row_in (sheet_for (sheets_of J) its.kind) its.row → (row : Row) → o ≡ Some row
+    → IsTrue (not row.after) ↔ IsBeforePoint J p
+point_iff J legal plain p its some o found row is =
+    let t = there_of J p its some in
+    let next : next_row J p t.0 ≡ Some row = next_is J legal plain p its t.0 t.1 t.2 ∙ sym found ∙ is in (
+      λ on. (t.0, t.1, row, next, not_true row.after on),
+      λ point. ap not (ap (λ (r : Row). r.after) (same_Some row point.2 (sym next ∙ ap (next_row J p) (same_Some t.0 point.0 (sym t.1 ∙ point.1)) ∙ point.3)) ∙ point.4),
+    )
+
+-- one that has no row isn't
+pub no_point : (J : Past) → IsLegal J → ArePlain J → (p : ℕ) (its : Record) → Some its ≡ record_of J p → (o : Option Row) → o ≡ row_in (sheet_for (sheets_of J) its.kind) its.row → o ≡ None
+    → IsTrue false ↔ IsBeforePoint J p
+no_point J legal plain p its some o found none =
+    (λ on. absurd (true≢false (sym on)), λ point. absurd (none-some point.2 (sym none ∙ found ∙ sym (next_is J legal plain p its point.0 point.1 (shown_of J p its some point.0 point.1)) ∙ point.3)))

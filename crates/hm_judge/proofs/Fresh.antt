@@ -12,16 +12,17 @@ use Rattle.hm_model.specs.Picks.{PicksRight, needs_server, pick_fits}
 use Rattle.hm_model.specs.Procedures.{latest, left_to_undo}
 use Rattle.hm_model.specs.Rest.{MayStep, MayUndo}
 use Rattle.hm_model.specs.Rules.{IsLatest, IsLegal}
-use Rattle.hm_model.specs.Sheets.{sheets_of}
+use Rattle.hm_model.specs.Sheets.{sheets_by}
 use Rattle.hm_model.specs.Tree.{Node, node_of, root_in, root_of}
 use Rattle.hm_model.specs.Undo.{stack}
 use Rattle.hm_model.proofs.Forest.{top_is}
 use Rattle.hm_model.proofs.Tops.{ended_top}
 use Rattle.hm_model.proofs.UndoMakes.{stacked_all}
 use Rattle.hm_judge.specs.Fresh.{FreshStepsFollow, FreshUndosFollow}
-use Rattle.hm_judge.proofs.Asking.{begun, steps_only}
+use Rattle.hm_judge.proofs.Asking.{steps_only}
 use Rattle.hm_judge.proofs.OwnSteps.{HasLatest, latest_own}
 use Rattle.hm_judge.proofs.Picking.{needs_none, turned}
+use Rattle.hm_judge.proofs.Plainly.{made_begun}
 use Rattle.hm_judge.proofs.Undoing.{undoes_open, undoes_parts}
 
 -- the turn of an input is a step
@@ -35,7 +36,7 @@ module _ (J : Past) (legal : IsLegal J) (p : ℕ) (node : Node) (is : node_of J 
 
   -- then its turn is no step
   undo_turn : undoes J p node ≡ true → is_step_turn (input J p node pick) ≡ false
-  undo_turn on = turned J (undoes J p node) (stack J p) (step_input J p node pick) on (stacked_all J legal p) (ap not (undoes_parts J p node on).3)
+  undo_turn on = turned J p (undoes J p node) (stack J p) (step_input J p node pick) on (stacked_all J legal p) (ap not (undoes_parts J p node on).3)
 
   -- else it is one
   step_turn : undoes J p node ≡ false → is_step_turn (input J p node pick) ≡ true
@@ -93,8 +94,8 @@ module _ (J : Past) (legal : IsLegal J) (p : ℕ) (node : Node) (is : node_of J 
 pub fresh_steps : FreshStepsFollow
 fresh_steps J pid node was out legal is can right sees turn clear said =
     let step : is_step_turn (input J pid.0 node was.pick) ≡ true = sym (ap is_step_turn sees) ∙ ap is_step turn in
-    let evaluated : answers J pid.0 node was.pick ≡ Some out = ap (answer_of (sheets_of J)) (sym sees) ∙ said in
-    (begun J pid.0 node is, (may_step J legal pid.0 node is was.pick can step, (clear, (right, ((node, is, evaluated), tt)))))
+    let evaluated : answers J pid.0 node was.pick ≡ Some out = ap (answer_of (sheets_by J node.root)) (sym sees) ∙ said in
+    (made_begun J pid.0 node is, (may_step J legal pid.0 node is was.pick can step, (clear, (right, ((node, is, evaluated), tt)))))
 
 -- so may what undoes one
 pub fresh_undos : FreshUndosFollow
@@ -106,6 +107,6 @@ fresh_undos J pid node was edits out legal is can right sees turn said =
     let number : was.pid.0 ≡ step.pid = ap (λ (at : StepIn). at.pid.0) seen in
     let root : root_of J was.pid.0 ≡ pid.0 = ap (root_of J) number ∙ root_last J legal pid.0 node is on in
     let picks : was.pick ≡ None = unpicked J legal pid.0 node is on was.pick right in
-    let evaluated : answers J (root_of J was.pid.0) node None ≡ Some out = ap (λ r. answers J r node None) root ∙ ap (answers J pid.0 node) (sym picks) ∙ ap (answer_of (sheets_of J)) (sym sees) ∙ said in
+    let evaluated : answers J (root_of J was.pid.0) node None ≡ Some out = ap (λ r. answers J r node None) root ∙ ap (answers J pid.0 node) (sym picks) ∙ ap (answer_of (sheets_by J node.root)) (sym sees) ∙ said in
     let newest = is_latest J legal pid.0 node is on was.pid.0 was.row number (ap (λ (at : StepIn). at.row) seen) root in
-    ((begun J pid.0 node is, (newest, ((node, ap (node_of J) root ∙ is, evaluated), tt))), root)
+    ((made_begun J pid.0 node is, (newest, ((node, ap (node_of J) root ∙ is, evaluated), tt))), root)

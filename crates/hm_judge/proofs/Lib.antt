@@ -1,4 +1,5 @@
 pub mod Found
+pub mod Plainly
 mod Rules
 mod Stepping
 mod Failing

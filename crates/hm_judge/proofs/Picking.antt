@@ -24,6 +24,7 @@ use Rattle.hm_model.specs.Keys.{same_table}
 use Rattle.hm_model.specs.Phase.{all_stopped, cause}
 use Rattle.hm_model.specs.Rest.{MayUndo}
 use Rattle.hm_model.specs.Picks.{PicksRight, fits_input, is_pick_right, needs_server, pick_fits}
+use Rattle.hm_model.specs.Plain.{ArePlain}
 use Rattle.hm_model.specs.Procedures.{sheet_at, sheet_of}
 use Rattle.hm_model.specs.Reads.{reads}
 use Rattle.hm_model.specs.Records.{record_at, record_of}
@@ -38,6 +39,7 @@ use Rattle.hm_model.proofs.Rows.{row_read}
 use Rattle.hm_model.proofs.UndoMakes.{AllThere, stacked_all}
 use Rattle.hm_judge.specs.Picks.{can_open, fits_record, wants, wants_if}
 use Rattle.hm_judge.proofs.Found.{there_of}
+use Rattle.hm_judge.proofs.Plainly.{next_is}
 
 -- where nothing is read, no row is
 rows_none : (asked : CatKey → Bool) → ((key : CatKey) → asked key ≡ false) → (there : Catalog) (keys : List CatKey) → rows_at asked there keys ≡ []
@@ -125,17 +127,17 @@ no_pick None at e = refl
 no_pick (Some row) at e = and_off (is_picking row.act) (is_step at.turn) (not (is_cut_off row at) && wants_server (region_of at.args) at) e
 
 -- where a step is undone, the turn is no step
-pub turned : (J : Past) (undoing : Bool) (steps : List Undoable) (at : StepIn) → undoing ≡ true → AllThere J steps → not (is_empty steps) ≡ true → is_step (let now = turn_input J undoing steps at in now.turn) ≡ false
-turned J false steps at e all some = absurd (false≢true e)
-turned J true [] at e all some = absurd (false≢true some)
-turned J true (latest ∷ below) at e all some =
+pub turned : (J : Past) (r : ℕ) (undoing : Bool) (steps : List Undoable) (at : StepIn) → undoing ≡ true → AllThere J r steps → not (is_empty steps) ≡ true → is_step (let now = turn_input J undoing steps at in now.turn) ≡ false
+turned J r false steps at e all some = absurd (false≢true e)
+turned J r true [] at e all some = absurd (false≢true some)
+turned J r true (latest ∷ below) at e all some =
     ap (λ o. is_step (let now = (elim o as (λ n. StepIn) [ None ↦ at | Some its ↦ undo_input latest its at ]) in now.turn)) all.0.1
 
 pub needs_none : (J : Past) → IsLegal J → (p : ℕ) (x : Node) → undoes J p x ≡ true → needs_server J p x ≡ false
 needs_none J legal p x on =
     let at : StepIn = input J p x None in
     no_pick (row_in (sheet_at J at) at.row) at
-    (turned J (undoes J p x) (stack J p) (step_input J p x None) on (stacked_all J legal p) (last_of (is_top x.above) (is_some (cause J p)) (all_stopped J p) (not (is_empty (stack J p))) on))
+    (turned J p (undoes J p x) (stack J p) (step_input J p x None) on (stacked_all J legal p) (last_of (is_top x.above) (is_some (cause J p)) (all_stopped J p) (not (is_empty (stack J p))) on))
 
 -- a step of its own needs a server by its row
 pub needs_step : (J : Past) (p : ℕ) (x : Node) → node_of J p ≡ Some x → undoes J p x ≡ false → needs_server J p x ≡ picks_at (next_row J p x) (step_input J p x None)
@@ -152,11 +154,11 @@ undoes_not J p x is b off tells = elim (cases_Bool (undoes J p x)) [
 pub undoes_so : (J : Past) (p : ℕ) (x : Node) → node_of J p ≡ Some x → (b : Bool) → b ≡ true → (IsTrue b ↔ MayUndo J p) → undoes J p x ≡ true
 undoes_so J p x is b on tells = let may = tells.0 on in ap (undoes J p) (same_Some x may.0 (sym is ∙ may.1)) ∙ may.2
 
-pub needs_row : (J : Past) (p : ℕ) (its : Record) (x : Node) → node_of J p ≡ Some x → its ≡ record_at J p x → undoes J p x ≡ false
+pub needs_row : (J : Past) → IsLegal J → ArePlain J → (p : ℕ) (its : Record) (x : Node) → node_of J p ≡ Some x → its ≡ record_at J p x → undoes J p x ≡ false
     → (o : Option Row) → o ≡ row_in (sheet_for (sheets_of J) its.kind) its.row → (row : Row) → o ≡ Some row
     → (places : Bool) → places ≡ (is_picking row.act && not (its.aborted && not row.after)) → (places && wants J its.args) ≡ needs_server J p x
-needs_row J p its x is shown off o found row some places said =
-    let next : next_row J p x ≡ Some row = ap (λ (r : Record). row_in (sheet_for (sheets_of J) r.kind) r.row) (sym shown) ∙ sym found ∙ some in
+needs_row J legal plain p its x is shown off o found row some places said =
+    let next : next_row J p x ≡ Some row = next_is J legal plain p its x is shown ∙ sym found ∙ some in
     let same : places ≡ (is_picking row.act && not (is_aborted J p && not row.after)) = said ∙ ap (λ (r : Record). is_picking row.act && not (r.aborted && not row.after)) shown in
     ap (λ b. b && wants J its.args) same
     ∙ ap (λ (r : Record). (is_picking row.act && not (is_aborted J p && not row.after)) && wants J r.args) shown
@@ -166,6 +168,12 @@ needs_row J p its x is shown off o found row some places said =
     ∙ ap (λ w. is_picking row.act && (not (is_aborted J p && not row.after) && w)) (wants_are J p x)
     ∙ and_three (is_picking row.act) (not (is_aborted J p && not row.after)) (wants J x.args)
     )
+
+-- where there is no row, none is needed
+pub needs_no_row : (J : Past) → IsLegal J → ArePlain J → (p : ℕ) (its : Record) (x : Node) → node_of J p ≡ Some x → its ≡ record_at J p x → undoes J p x ≡ false
+    → (o : Option Row) → o ≡ row_in (sheet_for (sheets_of J) its.kind) its.row → o ≡ None → false ≡ needs_server J p x
+needs_no_row J legal plain p its x is shown off o found none =
+    sym (needs_step J p x is off ∙ ap (λ r. picks_at r (step_input J p x None)) (next_is J legal plain p its x is shown ∙ sym found ∙ none))
 
 pub right_by : (J : Past) → IsLegal J → (p : ℕ) (its : Record) → Some its ≡ record_of J p → (pick : Option Server) (server : Server) → pick ≡ Some server
     → (needed : Bool) → needed ≡ true → ((x : Node) → node_of J p ≡ Some x → its ≡ record_at J p x → needed ≡ needs_server J p x)

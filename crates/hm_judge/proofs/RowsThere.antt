@@ -1,5 +1,6 @@
 -- The row of a procedure that hasn't ended is in its sheet, of whatever kind it is.
 use Rattle.std.proofs.Common.{◌≡◌, ◌<◌, ◌≤◌, ◌⊎◌, ◌==◌, ℕ, List, [], ◌∷◌, Bool, true, false, nat_lt, Option, Some, None, length, slice_get, inl, inr, refl, arith, ap, sym, ◌∙◌, subst}
+use Rattle.std.specs.List.{list_all}
 use Rattle.std.proofs.lemmas.Bool.{cases_eq, eqb-true, false≢true, lt-ltb, ltb-true, true≢false}
 use Rattle.std.proofs.lemmas.Option.{none-some, same_Some, slice_get_within}
 use Rattle.hm_names.specs.Server.{Server}
@@ -29,25 +30,26 @@ use Rattle.hm_model.specs.Evaluation.{row_answer}
 use Rattle.hm_model.specs.Inputs.{step_input}
 use Rattle.hm_model.specs.Journal.{Past}
 use Rattle.hm_model.specs.Kinds.{first_row_of, kind_of}
-use Rattle.hm_model.specs.Lists.{Line, exact_rows, lines_of}
+use Rattle.hm_model.specs.Lists.{Line, exact_rows, orders_of}
 use Rattle.hm_model.specs.NamespaceActs.{version_of}
 use Rattle.hm_model.specs.Outs.{edits_rows, given}
 use Rattle.hm_model.specs.Pieces.{ranges_between}
 use Rattle.hm_model.specs.RowsSaid.{in_state, in_version}
 use Rattle.hm_model.specs.Rules.{IsLegal}
-use Rattle.hm_model.specs.Sheets.{sheet_for, sheets_of}
+use Rattle.hm_model.specs.Sheets.{sheet_for, sheets_by}
 use Rattle.hm_model.specs.Tree.{Node, made, node_of}
 use Rattle.hm_model.specs.Validity.{IsValid}
 use Rattle.hm_model.specs.Verbs.{verb_in}
 use Rattle.hm_model.specs.Views.{asked_of, bounds_of, first_id_of, namespace_of, regions_in, table_of}
 use Rattle.hm_model.specs.Wanted.{ids_of}
 use Rattle.hm_model.proofs.CallSteps.{CallOut}
-use Rattle.hm_model.proofs.ExactRows.{all_valid, cons_nil, exact_is, led_row, row_passes, sheet_is}
+use Rattle.hm_model.proofs.ExactRows.{cons_nil, exact_is, led_row, row_passes, sheet_is, start_leads, valid_by}
 use Rattle.hm_model.proofs.LegalSteps.{StepFacts, ready_stops}
 use Rattle.hm_model.proofs.PlainActs.{GoesTo, IsPlainOut, is_plain, plain_act, plain_fails}
 use Rattle.hm_model.proofs.StepDoes.{GoesNear, IsMoveOut, lined, crash, moves, calls, is_moving, move_act, move_fails, part_of, row_by}
-use Rattle.hm_model.proofs.Trees.{Grown, IsRooted, answer_now, does_of, down_rooted, grown_all, is_there, le_or_lt, node_same, old_or_new, other_answer, step_of, submit_rooted, undo_rooted}
-use Rattle.hm_model.proofs.ValidSheets.{Leads, valid_leads}
+use Rattle.hm_model.proofs.Trees.{Grown, IsRooted, answer_now, does_of, down_rooted, grown_all, is_there, le_or_lt, node_same, old_or_new, other_answer, root_within, step_of, submit_rooted, undo_rooted}
+use Rattle.hm_model.proofs.Siblings.{all_in}
+use Rattle.hm_model.proofs.ValidSheets.{Leads}
 
 -- the acts at which kinds that list lines end
 abbrev ends : Act → Bool
@@ -106,8 +108,14 @@ IsIn args sheet place = (exact_rows (kind_of args) ≡ [] → HasLines sheet.row
 lines_in : (args : Args) (sheet : Sheet) (place : ℕ) → HasLines sheet.rows place → IsIn args sheet place
 lines_in args sheet place has = (λ none. has, slice_get_within sheet.rows place has.2.0 has.2.1)
 
-lined_in : (args : Args) (sheet : Sheet) → IsValid sheet → (kind : ℕ) → sheet.kind ≡ kind → (line : Line) (lines : List Line) → exact_rows kind ≡ [] → lines_of kind ≡ line ∷ lines → end_well (line ∷ lines) ≡ true → IsIn args sheet 0
-lined_in args sheet valid kind e line lines exact listed well = lines_in args sheet 0 (line, lines, valid_leads sheet line lines valid (ap exact_rows e ∙ exact) (ap lines_of e ∙ listed), well)
+lined_in : (args : Args) (sheet : Sheet) → IsValid sheet → sheet.kind ≡ kind_of args → exact_rows (kind_of args) ≡ [] → first_row_of args ≡ 0 → list_all end_well (orders_of (kind_of args)) ≡ true → IsIn args sheet 0
+lined_in args sheet valid e exact start well =
+    let led = start_leads args exact sheet valid e in
+    by led.0 (all_in end_well (orders_of (kind_of args)) led.0 well led.1) (subst (λ n. Leads sheet.rows n led.0) start led.2)
+  where
+    by : (lines : List Line) → end_well lines ≡ true → Leads sheet.rows 0 lines → IsIn args sheet 0
+    by [] fine leads = absurd (omega (arith, leads))
+    by (line ∷ lines) fine leads = lines_in args sheet 0 (line, lines, leads, fine)
 
 exact_in : (args : Args) (sheet : Sheet) → IsValid sheet → sheet.kind ≡ kind_of args → (first : Row) (more : List Row) → exact_rows (kind_of args) ≡ first ∷ more → (place : ℕ) → nat_lt place (length (first ∷ more)) ≡ true → IsIn args sheet place
 exact_in args sheet valid e first more is place low =
@@ -115,22 +123,22 @@ exact_in args sheet valid e first more is place low =
 
 -- so is the first row of each
 first_in : (args : Args) (sheet : Sheet) → IsValid sheet → sheet.kind ≡ kind_of args → IsIn args sheet (first_row_of args)
-first_in (args_are.Root (request_is.CreateNamespace ns) first) sheet valid e = lined_in (args_are.Root (request_is.CreateNamespace ns) first) sheet valid 1 e _ _ refl refl refl
-first_in (args_are.Root (request_is.DropNamespace ns) first) sheet valid e = lined_in (args_are.Root (request_is.DropNamespace ns) first) sheet valid 2 e _ _ refl refl refl
-first_in (args_are.Root (request_is.CreateTable table keys) first) sheet valid e = lined_in (args_are.Root (request_is.CreateTable table keys) first) sheet valid 3 e _ _ refl refl refl
-first_in (args_are.Root (request_is.DeleteTable table) first) sheet valid e = lined_in (args_are.Root (request_is.DeleteTable table) first) sheet valid 4 e _ _ refl refl refl
-first_in (args_are.Root (request_is.EnableTable table) first) sheet valid e = lined_in (args_are.Root (request_is.EnableTable table) first) sheet valid 5 e _ _ refl refl refl
-first_in (args_are.Root (request_is.DisableTable table) first) sheet valid e = lined_in (args_are.Root (request_is.DisableTable table) first) sheet valid 6 e _ _ refl refl refl
-first_in (args_are.Root (request_is.ModifyTable table version) first) sheet valid e = lined_in (args_are.Root (request_is.ModifyTable table version) first) sheet valid 7 e _ _ refl refl refl
-first_in (args_are.Root (request_is.SplitRegion region key) first) sheet valid e = lined_in (args_are.Root (request_is.SplitRegion region key) first) sheet valid 8 e _ _ refl refl refl
-first_in (args_are.Root (request_is.MergeRegions regions) first) sheet valid e = lined_in (args_are.Root (request_is.MergeRegions regions) first) sheet valid 9 e _ _ refl refl refl
+first_in (args_are.Root (request_is.CreateNamespace ns) first) sheet valid e = lined_in (args_are.Root (request_is.CreateNamespace ns) first) sheet valid e refl refl refl
+first_in (args_are.Root (request_is.DropNamespace ns) first) sheet valid e = lined_in (args_are.Root (request_is.DropNamespace ns) first) sheet valid e refl refl refl
+first_in (args_are.Root (request_is.CreateTable table keys) first) sheet valid e = lined_in (args_are.Root (request_is.CreateTable table keys) first) sheet valid e refl refl refl
+first_in (args_are.Root (request_is.DeleteTable table) first) sheet valid e = lined_in (args_are.Root (request_is.DeleteTable table) first) sheet valid e refl refl refl
+first_in (args_are.Root (request_is.EnableTable table) first) sheet valid e = lined_in (args_are.Root (request_is.EnableTable table) first) sheet valid e refl refl refl
+first_in (args_are.Root (request_is.DisableTable table) first) sheet valid e = lined_in (args_are.Root (request_is.DisableTable table) first) sheet valid e refl refl refl
+first_in (args_are.Root (request_is.ModifyTable table version) first) sheet valid e = lined_in (args_are.Root (request_is.ModifyTable table version) first) sheet valid e refl refl refl
+first_in (args_are.Root (request_is.SplitRegion region key) first) sheet valid e = lined_in (args_are.Root (request_is.SplitRegion region key) first) sheet valid e refl refl refl
+first_in (args_are.Root (request_is.MergeRegions regions) first) sheet valid e = lined_in (args_are.Root (request_is.MergeRegions regions) first) sheet valid e refl refl refl
 first_in (args_are.Root (request_is.Move region to) first) sheet valid e = exact_in (args_are.Root (request_is.Move region to) first) sheet valid e _ _ refl 5 refl
 first_in (args_are.Transit region goal_is.Assign to) sheet valid e = exact_in (args_are.Transit region goal_is.Assign to) sheet valid e _ _ refl 0 refl
 first_in (args_are.Transit region goal_is.Unassign to) sheet valid e = exact_in (args_are.Transit region goal_is.Unassign to) sheet valid e _ _ refl 3 refl
 first_in (args_are.Transit region goal_is.Move to) sheet valid e = exact_in (args_are.Transit region goal_is.Move to) sheet valid e _ _ refl 5 refl
 first_in (args_are.Crash server) sheet valid e = exact_in (args_are.Crash server) sheet valid e _ _ refl 0 refl
-first_in (args_are.AddRegions table first bounds) sheet valid e = lined_in (args_are.AddRegions table first bounds) sheet valid 20 e _ _ refl refl refl
-first_in (args_are.DropRegions table ids) sheet valid e = lined_in (args_are.DropRegions table ids) sheet valid 21 e _ _ refl refl refl
+first_in (args_are.AddRegions table first bounds) sheet valid e = lined_in (args_are.AddRegions table first bounds) sheet valid e refl refl refl
+first_in (args_are.DropRegions table ids) sheet valid e = lined_in (args_are.DropRegions table ids) sheet valid e refl refl refl
 first_in (args_are.AssignCall region server) sheet valid e = exact_in (args_are.AssignCall region server) sheet valid e _ _ refl 0 refl
 first_in (args_are.CloseCall region server) sheet valid e = exact_in (args_are.CloseCall region server) sheet valid e _ _ refl 0 refl
 first_in (args_are.FenceCall server) sheet valid e = exact_in (args_are.FenceCall server) sheet valid e _ _ refl 0 refl
@@ -228,19 +236,19 @@ module _ (J : Past) (p : ℕ) (pick : Option Server) (out : StepOut) (step : Ste
 
 -- after every legal journal
 abbrev AreIn : Past → Type 0
-AreIn J = (p : ℕ) (node : Node) → node_of J p ≡ Some node → (sheet : Sheet) → sheet_for (sheets_of J) (kind_of node.args) ≡ Some sheet → is_stopped (last_answer J p) ≡ false → IsIn node.args sheet (row_of J p node)
+AreIn J = (p : ℕ) (node : Node) → node_of J p ≡ Some node → (sheet : Sheet) → sheet_for (sheets_by J node.root) (kind_of node.args) ≡ Some sheet → is_stopped (last_answer J p) ≡ false → IsIn node.args sheet (row_of J p node)
 
 -- where it has no step it stands at its first row
-unstepped_in : (J : Past) → IsLegal J → (p : ℕ) (node : Node) → (sheet : Sheet) → sheet_for (sheets_of J) (kind_of node.args) ≡ Some sheet → last_answer J p ≡ None → IsIn node.args sheet (row_of J p node)
+unstepped_in : (J : Past) → IsLegal J → (p : ℕ) (node : Node) → (sheet : Sheet) → sheet_for (sheets_by J node.root) (kind_of node.args) ≡ Some sheet → last_answer J p ≡ None → IsIn node.args sheet (row_of J p node)
 unstepped_in J legal p node sheet found none =
-    let valid = sheet_is (sheets_of J) (all_valid J legal) (kind_of node.args) sheet found in
+    let valid = sheet_is (sheets_by J node.root) (valid_by J legal node.root) (kind_of node.args) sheet found in
     subst (IsIn node.args sheet) (sym (ap (row_after (first_row_of node.args)) none)) (first_in node.args sheet valid.0 valid.1)
 
 rooted_in : (J J' : Past) → IsRooted J J' → Grown J → IsLegal J' → AreIn J → AreIn J'
 rooted_in J J' rooted grown legal are p node is sheet found runs = elim (old_or_new J J' rooted grown p node is) [
   | inl old ↦
       subst (IsIn node.args sheet) (sym (ap (row_after (first_row_of node.args)) (rooted.last p)))
-      (are p node old sheet (ap (λ sheets. sheet_for sheets (kind_of node.args)) (sym rooted.sheets) ∙ found) (ap is_stopped (sym (rooted.last p)) ∙ runs))
+      (are p node old sheet (ap (λ sheets. sheet_for sheets (kind_of node.args)) (sym (rooted.sheets node.root (root_within J grown p node old))) ∙ found) (ap is_stopped (sym (rooted.last p)) ∙ runs))
   | inr new ↦ unstepped_in J' legal p node sheet found new.3
 ]
 
@@ -271,7 +279,7 @@ step_in pid pick out J legal are p node is sheet found runs =
           let now = ap (last_answer (entry_is.Step pid pick out ∷ J)) own ∙ answer_now pid pick out J in
           let node_was : node_of J pid.0 ≡ Some node = sym (node_same pid pick out J pid.0 le) ∙ ap (node_of (entry_is.Step pid pick out ∷ J)) (sym own) ∙ is in
           let same : step.node ≡ node = same_Some step.node node (sym step.node_is ∙ node_was) in
-          let same_sheet : step.sheet ≡ sheet = same_Some step.sheet sheet (sym step.sheet_is ∙ ap (λ (n : Node). sheet_for (sheets_of J) (kind_of n.args)) same ∙ found) in
+          let same_sheet : step.sheet ≡ sheet = same_Some step.sheet sheet (sym step.sheet_is ∙ ap (λ (n : Node). sheet_for (sheets_by J n.root) (kind_of n.args)) same ∙ found) in
           let here = stepped_in pid pick out J legal are (ap is_stopped (sym now) ∙ runs) step in
           let there = subst (λ (n : Node). IsIn n.args step.sheet (row_after (first_row_of n.args) (Some out.answer))) same here in
           subst (IsIn node.args sheet) (sym (ap (row_after (first_row_of node.args)) now))
@@ -286,17 +294,15 @@ step_in pid pick out J legal are p node is sheet found runs =
           ]
     ]
 
-all_in : (J : Past) → IsLegal J → AreIn J
-all_in [] legal = λ p node is. absurd (none-some node is)
-all_in (entry_is.Start sheets ∷ J) legal = λ p node is. absurd (none-some node (sym (ap (λ j. node_of j p) legal.1.0.0) ∙ is))
-all_in (entry_is.Submit nonce request ∷ J) legal = let grown = grown_all J legal.0 in rooted_in J (entry_is.Submit nonce request ∷ J) (submit_rooted nonce request J grown) grown legal (all_in J legal.0)
-all_in (entry_is.Step pid pick out ∷ J) legal = step_in pid pick out J legal (all_in J legal.0)
-all_in (entry_is.Undo pid row out ∷ J) legal = let grown = grown_all J legal.0 in rooted_in J (entry_is.Undo pid row out ∷ J) (undo_rooted pid row out J grown) grown legal (all_in J legal.0)
-all_in (entry_is.Report call told ∷ J) legal = all_in J legal.0
-all_in (entry_is.Up server ∷ J) legal = all_in J legal.0
-all_in (entry_is.Down server ∷ J) legal = let grown = grown_all J legal.0 in rooted_in J (entry_is.Down server ∷ J) (down_rooted server J grown) grown legal (all_in J legal.0)
-all_in (entry_is.Abort pid ∷ J) legal = all_in J legal.0
+are_in : (J : Past) → IsLegal J → AreIn J
+are_in [] legal = λ p node is. absurd (none-some node is)
+are_in (entry_is.Submit nonce request ∷ J) legal = let grown = grown_all J legal.0 in rooted_in J (entry_is.Submit nonce request ∷ J) (submit_rooted nonce request J grown) grown legal (are_in J legal.0)
+are_in (entry_is.Step pid pick out ∷ J) legal = step_in pid pick out J legal (are_in J legal.0)
+are_in (entry_is.Undo pid row out ∷ J) legal = let grown = grown_all J legal.0 in rooted_in J (entry_is.Undo pid row out ∷ J) (undo_rooted pid row out J grown) grown legal (are_in J legal.0)
+are_in (entry_is.Down server ∷ J) legal = let grown = grown_all J legal.0 in rooted_in J (entry_is.Down server ∷ J) (down_rooted server J grown) grown legal (are_in J legal.0)
+are_in (entry_is.Base part ∷ J) legal = λ p node is. absurd (none-some node is)
+are_in (entry ∷ J) legal = are_in J legal.0
 
 -- the row of a procedure that hasn't ended is in its sheet
-pub row_there : (J : Past) → IsLegal J → (p : ℕ) (node : Node) → node_of J p ≡ Some node → (sheet : Sheet) → sheet_for (sheets_of J) (kind_of node.args) ≡ Some sheet → is_stopped (last_answer J p) ≡ false → row_of J p node < length sheet.rows
-row_there J legal p node is sheet found runs = (all_in J legal p node is sheet found runs).1
+pub row_there : (J : Past) → IsLegal J → (p : ℕ) (node : Node) → node_of J p ≡ Some node → (sheet : Sheet) → sheet_for (sheets_by J node.root) (kind_of node.args) ≡ Some sheet → is_stopped (last_answer J p) ≡ false → row_of J p node < length sheet.rows
+row_there J legal p node is sheet found runs = (are_in J legal p node is sheet found runs).1

@@ -61,7 +61,7 @@ pub kept_latest : (J : Past) → IsLegal J → (root : Pid) → MayUndo J root.0
     → (step : Undoable) × (below : List Undoable) × (stack J root.0 ≡ step ∷ below) × (its : Node) × (node_of J step.pid ≡ Some its) × (steps_of stacks root ≡ kept_of step ∷ map kept_of below)
 kept_latest J legal root may stacks tells = let open_root = undoes_open J root.0 may in by (stack J root.0) refl open_root.0 (stacked_all J legal root.0) (tells root (ap not open_root.1))
   where
-    by : (steps : List Undoable) → stack J root.0 ≡ steps → is_empty steps ≡ false → AllThere J steps → steps_of stacks root ≡ map kept_of (stack J root.0)
+    by : (steps : List Undoable) → stack J root.0 ≡ steps → is_empty steps ≡ false → AllThere J root.0 steps → steps_of stacks root ≡ map kept_of (stack J root.0)
         → (step : Undoable) × (below : List Undoable) × (stack J root.0 ≡ step ∷ below) × (its : Node) × (node_of J step.pid ≡ Some its) × (steps_of stacks root ≡ kept_of step ∷ map kept_of below)
     by [] e some all kept = absurd (true≢false some)
     by (step ∷ below) e some all kept = (step, below, e, all.0.0, all.0.1, kept ∙ ap (map kept_of) e)

@@ -13,7 +13,7 @@ use Rattle.hm_model.specs.Journal.{Past}
 use Rattle.hm_model.specs.Picks.{PicksRight}
 use Rattle.hm_model.specs.Rest.{MayStep, MayUndo}
 use Rattle.hm_model.specs.Rules.{Allowed, IsLegal}
-use Rattle.hm_model.specs.Sheets.{sheets_of}
+use Rattle.hm_model.specs.Sheets.{sheets_by}
 use Rattle.hm_model.specs.Tree.{Node, node_of, root_of}
 
 -- what a handler answered to a step that is its procedure's still, with a pick that fits, may follow where the procedure can
@@ -22,7 +22,7 @@ abbrev pub FreshStepsFollow : Type 0
 FreshStepsFollow =
     (J : Past) (pid : Pid) (node : Node) (was : StepIn) (out : StepOut) → IsLegal J → node_of J pid.0 ≡ Some node
     → (MayStep J pid.0 ⊎ MayUndo J pid.0) → PicksRight J pid.0 was.pick → was ≡ input J pid.0 node was.pick
-    → was.turn ≡ turn_is.Step → IsFree J [] pid.0 → answer_of (sheets_of J) was ≡ Some out
+    → was.turn ≡ turn_is.Step → IsFree J [] pid.0 → answer_of (sheets_by J node.root) was ≡ Some out
     → Allowed J (entry_is.Step pid was.pick out)
 
 -- so may what undoes a step
@@ -31,5 +31,5 @@ FreshUndosFollow =
     (J : Past) (pid : Pid) (node : Node) (was : StepIn) (edits : List Edit) (out : StepOut) → IsLegal J
     → node_of J pid.0 ≡ Some node → (MayStep J pid.0 ⊎ MayUndo J pid.0) → PicksRight J pid.0 was.pick
     → was ≡ input J pid.0 node was.pick → was.turn ≡ turn_is.Undo edits
-    → answer_of (sheets_of J) was ≡ Some out
+    → answer_of (sheets_by J node.root) was ≡ Some out
     → Allowed J (entry_is.Undo was.pid was.row out) × (root_of J was.pid.0 ≡ pid.0)

@@ -27,6 +27,7 @@ seen_by before pid its pick = record {
   pid = pid;
   root = its.root;
   kind = its.kind;
+  edition = its.edition;
   row = its.row;
   args = its.args;
   tries = its.tries;

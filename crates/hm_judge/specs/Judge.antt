@@ -3,6 +3,7 @@ use Rattle.std.specs.Prelude.{◌≡◌, ℕ, List, [], ◌∷◌, Bool, false, 
 use Rattle.hm_data.specs.declared.entry.Entry.{Entry}
 use Rattle.hm_data.specs.declared.entry.Entry.TheVariants as entry_is
 use Rattle.hm_model.specs.Journal.{Past}
+use Rattle.hm_model.specs.Plain.{BreaksPlainly}
 use Rattle.hm_model.specs.Rules.{Breaks, rules}
 use Rattle.hm_judge.specs.declared.why.NotAllowed.{NotAllowed}
 use Rattle.hm_judge.specs.declared.why.NotAllowed.TheVariants as not_allowed
@@ -17,6 +18,8 @@ IsEvaluation (entry_is.Report call told) rule = ⊥
 IsEvaluation (entry_is.Up server) rule = ⊥
 IsEvaluation (entry_is.Down server) rule = ⊥
 IsEvaluation (entry_is.Abort pid) rule = ⊥
+IsEvaluation (entry_is.Adopt sheets) rule = ⊥
+IsEvaluation (entry_is.Base part) rule = ⊥
 
 -- no rule that is judged without memory refuses the entry
 abbrev pub IsUnrefused : Past → Entry → Type 0
@@ -25,7 +28,7 @@ IsUnrefused before entry = (rule : ℕ) → Breaks before entry rule → IsEvalu
 -- why an entry isn't allowed: the lowest rule that it breaks; or memory ran out in its evaluation, and no rule before that
 -- refuses it
 abbrev pub IsWhy : Past → Entry → NotAllowed → Type 0
-IsWhy before entry (not_allowed.Rule number) = Breaks before entry number
+IsWhy before entry (not_allowed.Rule number) = BreaksPlainly before entry number
 IsWhy before entry not_allowed.Memory = ((rule : ℕ) × IsEvaluation entry rule) × IsUnrefused before entry
 
 -- why a comparison refuses: it differs, which breaks its rule, or memory ran out

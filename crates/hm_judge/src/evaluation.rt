@@ -36,6 +36,7 @@ fn is_evaluated(
     requires { CanEvaluate records.now.past pid.0 (option_copied pick) }
     ensures { IfOk result (λ same. IsTrue same ↔ IsEvaluated records.now.past pid.0 (option_copied pick.entry) out.now) }
 {
+    let _plain = records.procedures();
     let at = step_in(alloc, records, pid, pick)?;
     let said = is_said(alloc, records.sheets(), &at, out);
     drop(at);
@@ -73,6 +74,8 @@ pub(crate) fn evaluated(alloc: Global, records: &Records, entry: &Entry) -> Resu
         | Entry::Report { .. }
         | Entry::Up { .. }
         | Entry::Down { .. }
-        | Entry::Abort { .. } => Ok(()),
+        | Entry::Abort { .. }
+        | Entry::Base { .. }
+        | Entry::Adopt { .. } => Ok(()),
     }
 }

@@ -120,7 +120,7 @@ fn gather_copies(
 
 // What a step sees, by what took memory.
 fn seen(records: &Records, pid: Pid, found: &Record, lists: Lists, copies: Copies) -> StepIn
-    ensures { result ≡ record { pid = pid; root = found.now.root; kind = found.now.kind; row = found.now.row; args = copies.0; tries = found.now.tries; rows = lists.0; ends = lists.1; report = report_of records.now.past pid.0; place = copies.1; fenced = fenced_seen records.now.past found.now.args; on_server = lists.2; pick = copies.2; aborted = found.now.aborted; turn = turn_is.Step } }
+    ensures { result ≡ record { pid = pid; root = found.now.root; kind = found.now.kind; edition = found.now.edition; row = found.now.row; args = copies.0; tries = found.now.tries; rows = lists.0; ends = lists.1; report = report_of records.now.past pid.0; place = copies.1; fenced = fenced_seen records.now.past found.now.args; on_server = lists.2; pick = copies.2; aborted = found.now.aborted; turn = turn_is.Step } }
 {
     let (rows, ends, on_server) = lists;
     let (args, place, pick) = copies;
@@ -128,6 +128,7 @@ fn seen(records: &Records, pid: Pid, found: &Record, lists: Lists, copies: Copie
         pid,
         root: found.root,
         kind: found.kind,
+        edition: found.edition,
         row: found.row,
         args,
         tries: found.tries,

@@ -1,6 +1,7 @@
 //! The rules, by number.
 ghost use Rattle.std.specs.Prelude.{◌≡◌, OnOk, IfErr, IsTrue, false};
-ghost use Rattle.hm_model.specs.Rules.{Allowed, Breaks};
+ghost use Rattle.hm_model.specs.Plain.{BreaksPlainly, IsPlain};
+ghost use Rattle.hm_model.specs.Rules.{Allowed};
 ghost use Rattle.hm_judge.specs.Judge.{HoldsBut, IsUnrefused, IsWhy};
 
 use crate::aborts::{can_abort, is_before_point};
@@ -27,11 +28,14 @@ fn rule(number: u8, holds: bool) -> Result<(), u8>
 // Judges an entry by all its rules but its evaluation, from the lowest on.
 pub(crate) fn judged(records: &Records, entry: &Entry) -> Result<(), u8>
     ensures ok { OnOk result (HoldsBut records.now.past entry.now) }
-    ensures broken { IfErr result (Breaks records.now.past entry.now) }
+    ensures plain { OnOk result (IsPlain entry.now) }
+    ensures broken { IfErr result (BreaksPlainly records.now.past entry.now) }
 {
     let _begun = records.procedures();
     match entry {
         Entry::Start { sheets: _ } => Err(1),
+        Entry::Base { part: _ } => Err(18),
+        Entry::Adopt { sheets: _ } => Err(19),
         Entry::Submit { nonce, request } => {
             rule(2, may_submit(request))?;
             rule(3, is_fresh(records, nonce))?;
@@ -63,6 +67,7 @@ pub(crate) fn judged(records: &Records, entry: &Entry) -> Result<(), u8>
 /// that take no memory come before the evaluation of a step or an undo, which its sheet answers once.
 pub fn allowed(alloc: Global, records: &Records, entry: &Entry) -> Result<(), NotAllowed>
     ensures ok { OnOk result (Allowed records.now.past entry.now) }
+    ensures plain { OnOk result (IsPlain entry.now) }
     ensures why { IfErr result (IsWhy records.now.past entry.now) }
 {
     match judged(records, entry) {
@@ -76,7 +81,8 @@ pub fn allowed(alloc: Global, records: &Records, entry: &Entry) -> Result<(), No
 pub fn unrefused(records: &Records, entry: &Entry) -> Result<(), u8>
     ensures holds { OnOk result (HoldsBut records.now.past entry.now) }
     ensures ok { OnOk result (IsUnrefused records.now.past entry.now) }
-    ensures rule { IfErr result (Breaks records.now.past entry.now) }
+    ensures plain { OnOk result (IsPlain entry.now) }
+    ensures rule { IfErr result (BreaksPlainly records.now.past entry.now) }
 {
     judged(records, entry)
 }

@@ -2,6 +2,7 @@
 ghost use Rattle.std.specs.Prelude.{◌≡◌, option_copied, slice_get};
 ghost use Rattle.hm_model.specs.Inputs.{fenced_if, place_if, sees_fenced as fenced_seen, server_at as at};
 ghost use Rattle.hm_model.specs.Places.{place_of as place};
+ghost use Rattle.hm_model.specs.Plain.{ArePlain};
 ghost use Rattle.hm_model.specs.Records.{record_of};
 ghost use Rattle.hm_model.specs.Rules.{IsLegal};
 ghost use Rattle.hm_model.specs.Sheets.{row_in, sheet_for as sheet_of_kind, sheets_of};
@@ -19,6 +20,7 @@ use hm_sheet::sheet_for;
 pub(crate) fn find(records: &Records, pid: Pid) -> Option<&Record>
     ensures found { option_copied result ≡ record_of records.now.past pid.0 }
     ensures legal { IsLegal records.now.past }
+    ensures plain { ArePlain records.now.past }
 {
     records.procedures().find(pid)
 }

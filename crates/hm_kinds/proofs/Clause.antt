@@ -1,5 +1,5 @@
 -- What a step of a root does to the catalog, by its kind: the clause of a kind. No journal.
-use Rattle.std.proofs.Common.{◌≡◌, ◌≢◌, ℕ, List, [], ◌∷◌, true, false, ◌==◌, Option, Some, None, refl, ap, sym, ◌∙◌, subst, inl, ◌⊎◌, slice_get}
+use Rattle.std.proofs.Common.{◌≡◌, ◌≢◌, ℕ, List, [], ◌∷◌, true, false, ◌==◌, Option, Some, None, refl, ap, sym, ◌∙◌, subst, inl, inr, ◌⊎◌, slice_get}
 use Rattle.std.specs.Prelude.{Ok}
 use Rattle.std.proofs.lemmas.Bool.{cond-false, cond-true, or_right, true≢false}
 use Rattle.std.proofs.lemmas.Option.{none-some}
@@ -18,7 +18,7 @@ use Rattle.hm_model.specs.Answers.{done_with, is_stop, no_row}
 use Rattle.hm_model.specs.Catalog.{Catalog, edited, row_at, rows_at}
 use Rattle.hm_model.specs.Deeds.{deed_of}
 use Rattle.hm_model.specs.Kinds.{kind_of}
-use Rattle.hm_model.specs.Lists.{Line, lines_of}
+use Rattle.hm_model.specs.Lists.{Line, orders_of}
 use Rattle.hm_model.specs.Locks.{IsIn}
 use Rattle.hm_model.specs.Reads.{covers, guards, reads}
 use Rattle.hm_model.specs.Outs.{checked, edits_rows, fails, gives, spawns}
@@ -58,10 +58,15 @@ pub record Stepped (args : Args) (Stage : List Edit → Type 0) (base others : C
 
 -- the clause of a kind that lists its rows: how far a root is, by the lines that are left, and what a step then does
 pub record Serves (args : Args) (Stage : Catalog → List Line → List Edit → Type 0) : Type 0 where
-  pub begins : (base : Catalog) → Stage base (lines_of (kind_of args)) []
+  pub begins : (base : Catalog) (lines : List Line) → IsIn lines (orders_of (kind_of args)) → Stage base lines []
   pub steps : (base there others : Catalog) (keys : List CatKey) (line : Line) (behind : List Line) (sofar : List Edit) (at : StepIn) (next : ℕ)
       → Stage base (line ∷ behind) sofar → Sight args base there others keys sofar at → (next == no_row) ≡ is_last behind
       → Stepped args (Stage base behind) base others keys sofar (act_answer line.act next at)
+
+-- a kind that has one order begins with that
+pub one_order : (P : List Line → Type 0) (lines only : List Line) → IsIn lines (only ∷ []) → P only → P lines
+one_order P lines only (inl same) here = subst P (sym same) here
+one_order P lines only (inr never) here = absurd never
 
 -- what is read is what the tree made of it
 pub sees : (args : Args) (base there others : Catalog) (keys : List CatKey) (sofar : List Edit) (at : StepIn) → Sight args base there others keys sofar at → (key : CatKey) → reads args key ≡ true → row_at at.rows key ≡ edited sofar key (base key)

@@ -15,7 +15,7 @@ use Rattle.hm_data.specs.declared.request.Request.TheVariants as request_is
 use Rattle.hm_model.specs.Catalog.{Catalog}
 use Rattle.hm_model.specs.Changes.{add_merged, add_ranges, mark_merged, merge_edits, merged_of, region_key, remove_regions, split_edits, split_range}
 use Rattle.hm_model.specs.Checks.{by_start, parts_of}
-use Rattle.hm_model.specs.declared.part.Part.{Part}
+use Rattle.hm_model.specs.declared.merged.Merged.{Merged}
 use Rattle.hm_model.specs.Keys.{same_region, same_table}
 use Rattle.hm_model.specs.Locks.{IsIn, asks, exclusive, in_name_order, merge_asks, with_region, with_region_at}
 use Rattle.hm_model.specs.Reads.{covers, is_over, reads}
@@ -136,7 +136,7 @@ merge_within there regions first f = within_append (args_are.Root (request_is.Me
     (mark_within (args_are.Root (request_is.MergeRegions regions) first) there (in_name_order regions) (λ r among. merge_own regions first r (order_has r regions among)))
     (added regions refl)
   where
-    one_merged : (region : Region) (more : List Region) → regions ≡ region ∷ more → (parts : List Part) → Within (args_are.Root (request_is.MergeRegions regions) first) (merged_of there region.table first parts)
+    one_merged : (region : Region) (more : List Region) → regions ≡ region ∷ more → (parts : List Merged) → Within (args_are.Root (request_is.MergeRegions regions) first) (merged_of there region.table first parts)
     one_merged region more e [] = tt
     one_merged region more e (part ∷ parts) = (covers_from (args_are.Root (request_is.MergeRegions regions) first) (resource_is.Region (record { table = region.table; id = first })) (region_key region.table first) (subst (λ l. IsIn (exclusive (resource_is.Region (record { table = region.table; id = first }))) (merge_asks l first)) (sym e) (merge_new region more first)) (same_region-itself (record { table = region.table; id = first })), tt)
 

@@ -20,7 +20,7 @@ use Rattle.hm_model.specs.Reads.{covers, reads}
 use Rattle.hm_model.specs.NamespaceActs.{add_namespace, check_free_namespace}
 use Rattle.hm_model.proofs.KeyTests.{bytes_eq-refl}
 use Rattle.hm_model.proofs.ValidSheets.{is_last}
-use Rattle.hm_kinds.proofs.Clause.{Serves, Sight, Stepped, checks_so, ends_so, knows, sees}
+use Rattle.hm_kinds.proofs.Clause.{Serves, Sight, Stepped, checks_so, ends_so, knows, one_order, sees}
 
 -- how far a request for a namespace is: nothing done, or the namespace wasn't there
 pub data Making (ns : List ℕ) (base : Catalog) : List Line → List Edit → Type 0 where
@@ -48,4 +48,4 @@ module _ (ns : List ℕ) (first : ℕ) where
       (covers_it, tt) (λ key c. refl))
 
   pub create_namespace_serves : Serves (args_are.Root (request_is.CreateNamespace ns) first) (Making ns)
-  create_namespace_serves = record { begins = λ base. begins; steps = makes }
+  create_namespace_serves = record { begins = λ base lines order. one_order (λ l. Making ns base l []) lines _ order begins; steps = makes }

@@ -34,7 +34,7 @@ use Rattle.hm_model.specs.RowsSaid.{in_state}
 use Rattle.hm_model.specs.Tree.{args_in}
 use Rattle.hm_model.proofs.KeyTests.{bytes_eq-refl, same_table-refl}
 use Rattle.hm_model.proofs.ValidSheets.{is_last}
-use Rattle.hm_kinds.proofs.Clause.{Serves, Sight, Stepped, checks_so, edits_so, ends_so, knows, quiet_so, sees, spawns_so}
+use Rattle.hm_kinds.proofs.Clause.{Serves, Sight, Stepped, checks_so, edits_so, ends_so, knows, one_order, quiet_so, sees, spawns_so}
 use Rattle.hm_kinds.proofs.Covering.{add_within}
 use Rattle.hm_kinds.proofs.Quiet.{quiet_layout, quiet_moves}
 use Rattle.hm_kinds.proofs.Shares.{Touched, add_effect, added_row, adding_owes, adding_touches, row_or, touches, value}
@@ -191,4 +191,4 @@ module _ (table : TableName) (split : List (List ℕ)) (first : ℕ) where
   creates base there others keys line behind sofar at next (opened none) s last = finishes base there others keys at next none s last
 
   pub create_table_serves : Serves (args_are.Root (request_is.CreateTable table split) first) (Creating table split first)
-  create_table_serves = record { begins = λ base. begins; steps = creates }
+  create_table_serves = record { begins = λ base lines order. one_order (λ l. Creating table split first base l []) lines _ order begins; steps = creates }

@@ -33,7 +33,7 @@ use Rattle.hm_model.specs.Views.{regions_in}
 use Rattle.hm_model.specs.declared.lock.Resource.TheVariants as resource_is
 use Rattle.hm_model.proofs.KeyTests.{same_table-is, same_table-refl}
 use Rattle.hm_model.proofs.ValidSheets.{is_last}
-use Rattle.hm_kinds.proofs.Clause.{Serves, Sight, Stepped, checks_so, ends_so, knows, sees, spawns_so}
+use Rattle.hm_kinds.proofs.Clause.{Serves, Sight, Stepped, checks_so, ends_so, knows, one_order, sees, spawns_so}
 use Rattle.hm_kinds.proofs.Covering.{covers_from}
 use Rattle.hm_kinds.proofs.Shares.{Touched, dropping_owes, dropping_touches, is_one_of, remove_effect, touches, value}
 use Rattle.hm_kinds.proofs.Within.{Within}
@@ -232,4 +232,4 @@ module _ (table : TableName) (first : ℕ) where
   deletes base there others keys line behind sofar at next (emptied none ids has) s last = finishes base there others keys at next none ids has s last
 
   pub delete_table_serves : Serves (args_are.Root (request_is.DeleteTable table) first) (Deleting table)
-  delete_table_serves = record { begins = λ base. begins; steps = deletes }
+  delete_table_serves = record { begins = λ base lines order. one_order (λ l. Deleting table base l []) lines _ order begins; steps = deletes }

@@ -28,7 +28,7 @@ use Rattle.hm_model.specs.RegionActs.{close_regions, regions_for}
 use Rattle.hm_model.specs.RowsSaid.{in_state}
 use Rattle.hm_model.proofs.KeyTests.{same_table-refl}
 use Rattle.hm_model.proofs.ValidSheets.{is_last}
-use Rattle.hm_kinds.proofs.Clause.{Serves, Sight, Stepped, checks_so, edits_so, ends_so, knows, quiet_so, sees}
+use Rattle.hm_kinds.proofs.Clause.{Serves, Sight, Stepped, checks_so, edits_so, ends_so, knows, one_order, quiet_so, sees}
 use Rattle.hm_kinds.proofs.Quiet.{quiet_moves}
 use Rattle.hm_kinds.proofs.TableRows.{state_again, state_same}
 
@@ -68,4 +68,4 @@ module _ (table : TableName) (first : ℕ) where
       (λ key c. state_again table base others (row_at at.rows) state_is.Disabling state_is.Disabled (knows own base there others keys sofar at s (key_is.Table table) reads_table) (sees own base there others keys sofar at s (key_is.Table table) reads_table) key (base key)))
 
   pub disable_table_serves : Serves (args_are.Root (request_is.DisableTable table) first) (Disabling table)
-  disable_table_serves = record { begins = λ base. begins; steps = disables }
+  disable_table_serves = record { begins = λ base lines order. one_order (λ l. Disabling table base l []) lines _ order begins; steps = disables }

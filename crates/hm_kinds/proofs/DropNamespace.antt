@@ -28,7 +28,7 @@ use Rattle.hm_model.specs.Phase.{or_else}
 use Rattle.hm_model.specs.RowsSaid.{is_table_in}
 use Rattle.hm_model.proofs.KeyTests.{bytes_eq-refl}
 use Rattle.hm_model.proofs.ValidSheets.{is_last}
-use Rattle.hm_kinds.proofs.Clause.{Serves, Sight, Stepped, checks_so, ends_so, knows, sees}
+use Rattle.hm_kinds.proofs.Clause.{Serves, Sight, Stepped, checks_so, ends_so, knows, one_order, sees}
 
 -- the namespace has no table in a catalog
 abbrev pub IsBare : List ℕ → Catalog → Type 0
@@ -117,4 +117,4 @@ module _ (ns : List ℕ) (first : ℕ) where
       (covers_it, tt) (λ key c. refl))
 
   pub drop_namespace_serves : Serves (args_are.Root (request_is.DropNamespace ns) first) (Dropping ns)
-  drop_namespace_serves = record { begins = λ base. begins; steps = drops }
+  drop_namespace_serves = record { begins = λ base lines order. one_order (λ l. Dropping ns base l []) lines _ order begins; steps = drops }

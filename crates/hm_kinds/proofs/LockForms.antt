@@ -14,11 +14,12 @@ use Rattle.hm_data.specs.declared.request.Request.TheVariants as request_is
 use Rattle.hm_model.specs.Keys.{same_table}
 use Rattle.hm_model.specs.Locks.{Clash, IsIn, asks, exclusive, in_name_order, region_alone, request_asks, shared, table_alone, table_shared}
 use Rattle.hm_model.specs.Reads.{covers, guards, is_over, is_ns, is_ns_or_table_in, is_region, is_table, reads}
-use Rattle.hm_model.specs.Requests.{is_pair, wrong_in}
+use Rattle.hm_model.specs.Requests.{wrong_in}
 use Rattle.hm_model.specs.declared.lock.Ask.{Ask}
 use Rattle.hm_model.specs.declared.lock.Resource.{Resource}
 use Rattle.hm_model.specs.declared.lock.Resource.TheVariants as resource_is
 use Rattle.hm_model.proofs.KeyTests.{bytes_eq-is, same_region-is, same_table-is}
+use Rattle.hm_model.proofs.Siblings.{merge_is, one_table}
 use Rattle.hm_kinds.proofs.Covering.{order_has, rows_table}
 
 -- a request that can be submitted; any other procedure
@@ -145,31 +146,12 @@ all_map : (table : TableName) (regions : List Region) (more : List Ask) → ((r 
 all_map table [] more each all = all
 all_map table (region ∷ regions) more each all = all_cons table region (map (λ r. exclusive (resource_is.Region r)) regions ++ more) (each region (inl refl)) (all_map table regions more (λ r among. each r (inr among)) all)
 
-head_is : (one : Region) (rest : List Region) (first : Region) (more : List Region) → one ∷ rest ≡ first ∷ more → one ≡ first
-head_is one rest first more e = cc
-
--- the regions of a merge are of the table of the first
-one_table : (regions : List Region) → wrong_in (request_is.MergeRegions regions) ≡ None → (first : Region) (more : List Region) → regions ≡ first ∷ more → (r : Region) → IsIn r regions → r.table ≡ first.table
-one_table regions sound first more is r among = by regions (pair (is_pair regions) sound) first more is r among
-  where
-    pair : (b : Bool) → cond {A = Option ℕ} b None (Some 4) ≡ None → b ≡ true
-    pair true h = refl
-    pair false h = absurd (none-some 4 (sym h))
-
-    by : (regions : List Region) → is_pair regions ≡ true → (first : Region) (more : List Region) → regions ≡ first ∷ more → (r : Region) → IsIn r regions → r.table ≡ first.table
-    by [] h first more e r among = absurd (false≢true h)
-    by (one ∷ []) h first more e r among = absurd (false≢true h)
-    by (one ∷ other ∷ third ∷ rest) h first more e r among = absurd (false≢true h)
-    by (one ∷ other ∷ []) h first more e r (inl same) = ap (λ (x : Region). x.table) same ∙ ap (λ (x : Region). x.table) (head_is one (other ∷ []) first more e)
-    by (one ∷ other ∷ []) h first more e r (inr (inl same)) = ap (λ (x : Region). x.table) same ∙ sym (same_table-is one.table other.table (and_parts (same_table one.table other.table) (not (one.id == other.id)) h).0) ∙ ap (λ (x : Region). x.table) (head_is one (other ∷ []) first more e)
-    by (one ∷ other ∷ []) h first more e r (inr (inr never)) = absurd never
-
 merge_founded : (regions : List Region) (first : ℕ) → wrong_in (request_is.MergeRegions regions) ≡ None → Founded (request_asks (request_is.MergeRegions regions) first)
 merge_founded [] first sound = λ resource never. absurd never
 merge_founded (region ∷ more) first sound =
     regions_founded region.table (map (λ r. exclusive (resource_is.Region r)) (in_name_order (region ∷ more)) ++ region_alone region.table first ∷ [])
     (all_map region.table (in_name_order (region ∷ more)) (region_alone region.table first ∷ [])
-    (λ r among. one_table (region ∷ more) sound region more refl r (order_has r (region ∷ more) among))
+    (λ r among. sym (one_table region more (merge_is (region ∷ more) sound).siblings r (order_has r (region ∷ more) among)))
     (all_cons region.table (record { table = region.table; id = first }) [] refl (all_none region.table)))
 
 server_founded : (server : Server) → Founded (exclusive (resource_is.Server server) ∷ [])
@@ -268,8 +250,9 @@ read_form (args_are.Root (request_is.MergeRegions regions) first) none sound key
     each : (list : List Region) → regions ≡ list → (r : Region) → IsIn r regions → Asks (request_asks (request_is.MergeRegions regions) first) (resource_is.Table r.table) × Asks (request_asks (request_is.MergeRegions regions) first) (resource_is.Region r)
     each [] e r among = absurd (subst (IsIn r) e among)
     each (region ∷ more) e r among =
-        let same : r.table ≡ region.table = one_table regions sound region more e r among in (
-          subst (λ l. Asks (request_asks (request_is.MergeRegions l) first) (resource_is.Table r.table)) (sym e) (subst (λ t. Asks (request_asks (request_is.MergeRegions (region ∷ more)) first) (resource_is.Table t)) (sym same) (table_asked region.table (map (λ x. exclusive (resource_is.Region x)) (in_name_order (region ∷ more)) ++ region_alone region.table first ∷ []))),
+        let siblings = (merge_is (region ∷ more) (subst (λ l. wrong_in (request_is.MergeRegions l) ≡ None) e sound)).siblings in
+        let same : region.table ≡ r.table = one_table region more siblings r (subst (IsIn r) e among) in (
+          subst (λ l. Asks (request_asks (request_is.MergeRegions l) first) (resource_is.Table r.table)) (sym e) (subst (λ t. Asks (request_asks (request_is.MergeRegions (region ∷ more)) first) (resource_is.Table t)) same (table_asked region.table (map (λ x. exclusive (resource_is.Region x)) (in_name_order (region ∷ more)) ++ region_alone region.table first ∷ []))),
           asks_alone (request_asks (request_is.MergeRegions regions) first) (resource_is.Region r) (Rattle.hm_kinds.proofs.Covering.merge_own regions first r among),
         )
 read_form (args_are.Root (request_is.Move region to) first) none sound key on = moved_guard (request_asks (request_is.Move region to) first) region (table_asked region.table (exclusive (resource_is.Region region) ∷ [])) (exclusive (resource_is.Region region), inr (inr (inl refl)), refl) key on

@@ -33,10 +33,10 @@ use Rattle.hm_model.specs.Pieces.{numbers_from, transits}
 use Rattle.hm_model.specs.RegionActs.{check_merge, close_parents, open_new, update_merge_meta}
 use Rattle.hm_model.specs.RowsSaid.{in_status, range_in}
 use Rattle.hm_model.specs.Views.{regions_in}
-use Rattle.hm_model.specs.declared.part.Part.{Part}
+use Rattle.hm_model.specs.declared.merged.Merged.{Merged}
 use Rattle.hm_model.proofs.KeyTests.{same_region-refl, same_table-refl}
 use Rattle.hm_model.proofs.ValidSheets.{is_last}
-use Rattle.hm_kinds.proofs.Clause.{Serves, Sight, Stepped, checks_so, done_so, edits_so, knows, quiet_so, sees}
+use Rattle.hm_kinds.proofs.Clause.{Serves, Sight, Stepped, checks_so, done_so, edits_so, knows, one_order, quiet_so, sees}
 use Rattle.hm_kinds.proofs.Covering.{merge_within, order_has}
 use Rattle.hm_kinds.proofs.Quiet.{quiet_layout, quiet_moves}
 use Rattle.hm_kinds.proofs.Within.{Alike, alike_append, alike_edited}
@@ -89,7 +89,7 @@ merge_alike : (regions : List Region) (first : ℕ) (one other : Catalog) → Ag
 merge_alike regions first one other same = alike_append (mark_merged one (in_name_order regions)) (mark_merged other (in_name_order regions)) (add_merged one first regions regions) (add_merged other first regions regions)
     (mark_alike (in_name_order regions) one other (λ r among. same r (order_has r regions among))) (by regions)
   where
-    parts : (table : TableName) (list : List Part) → Alike (merged_of one table first list) (merged_of other table first list)
+    parts : (table : TableName) (list : List Merged) → Alike (merged_of one table first list) (merged_of other table first list)
     parts table [] = tt
     parts table (part ∷ more) = (refl, refl, tt)
 
@@ -161,4 +161,4 @@ module _ (regions : List Region) (first : ℕ) where
       (λ k c. alike_edited (merge_edits others regions first) (merge_edits base regions first) (merge_alike regions first others base (deeds_agree base there others keys sofar at s)) k (base k))
 
   pub merge_regions_serves : Serves (args_are.Root (request_is.MergeRegions regions) first) (Merging regions first)
-  merge_regions_serves = record { begins = λ base. begins; steps = merges }
+  merge_regions_serves = record { begins = λ base lines order. one_order (λ l. Merging regions first base l []) lines _ order begins; steps = merges }

@@ -23,7 +23,7 @@ use Rattle.hm_model.specs.NamespaceActs.{check_table_disabled, set_version}
 use Rattle.hm_model.specs.RowsSaid.{in_version}
 use Rattle.hm_model.proofs.KeyTests.{same_table-refl}
 use Rattle.hm_model.proofs.ValidSheets.{is_last}
-use Rattle.hm_kinds.proofs.Clause.{Serves, Sight, Stepped, checks_so, ends_so, knows, sees}
+use Rattle.hm_kinds.proofs.Clause.{Serves, Sight, Stepped, checks_so, ends_so, knows, one_order, sees}
 use Rattle.hm_kinds.proofs.TableRows.{state_same}
 
 -- how far it is: nothing done, or the table was there and disabled
@@ -53,4 +53,4 @@ module _ (table : TableName) (version first : ℕ) where
       (λ key c. state_same table others (row_at at.rows) (in_version version) (knows own base there others keys [] at s (key_is.Table table) reads_table ∙ sym (sees own base there others keys [] at s (key_is.Table table) reads_table)) key (base key)))
 
   pub modify_table_serves : Serves (args_are.Root (request_is.ModifyTable table version) first) (Modifying table)
-  modify_table_serves = record { begins = λ base. begins; steps = modifies }
+  modify_table_serves = record { begins = λ base lines order. one_order (λ l. Modifying table base l []) lines _ order begins; steps = modifies }

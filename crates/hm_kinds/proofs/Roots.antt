@@ -1,18 +1,15 @@
 -- All kinds of roots that list their rows: how far one is, and its clause.
-use Rattle.std.proofs.Common.{◌≡◌, ℕ, List, [], ◌∷◌, None, refl, ap, sym, ◌∙◌}
+use Rattle.std.proofs.Common.{◌≡◌, ℕ, List, [], ◌∷◌, None, sym}
 use Rattle.std.proofs.lemmas.Option.{none-some}
 use Rattle.hm_data.specs.declared.args.Args.{Args}
 use Rattle.hm_data.specs.declared.args.Args.TheVariants as args_are
 use Rattle.hm_data.specs.declared.catalog.Edit.{Edit}
 use Rattle.hm_data.specs.declared.request.Request.{Request}
 use Rattle.hm_data.specs.declared.request.Request.TheVariants as request_is
-use Rattle.hm_data.specs.declared.sheet.Sheet.{Sheet}
 use Rattle.hm_model.specs.Catalog.{Catalog}
-use Rattle.hm_model.specs.Kinds.{first_row_of, kind_of}
-use Rattle.hm_model.specs.Lists.{Line, exact_rows, lines_of}
-use Rattle.hm_model.specs.Validity.{IsValid}
+use Rattle.hm_model.specs.Kinds.{kind_of}
+use Rattle.hm_model.specs.Lists.{Line, exact_rows}
 use Rattle.hm_model.proofs.ExactRows.{cons_nil}
-use Rattle.hm_model.proofs.ValidSheets.{Leads, valid_leads}
 use Rattle.hm_kinds.proofs.Clause.{Serves}
 use Rattle.hm_kinds.proofs.Covering.{rows_table}
 use Rattle.hm_kinds.proofs.CreateNamespace.{Making, create_namespace_serves}
@@ -64,28 +61,3 @@ serves (args_are.CloseCall region server) exact none = absurd (cons_nil _ _ exac
 serves (args_are.FenceCall server) exact none = absurd (cons_nil _ _ exact)
 serves (args_are.LayoutCall root) exact none = absurd (cons_nil _ _ exact)
 serves (args_are.SweepLayout root) exact none = absurd (cons_nil _ _ exact)
-
-leads_for : (sheet : Sheet) → IsValid sheet → (kind : ℕ) → sheet.kind ≡ kind → (line : Line) (lines : List Line) → exact_rows kind ≡ [] → lines_of kind ≡ line ∷ lines → Leads sheet.rows 0 (line ∷ lines)
-leads_for sheet valid kind e line lines exact lined = valid_leads sheet line lines valid (ap exact_rows e ∙ exact) (ap lines_of e ∙ lined)
-
--- its sheet leads through all its lines from its first row on
-pub root_leads : (args : Args) → exact_rows (kind_of args) ≡ [] → rows_table args ≡ None → (sheet : Sheet) → IsValid sheet → sheet.kind ≡ kind_of args → Leads sheet.rows (first_row_of args) (lines_of (kind_of args))
-root_leads (args_are.Root (request_is.CreateNamespace ns) first) exact none sheet valid e = leads_for sheet valid 1 e _ _ refl refl
-root_leads (args_are.Root (request_is.DropNamespace ns) first) exact none sheet valid e = leads_for sheet valid 2 e _ _ refl refl
-root_leads (args_are.Root (request_is.CreateTable table split) first) exact none sheet valid e = leads_for sheet valid 3 e _ _ refl refl
-root_leads (args_are.Root (request_is.DeleteTable table) first) exact none sheet valid e = leads_for sheet valid 4 e _ _ refl refl
-root_leads (args_are.Root (request_is.EnableTable table) first) exact none sheet valid e = leads_for sheet valid 5 e _ _ refl refl
-root_leads (args_are.Root (request_is.DisableTable table) first) exact none sheet valid e = leads_for sheet valid 6 e _ _ refl refl
-root_leads (args_are.Root (request_is.ModifyTable table version) first) exact none sheet valid e = leads_for sheet valid 7 e _ _ refl refl
-root_leads (args_are.Root (request_is.SplitRegion region key) first) exact none sheet valid e = leads_for sheet valid 8 e _ _ refl refl
-root_leads (args_are.Root (request_is.MergeRegions regions) first) exact none sheet valid e = leads_for sheet valid 9 e _ _ refl refl
-root_leads (args_are.Root (request_is.Move region to) first) exact none sheet valid e = absurd (cons_nil _ _ exact)
-root_leads (args_are.Transit region goal to) exact none sheet valid e = absurd (cons_nil _ _ exact)
-root_leads (args_are.Crash server) exact none sheet valid e = absurd (cons_nil _ _ exact)
-root_leads (args_are.AddRegions table first bounds) exact none sheet valid e = absurd (none-some table (sym none))
-root_leads (args_are.DropRegions table ids) exact none sheet valid e = absurd (none-some table (sym none))
-root_leads (args_are.AssignCall region server) exact none sheet valid e = absurd (cons_nil _ _ exact)
-root_leads (args_are.CloseCall region server) exact none sheet valid e = absurd (cons_nil _ _ exact)
-root_leads (args_are.FenceCall server) exact none sheet valid e = absurd (cons_nil _ _ exact)
-root_leads (args_are.LayoutCall root) exact none sheet valid e = absurd (cons_nil _ _ exact)
-root_leads (args_are.SweepLayout root) exact none sheet valid e = absurd (cons_nil _ _ exact)

@@ -1,5 +1,5 @@
 -- A request to split a region: how far it is, and what its steps do.
-use Rattle.std.proofs.Common.{◌≡◌, ℕ, List, [], ◌∷◌, true, ◌==◌, Option, Some, None, refl, ap, sym, ◌∙◌, subst}
+use Rattle.std.proofs.Common.{◌≡◌, ℕ, List, [], ◌∷◌, true, ◌==◌, Option, Some, None, refl, ap, sym, ◌∙◌, subst, inl, inr}
 use Rattle.std.specs.Prelude.{option_map}
 use Rattle.std.proofs.lemmas.Bool.{or_left, or_right}
 use Rattle.hm_names.specs.Region.{Region}
@@ -22,7 +22,8 @@ use Rattle.hm_model.specs.Catalog.{Catalog, row_at}
 use Rattle.hm_model.specs.Changes.{split_edits, split_range}
 use Rattle.hm_model.specs.Checks.{can_split}
 use Rattle.hm_model.specs.Deeds.{unless}
-use Rattle.hm_model.specs.Lists.{Line, late, plain, undone}
+use Rattle.hm_model.specs.Lists.{Line, late, orders_of, plain, undone}
+use Rattle.hm_model.specs.Locks.{IsIn}
 use Rattle.hm_model.specs.Reads.{is_region, is_table, reads}
 use Rattle.hm_model.specs.Pieces.{numbers_from, transits}
 use Rattle.hm_model.specs.RegionActs.{check_split, close_parents, open_new, update_split_meta}
@@ -44,11 +45,20 @@ opening = late act_is.OpenDaughters ∷ late act_is.Finish ∷ []
 abbrev updating : List Line
 updating = undone act_is.UpdateSplitMeta back_is.Edits ∷ opening
 
--- how far it is: nothing done; the region can be split; it is split
+abbrev close : Line
+close = undone act_is.CloseParent back_is.Reopen
+
+abbrev lay : Line
+lay = undone act_is.Layout back_is.Sweep
+
+-- how far it is: nothing done; the region can be split; it is split. In the second order the layout comes first
 pub data Splitting (region : Region) (key : List ℕ) (first : ℕ) (base : Catalog) : List Line → List Edit → Type 0 where
-  begins : Splitting region key first base (plain act_is.CheckSplit ∷ undone act_is.CloseParent back_is.Reopen ∷ undone act_is.Layout back_is.Sweep ∷ updating) []
-  found : Can region key base → Splitting region key first base (undone act_is.CloseParent back_is.Reopen ∷ undone act_is.Layout back_is.Sweep ∷ updating) []
-  closed : Can region key base → Splitting region key first base (undone act_is.Layout back_is.Sweep ∷ updating) []
+  begins : Splitting region key first base (plain act_is.CheckSplit ∷ close ∷ lay ∷ updating) []
+  found : Can region key base → Splitting region key first base (close ∷ lay ∷ updating) []
+  closed : Can region key base → Splitting region key first base (lay ∷ updating) []
+  starts : Splitting region key first base (plain act_is.CheckSplit ∷ lay ∷ close ∷ updating) []
+  tested : Can region key base → Splitting region key first base (lay ∷ close ∷ updating) []
+  ahead : Can region key base → Splitting region key first base (close ∷ updating) []
   laid : Can region key base → Splitting region key first base updating []
   told : Can region key base → Splitting region key first base opening (split_edits base region key first)
   opened : Can region key base → Splitting region key first base (late act_is.Finish ∷ []) (split_edits base region key first)
@@ -72,16 +82,31 @@ module _ (region : Region) (key : List ℕ) (first : ℕ) where
   reads_region : reads (args_are.Root (request_is.SplitRegion region key) first) (key_is.Region region) ≡ true
   reads_region = or_right (is_table region.table (key_is.Region region)) (is_region region (key_is.Region region)) (same_region-refl region)
 
-  splits : (base there others : Catalog) (keys : List CatKey) (line : Line) (behind : List Line) (sofar : List Edit) (at : StepIn) (next : ℕ) → Splitting region key first base (line ∷ behind) sofar → Sight (args_are.Root (request_is.SplitRegion region key) first) base there others keys sofar at → (next == no_row) ≡ is_last behind → Stepped (args_are.Root (request_is.SplitRegion region key) first) (Splitting region key first base behind) base others keys sofar (act_answer line.act next at)
-  splits base there others keys line behind sofar at next begins s last =
-      subst (λ a. Stepped own (Splitting region key first base behind) base others keys sofar (check_split next a at.rows)) (sym s.own)
+  tests : (base there others : Catalog) (keys : List CatKey) (behind : List Line) (at : StepIn) (next : ℕ) → (Can region key base → Splitting region key first base behind []) → Sight (args_are.Root (request_is.SplitRegion region key) first) base there others keys [] at
+      → Stepped (args_are.Root (request_is.SplitRegion region key) first) (Splitting region key first base behind) base others keys [] (act_answer act_is.CheckSplit next at)
+  tests base there others keys behind at next then s =
+      subst (λ a. Stepped own (Splitting region key first base behind) base others keys [] (check_split next a at.rows)) (sym s.own)
       (checks_so own (Splitting region key first base behind) base others keys [] next (can_split (row_at at.rows (key_is.Table region.table)) (row_at at.rows (key_is.Region region)) key)
-      (λ none. found (ap (λ o. can_split o (base (key_is.Region region)) key) (sym (sees own base there others keys [] at s (key_is.Table region.table) reads_table)) ∙ ap (λ o. can_split (row_at at.rows (key_is.Table region.table)) o key) (sym (sees own base there others keys [] at s (key_is.Region region) reads_region)) ∙ none)))
-  splits base there others keys line behind sofar at next (found can) s last =
-      subst (λ a. Stepped own (Splitting region key first base behind) base others keys sofar (close_parents next a)) (sym s.own)
-      (quiet_so own (Splitting region key first base behind) base others keys [] next (transits goal_is.Unassign (region ∷ [])) (quiet_moves goal_is.Unassign (region ∷ [])) (closed can))
-  splits base there others keys line behind sofar at next (closed can) s last =
-      quiet_so own (Splitting region key first base behind) base others keys [] next (child_is.One (args_are.LayoutCall at.root) ∷ []) (quiet_layout at.root) (laid can)
+      (λ none. then (ap (λ o. can_split o (base (key_is.Region region)) key) (sym (sees own base there others keys [] at s (key_is.Table region.table) reads_table)) ∙ ap (λ o. can_split (row_at at.rows (key_is.Table region.table)) o key) (sym (sees own base there others keys [] at s (key_is.Region region) reads_region)) ∙ none)))
+
+  closes : (base there others : Catalog) (keys : List CatKey) (behind : List Line) (at : StepIn) (next : ℕ) → Splitting region key first base behind [] → Sight (args_are.Root (request_is.SplitRegion region key) first) base there others keys [] at
+      → Stepped (args_are.Root (request_is.SplitRegion region key) first) (Splitting region key first base behind) base others keys [] (act_answer act_is.CloseParent next at)
+  closes base there others keys behind at next then s =
+      subst (λ a. Stepped own (Splitting region key first base behind) base others keys [] (close_parents next a)) (sym s.own)
+      (quiet_so own (Splitting region key first base behind) base others keys [] next (transits goal_is.Unassign (region ∷ [])) (quiet_moves goal_is.Unassign (region ∷ [])) then)
+
+  lays : (base others : Catalog) (keys : List CatKey) (behind : List Line) (at : StepIn) (next : ℕ) → Splitting region key first base behind []
+      → Stepped (args_are.Root (request_is.SplitRegion region key) first) (Splitting region key first base behind) base others keys [] (act_answer act_is.Layout next at)
+  lays base others keys behind at next then =
+      quiet_so own (Splitting region key first base behind) base others keys [] next (child_is.One (args_are.LayoutCall at.root) ∷ []) (quiet_layout at.root) then
+
+  splits : (base there others : Catalog) (keys : List CatKey) (line : Line) (behind : List Line) (sofar : List Edit) (at : StepIn) (next : ℕ) → Splitting region key first base (line ∷ behind) sofar → Sight (args_are.Root (request_is.SplitRegion region key) first) base there others keys sofar at → (next == no_row) ≡ is_last behind → Stepped (args_are.Root (request_is.SplitRegion region key) first) (Splitting region key first base behind) base others keys sofar (act_answer line.act next at)
+  splits base there others keys line behind sofar at next begins s last = tests base there others keys behind at next found s
+  splits base there others keys line behind sofar at next starts s last = tests base there others keys behind at next tested s
+  splits base there others keys line behind sofar at next (found can) s last = closes base there others keys behind at next (closed can) s
+  splits base there others keys line behind sofar at next (ahead can) s last = closes base there others keys behind at next (laid can) s
+  splits base there others keys line behind sofar at next (closed can) s last = lays base others keys behind at next (laid can)
+  splits base there others keys line behind sofar at next (tested can) s last = lays base others keys behind at next (ahead can)
   splits base there others keys line behind sofar at next (laid can) s last =
       subst (λ a. Stepped own (Splitting region key first base behind) base others keys sofar (update_split_meta next a at.rows)) (sym s.own)
       (edits_so own (Splitting region key first base behind) base others keys [] next (split_edits (row_at at.rows) region key first) last (split_edits base region key first) (told can)
@@ -97,5 +122,10 @@ module _ (region : Region) (key : List ℕ) (first : ℕ) where
       (split_within others region key first)
       (λ k c. alike_edited (split_edits others region key first) (split_edits base region key first) (split_alike others base region key first (knows own base there others keys sofar at s (key_is.Region region) reads_region)) k (base k))
 
+  begun : (base : Catalog) (lines : List Line) → IsIn lines (orders_of 8) → Splitting region key first base lines []
+  begun base lines (inl same) = subst (λ l. Splitting region key first base l []) (sym same) begins
+  begun base lines (inr (inl same)) = subst (λ l. Splitting region key first base l []) (sym same) starts
+  begun base lines (inr (inr never)) = absurd never
+
   pub split_region_serves : Serves (args_are.Root (request_is.SplitRegion region key) first) (Splitting region key first)
-  split_region_serves = record { begins = λ base. begins; steps = splits }
+  split_region_serves = record { begins = begun; steps = splits }

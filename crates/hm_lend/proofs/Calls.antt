@@ -1,14 +1,11 @@
 -- What each call of a hall does to what the gate sees: how the list grows, and what goes out and comes back.
-use Rattle.std.proofs.Common.{◌≡◌, ◌≢◌, ◌⊎◌, inl, inr, ⊎_elim, ℕ, zero, suc, ◌+◌, ◌≤◌, List, [], ◌∷◌, ◌++◌, Bool, true, false, Option, Some, None, Result, Ok, Err, refl, ap, sym, subst, ◌∙◌, arith, append-nil}
+use Rattle.std.proofs.Common.{◌≡◌, ◌≢◌, ◌⊎◌, inl, inr, ⊎_elim, ℕ, ◌≤◌, List, [], ◌∷◌, ◌++◌, Bool, true, false, Option, Some, None, Result, Ok, Err, refl, ap, sym, subst, ◌∙◌, arith, append-nil}
 use Rattle.std.specs.Prelude.{is_some, MatchResult, MatchOption}
 use Rattle.std.proofs.lemmas.Option.{none-some, same_Some}
 use Rattle.hm_data.specs.declared.entry.Entry.{Entry}
 use Rattle.hm_data.specs.declared.entry.Entry.TheVariants as entry_is
 use Rattle.hm_data.specs.declared.sheet.Sheet.{Sheet}
 use Rattle.hm_data.specs.declared.step.StepOut.{StepOut}
-use Rattle.hm_gate.specs.Gate.{Begins}
-use Rattle.hm_gate.specs.Total.{times, same}
-use Rattle.hm_gate.specs.Weights.{weigh}
 use Rattle.hm_gate.specs.Whole.{Whole}
 use Rattle.hm_hall.specs.Hall.{ComesBack, GoesOut}
 use Rattle.hm_hall.specs.declared.fault.Halt.{Halt}
@@ -19,7 +16,7 @@ use Rattle.hm_hall.specs.declared.hall.Task.TheVariants as task_is
 use Rattle.hm_hall.specs.declared.taken.Given.{Given}
 use Rattle.hm_hall.specs.declared.taken.Given.TheVariants as given_is
 use Rattle.hm_hall.specs.declared.taken.Taken.{Taken}
-use Rattle.hm_lend.specs.Hall.{Answers, AnswersBack, AnswersCarry, AnswersGive, AnswersLend, AnswersTake, CanBeServed, Fails, GetsBack, Going, HallView, HasNone, IsOut, MayAddReport}
+use Rattle.hm_lend.specs.Hall.{Answers, AnswersBack, AnswersCarry, AnswersGive, AnswersLend, AnswersTake, CanBeServed, Fails, GetsBack, Going, HallView, IsOut, MayAddReport}
 use Rattle.hm_lend.specs.Outs.{OutView, number_of}
 use Rattle.hm_lend.specs.Stays.{Grows, IsOwn, SameOuts, Takes, one_step}
 use Rattle.hm_lend.specs.Ties.{Ties}

@@ -1,5 +1,5 @@
 -- What decides whether a log is lent, and what comes back with it.
-use Rattle.std.proofs.Common.{◌≡◌, ◌⊎◌, ℕ, length, Option, Some, None, Result, Ok, Err, refl, ap, sym, ◌∙◌, inl, inr}
+use Rattle.std.proofs.Common.{◌≡◌, ◌⊎◌, ℕ, length, Option, Some, None, Result, Ok, Err, refl, ap, ◌∙◌, inl, inr}
 use Rattle.hm_hall.specs.declared.fault.Halt.TheVariants as halt_is
 use Rattle.hm_hall.specs.declared.fault.RecordFault.{RecordFault}
 use Rattle.hm_hall.specs.declared.fault.RecordFault.TheVariants as fault_is

@@ -1,5 +1,5 @@
 -- What stopped a hall is answered first.
-use Rattle.std.proofs.Common.{◌≡◌, Bool, true, false, Result, Ok, Err, Some, refl, ap, sym, ◌∙◌, inl, inr}
+use Rattle.std.proofs.Common.{◌≡◌, Bool, true, false, Result, Ok, Err, Some, ap, sym, ◌∙◌}
 use Rattle.std.proofs.lemmas.Option.{none-some}
 use Rattle.hm_data.specs.declared.step.StepOut.{StepOut}
 use Rattle.hm_hall.specs.declared.fault.HallFault.{HallFault}

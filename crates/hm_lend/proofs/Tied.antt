@@ -1,20 +1,18 @@
 -- What the calls of a hall do to what the gate sees, by what ties the two.
-use Rattle.std.proofs.Common.{◌≡◌, ◌≢◌, ◌⊎◌, inl, inr, ⊎_elim, ℕ, ◌+◌, ◌≤◌, List, [], ◌∷◌, ◌++◌, Bool, true, false, Option, Some, None, Result, Ok, Err, refl, ap, sym, subst, ◌∙◌, arith, append-nil}
+use Rattle.std.proofs.Common.{◌≡◌, ◌≢◌, ◌⊎◌, ⊎_elim, ℕ, ◌≤◌, List, ◌++◌, true, Some, ap, sym, subst, ◌∙◌, arith}
 use Rattle.std.specs.Prelude.{is_some}
-use Rattle.std.proofs.lemmas.Option.{none-some}
 use Rattle.hm_data.specs.declared.entry.Entry.{Entry}
 use Rattle.hm_data.specs.declared.entry.Entry.TheVariants as entry_is
 use Rattle.hm_data.specs.declared.sheet.Sheet.{Sheet}
 use Rattle.hm_data.specs.declared.step.StepOut.{StepOut}
-use Rattle.hm_gate.specs.Total.{times, same}
+use Rattle.hm_gate.specs.Total.{times}
 use Rattle.hm_gate.specs.Weights.{weigh}
 use Rattle.hm_gate.specs.Whole.{Whole}
 use Rattle.hm_gate.proofs.Totals.{same-cases}
-use Rattle.hm_gate.proofs.Owed.{same-self}
 use Rattle.hm_hall.specs.Hall.{IsStepOf}
 use Rattle.hm_hall.specs.declared.taken.Taken.{Taken}
 use Rattle.hm_lend.specs.Hall.{Answers, HallView, IsOut}
-use Rattle.hm_lend.specs.Stays.{AreOwn, Grows, IsAnswer, IsOwn, SameOuts, Takes, one_step}
+use Rattle.hm_lend.specs.Stays.{AreOwn, Grows, IsOwn, SameOuts, Takes, one_step}
 use Rattle.hm_lend.specs.Ties.{IsTold, Ties}
 
 -- a number stands as often in two lists where it is out in both or in neither
@@ -75,3 +73,5 @@ step_own editions taken out (entry_is.Report call told) answer is = absurd is
 step_own editions taken out (entry_is.Up server) answer is = absurd is
 step_own editions taken out (entry_is.Down server) answer is = absurd is
 step_own editions taken out (entry_is.Abort pid) answer is = absurd is
+step_own editions taken out (entry_is.Base part) answer is = absurd is
+step_own editions taken out (entry_is.Adopt sheets) answer is = absurd is

@@ -1,4 +1,5 @@
 -- What an entry leaves alone of other trees.
+use Rattle.hm_model.proofs.Parted.{no_node}
 use Rattle.std.proofs.Common.{Bool, List, None, Option, Some, [], ap, arith, false, if◌then◌else◌, inl, inr, is_none, not, refl, slice_get, subst, suc, sym, true, zero, ℕ, ◌&&◌, ◌+◌, ◌-◌, ◌<◌, ◌==◌, ◌||◌, ◌∙◌, ◌∷◌, ◌≡◌, ◌≢◌}
 use Rattle.std.specs.Option.{option_map, option_or}
 use Rattle.std.proofs.lemmas.Bool.{and_from, and_left, cases_eq, cases_lt, cond-false, eq-eqb, false≢true, ne_eqb, true≢false}
@@ -264,3 +265,7 @@ others_stay (entry_is.Abort pid) before legal s top is at_top other =
       aborted = cond-false (q == pid.0) true (is_aborted before q) (ne_eqb q pid.0 (not_own before pid.0 q x s there of other));
       tries = refl;
     }) refl refl refl
+others_stay (entry_is.Adopt sheets) before legal s top is at_top other =
+    same_plain before (entry_is.Adopt sheets ∷ before) (grown_all before legal.0) (grown_all (entry_is.Adopt sheets ∷ before) legal) (forest_all before legal.0) (forest_all (entry_is.Adopt sheets ∷ before) legal) s (λ q. refl)
+    (λ q x there of. untouched before (entry_is.Adopt sheets ∷ before) (λ p. refl) (λ p. refl) (λ p. refl) (λ p. refl) (λ p. refl) q) refl refl refl
+others_stay (entry_is.Base part) before legal s top is at_top other = absurd (none-some top (sym (no_node part before legal.1.0 s) ∙ is))

@@ -1,4 +1,5 @@
 -- The calls of a legal journal, and their reports.
+use Rattle.hm_model.proofs.Parted.{by_parts, no_node}
 use Rattle.std.proofs.Common.{None, Option, Some, ap, inl, inr, sym, true, ℕ, ◌==◌, ◌∙◌, ◌∷◌, ◌≡◌, ◌≢◌}
 use Rattle.std.specs.Option.{option_or}
 use Rattle.std.proofs.lemmas.Bool.{cases_eq, cond-false, cond-true, eq-eqb, ne_eqb}
@@ -21,10 +22,10 @@ pub calls_own : (J : Past) → IsLegal J → (p : ℕ) (verb : Verb) → verb_of
 calls_own J legal = (grown_all J legal).verbs
 
 -- a call stays one
-called_on : (entry : Entry) (before : Past) (p : ℕ) (verb : Verb) → verb_of before p ≡ Some verb → verb_of (entry ∷ before) p ≢ None
-called_on (entry_is.Start sheets) before p verb is none = none-some verb (sym none ∙ is)
-called_on (entry_is.Submit nonce request) before p verb is none = none-some verb (sym none ∙ is)
-called_on (entry_is.Step pid pick out) before p verb is none = elim (cases_eq p pid.0) [
+called_on : (entry : Entry) (before : Past) → IsLegal (entry ∷ before) → (p : ℕ) (verb : Verb) → verb_of before p ≡ Some verb → verb_of (entry ∷ before) p ≢ None
+called_on (entry_is.Start sheets) before legal p verb is none = none-some verb (sym none ∙ is)
+called_on (entry_is.Submit nonce request) before legal p verb is none = none-some verb (sym none ∙ is)
+called_on (entry_is.Step pid pick out) before legal p verb is none = elim (cases_eq p pid.0) [
   | inl same ↦ by out.call (sym none ∙ cond-true (p == pid.0) (option_or out.call (verb_of before p)) (verb_of before p) (eq-eqb p pid.0 same) ∙ ap (option_or out.call) is)
   | inr differs ↦ none-some verb (sym none ∙ cond-false (p == pid.0) (option_or out.call (verb_of before p)) (verb_of before p) (ne_eqb p pid.0 differs) ∙ is)
 ]
@@ -32,16 +33,18 @@ called_on (entry_is.Step pid pick out) before p verb is none = elim (cases_eq p 
     by : (o : Option Verb) → None ≡ option_or o (Some verb) → ⊥
     by None e = none-some verb e
     by (Some x) e = none-some x e
-called_on (entry_is.Undo pid row out) before p verb is none = none-some verb (sym none ∙ is)
-called_on (entry_is.Report call told) before p verb is none = none-some verb (sym none ∙ is)
-called_on (entry_is.Up server) before p verb is none = none-some verb (sym none ∙ is)
-called_on (entry_is.Down server) before p verb is none = none-some verb (sym none ∙ is)
-called_on (entry_is.Abort pid) before p verb is none = none-some verb (sym none ∙ is)
+called_on (entry_is.Undo pid row out) before legal p verb is none = none-some verb (sym none ∙ is)
+called_on (entry_is.Report call told) before legal p verb is none = none-some verb (sym none ∙ is)
+called_on (entry_is.Up server) before legal p verb is none = none-some verb (sym none ∙ is)
+called_on (entry_is.Down server) before legal p verb is none = none-some verb (sym none ∙ is)
+called_on (entry_is.Abort pid) before legal p verb is none = none-some verb (sym none ∙ is)
+called_on (entry_is.Adopt sheets) before legal p verb is none = none-some verb (sym none ∙ is)
+called_on (entry_is.Base part) before legal p verb is none = let own = calls_own before legal.0 p verb is in none-some own.0 (sym (no_node part before legal.1.0 p) ∙ own.1)
 
 -- and its verb never changes
 pub calls_stay : (entry : Entry) (before : Past) → IsLegal (entry ∷ before) → (p : ℕ) (verb : Verb) → verb_of before p ≡ Some verb → verb_of (entry ∷ before) p ≡ Some verb
 calls_stay entry before legal p verb is =
-    let now = some_of (verb_of (entry ∷ before) p) (called_on entry before p verb is) in
+    let now = some_of (verb_of (entry ∷ before) p) (called_on entry before legal p verb is) in
     let was = calls_own before legal.0 p verb is in
     let own = calls_own (entry ∷ before) legal p now.0 now.1 in
     let same : own.0 ≡ was.0 = same_Some own.0 was.0 (sym own.1 ∙ nodes_stay entry before legal p was.0 was.1) in

@@ -1,4 +1,15 @@
 -- Each server that a procedure or a place of a legal journal names came up.
+use Rattle.std.proofs.lemmas.Bool.{false≢true}
+use Rattle.hm_model.specs.Base.{IsBegun, IsWhole, MayStand, PartFits}
+use Rattle.hm_data.specs.declared.part.Part.{Part}
+use Rattle.hm_data.specs.declared.part.Part.TheVariants as part_is
+use Rattle.hm_model.specs.Parts.{part_server}
+use Rattle.hm_model.proofs.Parted.{by_parts}
+use Rattle.hm_model.proofs.Grown.{ends_parted}
+use Rattle.hm_model.specs.Keys.{same_region}
+use Rattle.hm_model.specs.TransitActs.{is_placed, is_state}
+use Rattle.hm_data.specs.declared.place.Place.{Place}
+use Rattle.hm_data.specs.declared.place.RegionState.TheVariants as place_is
 use Rattle.std.proofs.Common.{◌≡◌, ℕ, ◌+◌, ◌-◌, List, [], ◌∷◌, ◌++◌, Bool, true, false, not, ◌&&◌, ◌||◌, ◌==◌, if◌then◌else◌, Option, Some, None, slice_get, refl, ap, sym, ◌∙◌, subst, inl, inr, ◌⊎◌, zero, suc}
 use Rattle.std.specs.List.{list_any}
 use Rattle.std.specs.declared.cmp.Ordering.{Ordering}
@@ -15,6 +26,7 @@ use Rattle.hm_data.specs.declared.args.Args.TheVariants as args_are
 use Rattle.hm_data.specs.declared.args.Child.{Child}
 use Rattle.hm_data.specs.declared.args.Child.TheVariants as child_is
 use Rattle.hm_data.specs.declared.call.Told.TheVariants as told_is
+use Rattle.hm_data.specs.declared.entry.Entry.{Entry}
 use Rattle.hm_data.specs.declared.entry.Entry.TheVariants as entry_is
 use Rattle.hm_data.specs.declared.place.Goal.{Goal}
 use Rattle.hm_data.specs.declared.place.Place.{Place}
@@ -23,7 +35,7 @@ use Rattle.hm_model.specs.Fleet.{came_up, fences_by, fences_if, is_fenced, is_li
 use Rattle.hm_model.specs.Inputs.{place_if, step_input}
 use Rattle.hm_model.specs.Journal.{Past}
 use Rattle.hm_model.specs.Picks.{is_pick_right, pick_fits}
-use Rattle.hm_model.specs.Places.{place_of, placed_by, region_if}
+use Rattle.hm_model.specs.Places.{place_of, placed_by, region_if, part_place}
 use Rattle.hm_model.specs.Reports.{is_the_region}
 use Rattle.hm_model.specs.Rules.{IsLegal}
 use Rattle.hm_model.specs.TransitActs.{told_place}
@@ -87,6 +99,32 @@ came_on J other s came = any_with (λ o. same_server s o) other (servers_of J) �
 pub came_now : (J : Past) (s : Server) → came_up (entry_is.Up s ∷ J) s ≡ true
 came_now J s = any_with (λ o. same_server s o) s (servers_of J) ∙ or_left (same_server s s) (came_up J s) (same_server-refl s)
 
+-- who is fenced stays so
+pub fenced_stays : (entry : Entry) (J : Past) (server : Server) → is_fenced J server ≡ true → is_fenced (entry ∷ J) server ≡ true
+fenced_stays (entry_is.Start sheets) J server fenced = fenced
+fenced_stays (entry_is.Submit nonce request) J server fenced = fenced
+fenced_stays (entry_is.Step pid pick out) J server fenced = fenced
+fenced_stays (entry_is.Undo pid row out) J server fenced = fenced
+fenced_stays (entry_is.Report call told) J server fenced = or_right _ (is_fenced J server) fenced
+fenced_stays (entry_is.Up other) J server fenced = fenced
+fenced_stays (entry_is.Down other) J server fenced = fenced
+fenced_stays (entry_is.Abort pid) J server fenced = fenced
+fenced_stays (entry_is.Adopt sheets) J server fenced = fenced
+fenced_stays (entry_is.Base part) J server fenced = by (part_server part)
+  where
+    by : (o : Option (Server × Bool)) → elim o as (λ s. Bool) [ None ↦ is_fenced J server | Some both ↦ (same_server server both.0 && both.1) || is_fenced J server ] ≡ true
+    by None = fenced
+    by (Some both) = or_right (same_server server both.0 && both.1) (is_fenced J server) fenced
+
+-- what a part says of a server is of one that came up
+part_came : (o : Option (Server × Bool)) (J : Past) (s : Server) {was : Bool} → (was ≡ true → came_up J s ≡ true) → (test : Server × Bool → Bool) → ((both : Server × Bool) → test both ≡ true → same_server s both.0 ≡ true) → elim o as (λ x. Bool) [ None ↦ was | Some both ↦ test both || was ] ≡ true
+    → list_any (λ other. same_server s other) (elim o as (λ x. List Server) [ None ↦ servers_of J | Some both ↦ with_server both.0 (servers_of J) ]) ≡ true
+part_came None J s came test own on = came on
+part_came (Some both) J s {was} came test own on = elim (or_either (test both) was on) [
+  | inl now ↦ any_with (λ o. same_server s o) both.0 (servers_of J) ∙ or_left (same_server s both.0) (came_up J s) (own both now)
+  | inr old ↦ any_with (λ o. same_server s o) both.0 (servers_of J) ∙ or_right (same_server s both.0) (came_up J s) (came old)
+]
+
 -- who is live came up
 pub live_came : (J : Past) (s : Server) → is_live J s ≡ true → came_up J s ≡ true
 live_came [] s live = absurd (true≢false (sym live))
@@ -101,6 +139,8 @@ live_came (entry_is.Up other ∷ J) s live = elim (or_either (same_server s othe
 ]
 live_came (entry_is.Down other ∷ J) s live = live_came J s (and_right (not (same_server s other)) (is_live J s) live)
 live_came (entry_is.Abort pid ∷ J) s live = live_came J s live
+live_came (entry_is.Adopt sheets ∷ J) s live = live_came J s live
+live_came (entry_is.Base part ∷ J) s live = part_came (part_server part) J s (live_came J s) (λ both. same_server s both.0 && not both.1) (λ both on. and_left (same_server s both.0) (not both.1) on) live
 
 -- the args of children
 module _ (P : Server → Type 0) where
@@ -119,19 +159,19 @@ module _ (P : Server → Type 0) where
 -- each server that is named came up
 pub record NamedCame (J : Past) : Type 0 where
   pub args : (p : ℕ) (node : Node) → node_of J p ≡ Some node → (s : Server) → server_of node.args ≡ Some s → came_up J s ≡ true
-  pub places : (region : Region) (s : Server) → (let place = place_of J region in place.server) ≡ Some s → came_up J s ≡ true
+  pub places : IsBegun J → (region : Region) (s : Server) → (let place = place_of J region in place.server) ≡ Some s → came_up J s ≡ true
 
 abbrev Came : Past → Server → Type 0
 Came J s = came_up J s ≡ true
 
-module _ (J : Past) (legal : IsLegal J) (was : NamedCame J) where
+module _ (J : Past) (legal : IsLegal J) (begun : IsBegun J) (was : NamedCame J) where
   module _ (pid : Pid) (pick : Option Server) (out : StepOut) (legal_now : IsLegal (entry_is.Step pid pick out ∷ J)) where
     facts : StepFacts J pid.0 pick out
     facts = step_of pid pick out J (grown_all J legal) legal_now
 
     place_came : (own : Option Region) → OfOption (Came J) (let place = told_place (place_if J own) in place.server)
     place_came None s e = absurd (none-some s e)
-    place_came (Some region) s e = was.places region s e
+    place_came (Some region) s e = was.places begun region s e
 
     pick_came : (o : Option Server) (needed : Bool) → is_pick_right J pid.0 facts.node o needed ≡ true → OfOption (Came J) o
     pick_came None needed right s e = absurd (none-some s e)
@@ -158,15 +198,15 @@ module _ (J : Past) (legal : IsLegal J) (was : NamedCame J) where
     ]
 
     place_step : (own given : Option Region) (place : Option Place) (region : Region) → IsPlacedAt (Came J) place → OfOption (Came J) (let p = placed_by region own place (place_of J region) in p.server)
-    place_step own given None region at s e = was.places region s e
+    place_step own given None region at s e = was.places begun region s e
     place_step own given (Some place) region at s e = by (is_the_region region own) e
       where
         by : (b : Bool) → (let p = if b then place else place_of J region in p.server) ≡ Some s → came_up J s ≡ true
         by true h = at s h
-        by false h = was.places region s h
+        by false h = was.places begun region s h
 
     pub named_step : NamedCame (entry_is.Step pid pick out ∷ J)
-    named_step = record { args = args_step; places = λ region s e. place_step (region_if (node_of J pid.0)) None out.place region named.place s e }
+    named_step = record { args = args_step; places = λ now region s e. place_step (region_if (node_of J pid.0)) None out.place region named.place s e }
 
   pub named_submit : (nonce : Rattle.hm_names.specs.declared.nonce.Nonce.Nonce) (request : Rattle.hm_data.specs.declared.request.Request.Request) → NamedCame (entry_is.Submit nonce request ∷ J)
   named_submit nonce request = record {
@@ -174,7 +214,7 @@ module _ (J : Past) (legal : IsLegal J) (was : NamedCame J) where
       | inl same ↦ absurd (none-some s (ap (λ (n : Node). server_of n.args) (same_Some _ node (sym (submit_new nonce request J p same) ∙ is)) ∙ e))
       | inr differs ↦ was.args p node (sym (submit_old nonce request J p differs) ∙ is) s e
     ];
-    places = was.places;
+    places = λ now. was.places begun;
   }
 
   pub named_undo : (pid : Pid) (row : ℕ) (out : StepOut) → IsLegal (entry_is.Undo pid row out ∷ J) → NamedCame (entry_is.Undo pid row out ∷ J)
@@ -186,7 +226,7 @@ module _ (J : Past) (legal : IsLegal J) (was : NamedCame J) where
           | inl le ↦ was.args p node (sym ((undo_rooted pid row out J (grown_all J legal)).old p le) ∙ is) s e
           | inr lt ↦ by p node (slice_get (args_in out.followers) (p - made J - 1)) refl (sym (Rattle.hm_model.proofs.Grown.undo_new pid row out J p lt) ∙ is) of s e
         ];
-        places = was.places;
+        places = λ now. was.places begun;
       }
     where
       by : (p : ℕ) (node : Node) (o : Option Args) → slice_get (args_in out.followers) (p - made J - 1) ≡ o → Rattle.std.specs.Option.option_map (λ args. root_node p args 1) o ≡ Some node → AreOfNamed (Came J) out.followers → (s : Server) → server_of node.args ≡ Some s → came_up J s ≡ true
@@ -194,7 +234,7 @@ module _ (J : Past) (legal : IsLegal J) (was : NamedCame J) where
       by p node (Some args) at is of s e = of_args (Came J) out.followers of (p - made J - 1) args at s (ap (λ (n : Node). server_of n.args) (same_Some (root_node p args 1) node is) ∙ e)
 
   pub named_up : (other : Server) → NamedCame (entry_is.Up other ∷ J)
-  named_up other = record { args = λ p node is s e. came_on J other s (was.args p node is s e); places = λ region s e. came_on J other s (was.places region s e) }
+  named_up other = record { args = λ p node is s e. came_on J other s (was.args p node is s e); places = λ now region s e. came_on J other s (was.places begun region s e) }
 
   pub named_down : (other : Server) → is_live J other ≡ true → NamedCame (entry_is.Down other ∷ J)
   named_down other live = record {
@@ -202,19 +242,71 @@ module _ (J : Past) (legal : IsLegal J) (was : NamedCame J) where
       | inl same ↦ subst (Came J) (same_Some other s (ap (λ (n : Node). server_of n.args) (same_Some (root_node p (args_are.Crash other) 1) node (sym (down_new other J p same) ∙ is)) ∙ e)) (live_came J other live)
       | inr differs ↦ was.args p node (sym (down_old other J p differs) ∙ is) s e
     ];
-    places = was.places;
+    places = λ now. was.places begun;
   }
 
+opened_placed : (place : Place) → is_state place_is.Opened place ≡ true → is_placed place ≡ false → ⊥
+opened_placed place on off = by place.state on off
+  where
+    by : (state : Rattle.hm_data.specs.declared.place.RegionState.RegionState) → is_state place_is.Opened (record place { state = state }) ≡ true → is_placed (record place { state = state }) ≡ false → ⊥
+    by place_is.Opened a b = true≢false b
+    by place_is.Offline a b = false≢true a
+    by place_is.Opening a b = false≢true a
+    by place_is.Closing a b = false≢true a
+    by place_is.Closed a b = false≢true a
+    by place_is.FailedOpen a b = false≢true a
+    by place_is.AbnormallyClosed a b = false≢true a
+
+-- in a base a region that isn't placed names no server
+part_bare : (part : Part) (J : Past) → PartFits part J → (region : Region) → (is_placed (place_of J region) ≡ false → (let place = place_of J region in place.server) ≡ None) → is_placed (part_place part region (place_of J region)) ≡ false → (let place = part_place part region (place_of J region) in place.server) ≡ None
+part_bare (part_is.Head entries last parts sheets) J fits region was off = was off
+part_bare (part_is.Namespace ns) J fits region was off = was off
+part_bare (part_is.Table table own row) J fits region was off = was off
+part_bare (part_is.Server server fenced) J fits region was off = was off
+part_bare (part_is.Root pid nonce args cause) J fits region was off = was off
+part_bare (part_is.Layout pid) J fits region was off = was off
+part_bare (part_is.Region own range status parents given) J fits region was off = by (same_region region own) off fits.4.3
+  where
+    by : (b : Bool) → is_placed (if b then given else place_of J region) ≡ false → MayStand given status fits.4.0 → (let place = if b then given else place_of J region in place.server) ≡ None
+    by false off may = was off
+    by true off (inl none) = none.2
+    by true off (inr up) = absurd (opened_placed given up.0 off)
+
+bare_parts : (J : Past) → IsLegal J → ends_parted J ≡ true → (region : Region) → is_placed (place_of J region) ≡ false → (let place = place_of J region in place.server) ≡ None
+bare_parts [] legal is region off = refl
+bare_parts (entry_is.Base part ∷ J) legal is region off = part_bare part J legal.1.0 region (bare_parts J legal.0 (by_parts (λ j. ends_parted j ≡ true) refl (λ own older. refl) part J legal.1.0) region) off
+bare_parts (entry_is.Start sheets ∷ J) legal is region off = absurd (false≢true is)
+bare_parts (entry_is.Submit nonce request ∷ J) legal is region off = absurd (false≢true is)
+bare_parts (entry_is.Step pid pick out ∷ J) legal is region off = absurd (false≢true is)
+bare_parts (entry_is.Undo pid row out ∷ J) legal is region off = absurd (false≢true is)
+bare_parts (entry_is.Report call told ∷ J) legal is region off = absurd (false≢true is)
+bare_parts (entry_is.Up server ∷ J) legal is region off = absurd (false≢true is)
+bare_parts (entry_is.Down server ∷ J) legal is region off = absurd (false≢true is)
+bare_parts (entry_is.Abort pid ∷ J) legal is region off = absurd (false≢true is)
+bare_parts (entry_is.Adopt sheets ∷ J) legal is region off = absurd (false≢true is)
+
 pub named_came : (J : Past) → IsLegal J → NamedCame J
-named_came [] legal = record { args = λ p node is s e. absurd (none-some node is); places = λ region s e. absurd (none-some s e) }
-named_came (entry_is.Start sheets ∷ J) legal = let was = named_came J legal.0 in record { args = was.args; places = was.places }
-named_came (entry_is.Submit nonce request ∷ J) legal = named_submit J legal.0 (named_came J legal.0) nonce request
-named_came (entry_is.Step pid pick out ∷ J) legal = named_step J legal.0 (named_came J legal.0) pid pick out legal
-named_came (entry_is.Undo pid row out ∷ J) legal = named_undo J legal.0 (named_came J legal.0) pid row out legal
-named_came (entry_is.Report call told ∷ J) legal = let was = named_came J legal.0 in record { args = was.args; places = was.places }
-named_came (entry_is.Up other ∷ J) legal = named_up J legal.0 (named_came J legal.0) other
-named_came (entry_is.Down other ∷ J) legal = named_down J legal.0 (named_came J legal.0) other legal.1.1.0
-named_came (entry_is.Abort pid ∷ J) legal = let was = named_came J legal.0 in record { args = was.args; places = was.places }
+named_came [] legal = record { args = λ p node is s e. absurd (none-some node is); places = λ now region s e. absurd now }
+named_came (entry_is.Start sheets ∷ J) legal = let was = named_came J legal.0 in record { args = was.args; places = λ now region s e. absurd (none-some s (sym (ap (λ j. let place = place_of j region in place.server) legal.1.0.0) ∙ e)) }
+named_came (entry_is.Submit nonce request ∷ J) legal = named_submit J legal.0 legal.1.0 (named_came J legal.0) nonce request
+named_came (entry_is.Step pid pick out ∷ J) legal = named_step J legal.0 legal.1.0 (named_came J legal.0) pid pick out legal
+named_came (entry_is.Undo pid row out ∷ J) legal = named_undo J legal.0 legal.1.0 (named_came J legal.0) pid row out legal
+named_came (entry_is.Report call told ∷ J) legal = let was = named_came J legal.0 in record { args = was.args; places = λ now. was.places legal.1.0 }
+named_came (entry_is.Up other ∷ J) legal = named_up J legal.0 legal.1.0 (named_came J legal.0) other
+named_came (entry_is.Down other ∷ J) legal = named_down J legal.0 legal.1.0 (named_came J legal.0) other legal.1.1.0
+named_came (entry_is.Abort pid ∷ J) legal = let was = named_came J legal.0 in record { args = was.args; places = λ now. was.places legal.1.0 }
+named_came (entry_is.Adopt sheets ∷ J) legal = let was = named_came J legal.0 in record { args = was.args; places = λ now. was.places legal.1.0 }
+named_came (entry_is.Base part ∷ J) legal = record {
+  args = λ p node is s e. absurd (none-some node is);
+  places = λ whole region s e. by whole region s e (is_placed (place_of (entry_is.Base part ∷ J) region)) refl;
+}
+  where
+    by : (whole : IsWhole (entry_is.Base part ∷ J)) (region : Region) (s : Server) → (let place = place_of (entry_is.Base part ∷ J) region in place.server) ≡ Some s → (b : Bool) → is_placed (place_of (entry_is.Base part ∷ J) region) ≡ b → came_up (entry_is.Base part ∷ J) s ≡ true
+    by whole region s e true on =
+        let at = whole.opened region on in
+        let same : at.0 ≡ s = same_Some at.0 s (sym (ap (λ (p : Place). p.server) at.1) ∙ e) in
+        subst (Came (entry_is.Base part ∷ J)) same (live_came (entry_is.Base part ∷ J) at.0 at.2)
+    by whole region s e false off = absurd (none-some s (sym (bare_parts (entry_is.Base part ∷ J) legal refl region off) ∙ e))
 
 -- who is fenced came up
 fenced_server : (args : Args) (s : Server) → fences_by args s ≡ true → server_of args ≡ Some s
@@ -246,3 +338,5 @@ fenced_came (entry_is.Report call told ∷ J) legal s e = elim (or_either ((told
 fenced_came (entry_is.Up other ∷ J) legal s e = came_on J other s (fenced_came J legal.0 s e)
 fenced_came (entry_is.Down other ∷ J) legal s e = fenced_came J legal.0 s e
 fenced_came (entry_is.Abort pid ∷ J) legal s e = fenced_came J legal.0 s e
+fenced_came (entry_is.Adopt sheets ∷ J) legal s e = fenced_came J legal.0 s e
+fenced_came (entry_is.Base part ∷ J) legal s e = part_came (part_server part) J s (fenced_came J legal.0 s) (λ both. same_server s both.0 && both.1) (λ both on. and_left (same_server s both.0) both.1 on) e

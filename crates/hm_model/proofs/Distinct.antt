@@ -1,5 +1,6 @@
 -- Of the procedures that a step makes at most one moves a region.
 use Rattle.std.proofs.Common.{◌≡◌, ℕ, zero, suc, ◌+◌, ◌-◌, ◌≤◌, ◌==◌, List, [], ◌∷◌, length, map, nat_le, take, drop, Bool, true, false, not, ◌&&◌, cond, Option, Some, None, refl, ap, sym, ◌∙◌, subst, arith, inl, inr, ◌⊎◌, slice_get}
+use Rattle.std.specs.List.{list_all}
 use Rattle.std.proofs.lemmas.Bool.{and_parts, eq-eqb, false≢true, not-true, true≢false}
 use Rattle.std.proofs.lemmas.Option.{none-some, same_Some}
 use Rattle.std.specs.declared.cmp.Ordering.{Ordering}
@@ -38,7 +39,7 @@ use Rattle.hm_model.specs.NamespaceActs.{has_table, version_of}
 use Rattle.hm_model.specs.Outs.{checked, edits_rows, given, spawns}
 use Rattle.hm_model.specs.Pieces.{Batch, adding, batches, by_64, dropping, numbers_from, ranges_between, transits, with_batch}
 use Rattle.hm_model.specs.RegionActs.{cut_of, merge_cause, regions_for}
-use Rattle.hm_model.specs.Requests.{is_pair, wrong_in}
+use Rattle.hm_model.specs.Requests.{are_apart, are_siblings, wrong_in}
 use Rattle.hm_model.specs.RowLaws.{AllBehind, AreInOrder}
 use Rattle.hm_model.specs.RowsSaid.{all_among, in_state, in_version, keep_region, live_among, regions_among}
 use Rattle.hm_model.specs.Tree.{args_in}
@@ -48,6 +49,7 @@ use Rattle.hm_model.specs.Wanted.{ids_of, server_of}
 use Rattle.hm_model.specs.Whereabouts.{moved_by}
 use Rattle.hm_model.proofs.KeyTests.{key_cmp-same, same_table-is}
 use Rattle.hm_model.proofs.PlainActs.{is_plain}
+use Rattle.hm_model.proofs.Siblings.{merge_is, not_among}
 use Rattle.hm_model.proofs.InOrder.{InOrder, not_later}
 
 -- each region once
@@ -151,26 +153,14 @@ distinct_among table test asked there (key ∷ keys) order = by (asked key) (the
     by true None on = on
     by true (Some row) on = by_keep key row refl on
 
+siblings_distinct : (regions : List Region) → are_siblings regions ≡ true → AreDistinct regions
+siblings_distinct [] h = tt
+siblings_distinct (region ∷ more) h = (not_among region more h, siblings_distinct more (and_parts (list_all (are_apart region) more) (are_siblings more) h).1)
+
 -- the regions that a request closes
 pub asked_distinct : (request : Request) (first : ℕ) → wrong_in request ≡ None → AreDistinct (closed_by (args_are.Root request first))
 asked_distinct (request_is.SplitRegion region key) first fine = ((λ h. elim h [ ]), tt)
-asked_distinct (request_is.MergeRegions regions) first fine = by regions (paired (is_pair regions) fine)
-  where
-    paired : (b : Bool) → cond {A = Option ℕ} b None (Some 4) ≡ None → b ≡ true
-    paired true e = refl
-    paired false e = absurd (none-some {A = ℕ} 4 (sym e))
-
-    by : (regions : List Region) → is_pair regions ≡ true → AreDistinct regions
-    by [] h = absurd (false≢true h)
-    by (one ∷ []) h = absurd (false≢true h)
-    by (one ∷ other ∷ []) h = (
-      (λ among. elim among [
-        | inl same ↦ true≢false (sym (eq-eqb one.id other.id (ap (λ (r : Region). r.id) same)) ∙ not-true (one.id == other.id) (and_parts (same_table one.table other.table) (not (one.id == other.id)) h).1)
-        | inr none ↦ none
-      ]),
-      ((λ none. none), tt),
-    )
-    by (one ∷ other ∷ third ∷ more) h = absurd (false≢true h)
+asked_distinct (request_is.MergeRegions regions) first fine = siblings_distinct regions (merge_is regions fine).siblings
 asked_distinct request first fine = tt
 
 -- at most one of these moves a region

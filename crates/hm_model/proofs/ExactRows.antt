@@ -1,6 +1,9 @@
 -- The rows of valid sheets: the exact ones, and those that are led through.
-use Rattle.std.proofs.Common.{◌≡◌, ℕ, zero, suc, ◌+◌, List, [], ◌∷◌, Bool, true, false, ◌&&◌, ◌==◌, Option, Some, None, cond, refl, ap, sym, ◌∙◌, subst, inl, inr, slice_get, not, ◌||◌}
-use Rattle.std.specs.List.{list_any}
+use Rattle.hm_model.specs.Base.{PartFits}
+use Rattle.hm_data.specs.declared.part.Part.{Part}
+use Rattle.hm_data.specs.declared.part.Part.TheVariants as part_is
+use Rattle.std.proofs.Common.{◌≡◌, ℕ, zero, suc, ◌+◌, List, [], ◌∷◌, Bool, true, false, ◌&&◌, ◌==◌, nat_lt, Option, Some, None, cond, refl, ap, sym, ◌∙◌, subst, inl, inr, slice_get, not, ◌||◌}
+use Rattle.std.specs.List.{list_all, list_any}
 use Rattle.std.proofs.lemmas.Bool.{and_parts, cases_Bool, cond-false, cond-true, eqb-true, false≢true}
 use Rattle.std.proofs.lemmas.Option.{none-some, same_Some}
 use Rattle.hm_data.proofs.ActNumbers.{act_of-act_number}
@@ -18,27 +21,48 @@ use Rattle.hm_model.specs.Answers.{no_row}
 use Rattle.hm_model.specs.Journal.{Past}
 use Rattle.hm_model.specs.Kinds.{kind_of, first_row_of}
 use Rattle.hm_model.specs.Rules.{IsLegal}
-use Rattle.hm_model.specs.Lists.{Line, exact_rows, lines_of}
-use Rattle.hm_model.specs.Sheets.{sheet_for, sheets_of}
+use Rattle.hm_model.specs.Lists.{Line, exact_rows, layout_first, lines_of, orders_of}
+use Rattle.hm_model.specs.Locks.{IsIn}
+use Rattle.hm_model.specs.Sheets.{sheet_for, sheets_by, sheets_of}
+use Rattle.hm_model.specs.Tree.{made}
 use Rattle.hm_model.specs.ActSorts.{is_check}
-use Rattle.hm_model.specs.Validity.{AllValid, IsValid, difference, is_among, misfit_in, same_flag, same_row}
-use Rattle.hm_model.proofs.ValidSheets.{Leads, is_last, valid_end, valid_fits, valid_leads}
+use Rattle.hm_model.specs.Validity.{AllValid, IsValid, difference, is_among, longest_kept, misfit_in, same_flag, same_row}
+use Rattle.hm_model.proofs.ValidSheets.{Leads, if_none, is_last, valid_end, valid_fits, valid_leads}
+use Rattle.hm_model.proofs.Siblings.{all_in}
 use Rattle.hm_model.proofs.PlainActs.{is_plain}
 
 pub cons_nil : {A : Type 0} (x : A) (xs : List A) → x ∷ xs ≡ [] → ⊥
 cons_nil x xs e = cc
 
--- the sheets of a journal are valid
+-- the sheets in force are valid
 pub all_valid : (J : Past) → IsLegal J → AllValid (sheets_of J)
 all_valid [] legal = tt
 all_valid (entry_is.Start sheets ∷ before) legal = legal.1.0.1.1
-all_valid (entry_is.Submit nonce request ∷ before) legal = all_valid before legal.0
-all_valid (entry_is.Step pid pick out ∷ before) legal = all_valid before legal.0
-all_valid (entry_is.Undo pid row out ∷ before) legal = all_valid before legal.0
-all_valid (entry_is.Report call told ∷ before) legal = all_valid before legal.0
-all_valid (entry_is.Up server ∷ before) legal = all_valid before legal.0
-all_valid (entry_is.Down server ∷ before) legal = all_valid before legal.0
-all_valid (entry_is.Abort pid ∷ before) legal = all_valid before legal.0
+all_valid (entry_is.Adopt sheets ∷ before) legal = legal.1.1.0.0.1
+all_valid (entry_is.Base part ∷ before) legal = by part legal.1.0 (all_valid before legal.0)
+  where
+    by : (part : Part) → PartFits part before → AllValid (sheets_of before) → AllValid (sheets_of (entry_is.Base part ∷ before))
+    by (part_is.Head entries last parts sheets) fits was = fits.1.1
+    by (part_is.Namespace ns) fits was = was
+    by (part_is.Table table own row) fits was = was
+    by (part_is.Region region range status parents place) fits was = was
+    by (part_is.Server server fenced) fits was = was
+    by (part_is.Root pid nonce args cause) fits was = was
+    by (part_is.Layout pid) fits was = was
+all_valid (entry ∷ before) legal = all_valid before legal.0
+
+if_valid : (new : Bool) (now was : List Sheet) → AllValid now → AllValid was → AllValid (cond new now was)
+if_valid true now was is own = is
+if_valid false now was is own = own
+
+-- so are those of each root
+pub valid_by : (J : Past) → IsLegal J → (root : ℕ) → AllValid (sheets_by J root)
+valid_by [] legal root = tt
+valid_by (entry_is.Submit nonce request ∷ before) legal root = if_valid (root == made before + 1) (sheets_of before) (sheets_by before root) (all_valid before legal.0) (valid_by before legal.0 root)
+valid_by (entry_is.Undo pid row out ∷ before) legal root = if_valid (nat_lt (made before) root) (sheets_of before) (sheets_by before root) (all_valid before legal.0) (valid_by before legal.0 root)
+valid_by (entry_is.Down server ∷ before) legal root = if_valid (root == made before + 1) (sheets_of before) (sheets_by before root) (all_valid before legal.0) (valid_by before legal.0 root)
+valid_by (entry_is.Base part ∷ before) legal root = tt
+valid_by (entry ∷ before) legal root = valid_by before legal.0 root
 
 -- a sheet that is found is valid, and of the kind
 pub sheet_is : (sheets : List Sheet) → AllValid sheets → (kind : ℕ) (sheet : Sheet) → sheet_for sheets kind ≡ Some sheet → IsValid sheet × (sheet.kind ≡ kind)
@@ -81,10 +105,6 @@ row_same a b h =
     ∙ ap (λ x. row_with b.act b.next x a.undo) (flag_is a.after b.after r.0)
     ∙ ap (λ x. row_with b.act b.next b.after x) (back_same a.undo b.undo (eqb-true (back_number a.undo) (back_number b.undo) r.1))
 
-if_none : (b : Bool) (o : Option ℕ) (place : ℕ) → cond b o (Some place) ≡ None → (b ≡ true) × (o ≡ None)
-if_none true o place h = (refl, h)
-if_none false o place h = absurd (none-some place (sym h))
-
 no_difference : (exact rows : List Row) (place : ℕ) → difference exact rows place ≡ None → rows ≡ exact
 no_difference [] [] place h = refl
 no_difference [] (row ∷ rows) place h = absurd (none-some place (sym h))
@@ -100,7 +120,8 @@ misfit_none first more lines (row ∷ rows) h = no_difference (first ∷ more) (
 -- a valid sheet of a kind of exact rows has these
 pub exact_is : (sheet : Sheet) → IsValid sheet → (kind : ℕ) → sheet.kind ≡ kind → (first : Row) (more : List Row) → exact_rows kind ≡ first ∷ more → sheet.rows ≡ first ∷ more
 exact_is sheet valid kind e first more is =
-    misfit_none first more (lines_of sheet.kind) sheet.rows (ap (λ l. misfit_in l (lines_of sheet.kind) sheet.rows) (sym (ap exact_rows e ∙ is)) ∙ valid_fits sheet valid)
+    let lines = longest_kept sheet.rows (orders_of sheet.kind) in
+    misfit_none first more lines sheet.rows (ap (λ l. misfit_in l lines sheet.rows) (sym (ap exact_rows e ∙ is)) ∙ valid_fits sheet valid)
 
 abbrev pub all_plain : List Line → Bool
 all_plain [] = true
@@ -144,30 +165,55 @@ pub record IsLed (kind : ℕ) (rows : List Row) (place : ℕ) : Type 0 where
   pub order : all_in_place lines ≡ true
   pub leads : Leads rows place lines
 
-led_for : (sheet : Sheet) → IsValid sheet → (kind : ℕ) → sheet.kind ≡ kind → (line : Line) (lines : List Line) → exact_rows kind ≡ [] → lines_of kind ≡ line ∷ lines → all_plain (line ∷ lines) ≡ true → all_listed kind (line ∷ lines) ≡ true → all_in_place (line ∷ lines) ≡ true → IsLed kind sheet.rows 0
-led_for sheet valid kind e line lines exact lined plain listed order = record { lines = line ∷ lines; plain = plain; listed = listed; order = order; leads = valid_leads sheet line lines valid (ap exact_rows e ∙ exact) (ap lines_of e ∙ lined) }
+-- what is known of an order's lines
+abbrev is_order : ℕ → List Line → Bool
+is_order kind lines = all_plain lines && (all_listed kind lines && all_in_place lines)
 
--- so do those of a kind that lists lines, from the first on
+-- a kind that lists lines begins at row 0, and each of its orders is such
+orders_fine : (args : Args) → exact_rows (kind_of args) ≡ [] → (first_row_of args ≡ 0) × (list_all (is_order (kind_of args)) (orders_of (kind_of args)) ≡ true)
+orders_fine (args_are.Root (request_is.CreateNamespace ns) first) none = (refl, refl)
+orders_fine (args_are.Root (request_is.DropNamespace ns) first) none = (refl, refl)
+orders_fine (args_are.Root (request_is.CreateTable table keys) first) none = (refl, refl)
+orders_fine (args_are.Root (request_is.DeleteTable table) first) none = (refl, refl)
+orders_fine (args_are.Root (request_is.EnableTable table) first) none = (refl, refl)
+orders_fine (args_are.Root (request_is.DisableTable table) first) none = (refl, refl)
+orders_fine (args_are.Root (request_is.ModifyTable table version) first) none = (refl, refl)
+orders_fine (args_are.Root (request_is.SplitRegion region key) first) none = (refl, refl)
+orders_fine (args_are.Root (request_is.MergeRegions regions) first) none = (refl, refl)
+orders_fine (args_are.AddRegions table first bounds) none = (refl, refl)
+orders_fine (args_are.DropRegions table ids) none = (refl, refl)
+orders_fine args none = absurd (cons_nil _ _ none)
+
+-- the sheet of a kind that lists lines leads through one of its orders from its first row on
+pub start_leads : (args : Args) → exact_rows (kind_of args) ≡ [] → (sheet : Sheet) → IsValid sheet → sheet.kind ≡ kind_of args → (lines : List Line) × IsIn lines (orders_of (kind_of args)) × Leads sheet.rows (first_row_of args) lines
+start_leads args none sheet valid e =
+    let led = valid_leads sheet valid (ap exact_rows e ∙ none) in
+    (led.0, subst (λ k. IsIn led.0 (orders_of k)) e led.1, subst (λ n. Leads sheet.rows n led.0) (sym (orders_fine args none).0) led.2)
+
+-- the act of the first line
+abbrev pub first_act : List Line → Option Act
+first_act [] = None
+first_act (line ∷ lines) = Some line.act
+
+-- all orders of a kind begin with one act
+pub begin_alike : (kind : ℕ) (lines : List Line) → IsIn lines (orders_of kind) → first_act lines ≡ first_act (lines_of kind)
+begin_alike kind lines (inl same) = ap first_act same
+begin_alike kind lines (inr other) = by (kind == 8) refl other
+  where
+    by : (b : Bool) → (kind == 8) ≡ b → IsIn lines (cond b (layout_first ∷ []) []) → first_act lines ≡ first_act (lines_of kind)
+    by true e (inl same) = ap first_act same ∙ ap (λ k. first_act (lines_of k)) (sym (eqb-true kind 8 e))
+    by true e (inr never) = absurd never
+    by false e never = absurd never
+
+-- so its rows lead through plain acts
 pub start_led : (args : Args) → exact_rows (kind_of args) ≡ [] → (sheet : Sheet) → IsValid sheet → sheet.kind ≡ kind_of args → IsLed (kind_of args) sheet.rows (first_row_of args)
-start_led (args_are.Root (request_is.CreateNamespace ns) first) none sheet valid e = led_for sheet valid 1 e _ _ refl refl refl refl refl
-start_led (args_are.Root (request_is.DropNamespace ns) first) none sheet valid e = led_for sheet valid 2 e _ _ refl refl refl refl refl
-start_led (args_are.Root (request_is.CreateTable table keys) first) none sheet valid e = led_for sheet valid 3 e _ _ refl refl refl refl refl
-start_led (args_are.Root (request_is.DeleteTable table) first) none sheet valid e = led_for sheet valid 4 e _ _ refl refl refl refl refl
-start_led (args_are.Root (request_is.EnableTable table) first) none sheet valid e = led_for sheet valid 5 e _ _ refl refl refl refl refl
-start_led (args_are.Root (request_is.DisableTable table) first) none sheet valid e = led_for sheet valid 6 e _ _ refl refl refl refl refl
-start_led (args_are.Root (request_is.ModifyTable table version) first) none sheet valid e = led_for sheet valid 7 e _ _ refl refl refl refl refl
-start_led (args_are.Root (request_is.SplitRegion region key) first) none sheet valid e = led_for sheet valid 8 e _ _ refl refl refl refl refl
-start_led (args_are.Root (request_is.MergeRegions regions) first) none sheet valid e = led_for sheet valid 9 e _ _ refl refl refl refl refl
-start_led (args_are.Root (request_is.Move region to) first) none sheet valid e = absurd (cons_nil _ _ none)
-start_led (args_are.Transit region goal to) none sheet valid e = absurd (cons_nil _ _ none)
-start_led (args_are.Crash server) none sheet valid e = absurd (cons_nil _ _ none)
-start_led (args_are.AddRegions table first bounds) none sheet valid e = led_for sheet valid 20 e _ _ refl refl refl refl refl
-start_led (args_are.DropRegions table ids) none sheet valid e = led_for sheet valid 21 e _ _ refl refl refl refl refl
-start_led (args_are.AssignCall region server) none sheet valid e = absurd (cons_nil _ _ none)
-start_led (args_are.CloseCall region server) none sheet valid e = absurd (cons_nil _ _ none)
-start_led (args_are.FenceCall server) none sheet valid e = absurd (cons_nil _ _ none)
-start_led (args_are.LayoutCall root) none sheet valid e = absurd (cons_nil _ _ none)
-start_led (args_are.SweepLayout root) none sheet valid e = absurd (cons_nil _ _ none)
+start_led args none sheet valid e =
+    let kind = kind_of args in
+    let led = start_leads args none sheet valid e in
+    let order = all_in (is_order kind) (orders_of kind) led.0 (orders_fine args none).1 led.1 in
+    let plain = and_parts (all_plain led.0) (all_listed kind led.0 && all_in_place led.0) order in
+    let listed = and_parts (all_listed kind led.0) (all_in_place led.0) plain.1 in
+    record { lines = led.0; plain = plain.0; listed = listed.0; order = listed.1; leads = led.2 }
 
 -- what is known of a row that is led to: its line, and the lines after it
 pub record IsLedRow (kind : ℕ) (rows : List Row) (row : Row) : Type 0 where

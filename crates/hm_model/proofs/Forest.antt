@@ -53,6 +53,8 @@ aborted_roots (entry_is.Abort pid ∷ before) legal p on = elim (cases_eq p pid.
   | inl same ↦ ap (is_root before) same ∙ legal.1.1.0.0
   | inr differs ↦ aborted_roots before legal.0 p (sym (cond-false (p == pid.0) true (is_aborted before p) (ne_eqb p pid.0 differs)) ∙ on)
 ]
+aborted_roots (entry_is.Adopt sheets ∷ before) legal p on = root_stays (entry_is.Adopt sheets) before legal p (aborted_roots before legal.0 p on)
+aborted_roots (entry_is.Base part ∷ before) legal p on = absurd (false≢true on)
 
 stands_by : (J : Past) → Grown J → (p : ℕ) (node : Node) → node_of J p ≡ Some node → (above : List ℕ) → node.above ≡ above → Stands J p above node.root
 stands_by J grown p node is [] e = grown.tops p node is e

@@ -179,6 +179,8 @@ goes_back (entry_is.Report call told ∷ J) legal r = plainly J (entry_is.Report
 goes_back (entry_is.Up server ∷ J) legal r = plainly J (entry_is.Up server ∷ J) r (goes_back J legal.0 r) refl refl refl refl (still_stopped J (entry_is.Up server ∷ J) r 0 0 (under_change (entry_is.Up server) J legal r) refl refl)
 goes_back (entry_is.Down server ∷ J) legal r = plainly J (entry_is.Down server ∷ J) r (goes_back J legal.0 r) refl refl refl refl (still_stopped J (entry_is.Down server ∷ J) r 0 0 (under_change (entry_is.Down server) J legal r) refl refl)
 goes_back (entry_is.Abort pid ∷ J) legal r = plainly J (entry_is.Abort pid ∷ J) r (goes_back J legal.0 r) refl refl refl refl (still_stopped J (entry_is.Abort pid ∷ J) r 0 0 (under_change (entry_is.Abort pid) J legal r) refl refl)
+goes_back (entry_is.Adopt sheets ∷ J) legal r = plainly J (entry_is.Adopt sheets ∷ J) r (goes_back J legal.0 r) refl refl refl refl (still_stopped J (entry_is.Adopt sheets ∷ J) r 0 0 (under_change (entry_is.Adopt sheets) J legal r) refl refl)
+goes_back (entry_is.Base part ∷ J) legal r = record { order = refl; over = λ some. absurd (some refl) }
 
 pub undos_go_back : (J : Past) → IsLegal J → (r : ℕ) → (left : List Reversal) × (to_undo J r ≡ undos_of J r ++ left)
 undos_go_back J legal r = (map mark (stack J r), (goes_back J legal r).order)

@@ -73,3 +73,5 @@ own_all (entry_is.Down server ∷ J) legal q x is = elim (one_root J (args_are.C
   | inr own ↦ own
 ]
 own_all (entry_is.Abort pid ∷ J) legal q x is = own_all J legal.0 q x is
+own_all (entry_is.Adopt sheets ∷ J) legal q x is = own_all J legal.0 q x is
+own_all (entry_is.Base part ∷ J) legal q x is = absurd (none-some x is)

@@ -1,4 +1,6 @@
 -- The regions at a server are in the order of their names, each once.
+use Rattle.hm_data.specs.declared.part.Part.{Part}
+use Rattle.hm_data.specs.declared.part.Part.TheVariants as part_is
 use Rattle.std.proofs.Common.{◌≡◌, List, [], ◌∷◌, Bool, true, false, cond, Option, Some, None, refl, ap, sym, ◌∙◌, subst, inl, inr}
 use Rattle.std.proofs.lemmas.Cmp.{tied_itself}
 use Rattle.std.specs.List.{filter}
@@ -12,7 +14,7 @@ use Rattle.hm_data.specs.declared.entry.Entry.TheVariants as entry_is
 use Rattle.hm_data.specs.declared.place.Place.{Place}
 use Rattle.hm_model.specs.Journal.{Past}
 use Rattle.hm_model.specs.Locks.{IsIn}
-use Rattle.hm_model.specs.Places.{at_server, is_at, joined_at, joined_by, joined_if, place_of, placed, region_if}
+use Rattle.hm_model.specs.Places.{at_server, is_at, joined_at, joined_by, joined_if, place_of, placed, region_if, part_placed}
 use Rattle.hm_model.specs.Tree.{node_of}
 use Rattle.hm_model.proofs.NameTies.{regions_total}
 
@@ -52,6 +54,15 @@ order_if own None list order = order
 order_if None (Some place) list order = order
 order_if (Some region) (Some place) list order = order_joined region list order
 
+order_part : (part : Part) (list : List Region) → InOrder list → InOrder (part_placed part list)
+order_part (part_is.Head entries last parts sheets) list order = order
+order_part (part_is.Namespace ns) list order = order
+order_part (part_is.Table table own row) list order = order
+order_part (part_is.Region region range status parents place) list order = order_joined region list order
+order_part (part_is.Server server fenced) list order = order
+order_part (part_is.Root pid nonce args cause) list order = order
+order_part (part_is.Layout pid) list order = order
+
 -- the regions that ever had a place are in order, each once
 placed_order : (J : Past) → InOrder (placed J)
 placed_order [] = tt
@@ -63,6 +74,8 @@ placed_order (entry_is.Report call told ∷ J) = placed_order J
 placed_order (entry_is.Up server ∷ J) = placed_order J
 placed_order (entry_is.Down server ∷ J) = placed_order J
 placed_order (entry_is.Abort pid ∷ J) = placed_order J
+placed_order (entry_is.Adopt sheets ∷ J) = placed_order J
+placed_order (entry_is.Base part ∷ J) = order_part part (placed J) (placed_order J)
 
 pub filter_if : (test : Region → Bool) (region : Region) (more : List Region) (b : Bool) → test region ≡ b → (filter test (region ∷ more) ≡ cond b (region ∷ filter test more) (filter test more))
 filter_if test region more b e = ap (λ x. cond x (region ∷ filter test more) (filter test more)) e

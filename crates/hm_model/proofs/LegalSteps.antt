@@ -24,12 +24,12 @@ use Rattle.hm_model.specs.Rules.{IsLegal}
 use Rattle.hm_model.specs.Phase.{all_stopped, cause, children_ended, own_phase, phase_table, rolled_back}
 use Rattle.hm_model.specs.Picks.{PicksRight, is_pick_right, needs_server}
 use Rattle.hm_model.specs.Procedures.{sheet_at, sheet_by, sheet_of}
-use Rattle.hm_model.specs.Sheets.{row_in, sheet_for, sheets_of}
+use Rattle.hm_model.specs.Sheets.{row_in, sheet_for, sheets_by}
 use Rattle.hm_model.specs.Inputs.{IsEvaluated, step_input, input}
 use Rattle.hm_model.specs.Tree.{Node, is_top, node_of}
 use Rattle.hm_model.specs.Undo.{is_empty, stack}
 use Rattle.hm_model.specs.Validity.{IsValid}
-use Rattle.hm_model.proofs.ExactRows.{IsLed, all_valid, sheet_is}
+use Rattle.hm_model.proofs.ExactRows.{IsLed, sheet_is, valid_by}
 use Rattle.hm_model.proofs.Said.{said_by}
 
 -- when a procedure may step, by its last answer
@@ -104,7 +104,7 @@ pub record StepFacts (J : Past) (p : ℕ) (pick : Option Server) (out : StepOut)
   pub ready : ReadyBy J p node (last_answer J p)
   pub uncaused : is_top node.above ≡ true → cause J p ≡ None
   pub sheet : Sheet
-  pub sheet_is : sheet_for (sheets_of J) (kind_of node.args) ≡ Some sheet
+  pub sheet_is : sheet_for (sheets_by J node.root) (kind_of node.args) ≡ Some sheet
   pub valid : IsValid sheet
   pub of_kind : sheet.kind ≡ kind_of node.args
   pub row : Row
@@ -125,16 +125,16 @@ module _ (J : Past) (p : ℕ) (node : Node) (node_is : node_of J p ≡ Some node
   sight_is : (pick : Option Server) → input J p node pick ≡ step_input J p node pick
   sight_is pick = ap (λ b. turn_input J b (stack J p) (step_input J p node pick)) undoes_not
 
-  sheet_there : sheet_by J p ≡ sheet_for (sheets_of J) (kind_of node.args)
+  sheet_there : sheet_by J p ≡ sheet_for (sheets_by J node.root) (kind_of node.args)
   sheet_there = ap (λ n. elim n as (λ x. Option Sheet) [ None ↦ None | Some x ↦ sheet_of J p x ]) node_is
 
-  module _ (led : exact_rows (kind_of node.args) ≡ [] → (sheet : Sheet) → sheet_for (sheets_of J) (kind_of node.args) ≡ Some sheet → is_stopped (last_answer J p) ≡ false → IsLed (kind_of node.args) sheet.rows (row_of J p node)) where
+  module _ (led : exact_rows (kind_of node.args) ≡ [] → (sheet : Sheet) → sheet_for (sheets_by J node.root) (kind_of node.args) ≡ Some sheet → is_stopped (last_answer J p) ≡ false → IsLed (kind_of node.args) sheet.rows (row_of J p node)) where
     step_facts : (pick : Option Server) (out : StepOut) → IsLegal J → PicksRight J p pick → IsEvaluated J p pick out → StepFacts J p pick out
     step_facts pick out legal picks answer =
         let same : answer.0 ≡ node = same_Some answer.0 node (sym answer.1 ∙ node_is) in
-        let said = said_by (sheet_for (sheets_of J) (kind_of node.args)) (step_input J p node pick) out (ap (answer_of (sheets_of J)) (sym (sight_is pick)) ∙ subst (λ n. answer_of (sheets_of J) (input J p n pick) ≡ Some out) same answer.2) in
+        let said = said_by (sheet_for (sheets_by J node.root) (kind_of node.args)) (step_input J p node pick) out (ap (answer_of (sheets_by J node.root)) (sym (sight_is pick)) ∙ subst (λ (n : Node). answer_of (sheets_by J n.root) (input J p n pick) ≡ Some out) same answer.2) in
         let found = said.1 in
-        let valid = sheet_is (sheets_of J) (all_valid J legal) (kind_of node.args) said.0 found in
+        let valid = sheet_is (sheets_by J node.root) (valid_by J legal node.root) (kind_of node.args) said.0 found in
         let other : picks.0 ≡ node = same_Some picks.0 node (sym picks.1 ∙ node_is) in
         let needs : needs_server J p node ≡ picks_at (Some said.2) (step_input J p node None) =
         ap (λ at. picks_by (sheet_at J at) at) (sight_is None) ∙ ap (λ s. picks_at (row_in s (row_of J p node)) (step_input J p node None)) (sheet_there ∙ said.1) ∙ ap (λ r. picks_at r (step_input J p node None)) said.3 in
@@ -156,7 +156,7 @@ module _ (J : Past) (p : ℕ) (node : Node) (node_is : node_of J p ≡ Some node
 
 -- a legal step, where a procedure without ancestors is its own root, and rows lead on
 pub legal_step : (pid : Pid) (pick : Option Server) (out : StepOut) (J : Past) → ((node : Node) → node_of J pid.0 ≡ Some node → is_top node.above ≡ true → node.root ≡ pid.0)
-    → ((node : Node) → node_of J pid.0 ≡ Some node → exact_rows (kind_of node.args) ≡ [] → (sheet : Sheet) → sheet_for (sheets_of J) (kind_of node.args) ≡ Some sheet → is_stopped (last_answer J pid.0) ≡ false → IsLed (kind_of node.args) sheet.rows (row_of J pid.0 node))
+    → ((node : Node) → node_of J pid.0 ≡ Some node → exact_rows (kind_of node.args) ≡ [] → (sheet : Sheet) → sheet_for (sheets_by J node.root) (kind_of node.args) ≡ Some sheet → is_stopped (last_answer J pid.0) ≡ false → IsLed (kind_of node.args) sheet.rows (row_of J pid.0 node))
     → IsLegal (entry_is.Step pid pick out ∷ J) → StepFacts J pid.0 pick out
 legal_step pid pick out J at_top led legal =
     let may = legal.1.1.0 in

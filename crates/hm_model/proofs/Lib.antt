@@ -1,3 +1,5 @@
+pub mod Parted
+pub mod Rising
 pub mod KeyTests
 pub mod Prefixes
 pub mod Rows
@@ -9,6 +11,7 @@ pub mod Apart
 pub mod Waiting
 pub mod Touched
 pub mod Calls
+pub mod Siblings
 pub mod ValidSheets
 pub mod Ranges
 pub mod Nonces
@@ -23,7 +26,10 @@ pub mod CallSteps
 pub mod Said
 pub mod LegalSteps
 pub mod StepDoes
+pub mod RootSheets
 pub mod Trees
+pub mod Editions
+pub mod Plain
 pub mod UndoMakes
 mod Crashed
 mod Named

@@ -1,11 +1,16 @@
 -- No nonce acts twice.
+use Rattle.std.proofs.Common.{if◌then◌else◌}
+use Rattle.hm_model.specs.Base.{PartFits}
+use Rattle.hm_data.specs.declared.part.Part.{Part}
+use Rattle.hm_data.specs.declared.part.Part.TheVariants as part_is
+use Rattle.hm_model.specs.Parts.{part_root}
 use Rattle.std.proofs.Common.{None, Option, Some, [], ap, arith, false, inl, inr, refl, sym, true, ℕ, ◌+◌, ◌∙◌, ◌∷◌, ◌≡◌, ◌≢◌}
 use Rattle.std.proofs.lemmas.Bool.{cases_eq, cond-false, false≢true, true≢false}
 use Rattle.std.proofs.lemmas.Bool.Decides.{nat_tests}
 use Rattle.std.proofs.lemmas.Option.{none-some}
 use Rattle.hm_names.specs.declared.nonce.Nonce.{Nonce}
 use Rattle.hm_model.specs.Journal.{Past}
-use Rattle.hm_model.specs.Nonces.{NoncesActOnce, by_nonce, is_same}
+use Rattle.hm_model.specs.Nonces.{NoncesActOnce, by_nonce, is_same, IsNew}
 use Rattle.hm_model.specs.Rules.{IsFresh, IsLegal}
 use Rattle.hm_model.specs.Tree.{Node, is_root, is_root_in, is_top, made, node_of}
 use Rattle.hm_data.specs.declared.entry.Entry.TheVariants as entry_is
@@ -24,6 +29,12 @@ by_no_nonce (entry_is.Report call told ∷ before) nonce none = by_no_nonce befo
 by_no_nonce (entry_is.Up server ∷ before) nonce none = by_no_nonce before nonce none
 by_no_nonce (entry_is.Down server ∷ before) nonce none = by_no_nonce before nonce none
 by_no_nonce (entry_is.Abort pid ∷ before) nonce none = by_no_nonce before nonce none
+by_no_nonce (entry_is.Adopt sheets ∷ before) nonce none = by_no_nonce before nonce none
+by_no_nonce (entry_is.Base part ∷ before) nonce none = by (part_root part) (by_no_nonce before nonce none)
+  where
+    by : (o : Option (Nonce × ℕ)) → by_nonce before nonce ≡ None → elim o as (λ r. Option ℕ) [ None ↦ by_nonce before nonce | Some both ↦ if is_same both.0 nonce then Some both.1 else by_nonce before nonce ] ≡ None
+    by None was = was
+    by (Some both) was = cond-false (is_same both.0 nonce) (Some both.1) (by_nonce before nonce) (no_nonce both.0 nonce none) ∙ was
 
 pub fresh_none : (before : Past) (nonce : Nonce) → IsFresh before nonce → by_nonce before nonce ≡ None
 fresh_none before nonce fresh = elim fresh [ inl none ↦ by_no_nonce before nonce none | inr new ↦ new ]
@@ -38,3 +49,14 @@ nonces_once (entry_is.Report call told ∷ before) legal = nonces_once before le
 nonces_once (entry_is.Up server ∷ before) legal = nonces_once before legal.0
 nonces_once (entry_is.Down server ∷ before) legal = nonces_once before legal.0
 nonces_once (entry_is.Abort pid ∷ before) legal = nonces_once before legal.0
+nonces_once (entry_is.Adopt sheets ∷ before) legal = nonces_once before legal.0
+nonces_once (entry_is.Base part ∷ before) legal = (nonces_once before legal.0, is_new part legal.1.0)
+  where
+    is_new : (part : Part) → PartFits part before → IsNew part before
+    is_new (part_is.Head entries last parts sheets) fits = tt
+    is_new (part_is.Namespace ns) fits = tt
+    is_new (part_is.Table table own row) fits = tt
+    is_new (part_is.Region region range status parents place) fits = tt
+    is_new (part_is.Server server fenced) fits = tt
+    is_new (part_is.Root pid nonce args cause) fits = fits.3
+    is_new (part_is.Layout pid) fits = tt

@@ -1,4 +1,5 @@
 -- Journals that are worked by hand: each entry meets its rules by tests, so they are legal.
+use Rattle.hm_model.specs.Base.{IsBegun}
 use Rattle.std.proofs.Common.{◌≡◌, ◌≢◌, ℕ, ◌∷◌, ◌∙◌, List, Option, [], Some, None, true, false, map, refl, ap, sym, ◌⊎◌}
 use Rattle.std.proofs.lemmas.Option.{none-some, same_Some}
 use Rattle.hm_names.specs.Server.{Server}
@@ -66,10 +67,21 @@ IsPlayed (entry_is.Report call told ∷ before) = IsPlayed before × Tells befor
 IsPlayed (entry_is.Up server ∷ before) = IsPlayed before × ComesUp before server
 IsPlayed (entry_is.Down server ∷ before) = IsPlayed before × (is_live before server ≡ true)
 IsPlayed (entry_is.Abort pid ∷ before) = ⊥
+IsPlayed (entry_is.Adopt sheets ∷ before) = ⊥
+IsPlayed (entry_is.Base part ∷ before) = ⊥
 
-played_some : (J : Past) → IsPlayed J → J ≢ []
+played_some : (J : Past) → IsPlayed J → IsBegun J
 played_some [] played = absurd played
-played_some (entry ∷ before) played = λ none. cc
+played_some (entry_is.Start sheets ∷ before) played = tt
+played_some (entry_is.Submit nonce request ∷ before) played = tt
+played_some (entry_is.Step pid pick out ∷ before) played = tt
+played_some (entry_is.Undo pid row out ∷ before) played = tt
+played_some (entry_is.Report call told ∷ before) played = tt
+played_some (entry_is.Up server ∷ before) played = tt
+played_some (entry_is.Down server ∷ before) played = tt
+played_some (entry_is.Abort pid ∷ before) played = tt
+played_some (entry_is.Adopt sheets ∷ before) played = tt
+played_some (entry_is.Base part ∷ before) played = absurd played
 
 pub played_legal : (J : Past) → IsPlayed J → IsLegal J
 played_legal [] played = absurd played
@@ -94,3 +106,5 @@ played_legal (entry_is.Up server ∷ before) played =
 played_legal (entry_is.Down server ∷ before) played =
     (played_legal before played.0, (played_some before played.0, (played.1, tt)))
 played_legal (entry_is.Abort pid ∷ before) played = absurd played
+played_legal (entry_is.Adopt sheets ∷ before) played = absurd played
+played_legal (entry_is.Base part ∷ before) played = absurd played

@@ -101,6 +101,8 @@ answers_low (entry_is.Report call told ∷ before) legal p answer is = answers_l
 answers_low (entry_is.Up server ∷ before) legal p answer is = answers_low before legal.0 p answer is
 answers_low (entry_is.Down server ∷ before) legal p answer is = answers_low before legal.0 p answer is
 answers_low (entry_is.Abort pid ∷ before) legal p answer is = answers_low before legal.0 p answer is
+answers_low (entry_is.Adopt sheets ∷ before) legal p answer is = answers_low before legal.0 p answer is
+answers_low (entry_is.Base part ∷ before) legal p answer is = absurd (none-some answer is)
 
 -- a row is a byte
 pub row_fits : (J : Past) → IsLegal J → (p : ℕ) (node : Node) → row_of J p node < 256

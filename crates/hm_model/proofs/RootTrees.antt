@@ -63,7 +63,8 @@ unmade_follower pid row out J legal r none = elim (cases_Bool (makes J out.follo
       let p = and_parts (nat_lt (made J) r) (nat_le r (made J + length (args_in out.followers))) on in
       let lt = ltb-true (made J) r p.0 in
       let le = leb-true r (made J + length (args_in out.followers)) p.1 in
-      let there = (made_all (entry_is.Undo pid row out ∷ J) legal).there r (omega (arith, lt)) le in
+      let low = (made_all J legal.0).low in
+      let there = (made_all (entry_is.Undo pid row out ∷ J) legal).there r (omega (arith, lt, low)) le in
       absurd (none-some there.0 (sym none ∙ there.1))
 ]
 
@@ -122,6 +123,8 @@ absent_all (entry_is.Down server ∷ J) legal r none =
       ];
     }
 absent_all (entry_is.Abort pid ∷ J) legal r none = let a = absent_all J legal.0 r none in record { caused = a.caused; stacked = a.stacked; entries = a.entries }
+absent_all (entry_is.Adopt sheets ∷ J) legal r none = let a = absent_all J legal.0 r none in record { caused = a.caused; stacked = a.stacked; entries = a.entries }
+absent_all (entry_is.Base part ∷ J) legal r none = record { caused = refl; stacked = refl; entries = refl }
 
 -- without a cause a root has ended where it is done
 pub ended_by : (J : Past) (r : ℕ) → cause J r ≡ None → root_ended J r ≡ is_some (done_with (last_answer J r))

@@ -1,4 +1,7 @@
 -- The keys of a journal, and the rows that are read of its catalog.
+use Rattle.hm_data.specs.declared.part.Part.{Part}
+use Rattle.hm_data.specs.declared.part.Part.TheVariants as part_is
+use Rattle.hm_model.specs.Parts.{part_key, part_row, table_row}
 use Rattle.std.proofs.Common.{Bool, List, None, Option, Some, [], ap, bytes_eq, codes, false, if◌then◌else◌, inl, inr, refl, subst, sym, true, ℕ, ◌||◌, ◌∙◌, ◌∷◌, ◌≡◌, ◌≢◌, ◌⊎◌}
 use Rattle.std.proofs.lemmas.Bool.{cases_Bool, cond-false, cond-true, false_from_ne_true, false≢true, or_from}
 use Rattle.std.proofs.lemmas.Option.{none-some}
@@ -12,7 +15,7 @@ use Rattle.hm_data.specs.declared.catalog.CatKey.{CatKey}
 use Rattle.hm_data.specs.declared.catalog.CatRow.{CatRow}
 use Rattle.hm_data.specs.declared.catalog.Edit.{Edit}
 use Rattle.hm_model.proofs.KeyTests.{bytes_eq-is, bytes_eq-refl, cases_key, key_cmp-is, key_cmp-same, same_key-refl}
-use Rattle.hm_model.specs.Catalog.{Catalog, at_start, cat, edited, keep, keys_of, row_at, rows_at, with_key, with_key_at, with_keys}
+use Rattle.hm_model.specs.Catalog.{Catalog, at_start, cat, edited, keep, keys_of, row_at, rows_at, with_key, with_key_at, with_keys, part_keys}
 use Rattle.hm_model.specs.Inputs.{rows_read}
 use Rattle.hm_model.specs.Journal.{Past}
 use Rattle.hm_model.specs.Keys.{same_key}
@@ -60,6 +63,21 @@ start_has (key_is.Ns ns) some = elim (cases_Bool (bytes_eq ns (codes "default"))
 start_has (key_is.Table table) some = absurd (some refl)
 start_has (key_is.Region region) some = absurd (some refl)
 
+one_has : (q key : CatKey) (new row : Option CatRow) (keys : List CatKey) → (row ≢ None → IsIn q keys) → (if same_key q key then new else row) ≢ None → IsIn q (with_key key keys)
+one_has q key new row keys has some = elim (cases_key q key) [
+  | inl same ↦ in_with_key q key keys (inl same.1)
+  | inr differs ↦ in_with_key q key keys (inr (has (λ e. some (cond-false (same_key q key) new row differs.0 ∙ e))))
+]
+
+part_has : (part : Part) (q : CatKey) (row : Option CatRow) (keys : List CatKey) → (row ≢ None → IsIn q keys) → part_row part q row ≢ None → IsIn q (part_keys part keys)
+part_has (part_is.Head entries last parts sheets) q row keys has some = absurd (some refl)
+part_has (part_is.Namespace ns) q row keys has some = one_has q (key_is.Ns ns) (Some row_is.Ns) row keys has some
+part_has (part_is.Table table own state) q row keys has some = one_has q (key_is.Table table) (table_row state) row keys has some
+part_has (part_is.Region region range status parents place) q row keys has some = one_has q (key_is.Region region) (Some (row_is.Region range status parents)) row keys has some
+part_has (part_is.Server server fenced) q row keys has some = has some
+part_has (part_is.Root pid nonce args cause) q row keys has some = has some
+part_has (part_is.Layout pid) q row keys has some = has some
+
 -- a key with a row is listed
 pub has_key : (J : Past) (q : CatKey) → cat J q ≢ None → IsIn q (keys_of J)
 has_key [] q some = start_has q some
@@ -71,6 +89,8 @@ has_key (entry_is.Report call told ∷ before) q some = has_key before q some
 has_key (entry_is.Up server ∷ before) q some = has_key before q some
 has_key (entry_is.Down server ∷ before) q some = has_key before q some
 has_key (entry_is.Abort pid ∷ before) q some = has_key before q some
+has_key (entry_is.Adopt sheets ∷ before) q some = has_key before q some
+has_key (entry_is.Base part ∷ before) q some = part_has part q (cat before q) (keys_of before) (has_key before q) some
 
 behind_further : (k key : CatKey) (keys : List CatKey) → key_cmp k key ≡ Less → AllBehind key keys → AllBehind k keys
 behind_further k key [] less behind = tt
@@ -113,6 +133,12 @@ keys_in_order (entry_is.Report call told ∷ before) = keys_in_order before
 keys_in_order (entry_is.Up server ∷ before) = keys_in_order before
 keys_in_order (entry_is.Down server ∷ before) = keys_in_order before
 keys_in_order (entry_is.Abort pid ∷ before) = keys_in_order before
+keys_in_order (entry_is.Adopt sheets ∷ before) = keys_in_order before
+keys_in_order (entry_is.Base part ∷ before) = by (part_key part) (keys_of before) (keys_in_order before)
+  where
+    by : (o : Option CatKey) (keys : List CatKey) → AreInOrder keys → AreInOrder (elim o as (λ k. List CatKey) [ None ↦ keys | Some key ↦ with_key key keys ])
+    by None keys order = order
+    by (Some key) keys order = order_with key keys order
 
 keep_other : (asked : Bool) (key first : CatKey) (row : Option CatRow) (more : List (CatKey × CatRow)) → same_key key first ≡ false → row_at (keep asked first row more) key ≡ row_at more key
 keep_other false key first row more differs = refl

@@ -158,6 +158,8 @@ unfailed (entry_is.Report call told ∷ before) legal r none = unfailed before l
 unfailed (entry_is.Up server ∷ before) legal r none = unfailed before legal.0 r none
 unfailed (entry_is.Down server ∷ before) legal r none = unfailed before legal.0 r none
 unfailed (entry_is.Abort pid ∷ before) legal r none = unfailed before legal.0 r none
+unfailed (entry_is.Adopt sheets ∷ before) legal r none = unfailed before legal.0 r none
+unfailed (entry_is.Base part ∷ before) legal r none = refl
 unfailed (entry_is.Step pid pick out ∷ before) legal r none = elim (cases_eq r pid.0) [
   | inl same ↦ absurd (none-some out.answer (sym none ∙ ap (last_answer (entry_is.Step pid pick out ∷ before)) same ∙ stepped pid pick out before))
   | inr differs ↦ other differs (unfailed before legal.0 r (sym (not_stepped pid pick out before r differs) ∙ none)) (sym (not_stepped pid pick out before r differs) ∙ none) (cases_eq (root_of before pid.0) r)

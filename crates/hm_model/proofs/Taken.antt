@@ -1,6 +1,7 @@
 -- No two that hold conflict, where whoever is taken was free when it was taken.
+use Rattle.hm_model.proofs.Parted.{no_node}
 use Rattle.std.proofs.Common.{◌≡◌, ◌≢◌, ℕ, List, [], ◌∷◌, Bool, true, false, ◌||◌, Option, Some, None, refl, ap, sym, ◌∙◌, subst, inl, inr, ◌⊎◌}
-use Rattle.std.proofs.lemmas.Bool.{cases_Bool, cases_eq, cond-false, cond-true, true≢false}
+use Rattle.std.proofs.lemmas.Bool.{cases_Bool, cases_eq, cond-false, cond-true, false≢true, true≢false}
 use Rattle.std.proofs.lemmas.Option.{none-some}
 use Rattle.hm_names.specs.Server.{Server}
 use Rattle.hm_names.specs.declared.pid.Pid.{Pid}
@@ -70,12 +71,14 @@ below_stays (entry_is.Report call told) J legal q over = over
 below_stays (entry_is.Up server) J legal q over = over
 below_stays (entry_is.Down server) J legal q over = over
 below_stays (entry_is.Abort pid) J legal q over = over
+below_stays (entry_is.Adopt sheets) J legal q over = over
 below_stays (entry_is.Step pid pick out) J legal q over = elim (cases_eq q pid.0) [
   | inr other ↦ ap is_stopped (other_answer pid pick out J q other) ∙ over
   | inl mine ↦
       let step = step_of pid pick out J (grown_all J legal.0) legal in
       absurd (true≢false (sym over ∙ ap (λ p. is_stopped (last_answer J p)) mine ∙ ready_stops J pid.0 step.node (last_answer J pid.0) step.ready))
 ]
+below_stays (entry_is.Base part) J legal q over = absurd (false≢true (sym (ap is_stopped ((grown_all J legal.0).unmade q (no_node part J legal.1.0 q))) ∙ over))
 
 -- who hasn't ended hadn't
 pub open_before : (entry : Entry) (J : Past) → IsLegal (entry ∷ J) → (q : ℕ) (x : Node) → node_of J q ≡ Some x → ended (entry ∷ J) q ≡ false → ended J q ≡ false
@@ -195,6 +198,8 @@ after (entry_is.Report call told) J legal taken made_all none free = calm (entry
 after (entry_is.Up server) J legal taken made_all none free = calm (entry_is.Up server) J legal taken made_all none (λ a. refl)
 after (entry_is.Down server) J legal taken made_all none free = calm (entry_is.Down server) J legal taken made_all none (λ a. refl)
 after (entry_is.Abort pid) J legal taken made_all none free = calm (entry_is.Abort pid) J legal taken made_all none (λ a. refl)
+after (entry_is.Adopt sheets) J legal taken made_all none free = calm (entry_is.Adopt sheets) J legal taken made_all none (λ a. refl)
+after (entry_is.Base part) J legal taken made_all none free = λ p q hp hq c. absurd (hp.0 refl)
 
 pub none_conflict_is : NoneConflict
 none_conflict_is J all nobody = λ p q hp hq c. absurd (hp.0 refl)
@@ -212,6 +217,8 @@ steps_free (entry_is.Report call told) J legal = tt
 steps_free (entry_is.Up server) J legal = tt
 steps_free (entry_is.Down server) J legal = tt
 steps_free (entry_is.Abort pid) J legal = tt
+steps_free (entry_is.Adopt sheets) J legal = tt
+steps_free (entry_is.Base part) J legal = tt
 
 -- so no two conflict that have a step and haven't ended
 pub legal_apart : NoneOfLegalConflict

@@ -1,4 +1,5 @@
 -- Roots that hold, and that those that have ended stay so.
+use Rattle.hm_model.proofs.Parted.{no_node}
 use Rattle.std.proofs.Common.{◌≡◌, ◌≢◌, ℕ, List, ◌+◌, ◌==◌, [], ◌∷◌, Bool, true, false, not, ◌&&◌, cond, Option, Some, None, is_some, refl, ap, sym, ◌∙◌, subst, inl, inr, ◌⊎◌, arith}
 use Rattle.std.proofs.lemmas.Bool.{and_parts, cases_Bool, cases_eq, eqb-true, true≢false, false≢true}
 use Rattle.std.proofs.lemmas.Option.{none-some, same_Some}
@@ -93,6 +94,8 @@ root_stays (entry_is.Start sheets) J legal s x top over = over
 root_stays (entry_is.Report call told) J legal s x top over = over
 root_stays (entry_is.Up server) J legal s x top over = over
 root_stays (entry_is.Abort pid) J legal s x top over = over
+root_stays (entry_is.Adopt sheets) J legal s x top over = over
+root_stays (entry_is.Base part) J legal s x top over = absurd (none-some x (sym (no_node part J legal.1.0 s) ∙ top.0))
 root_stays (entry_is.Submit nonce request) J legal s x top over = other_stays (entry_is.Submit nonce request) J legal s x top (not_next J legal.0 s x top.0) over
 root_stays (entry_is.Down server) J legal s x top over = other_stays (entry_is.Down server) J legal s x top (not_next J legal.0 s x top.0) over
 root_stays (entry_is.Step pid pick out) J legal s x top over = elim (cases_eq s (root_of J pid.0)) [
@@ -161,6 +164,8 @@ caused_begun (entry_is.Report call told ∷ J) legal r c is = caused_begun J leg
 caused_begun (entry_is.Up server ∷ J) legal r c is = caused_begun J legal.0 r c is
 caused_begun (entry_is.Down server ∷ J) legal r c is = caused_begun J legal.0 r c is
 caused_begun (entry_is.Abort pid ∷ J) legal r c is = caused_begun J legal.0 r c is
+caused_begun (entry_is.Adopt sheets ∷ J) legal r c is = caused_begun J legal.0 r c is
+caused_begun (entry_is.Base part ∷ J) legal r c is = absurd (none-some c is)
 
 -- a tree in which a step is undone is that of a root, and has failed
 pub undo_facts : (pid : Pid) (row : ℕ) (out : StepOut) (J : Past) → IsLegal (entry_is.Undo pid row out ∷ J) → (top : Node) × TopIs J (root_of J pid.0) top × (c : Cause) × (cause J (root_of J pid.0) ≡ Some c)

@@ -14,6 +14,7 @@ use Rattle.hm_data.specs.declared.args.Args.TheVariants as args_are
 use Rattle.hm_data.specs.declared.args.Child.{Child}
 use Rattle.hm_data.specs.declared.call.Told.{Told}
 use Rattle.hm_data.specs.declared.call.Verb.{Verb}
+use Rattle.hm_data.specs.declared.entry.Entry.{Entry}
 use Rattle.hm_data.specs.declared.entry.Entry.TheVariants as entry_is
 use Rattle.hm_data.specs.declared.request.Request.{Request}
 use Rattle.hm_data.specs.declared.sheet.Sheet.{Sheet}
@@ -25,15 +26,16 @@ use Rattle.hm_model.specs.Rules.{IsLegal}
 use Rattle.hm_model.specs.Lists.{exact_rows}
 use Rattle.hm_model.specs.Phase.{all_below, child_in, children_ended, is_parent}
 use Rattle.hm_model.specs.Reports.{fits_verb, is_about, last_call, verb_of}
-use Rattle.hm_model.specs.Sheets.{sheet_for, sheets_of}
+use Rattle.hm_model.specs.Sheets.{sheet_for, sheets_by, sheets_of}
 use Rattle.hm_model.specs.Inputs.{made_at_step}
 use Rattle.hm_model.specs.Tree.{Node, args_in, child_of, children_of, first_of, is_top, made, node_of, root_node, submitted}
 use Rattle.hm_model.specs.Validity.{AllValid}
 use Rattle.hm_model.specs.Verbs.{verb_in}
 use Rattle.hm_model.proofs.StepDoes.{CallerAt, Does, bears, does}
-use Rattle.hm_model.proofs.ExactRows.{IsLed, all_valid, sheet_is, start_led}
+use Rattle.hm_model.proofs.ExactRows.{IsLed, sheet_is, start_led, valid_by}
 use Rattle.hm_model.proofs.LegalSteps.{ReadyBy, StepFacts, legal_step, ready_stops}
 use Rattle.hm_model.proofs.PlainActs.{ChildrenWait}
+use Rattle.hm_model.proofs.RootSheets.{by_stays, not_next}
 
 -- it waits for children
 abbrev pub IsWaiting : Option Answer → Type 0
@@ -52,7 +54,7 @@ pub record Grown (J : Past) : Type 0 where
   pub ups : (p : ℕ) (node : Node) → node_of J p ≡ Some node → (u : ℕ) (rest : List ℕ) → node.above ≡ u ∷ rest → (up : Node) × (node_of J u ≡ Some up) × (up.above ≡ rest) × (up.root ≡ node.root) × (bears up.args node.args ≡ true)
   pub later : (p : ℕ) (node : Node) → node_of J p ≡ Some node → (u : ℕ) (rest : List ℕ) → node.above ≡ u ∷ rest → u < p
   pub waits : (p : ℕ) (node : Node) → node_of J p ≡ Some node → (u : ℕ) (rest : List ℕ) → node.above ≡ u ∷ rest → is_stopped (last_answer J p) ≡ false → IsWaiting (last_answer J u)
-  pub led : (p : ℕ) (node : Node) → node_of J p ≡ Some node → exact_rows (kind_of node.args) ≡ [] → (sheet : Sheet) → sheet_for (sheets_of J) (kind_of node.args) ≡ Some sheet → is_stopped (last_answer J p) ≡ false → IsLed (kind_of node.args) sheet.rows (row_of J p node)
+  pub led : (p : ℕ) (node : Node) → node_of J p ≡ Some node → exact_rows (kind_of node.args) ≡ [] → (sheet : Sheet) → sheet_for (sheets_by J node.root) (kind_of node.args) ≡ Some sheet → is_stopped (last_answer J p) ≡ false → IsLed (kind_of node.args) sheet.rows (row_of J p node)
   pub calls : (p : ℕ) (node : Node) → node_of J p ≡ Some node → (verb : Verb) → verb_in node.args ≡ Some verb → CallerAt verb (verb_of J p) (last_answer J p)
   pub verbs : (p : ℕ) (verb : Verb) → verb_of J p ≡ Some verb → (node : Node) × (node_of J p ≡ Some node) × (verb_in node.args ≡ Some verb)
   pub fits : (p : ℕ) (told : Told) → report_of J p ≡ Some told → (verb : Verb) × (verb_of J p ≡ Some verb) × (fits_verb verb told ≡ true)
@@ -78,6 +80,22 @@ le_or_lt m n = elim (cases_lt n m) [ inl lt ↦ inr lt | inr le ↦ inl le ]
 
 pub is_there : (J : Past) → Grown J → (p : ℕ) (node : Node) → node_of J p ≡ Some node → p ≤ made J
 is_there J grown p node is = elim (le_or_lt p (made J)) [ inl le ↦ le | inr lt ↦ absurd (none-some node (sym (grown.numbered p lt) ∙ is)) ]
+
+-- nor is its root above what was made
+root_up : (J : Past) → Grown J → (above : List ℕ) (p : ℕ) (node : Node) → node_of J p ≡ Some node → node.above ≡ above → node.root ≤ p
+root_up J grown [] p node is e = let own = grown.tops p node is e in omega (arith, own)
+root_up J grown (u ∷ rest) p node is e =
+    let up = grown.ups p node is u rest e in
+    let later = grown.later p node is u rest e in
+    let le = root_up J grown rest u up.0 up.1 up.2 in
+    let same = up.3 in
+    omega (arith, le, later, same)
+
+pub root_within : (J : Past) → Grown J → (p : ℕ) (node : Node) → node_of J p ≡ Some node → node.root ≤ made J
+root_within J grown p node is =
+    let up = root_up J grown node.above p node is refl in
+    let le = is_there J grown p node is in
+    omega (arith, up, le)
 
 -- nobody who wasn't made has a call
 pub no_verb : (J : Past) → Grown J → (p : ℕ) (o : Option Verb) → verb_of J p ≡ o → node_of J p ≡ None → o ≡ None
@@ -109,7 +127,7 @@ pub record IsRooted (J J' : Past) : Type 0 where
   pub verb : (p : ℕ) → verb_of J' p ≡ verb_of J p
   pub report : (p : ℕ) → report_of J' p ≡ report_of J p
   pub lasts : (r : Region) → last_call J' r ≡ last_call J r
-  pub sheets : sheets_of J' ≡ sheets_of J
+  pub sheets : (root : ℕ) → root ≤ made J → sheets_by J' root ≡ sheets_by J root
   pub steps : (p : ℕ) → made_at_step J' p ≡ made_at_step J p
 
 module _ (J J' : Past) (rooted : IsRooted J J') (grown : Grown J) where
@@ -132,7 +150,7 @@ module _ (J J' : Past) (rooted : IsRooted J J') (grown : Grown J) where
       nil_cons : (u : ℕ) (rest : List ℕ) → [] ≡ u ∷ rest → ⊥
       nil_cons u rest e = cc
 
-  pub grown_rooted : AllValid (sheets_of J) → Grown J'
+  pub grown_rooted : ((root : ℕ) → AllValid (sheets_by J' root)) → Grown J'
   grown_rooted valid = record {
     numbered = rooted.past;
     unmade = λ p none. rooted.last p ∙ elim (le_or_lt p (made J)) [
@@ -156,9 +174,9 @@ module _ (J J' : Past) (rooted : IsRooted J J') (grown : Grown J) where
       | inr root ↦ absurd (root_above p node root.0 root.1 u rest root.2 above)
     ];
     led = λ p node is lined sheet found runs. elim (old_or_new p node is) [
-      | inl was ↦ subst (λ o. IsLed (kind_of node.args) sheet.rows (row_after (first_row_of node.args) o)) (sym (rooted.last p)) (grown.led p node was lined sheet (ap (λ s. sheet_for s (kind_of node.args)) (sym rooted.sheets) ∙ found) (ap is_stopped (sym (rooted.last p)) ∙ runs))
+      | inl was ↦ subst (λ o. IsLed (kind_of node.args) sheet.rows (row_after (first_row_of node.args) o)) (sym (rooted.last p)) (grown.led p node was lined sheet (ap (λ s. sheet_for s (kind_of node.args)) (sym (rooted.sheets node.root (root_within J grown p node was))) ∙ found) (ap is_stopped (sym (rooted.last p)) ∙ runs))
       | inr root ↦
-          let v = sheet_is (sheets_of J) valid (kind_of node.args) sheet (ap (λ s. sheet_for s (kind_of node.args)) (sym rooted.sheets) ∙ found) in
+          let v = sheet_is (sheets_by J' node.root) (valid node.root) (kind_of node.args) sheet found in
           subst (λ o. IsLed (kind_of node.args) sheet.rows (row_after (first_row_of node.args) o)) (sym root.3) (start_led node.args lined sheet v.0 v.1)
     ];
     calls = λ p node is verb v. elim (old_or_new p node is) [
@@ -183,7 +201,7 @@ submit_rooted nonce request J grown = record {
   verb = λ p. refl;
   report = λ p. refl;
   lasts = λ r. refl;
-  sheets = refl;
+  sheets = λ root le. cond-false (root == made J + 1) (sheets_of J) (sheets_by J root) (not_next root (made J) le);
   steps = λ p. refl;
 }
 
@@ -199,7 +217,7 @@ down_rooted server J grown = record {
   verb = λ p. refl;
   report = λ p. refl;
   lasts = λ r. refl;
-  sheets = refl;
+  sheets = λ root le. cond-false (root == made J + 1) (sheets_of J) (sheets_by J root) (not_next root (made J) le);
   steps = λ p. refl;
 }
 
@@ -212,7 +230,7 @@ undo_rooted pid row out J grown = record {
   verb = λ p. refl;
   report = λ p. refl;
   lasts = λ r. refl;
-  sheets = refl;
+  sheets = λ root le. cond-false (nat_lt (made J) root) (sheets_of J) (sheets_by J root) (le-ltb (made J) root le);
   steps = λ p. refl;
 }
   where
@@ -328,11 +346,11 @@ module _ (pid : Pid) (pick : Option Server) (out : StepOut) (J : Past) where
           subst (λ x. IsWaiting (last_answer (entry_is.Step pid pick out ∷ J) x)) mine (subst IsWaiting (sym answer_now) (parent_waits out.answer out.children (q - made J - 1) c.0 c.1 d.waits))
     ]
 
-    led_now : (q : ℕ) (n : Node) → node_of (entry_is.Step pid pick out ∷ J) q ≡ Some n → exact_rows (kind_of n.args) ≡ [] → (sheet : Sheet) → sheet_for (sheets_of J) (kind_of n.args) ≡ Some sheet → AllValid (sheets_of J) → is_stopped (last_answer (entry_is.Step pid pick out ∷ J) q) ≡ false → IsLed (kind_of n.args) sheet.rows (row_of (entry_is.Step pid pick out ∷ J) q n)
+    led_now : (q : ℕ) (n : Node) → node_of (entry_is.Step pid pick out ∷ J) q ≡ Some n → exact_rows (kind_of n.args) ≡ [] → (sheet : Sheet) → sheet_for (sheets_by J n.root) (kind_of n.args) ≡ Some sheet → AllValid (sheets_by J n.root) → is_stopped (last_answer (entry_is.Step pid pick out ∷ J) q) ≡ false → IsLed (kind_of n.args) sheet.rows (row_of (entry_is.Step pid pick out ∷ J) q n)
     led_now q n is lined sheet found valid now = elim (cases_eq q pid.0) [
       | inl same ↦
           let one : step.node ≡ n = same_Some step.node n (sym step.node_is ∙ sym (node_same pid.0 pid_there) ∙ ap (node_of (entry_is.Step pid pick out ∷ J)) (sym same) ∙ is) in
-          let sheets : step.sheet ≡ sheet = same_Some step.sheet sheet (sym step.sheet_is ∙ ap (λ (x : Node). sheet_for (sheets_of J) (kind_of x.args)) one ∙ found) in
+          let sheets : step.sheet ≡ sheet = same_Some step.sheet sheet (sym step.sheet_is ∙ ap (λ (x : Node). sheet_for (sheets_by J x.root) (kind_of x.args)) one ∙ found) in
           let now_is : last_answer (entry_is.Step pid pick out ∷ J) q ≡ Some out.answer = ap (last_answer (entry_is.Step pid pick out ∷ J)) same ∙ answer_now in
           subst (λ o. IsLed (kind_of n.args) sheet.rows (row_after (first_row_of n.args) o)) (sym now_is)
           (subst (λ (s : Sheet). IsLed (kind_of n.args) s.rows (row_after (first_row_of n.args) (Some out.answer))) sheets
@@ -340,7 +358,7 @@ module _ (pid : Pid) (pick : Option Server) (out : StepOut) (J : Past) where
       | inr differs ↦ elim (le_or_lt q (made J)) [
         | inl le ↦ subst (λ o. IsLed (kind_of n.args) sheet.rows (row_after (first_row_of n.args) o)) (sym (other_answer q differs)) (grown.led q n (sym (node_same q le) ∙ is) lined sheet found (ran q now))
         | inr lt ↦
-            let v = sheet_is (sheets_of J) valid (kind_of n.args) sheet found in
+            let v = sheet_is (sheets_by J n.root) valid (kind_of n.args) sheet found in
             subst (λ o. IsLed (kind_of n.args) sheet.rows (row_after (first_row_of n.args) o)) (sym (unmade_now q lt)) (start_led n.args lined sheet v.0 v.1)
       ]
     ]
@@ -426,7 +444,7 @@ module _ (pid : Pid) (pick : Option Server) (out : StepOut) (J : Past) where
         stays None e about = absurd (false≢true about)
         stays (Some verb) e about = ap (is_about r) (verb_stays p verb e) ∙ about
 
-    pub grown_step : AllValid (sheets_of J) → Grown (entry_is.Step pid pick out ∷ J)
+    pub grown_step : ((root : ℕ) → AllValid (sheets_by J root)) → Grown (entry_is.Step pid pick out ∷ J)
     grown_step valid = record {
       numbered = λ q lt. node_new step.node step.node_is q (omega (arith, lt)) ∙ ap (option_map (child_of pid.0 step.node)) (slice_get_past (args_in out.children) (q - made J - 1) (omega (arith, lt)));
       unmade = none_now;
@@ -450,7 +468,7 @@ module _ (pid : Pid) (pick : Option Server) (out : StepOut) (J : Past) where
             omega (arith, le, lt, mine)
       ];
       waits = waits_now;
-      led = λ q n is lined sheet found now. led_now q n is lined sheet found valid now;
+      led = λ q n is lined sheet found now. led_now q n is lined sheet found (valid n.root) now;
       calls = calls_now;
       verbs = λ q verb is. elim (verb_or q verb is) [
         | inl was ↦ let v = grown.verbs q verb was in (v.0, still_there q v.0 v.1, v.2)
@@ -511,14 +529,14 @@ grown_all (entry_is.Start sheets ∷ J) legal =
     }
 grown_all (entry_is.Submit nonce request ∷ J) legal =
     let grown = grown_all J legal.0 in
-    grown_rooted J (entry_is.Submit nonce request ∷ J) (submit_rooted nonce request J grown) grown (all_valid J legal.0)
+    grown_rooted J (entry_is.Submit nonce request ∷ J) (submit_rooted nonce request J grown) grown (valid_by (entry_is.Submit nonce request ∷ J) legal)
 grown_all (entry_is.Step pid pick out ∷ J) legal =
     let grown = grown_all J legal.0 in
     let step = step_of pid pick out J grown legal in
-    grown_step pid pick out J grown step (does_of pid pick out J grown step) (all_valid J legal.0)
+    grown_step pid pick out J grown step (does_of pid pick out J grown step) (valid_by J legal.0)
 grown_all (entry_is.Undo pid row out ∷ J) legal =
     let grown = grown_all J legal.0 in
-    grown_rooted J (entry_is.Undo pid row out ∷ J) (undo_rooted pid row out J grown) grown (all_valid J legal.0)
+    grown_rooted J (entry_is.Undo pid row out ∷ J) (undo_rooted pid row out J grown) grown (valid_by (entry_is.Undo pid row out ∷ J) legal)
 grown_all (entry_is.Report call told ∷ J) legal =
     let grown = grown_all J legal.0 in
     let verb = some_of (verb_of J call.0) legal.1.1.0.0 in
@@ -540,7 +558,27 @@ grown_all (entry_is.Up server ∷ J) legal =
     record { numbered = grown.numbered; unmade = grown.unmade; tops = grown.tops; ups = grown.ups; later = grown.later; waits = grown.waits; led = grown.led; calls = grown.calls; verbs = grown.verbs; fits = grown.fits; last_is = grown.last_is }
 grown_all (entry_is.Down server ∷ J) legal =
     let grown = grown_all J legal.0 in
-    grown_rooted J (entry_is.Down server ∷ J) (down_rooted server J grown) grown (all_valid J legal.0)
+    grown_rooted J (entry_is.Down server ∷ J) (down_rooted server J grown) grown (valid_by (entry_is.Down server ∷ J) legal)
 grown_all (entry_is.Abort pid ∷ J) legal =
     let grown = grown_all J legal.0 in
     record { numbered = grown.numbered; unmade = grown.unmade; tops = grown.tops; ups = grown.ups; later = grown.later; waits = grown.waits; led = grown.led; calls = grown.calls; verbs = grown.verbs; fits = grown.fits; last_is = grown.last_is }
+grown_all (entry_is.Adopt sheets ∷ J) legal =
+    let grown = grown_all J legal.0 in
+    record { numbered = grown.numbered; unmade = grown.unmade; tops = grown.tops; ups = grown.ups; later = grown.later; waits = grown.waits; led = grown.led; calls = grown.calls; verbs = grown.verbs; fits = grown.fits; last_is = grown.last_is }
+grown_all (entry_is.Base part ∷ J) legal = record {
+  numbered = λ p h. refl;
+  unmade = λ p h. refl;
+  tops = λ p node is top. absurd (none-some node is);
+  ups = λ p node is. absurd (none-some node is);
+  later = λ p node is. absurd (none-some node is);
+  waits = λ p node is. absurd (none-some node is);
+  led = λ p node is. absurd (none-some node is);
+  calls = λ p node is. absurd (none-some node is);
+  verbs = λ p verb is. absurd (none-some verb is);
+  fits = λ p told is. absurd (none-some told is);
+  last_is = λ r p is. absurd (none-some p is);
+}
+
+-- an entry leaves alone what a procedure runs by
+pub sheets_stay : (entry : Entry) (J : Past) → IsLegal (entry ∷ J) → (p : ℕ) (node : Node) → node_of J p ≡ Some node → sheets_by (entry ∷ J) node.root ≡ sheets_by J node.root
+sheets_stay entry J legal p node is = by_stays entry J legal node.root (root_within J (grown_all J legal.0) p node is)

@@ -1,6 +1,6 @@
 -- What an undo makes.
 use Rattle.std.proofs.Common.{◌≡◌, ℕ, List, [], ◌∷◌, Bool, true, false, not, ◌&&◌, ◌==◌, cond, Option, Some, None, is_some, refl, ap, sym, ◌∙◌, subst}
-use Rattle.std.proofs.lemmas.Bool.{and_parts, true≢false, not-true}
+use Rattle.std.proofs.lemmas.Bool.{and_parts, eqb-true, true≢false, not-true}
 use Rattle.std.proofs.lemmas.Option.{same_Some}
 use Rattle.hm_names.specs.declared.pid.Pid.{Pid}
 use Rattle.hm_data.specs.declared.place.Goal.TheVariants as goal_is
@@ -8,78 +8,73 @@ use Rattle.hm_data.specs.declared.act.Back.{Back}
 use Rattle.hm_data.specs.declared.act.Back.TheVariants as back_is
 use Rattle.hm_data.specs.declared.args.Args.{Args}
 use Rattle.hm_data.specs.declared.catalog.Edit.{Edit}
+use Rattle.hm_data.specs.declared.entry.Entry.{Entry}
 use Rattle.hm_data.specs.declared.entry.Entry.TheVariants as entry_is
 use Rattle.hm_data.specs.declared.sheet.Sheet.{Sheet}
 use Rattle.hm_data.specs.declared.step.StepIn.{StepIn}
 use Rattle.hm_data.specs.declared.step.StepOut.{StepOut}
 use Rattle.hm_data.specs.declared.step.Turn.TheVariants as turn_is
 use Rattle.hm_model.specs.Inputs.{latest_input, turn_input, undo_input}
+use Rattle.hm_model.specs.Answers.{failing}
 use Rattle.hm_model.specs.Journal.{Past}
 use Rattle.hm_model.specs.Kinds.{kind_of}
 use Rattle.hm_model.specs.Rules.{IsLegal}
 use Rattle.hm_model.specs.Phase.{all_stopped, cause}
-use Rattle.hm_model.specs.Sheets.{row_in, sheet_for, sheets_of, undo_by, undo_of_next}
+use Rattle.hm_model.specs.Sheets.{row_in, sheet_for, sheets_by, undo_by, undo_of_next}
 use Rattle.hm_model.specs.Inputs.{step_input, input}
 use Rattle.hm_model.specs.Evaluation.{answer_by, answer_of, turn_answer}
 use Rattle.hm_model.specs.Undoing.{closed_by, undo_followers, undo_out}
-use Rattle.hm_model.specs.Tree.{Node, is_top, node_of, root_of}
+use Rattle.hm_model.specs.Tree.{Node, is_top, node_of, root_in, root_of}
 use Rattle.hm_model.specs.Undo.{Undoable, is_empty, pushed, rest_of, row_if_there, stack}
-use Rattle.hm_model.proofs.Trees.{does_of, down_rooted, grown_all, still, step_of, still_there, submit_rooted, undo_rooted}
+use Rattle.hm_model.proofs.Grown.{nodes_stay}
+use Rattle.hm_model.proofs.Trees.{at_top, grown_all, sheets_stay, step_of}
 use Rattle.hm_model.proofs.Said.{said_by}
 use Rattle.hm_model.proofs.PlainActs.{all_quiet, quiet_transits}
 
--- each of the steps is of a procedure that is there, and is undone as its row says
-abbrev pub AllThere : Past → List Undoable → Type 0
-AllThere J [] = Unit {0}
-AllThere J (step ∷ below) =
-    ((node : Node) × (node_of J step.pid ≡ Some node) × (undo_by (row_in (sheet_for (sheets_of J) (kind_of node.args)) step.row) ≡ step.undo)) × AllThere J below
+-- each of the steps is of a procedure of a root's tree that is there, and is undone as its row says
+abbrev pub AllThere : Past → ℕ → List Undoable → Type 0
+AllThere J r [] = Unit {0}
+AllThere J r (step ∷ below) =
+    ((node : Node) × (node_of J step.pid ≡ Some node) × (undo_by (row_in (sheet_for (sheets_by J node.root) (kind_of node.args)) step.row) ≡ step.undo) × (node.root ≡ r)) × AllThere J r below
 
-there_later : (J J' : Past) → sheets_of J' ≡ sheets_of J → ((p : ℕ) (node : Node) → node_of J p ≡ Some node → node_of J' p ≡ Some node) → (steps : List Undoable) → AllThere J steps → AllThere J' steps
-there_later J J' sheets on [] all = tt
-there_later J J' sheets on (step ∷ below) all = ((all.0.0, on step.pid all.0.0 all.0.1, ap (λ l. undo_by (row_in (sheet_for l (kind_of all.0.0.args)) step.row)) sheets ∙ all.0.2), there_later J J' sheets on below all.1)
+there_later : (entry : Entry) (J : Past) → IsLegal (entry ∷ J) → (r : ℕ) (steps : List Undoable) → AllThere J r steps → AllThere (entry ∷ J) r steps
+there_later entry J legal r [] all = tt
+there_later entry J legal r (step ∷ below) all =
+    let its = all.0.0 in
+    ((its, nodes_stay entry J legal step.pid its all.0.1, ap (λ l. undo_by (row_in (sheet_for l (kind_of its.args)) step.row)) (sheets_stay entry J legal step.pid its all.0.1) ∙ all.0.2, all.0.3), there_later entry J legal r below all.1)
 
-there_rest : (J : Past) (steps : List Undoable) → AllThere J steps → AllThere J (rest_of steps)
-there_rest J [] all = tt
-there_rest J (step ∷ below) all = all.1
+there_rest : (J : Past) (r : ℕ) (steps : List Undoable) → AllThere J r steps → AllThere J r (rest_of steps)
+there_rest J r [] all = tt
+there_rest J r (step ∷ below) all = all.1
 
-there_pushed : (J : Past) (undo : Back) (failed : Bool) (p row : ℕ) (edits : List Edit) (below : List Undoable) (node : Node) → node_of J p ≡ Some node → undo_by (row_in (sheet_for (sheets_of J) (kind_of node.args)) row) ≡ undo → AllThere J below → AllThere J (pushed undo failed p row edits below)
-there_pushed J back_is.Nothing failed p row edits below node is by all = all
-there_pushed J back_is.Edits true p row edits below node is by all = all
-there_pushed J back_is.Edits false p row edits below node is by all = ((node, is, by), all)
-there_pushed J back_is.Sweep true p row edits below node is by all = all
-there_pushed J back_is.Sweep false p row edits below node is by all = ((node, is, by), all)
-there_pushed J back_is.Reopen true p row edits below node is by all = all
-there_pushed J back_is.Reopen false p row edits below node is by all = ((node, is, by), all)
+there_pushed : (J : Past) (r : ℕ) (undo : Back) (failed : Bool) (p row : ℕ) (edits : List Edit) (below : List Undoable) (node : Node) → node_of J p ≡ Some node → undo_by (row_in (sheet_for (sheets_by J node.root) (kind_of node.args)) row) ≡ undo → node.root ≡ r → AllThere J r below → AllThere J r (pushed undo failed p row edits below)
+there_pushed J r back_is.Nothing failed p row edits below node is by of all = all
+there_pushed J r back_is.Edits true p row edits below node is by of all = all
+there_pushed J r back_is.Edits false p row edits below node is by of all = ((node, is, by, of), all)
+there_pushed J r back_is.Sweep true p row edits below node is by of all = all
+there_pushed J r back_is.Sweep false p row edits below node is by of all = ((node, is, by, of), all)
+there_pushed J r back_is.Reopen true p row edits below node is by of all = all
+there_pushed J r back_is.Reopen false p row edits below node is by of all = ((node, is, by, of), all)
 
-there_if : (J : Past) (b : Bool) (one other : List Undoable) → AllThere J one → AllThere J other → AllThere J (cond b one other)
-there_if J true one other h k = h
-there_if J false one other h k = k
+there_if : (J : Past) (r : ℕ) (b : Bool) (one other : List Undoable) → (b ≡ true → AllThere J r one) → AllThere J r other → AllThere J r (cond b one other)
+there_if J r true one other h k = h refl
+there_if J r false one other h k = k
 
-pub stacked_all : (J : Past) → IsLegal J → (r : ℕ) → AllThere J (stack J r)
+pub stacked_all : (J : Past) → IsLegal J → (r : ℕ) → AllThere J r (stack J r)
 stacked_all [] legal r = tt
-stacked_all (entry_is.Start sheets ∷ J) legal r = subst (AllThere (entry_is.Start sheets ∷ J)) (sym (ap (λ j. stack j r) legal.1.0.0)) tt
-stacked_all (entry_is.Submit nonce request ∷ J) legal r =
-    let grown = grown_all J legal.0 in
-    there_later J (entry_is.Submit nonce request ∷ J) refl (still J (entry_is.Submit nonce request ∷ J) (submit_rooted nonce request J grown) grown) (stack J r) (stacked_all J legal.0 r)
 stacked_all (entry_is.Step pid pick out ∷ J) legal r =
-    let grown = grown_all J legal.0 in
-    let step = step_of pid pick out J grown legal in
-    let d = does_of pid pick out J grown step in
-    let old = there_later J (entry_is.Step pid pick out ∷ J) refl (still_there pid pick out J grown step d) (stack J r) (stacked_all J legal.0 r) in
-    there_if (entry_is.Step pid pick out ∷ J) (root_of J pid.0 == r) (pushed (undo_of_next J pid.0 (node_of J pid.0)) (is_some (Rattle.hm_model.specs.Answers.failing out.answer)) pid.0 (row_if_there J pid.0 (node_of J pid.0)) out.edits (stack J r)) (stack J r)
-    (there_pushed (entry_is.Step pid pick out ∷ J) (undo_of_next J pid.0 (node_of J pid.0)) (is_some (Rattle.hm_model.specs.Answers.failing out.answer)) pid.0 (row_if_there J pid.0 (node_of J pid.0)) out.edits (stack J r) step.node (still_there pid pick out J grown step d pid.0 step.node step.node_is) (ap (λ n. undo_by (row_in (sheet_for (sheets_of J) (kind_of step.node.args)) (row_if_there J pid.0 n))) step.node_is ∙ sym (ap (undo_of_next J pid.0) step.node_is)) old)
+    let now = entry_is.Step pid pick out ∷ J in
+    let step = step_of pid pick out J (grown_all J legal.0) legal in
+    let old = there_later (entry_is.Step pid pick out) J legal r (stack J r) (stacked_all J legal.0 r) in
+    there_if now r (root_of J pid.0 == r) (pushed (undo_of_next J pid.0 (node_of J pid.0)) (is_some (failing out.answer)) pid.0 (row_if_there J pid.0 (node_of J pid.0)) out.edits (stack J r)) (stack J r)
+    (λ own. there_pushed now r (undo_of_next J pid.0 (node_of J pid.0)) (is_some (failing out.answer)) pid.0 (row_if_there J pid.0 (node_of J pid.0)) out.edits (stack J r) step.node (nodes_stay (entry_is.Step pid pick out) J legal pid.0 step.node step.node_is) (ap (λ n. undo_by (row_in (sheet_for (sheets_by J step.node.root) (kind_of step.node.args)) (row_if_there J pid.0 n))) step.node_is ∙ sym (ap (undo_of_next J pid.0) step.node_is)) (ap root_in (sym step.node_is) ∙ eqb-true (root_of J pid.0) r own) old)
     old
 stacked_all (entry_is.Undo pid row out ∷ J) legal r =
-    let grown = grown_all J legal.0 in
-    let on = still J (entry_is.Undo pid row out ∷ J) (undo_rooted pid row out J grown) grown in
-    let old = there_later J (entry_is.Undo pid row out ∷ J) refl on (stack J r) (stacked_all J legal.0 r) in
-    there_if (entry_is.Undo pid row out ∷ J) (root_of J pid.0 == r) (rest_of (stack J r)) (stack J r) (there_rest (entry_is.Undo pid row out ∷ J) (stack J r) old) old
-stacked_all (entry_is.Report call told ∷ J) legal r = there_later J (entry_is.Report call told ∷ J) refl (λ p node is. is) (stack J r) (stacked_all J legal.0 r)
-stacked_all (entry_is.Up server ∷ J) legal r = there_later J (entry_is.Up server ∷ J) refl (λ p node is. is) (stack J r) (stacked_all J legal.0 r)
-stacked_all (entry_is.Down server ∷ J) legal r =
-    let grown = grown_all J legal.0 in
-    there_later J (entry_is.Down server ∷ J) refl (still J (entry_is.Down server ∷ J) (down_rooted server J grown) grown) (stack J r) (stacked_all J legal.0 r)
-stacked_all (entry_is.Abort pid ∷ J) legal r = there_later J (entry_is.Abort pid ∷ J) refl (λ p node is. is) (stack J r) (stacked_all J legal.0 r)
+    let now = entry_is.Undo pid row out ∷ J in
+    let old = there_later (entry_is.Undo pid row out) J legal r (stack J r) (stacked_all J legal.0 r) in
+    there_if now r (root_of J pid.0 == r) (rest_of (stack J r)) (stack J r) (λ own. there_rest now r (stack J r) old) old
+stacked_all (entry_is.Base part ∷ J) legal r = tt
+stacked_all (entry ∷ J) legal r = there_later entry J legal r (stack J r) (stacked_all J legal.0 r)
 
 quiet_followers : (undo : Back) (args : Args) (root : Pid) → all_quiet (undo_followers undo args root) ≡ true
 quiet_followers back_is.Nothing args root = refl
@@ -101,14 +96,14 @@ pub record IsUndoOf (J : Past) (r : ℕ) (out : StepOut) : Type 0 where
   pub root : Pid
   pub out_is : out ≡ undo_out undo args root latest.edits
 
-by_stack : (J : Past) (r : ℕ) (node : Node) (out : StepOut) (steps : List Undoable) → stack J r ≡ steps → is_empty steps ≡ false → AllThere J steps → answer_of (sheets_of J) (latest_input J steps (step_input J r node None)) ≡ Some out → IsUndoOf J r out
+by_stack : (J : Past) (r : ℕ) (node : Node) (out : StepOut) (steps : List Undoable) → stack J r ≡ steps → is_empty steps ≡ false → AllThere J r steps → answer_of (sheets_by J r) (latest_input J steps (step_input J r node None)) ≡ Some out → IsUndoOf J r out
 by_stack J r node out [] e some all is = absurd (true≢false some)
 by_stack J r node out (latest ∷ below) e some all is =
     let its = all.0.0 in
     let at : StepIn = undo_input latest its (step_input J r node None) in
     let is_at : latest_input J (latest ∷ below) (step_input J r node None) ≡ at = ap (λ n. elim n as (λ x. StepIn) [ None ↦ step_input J r node None | Some y ↦ undo_input latest y (step_input J r node None) ]) all.0.1 in
-    let said = said_undone (sheet_for (sheets_of J) at.kind) at latest.edits out refl (ap (answer_of (sheets_of J)) (sym is_at) ∙ is) in
-    record { latest = latest; below = below; stack_is = e; undo = said.0; undo_is = said.1 ∙ all.0.2; args = at.args; root = at.root; out_is = said.2 }
+    let said = said_undone (sheet_for (sheets_by J r) at.kind) at latest.edits out refl (ap (answer_of (sheets_by J r)) (sym is_at) ∙ is) in
+    record { latest = latest; below = below; stack_is = e; undo = said.0; undo_is = said.1 ∙ ap (λ s. undo_by (row_in (sheet_for (sheets_by J s) at.kind) at.row)) (sym all.0.3) ∙ all.0.2; args = at.args; root = at.root; out_is = said.2 }
 
 pub undo_of : (pid : Pid) (row : ℕ) (out : StepOut) (J : Past) → IsLegal (entry_is.Undo pid row out ∷ J) → IsUndoOf J (root_of J pid.0) out
 undo_of pid row out J legal =
@@ -120,8 +115,9 @@ undo_of pid row out J legal =
     let more = and_parts (is_some (cause J r)) (all_stopped J r && not (is_empty (stack J r))) parts.1 in
     let last = and_parts (all_stopped J r) (not (is_empty (stack J r))) more.1 in
     by_stack J r latest.0 out (stack J r) refl (not-true (is_empty (stack J r)) last.1) (stacked_all J legal.0 r)
-    (ap (λ b. answer_of (sheets_of J) (turn_input J b (stack J r) (step_input J r latest.0 None))) (sym latest.2)
-    ∙ subst (λ n. answer_of (sheets_of J) (input J r n None) ≡ Some out) same answer.2)
+    (ap (λ s. answer_of (sheets_by J s) (turn_input J true (stack J r) (step_input J r latest.0 None))) (sym (at_top J (grown_all J legal.0) r latest.0 latest.1 parts.0))
+    ∙ ap (λ b. answer_of (sheets_by J latest.0.root) (turn_input J b (stack J r) (step_input J r latest.0 None))) (sym latest.2)
+    ∙ subst (λ (n : Node). answer_of (sheets_by J n.root) (input J r n None) ≡ Some out) same answer.2)
 
 -- so it makes no calls to region servers
 pub undo_quiet : (pid : Pid) (row : ℕ) (out : StepOut) (J : Past) → IsLegal (entry_is.Undo pid row out ∷ J) → all_quiet out.followers ≡ true

@@ -10,10 +10,11 @@ use Rattle.hm_data.specs.declared.act.Back.{Back}
 use Rattle.hm_data.specs.declared.sheet.Row.{Row}
 use Rattle.hm_data.specs.declared.sheet.Sheet.{Sheet}
 use Rattle.hm_model.specs.Answers.{no_row}
-use Rattle.hm_model.specs.Lists.{Line, exact_rows, lines_of, plain}
-use Rattle.hm_model.specs.Rules.{AreSheets}
+use Rattle.hm_model.specs.Lists.{Line, exact_rows, orders_of}
+use Rattle.hm_model.specs.Base.{AreSheets}
+use Rattle.hm_model.specs.Locks.{IsIn}
 use Rattle.hm_model.specs.Sheets.{row_in, sheet_for}
-use Rattle.hm_model.specs.Validity.{AllValid, IsValid, astray, first_broken, fits, is_not, misfit, misfit_in, row_rules, rules_of_row, same_flag}
+use Rattle.hm_model.specs.Validity.{AllValid, IsValid, astray, first_broken, fits, is_not, kept, longest_kept, misfit, misfit_in, row_rules, rules_of_row, same_flag}
 use Rattle.hm_data.specs.declared.act.Act.TheVariants as act_is
 use Rattle.hm_data.specs.declared.args.Args.{Args}
 use Rattle.hm_data.specs.declared.args.Args.TheVariants as args_are
@@ -110,7 +111,8 @@ row_there [] place lt = absurd (omega (arith, lt))
 row_there (row ∷ rows) zero lt = (row, refl)
 row_there (row ∷ rows) (suc place) lt = row_there rows place (omega (arith, lt))
 
-if_none : (b : Bool) (o : Option ℕ) (place : ℕ) → cond b o (Some place) ≡ None → (b ≡ true) × (o ≡ None)
+-- where a choice is none, it is the first, and that is none
+pub if_none : (b : Bool) (o : Option ℕ) (place : ℕ) → cond b o (Some place) ≡ None → (b ≡ true) × (o ≡ None)
 if_none true o place h = (refl, h)
 if_none false o place h = absurd (none-some place (sym h))
 
@@ -143,23 +145,49 @@ module _ (rows : List Row) (onward : (place : ℕ) (row : Row) → slice_get row
         ]) on.1,
       )
 
-led_first : (exact : List Row) (line : Line) (lines : List Line) (rows : List Row) → exact ≡ [] → misfit_in exact (line ∷ lines) rows ≡ None → (0 < length rows) × (astray rows line lines 0 ≡ None)
-led_first exact line lines [] none h = absurd (none-some 0 (sym h))
-led_first (x ∷ exact) line lines (row ∷ rows) none h = absurd (cc)
-led_first [] line lines (row ∷ rows) none h = (omega arith, h)
+fit_none : (exact : List Row) (lines : List Line) (rows : List Row) → exact ≡ [] → misfit_in exact lines rows ≡ None → (line : Line) × (more : List Line) × (lines ≡ line ∷ more) × (0 < length rows) × (astray rows line more 0 ≡ None)
+fit_none exact lines [] none h = absurd (none-some 0 (sym h))
+fit_none (x ∷ exact) lines (row ∷ rows) none h = absurd (cc)
+fit_none [] [] (row ∷ rows) none h = absurd (none-some 0 (sym h))
+fit_none [] (line ∷ more) (row ∷ rows) none h = (line, more, refl, omega arith, h)
 
--- the rows of a kind that lists lines lead through them from the first on
-pub valid_leads : (sheet : Sheet) (line : Line) (lines : List Line) → IsValid sheet → exact_rows sheet.kind ≡ [] → lines_of sheet.kind ≡ line ∷ lines → Leads sheet.rows 0 (line ∷ lines)
-valid_leads sheet line lines valid exact listed =
-    let none : misfit_in (exact_rows sheet.kind) (line ∷ lines) sheet.rows ≡ None = ap (λ l. misfit_in (exact_rows sheet.kind) l sheet.rows) (sym listed) ∙ valid_fits sheet valid in
-    let first = led_first (exact_rows sheet.kind) line lines sheet.rows exact none in
-    led sheet.rows (λ place row is. (valid_row sheet valid place row is).0) line lines 0 first.0 first.1
+-- the order that is kept to longest is one of them
+longest_among : (rows : List Row) (order : List Line) (others : List (List Line)) → IsIn (longest_kept rows (order ∷ others)) (order ∷ others)
+longest_among rows order [] = inl refl
+longest_among rows order (other ∷ others) = by (nat_lt (kept rows order 0) (kept rows (longest_kept rows (other ∷ others)) 0)) (longest_among rows other others)
+  where
+    by : (b : Bool) → IsIn (longest_kept rows (other ∷ others)) (other ∷ others) → IsIn (cond b (longest_kept rows (other ∷ others)) order) (order ∷ other ∷ others)
+    by true later = inr later
+    by false later = inl refl
+
+-- the rows of a kind that lists lines lead through one of its orders from the first on
+pub valid_leads : (sheet : Sheet) → IsValid sheet → exact_rows sheet.kind ≡ [] → (lines : List Line) × IsIn lines (orders_of sheet.kind) × Leads sheet.rows 0 lines
+valid_leads sheet valid exact =
+    let order = longest_kept sheet.rows (orders_of sheet.kind) in
+    let fit = fit_none (exact_rows sheet.kind) order sheet.rows exact (valid_fits sheet valid) in
+    let leads = led sheet.rows (λ place row is. (valid_row sheet valid place row is).0) fit.0 fit.1 0 fit.3 fit.4 in
+    (order, longest_among sheet.rows _ _, subst (Leads sheet.rows 0) (sym fit.2) leads)
 
 -- no row has the number that ends a procedure
 pub valid_end : (sheet : Sheet) → IsValid sheet → (row : Row) → slice_get sheet.rows no_row ≡ Some row → ⊥
 valid_end sheet valid row is =
     let low = (valid_row sheet valid no_row row is).1 in
     omega (arith, low)
+
+-- the acts of lines
+abbrev pub acts_of : List Line → List Act
+acts_of [] = []
+acts_of (line ∷ lines) = line.act ∷ acts_of lines
+
+-- rows lead from a place through one list of acts
+pub same_acts : (sheet : Sheet) → IsValid sheet → (place : ℕ) (one other : List Line) → Leads sheet.rows place one → Leads sheet.rows place other → acts_of one ≡ acts_of other
+same_acts sheet valid place [] [] a b = refl
+same_acts sheet valid place [] (line ∷ other) a b = absurd (valid_end sheet valid b.0 (ap (slice_get sheet.rows) (sym a) ∙ b.1))
+same_acts sheet valid place (line ∷ one) [] a b = absurd (valid_end sheet valid a.0 (ap (slice_get sheet.rows) (sym b) ∙ a.1))
+same_acts sheet valid place (line ∷ one) (other ∷ others) a b =
+    let same : b.0 ≡ a.0 = same_Some b.0 a.0 (sym b.1 ∙ a.1) in
+    let act : line.act ≡ other.act = sym a.2.0 ∙ ap (λ (r : Row). r.act) (sym same) ∙ b.2.0 in
+    ap (λ x. x ∷ acts_of one) act ∙ ap (λ l. other.act ∷ l) (same_acts sheet valid a.0.next one others a.4 (subst (λ (r : Row). Leads sheet.rows r.next others) same b.4))
 
 -- a kind that sheets are for has one
 pub sheet_found : (sheets : List Sheet) (kind : ℕ) → AllValid sheets → list_any (λ k. k == kind) (map (λ s. s.kind) sheets) ≡ true → (sheet : Sheet) × (sheet_for sheets kind ≡ Some sheet) × IsValid sheet × (sheet.kind ≡ kind)

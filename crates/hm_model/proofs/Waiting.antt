@@ -1,4 +1,7 @@
 -- How many children and descendants haven't ended.
+use Rattle.hm_model.specs.Base.{PartFits}
+use Rattle.hm_data.specs.declared.part.Part.{Part}
+use Rattle.hm_model.proofs.Parted.{by_parts, count_none}
 use Rattle.std.proofs.Common.{Bool, None, Option, Some, [], ap, arith, false, if◌then◌else◌, inl, inr, length, not, refl, slice_get, suc, sym, true, zero, ℕ, ◌&&◌, ◌+◌, ◌-◌, ◌<◌, ◌==◌, ◌||◌, ◌∙◌, ◌∷◌, ◌≡◌, ◌≢◌, ◌≤◌}
 use Rattle.std.specs.Option.{option_map}
 use Rattle.std.proofs.lemmas.Bool.{and_left, cases_eq, ne_eqb}
@@ -123,7 +126,8 @@ module _ (pid : Pid) (pick : Option Server) (out : StepOut) (before : Past) (leg
 
   new_child : (q : ℕ) → made before < q → q ≤ made before + length (args_in out.children) → (a : Args) × (node_of after q ≡ Some (child_of pid.0 me a)) × (last_answer after q ≡ None)
   new_child q lt le =
-      let there = (grown_all after legal).there q (omega (arith, lt)) le in
+      let few = grown.low in
+      let there = (grown_all after legal).there q (omega (arith, lt, few)) le in
       let c = child_is pid.0 (node_of before pid.0) (slice_get (args_in out.children) (q - made before - 1)) there.0 (sym (step_new pid pick out before q lt) ∙ there.1) in
       let own : c.0 ≡ me = same_Some c.0 me (sym c.2 ∙ is_me) in
       let differs : q ≢ pid.0 = λ e. omega (arith, e, low, lt) in (
@@ -292,6 +296,10 @@ undo_makes pid row out before = (
 both_still : (J J' : Past) (m : ℕ) → MakesRoots J J' m → ((p : ℕ) → open_children J' p + 0 ≡ open_children J p + 0) × ((r : ℕ) → open_under J' r + 0 ≡ open_under J r + 0)
 both_still J J' m makes = (λ p. ap (λ n. n + 0) (children_still J J' m makes p), λ r. ap (λ n. n + 0) (under_still J J' m makes r))
 
+-- parts make none, and there is none before them
+none_open : (part : Part) (before : Past) → PartFits part before → ((p : ℕ) → open_children before p ≡ 0) × ((r : ℕ) → open_under before r ≡ 0)
+none_open = by_parts (λ J. ((p : ℕ) → open_children J p ≡ 0) × ((r : ℕ) → open_under J r ≡ 0)) (λ p. refl, λ r. refl) (λ own older. (λ p. count_none (made (entry_is.Base own ∷ older) + 1), λ r. count_none (made (entry_is.Base own ∷ older) + 1)))
+
 pub children_change : (entry : Entry) (before : Past) → IsLegal (entry ∷ before) → (p : ℕ) → open_children (entry ∷ before) p + one_if (ends_one (λ q. child_in p (node_of before q)) entry) ≡ open_children before p + added (λ q. q == p) entry
 children_change (entry_is.Start sheets) before legal = (both_still before (entry_is.Start sheets ∷ before) 0 (plain_makes before (entry_is.Start sheets ∷ before) (grown_all before legal.0) refl (λ q. refl) (λ q. refl))).0
 children_change (entry_is.Submit nonce request) before legal = (both_still before (entry_is.Submit nonce request ∷ before) 1 (submit_makes nonce request before (grown_all before legal.0))).0
@@ -300,6 +308,8 @@ children_change (entry_is.Report call told) before legal = (both_still before (e
 children_change (entry_is.Up server) before legal = (both_still before (entry_is.Up server ∷ before) 0 (plain_makes before (entry_is.Up server ∷ before) (grown_all before legal.0) refl (λ q. refl) (λ q. refl))).0
 children_change (entry_is.Down server) before legal = (both_still before (entry_is.Down server ∷ before) 1 (down_makes server before (grown_all before legal.0))).0
 children_change (entry_is.Abort pid) before legal = (both_still before (entry_is.Abort pid ∷ before) 0 (plain_makes before (entry_is.Abort pid ∷ before) (grown_all before legal.0) refl (λ q. refl) (λ q. refl))).0
+children_change (entry_is.Adopt sheets) before legal = (both_still before (entry_is.Adopt sheets ∷ before) 0 (plain_makes before (entry_is.Adopt sheets ∷ before) (grown_all before legal.0) refl (λ q. refl) (λ q. refl))).0
+children_change (entry_is.Base part) before legal = λ p. omega (arith, count_none (made (entry_is.Base part ∷ before) + 1), (none_open part before legal.1.0).0 p)
 children_change (entry_is.Step pid pick out) before legal = children_step pid pick out before legal
 
 pub under_change : (entry : Entry) (before : Past) → IsLegal (entry ∷ before) → (r : ℕ) → open_under (entry ∷ before) r + one_if (ends_one (λ q. in_tree r (node_of before q) && not (q == r)) entry) ≡ open_under before r + added (λ q. in_tree r (node_of before q)) entry
@@ -310,4 +320,6 @@ under_change (entry_is.Report call told) before legal = (both_still before (entr
 under_change (entry_is.Up server) before legal = (both_still before (entry_is.Up server ∷ before) 0 (plain_makes before (entry_is.Up server ∷ before) (grown_all before legal.0) refl (λ q. refl) (λ q. refl))).1
 under_change (entry_is.Down server) before legal = (both_still before (entry_is.Down server ∷ before) 1 (down_makes server before (grown_all before legal.0))).1
 under_change (entry_is.Abort pid) before legal = (both_still before (entry_is.Abort pid ∷ before) 0 (plain_makes before (entry_is.Abort pid ∷ before) (grown_all before legal.0) refl (λ q. refl) (λ q. refl))).1
+under_change (entry_is.Adopt sheets) before legal = (both_still before (entry_is.Adopt sheets ∷ before) 0 (plain_makes before (entry_is.Adopt sheets ∷ before) (grown_all before legal.0) refl (λ q. refl) (λ q. refl))).1
+under_change (entry_is.Base part) before legal = λ r. omega (arith, count_none (made (entry_is.Base part ∷ before) + 1), (none_open part before legal.1.0).1 r)
 under_change (entry_is.Step pid pick out) before legal = under_step pid pick out before legal

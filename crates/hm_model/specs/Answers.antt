@@ -20,6 +20,8 @@ last_answer (entry_is.Report call told ∷ before) p = last_answer before p
 last_answer (entry_is.Up server ∷ before) p = last_answer before p
 last_answer (entry_is.Down server ∷ before) p = last_answer before p
 last_answer (entry_is.Abort pid ∷ before) p = last_answer before p
+last_answer (entry_is.Adopt sheets ∷ before) p = last_answer before p
+last_answer (entry_is.Base part ∷ before) p = None
 
 -- the report of a procedure's call
 abbrev pub report_of : Past → ℕ → Option Told
@@ -32,6 +34,8 @@ report_of (entry_is.Report call told ∷ before) p = if p == call.0 then Some to
 report_of (entry_is.Up server ∷ before) p = report_of before p
 report_of (entry_is.Down server ∷ before) p = report_of before p
 report_of (entry_is.Abort pid ∷ before) p = report_of before p
+report_of (entry_is.Adopt sheets ∷ before) p = report_of before p
+report_of (entry_is.Base part ∷ before) p = None
 
 -- somebody aborted the procedure
 abbrev pub is_aborted : Past → ℕ → Bool
@@ -44,6 +48,8 @@ is_aborted (entry_is.Report call told ∷ before) p = is_aborted before p
 is_aborted (entry_is.Up server ∷ before) p = is_aborted before p
 is_aborted (entry_is.Down server ∷ before) p = is_aborted before p
 is_aborted (entry_is.Abort pid ∷ before) p = if p == pid.0 then true else is_aborted before p
+is_aborted (entry_is.Adopt sheets ∷ before) p = is_aborted before p
+is_aborted (entry_is.Base part ∷ before) p = false
 
 -- the row that follows the last one, and as `next` in a sheet the end
 abbrev pub no_row : ℕ

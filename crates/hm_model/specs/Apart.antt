@@ -23,6 +23,8 @@ tree_of before (entry_is.Report call told) = root_of before call.0
 tree_of before (entry_is.Up server) = 0
 tree_of before (entry_is.Down server) = made before + 1
 tree_of before (entry_is.Abort pid) = root_of before pid.0
+tree_of before (entry_is.Adopt sheets) = 0
+tree_of before (entry_is.Base part) = 0
 
 -- what is told of a procedure is the same
 pub record IsSame (J J' : Past) (p : ℕ) : Type 0 where

@@ -13,6 +13,8 @@ use Rattle.hm_data.specs.declared.entry.Entry.TheVariants as entry_is
 use Rattle.hm_model.specs.Journal.{Past}
 use Rattle.hm_model.specs.Keys.{same_key}
 use Rattle.hm_model.specs.Answers.{last_answer}
+use Rattle.hm_data.specs.declared.part.Part.{Part}
+use Rattle.hm_model.specs.Parts.{part_key, part_row}
 
 -- the row of each key
 abbrev pub Catalog : Type 0
@@ -44,6 +46,8 @@ cat (entry_is.Report call told ∷ before) key = cat before key
 cat (entry_is.Up server ∷ before) key = cat before key
 cat (entry_is.Down server ∷ before) key = cat before key
 cat (entry_is.Abort pid ∷ before) key = cat before key
+cat (entry_is.Adopt sheets ∷ before) key = cat before key
+cat (entry_is.Base part ∷ before) key = part_row part key (cat before key)
 
 -- the catalog just before the first step of a procedure, that of the start where it has none
 abbrev pub was : Past → ℕ → Catalog
@@ -57,6 +61,8 @@ was (entry_is.Report call told ∷ before) p = was before p
 was (entry_is.Up server ∷ before) p = was before p
 was (entry_is.Down server ∷ before) p = was before p
 was (entry_is.Abort pid ∷ before) p = was before p
+was (entry_is.Adopt sheets ∷ before) p = was before p
+was (entry_is.Base part ∷ before) p = cat (entry_is.Base part ∷ before)
 
 -- a key beside the first of some keys in key order, by how they compare, and what the rest of them is with it
 abbrev pub with_key_at : Ordering → CatKey → CatKey → List CatKey → List CatKey → List CatKey
@@ -74,6 +80,10 @@ abbrev pub with_keys : List Edit → List CatKey → List CatKey
 with_keys [] keys = keys
 with_keys (edit ∷ edits) keys = with_keys edits (with_key edit.key keys)
 
+-- keys in key order, with that of a part
+abbrev pub part_keys : Part → List CatKey → List CatKey
+part_keys part keys = elim (part_key part) as (λ k. List CatKey) [ None ↦ keys | Some key ↦ with_key key keys ]
+
 -- the keys that were there at the start or were ever edited, in key order
 abbrev pub keys_of : Past → List CatKey
 keys_of [] = key_is.Ns (codes "default") ∷ key_is.Ns (codes "hbase") ∷ []
@@ -85,6 +95,8 @@ keys_of (entry_is.Report call told ∷ before) = keys_of before
 keys_of (entry_is.Up server ∷ before) = keys_of before
 keys_of (entry_is.Down server ∷ before) = keys_of before
 keys_of (entry_is.Abort pid ∷ before) = keys_of before
+keys_of (entry_is.Adopt sheets ∷ before) = keys_of before
+keys_of (entry_is.Base part ∷ before) = part_keys part (keys_of before)
 
 -- one row more in front, if it is asked for and there
 abbrev pub keep : Bool → CatKey → Option CatRow → List (CatKey × CatRow) → List (CatKey × CatRow)

@@ -11,7 +11,7 @@ use Rattle.hm_data.specs.declared.catalog.CatRow.{CatRow}
 use Rattle.hm_data.specs.declared.catalog.CatRow.TheVariants as row_is
 use Rattle.hm_data.specs.declared.catalog.Edit.{Edit}
 use Rattle.hm_data.specs.declared.catalog.Status.TheVariants as status_is
-use Rattle.hm_model.specs.declared.part.Part.{Part}
+use Rattle.hm_model.specs.declared.merged.Merged.{Merged}
 use Rattle.hm_model.specs.Catalog.{Catalog, set_to}
 use Rattle.hm_model.specs.Checks.{parts_of, by_start, hull}
 use Rattle.hm_model.specs.Locks.{in_name_order}
@@ -53,7 +53,7 @@ abbrev pub split_edits : Catalog → Region → List ℕ → ℕ → List Edit
 split_edits there region key first = split_range there region key first (range_in (there (key_is.Region region)))
 
 -- the region that others by their start keys become
-abbrev pub merged_of : Catalog → TableName → ℕ → List Part → List Edit
+abbrev pub merged_of : Catalog → TableName → ℕ → List Merged → List Edit
 merged_of there table first [] = []
 merged_of there table first (part ∷ more) =
     set_to there (region_key table first) (Some (live_row (hull part.range more) (map (λ p. p.id) (part ∷ more)))) ∷ []

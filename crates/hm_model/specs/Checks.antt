@@ -13,7 +13,7 @@ use Rattle.hm_data.specs.declared.catalog.CatKey.TheVariants as key_is
 use Rattle.hm_data.specs.declared.catalog.CatRow.{CatRow}
 use Rattle.hm_data.specs.declared.catalog.TableState.{TableState}
 use Rattle.hm_data.specs.declared.catalog.TableState.TheVariants as state_is
-use Rattle.hm_model.specs.declared.part.Part.{Part}
+use Rattle.hm_model.specs.declared.merged.Merged.{Merged}
 use Rattle.hm_model.specs.Catalog.{Catalog}
 use Rattle.hm_model.specs.Phase.{or_else}
 use Rattle.hm_model.specs.RowsSaid.{table_state_in, status_in, range_in, same_state, is_live_status}
@@ -74,39 +74,39 @@ abbrev pub can_split : Option CatRow → Option CatRow → List ℕ → Option C
 can_split table region key = or_else (region_ready table region) (key_inside (range_in region) key)
 
 -- a region in front of others, where its range is known
-abbrev pub keep_part : ℕ → Option KeyRange → List Part → List Part
+abbrev pub keep_part : ℕ → Option KeyRange → List Merged → List Merged
 keep_part id None more = more
 keep_part id (Some range) more = record { id = id; range = range } ∷ more
 
 -- the ranges of regions in a catalog
-abbrev pub parts_of : Catalog → List Region → List Part
+abbrev pub parts_of : Catalog → List Region → List Merged
 parts_of there [] = []
 parts_of there (region ∷ more) = keep_part region.id (range_in (there (key_is.Region region))) (parts_of there more)
 
 -- regions by their start keys, with one more
-abbrev pub with_part : Part → List Part → List Part
+abbrev pub with_part : Merged → List Merged → List Merged
 with_part part [] = part ∷ []
 with_part part (first ∷ more) =
     if is_le (bytes_cmp part.range.start first.range.start) then (part ∷ first ∷ more) else (first ∷ with_part part more)
 
 -- regions by their start keys
-abbrev pub by_start : List Part → List Part
+abbrev pub by_start : List Merged → List Merged
 by_start [] = []
 by_start (part ∷ more) = with_part part (by_start more)
 
 -- each end isn't the open one and is the next one's start, from a range on
-abbrev pub is_chain : KeyRange → List Part → Bool
+abbrev pub is_chain : KeyRange → List Merged → Bool
 is_chain range [] = true
 is_chain range (next ∷ more) =
     not (length range.end == 0) && (bytes_eq range.end next.range.start && is_chain next.range more)
 
 -- regions by their start keys are adjacent, each to the next
-abbrev pub are_adjacent : List Part → Option Cause
+abbrev pub are_adjacent : List Merged → Option Cause
 are_adjacent [] = None
 are_adjacent (part ∷ more) = if is_chain part.range more then None else Some cause_is.NotAdjacent
 
 -- from the start of a range to the end of the last
-abbrev pub hull : KeyRange → List Part → KeyRange
+abbrev pub hull : KeyRange → List Merged → KeyRange
 hull range [] = range
 hull range (next ∷ more) = hull (joined range next.range) more
 

@@ -54,6 +54,8 @@ regions_lost (entry_is.Report call told ∷ before) r = regions_lost before r
 regions_lost (entry_is.Up server ∷ before) r = regions_lost before r
 regions_lost (entry_is.Down server ∷ before) r = if r == made before + 1 then load before server else regions_lost before r
 regions_lost (entry_is.Abort pid ∷ before) r = regions_lost before r
+regions_lost (entry_is.Adopt sheets ∷ before) r = regions_lost before r
+regions_lost (entry_is.Base part ∷ before) r = 0
 
 -- the entries that a root costs, with the one that makes it; what is only ever a child costs none by itself
 abbrev pub cost_in : Args → ℕ → List CatKey → Catalog → ℕ

@@ -25,6 +25,8 @@ entries_of (entry_is.Report call told ∷ before) r = entries_of before r + one_
 entries_of (entry_is.Up server ∷ before) r = entries_of before r
 entries_of (entry_is.Down server ∷ before) r = entries_of before r + one_if (r == made before + 1)
 entries_of (entry_is.Abort pid ∷ before) r = entries_of before r
+entries_of (entry_is.Adopt sheets ∷ before) r = entries_of before r
+entries_of (entry_is.Base part ∷ before) r = 0
 
 -- a call was refused, or a region didn't open
 abbrev pub is_refusal : Told → Bool
@@ -51,3 +53,5 @@ IsQuiet (entry_is.Report call told ∷ before) r =
 IsQuiet (entry_is.Up server ∷ before) r = IsQuiet before r
 IsQuiet (entry_is.Down server ∷ before) r = IsQuiet before r × (node_of before r ≢ None → ended before r ≡ true)
 IsQuiet (entry_is.Abort pid ∷ before) r = IsQuiet before r × (pid.0 ≢ r)
+IsQuiet (entry_is.Adopt sheets ∷ before) r = IsQuiet before r
+IsQuiet (entry_is.Base part ∷ before) r = Unit {0}

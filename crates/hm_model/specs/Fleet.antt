@@ -12,6 +12,8 @@ use Rattle.hm_data.specs.declared.args.Args.TheVariants as args_are
 use Rattle.hm_data.specs.declared.call.Told.TheVariants as told_is
 use Rattle.hm_data.specs.declared.entry.Entry.TheVariants as entry_is
 use Rattle.hm_model.specs.Journal.{Past}
+use Rattle.hm_data.specs.declared.part.Part.{Part}
+use Rattle.hm_model.specs.Parts.{part_server}
 use Rattle.hm_model.specs.Tree.{Node, node_of}
 
 -- servers of one host and one port
@@ -33,6 +35,18 @@ abbrev pub with_server : Server → List Server → List Server
 with_server server [] = server ∷ []
 with_server server (first ∷ more) = with_server_at (server_cmp server first) server first more (with_server server more)
 
+-- servers in name order, with that of a part
+abbrev pub part_servers : Part → List Server → List Server
+part_servers part servers = elim (part_server part) as (λ s. List Server) [ None ↦ servers | Some both ↦ with_server both.0 servers ]
+
+-- a server is live, with a part
+abbrev pub part_live : Part → Server → Bool → Bool
+part_live part server before = elim (part_server part) as (λ s. Bool) [ None ↦ before | Some both ↦ (same_server server both.0 && not both.1) || before ]
+
+-- a server is fenced, with a part
+abbrev pub part_fenced : Part → Server → Bool → Bool
+part_fenced part server before = elim (part_server part) as (λ s. Bool) [ None ↦ before | Some both ↦ (same_server server both.0 && both.1) || before ]
+
 -- the servers that ever came up, in name order
 abbrev pub servers_of : Past → List Server
 servers_of [] = []
@@ -44,6 +58,8 @@ servers_of (entry_is.Report call told ∷ before) = servers_of before
 servers_of (entry_is.Up server ∷ before) = with_server server (servers_of before)
 servers_of (entry_is.Down server ∷ before) = servers_of before
 servers_of (entry_is.Abort pid ∷ before) = servers_of before
+servers_of (entry_is.Adopt sheets ∷ before) = servers_of before
+servers_of (entry_is.Base part ∷ before) = part_servers part (servers_of before)
 
 -- a server ever came up
 abbrev pub came_up : Past → Server → Bool
@@ -60,6 +76,8 @@ is_live (entry_is.Report call told ∷ before) server = is_live before server
 is_live (entry_is.Up other ∷ before) server = same_server server other || is_live before server
 is_live (entry_is.Down other ∷ before) server = not (same_server server other) && is_live before server
 is_live (entry_is.Abort pid ∷ before) server = is_live before server
+is_live (entry_is.Adopt sheets ∷ before) server = is_live before server
+is_live (entry_is.Base part ∷ before) server = part_live part server (is_live before server)
 
 -- a procedure is the call to fence a server
 abbrev pub fences_by : Args → Server → Bool
@@ -91,6 +109,8 @@ is_fenced (entry_is.Report call told ∷ before) server =
 is_fenced (entry_is.Up other ∷ before) server = is_fenced before server
 is_fenced (entry_is.Down other ∷ before) server = is_fenced before server
 is_fenced (entry_is.Abort pid ∷ before) server = is_fenced before server
+is_fenced (entry_is.Adopt sheets ∷ before) server = is_fenced before server
+is_fenced (entry_is.Base part ∷ before) server = part_fenced part server (is_fenced before server)
 
 -- a server went down: it came up, and isn't live
 abbrev pub is_down : Past → Server → Bool

@@ -49,6 +49,8 @@ to_undo (entry_is.Report call told ∷ before) r = to_undo before r
 to_undo (entry_is.Up server ∷ before) r = to_undo before r
 to_undo (entry_is.Down server ∷ before) r = to_undo before r
 to_undo (entry_is.Abort pid ∷ before) r = to_undo before r
+to_undo (entry_is.Adopt sheets ∷ before) r = to_undo before r
+to_undo (entry_is.Base part ∷ before) r = []
 
 -- the undos of a root's tree, in the order in which they were recorded
 abbrev pub undos_of : Past → ℕ → List Reversal
@@ -62,6 +64,8 @@ undos_of (entry_is.Report call told ∷ before) r = undos_of before r
 undos_of (entry_is.Up server ∷ before) r = undos_of before r
 undos_of (entry_is.Down server ∷ before) r = undos_of before r
 undos_of (entry_is.Abort pid ∷ before) r = undos_of before r
+undos_of (entry_is.Adopt sheets ∷ before) r = undos_of before r
+undos_of (entry_is.Base part ∷ before) r = []
 
 -- the undos of a tree take back its steps in turn, from the latest on
 abbrev pub UndosGoBack : Type 0

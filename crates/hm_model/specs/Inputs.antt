@@ -14,6 +14,7 @@ use Rattle.hm_data.specs.declared.step.StepOut.{StepOut}
 use Rattle.hm_data.specs.declared.step.Turn.TheVariants as turn_is
 use Rattle.hm_model.specs.Answers.{last_answer, row_of, report_of, is_aborted, done_with}
 use Rattle.hm_model.specs.Catalog.{cat, keys_of, rows_at}
+use Rattle.hm_model.specs.Editions.{edition_of}
 use Rattle.hm_model.specs.Fleet.{is_fenced}
 use Rattle.hm_model.specs.Journal.{Past}
 use Rattle.hm_model.specs.Kinds.{kind_of}
@@ -21,7 +22,7 @@ use Rattle.hm_model.specs.Reads.{reads}
 use Rattle.hm_model.specs.Evaluation.{answer_of}
 use Rattle.hm_model.specs.Phase.{cause, all_stopped, child_in, end_of}
 use Rattle.hm_model.specs.Places.{place_of, on_server, tries_of}
-use Rattle.hm_model.specs.Sheets.{sheets_of}
+use Rattle.hm_model.specs.Sheets.{sheets_by}
 use Rattle.hm_model.specs.Tree.{Node, pid_of, made, node_of, is_top}
 use Rattle.hm_model.specs.Undo.{Undoable, stack, is_empty}
 use Rattle.hm_model.specs.Whereabouts.{moved_by, called_by, crashed_in}
@@ -65,6 +66,8 @@ made_at_step (entry_is.Report call told ∷ before) p = made_at_step before p
 made_at_step (entry_is.Up server ∷ before) p = made_at_step before p
 made_at_step (entry_is.Down server ∷ before) p = made_at_step before p
 made_at_step (entry_is.Abort pid ∷ before) p = made_at_step before p
+made_at_step (entry_is.Adopt sheets ∷ before) p = made_at_step before p
+made_at_step (entry_is.Base part ∷ before) p = 0
 
 -- it is a child of p that p's last step made
 abbrev pub is_new_child : Past → ℕ → ℕ → Bool
@@ -86,6 +89,7 @@ step_input before p node pick = record {
   pid = pid_of p;
   root = pid_of node.root;
   kind = kind_of node.args;
+  edition = edition_of before node.root;
   row = row_of before p node;
   args = node.args;
   tries = tries_of before p;
@@ -129,7 +133,7 @@ input before p node pick =
 
 -- what the next call of a procedure's handler has to answer
 abbrev pub answers : Past → ℕ → Node → Option Server → Option StepOut
-answers before p node pick = answer_of (sheets_of before) (input before p node pick)
+answers before p node pick = answer_of (sheets_by before node.root) (input before p node pick)
 
 -- this is what the next call of the handler of a procedure that is there answers
 abbrev pub IsEvaluated : Past → ℕ → Option Server → StepOut → Type 0

@@ -7,6 +7,7 @@ use Rattle.hm_data.specs.declared.call.Verb.TheVariants as verb_is
 use Rattle.hm_data.specs.declared.entry.Entry.TheVariants as entry_is
 use Rattle.hm_model.specs.Journal.{Past}
 use Rattle.hm_model.specs.Reports.{verb_of}
+use Rattle.hm_model.specs.Parts.{part_laid}
 
 -- whether a report leaves the layout of a root there, if it is of one
 abbrev pub laid_by : Told → Option Bool
@@ -47,3 +48,5 @@ is_laid (entry_is.Report call told ∷ before) root =
 is_laid (entry_is.Up server ∷ before) root = is_laid before root
 is_laid (entry_is.Down server ∷ before) root = is_laid before root
 is_laid (entry_is.Abort pid ∷ before) root = is_laid before root
+is_laid (entry_is.Adopt sheets ∷ before) root = is_laid before root
+is_laid (entry_is.Base part ∷ before) root = part_laid part root (is_laid before root)

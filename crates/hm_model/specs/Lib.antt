@@ -1,9 +1,12 @@
+pub mod Parts
+pub mod Base
 pub mod Journal
 pub mod Keys
 pub mod Kinds
 pub mod Tree
 pub mod Answers
 pub mod Sheets
+pub mod Editions
 pub mod Undo
 pub mod Phase
 pub mod Catalog
@@ -17,6 +20,7 @@ pub mod Nonces
 pub mod Serial
 pub mod TreeEdits
 pub mod Rules
+pub mod Plain
 pub mod GoingBack
 pub mod Rest
 pub mod Counts
@@ -64,6 +68,7 @@ pub mod Touched
 pub mod Calls
 pub mod RowLaws
 pub mod Laws
+pub mod EditionLaws
 pub mod Actors
 pub mod Findings
 pub mod Storages

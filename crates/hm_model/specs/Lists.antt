@@ -29,7 +29,8 @@ late act = record { act = act; after = true; undo = back_is.Nothing }
 abbrev pub opening : List Line
 opening = late act_is.OpenRegions ∷ late act_is.SetEnabled ∷ []
 
--- the rows of the kinds whose handlers may number them as they like, in the order in which they are led through
+-- the rows of the kinds whose handlers may number them as they like, in the order in which they are led through; of a split
+-- the first of its two orders
 abbrev pub lines_of : ℕ → List Line
 lines_of kind =
     if kind == 1 then plain act_is.CheckNamespaceFree ∷ plain act_is.AddNamespace ∷ []
@@ -44,6 +45,14 @@ lines_of kind =
     else (if kind == 20 then undone act_is.AddRegionRows back_is.Edits ∷ []
     else (if kind == 21 then late act_is.DropRegionRows ∷ []
     else []))))))))))
+
+-- the second order of a split: the layout comes before the parent is closed
+abbrev pub layout_first : List Line
+layout_first = plain act_is.CheckSplit ∷ undone act_is.Layout back_is.Sweep ∷ undone act_is.CloseParent back_is.Reopen ∷ undone act_is.UpdateSplitMeta back_is.Edits ∷ late act_is.OpenDaughters ∷ late act_is.Finish ∷ []
+
+-- the orders of a kind's rows, of equally many lines
+abbrev pub orders_of : ℕ → List (List Line)
+orders_of kind = lines_of kind ∷ (if kind == 8 then layout_first ∷ [] else [])
 
 -- a row as a kind of exact rows has it: its act, the row that follows, whether it is after the point; no undo
 abbrev pub fixed : Act → ℕ → Bool → Row

@@ -35,6 +35,8 @@ cause (entry_is.Report call told ∷ before) r = cause before r
 cause (entry_is.Up server ∷ before) r = cause before r
 cause (entry_is.Down server ∷ before) r = cause before r
 cause (entry_is.Abort pid ∷ before) r = cause before r
+cause (entry_is.Adopt sheets ∷ before) r = cause before r
+cause (entry_is.Base part ∷ before) r = None
 
 -- it is of the tree of a root
 abbrev pub in_tree : ℕ → Option Node → Bool

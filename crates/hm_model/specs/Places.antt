@@ -11,6 +11,9 @@ use Rattle.hm_data.specs.declared.place.Place.{Place}
 use Rattle.hm_data.specs.declared.place.RegionState.TheVariants as place_is
 use Rattle.hm_model.specs.Fleet.{same_server}
 use Rattle.hm_model.specs.Journal.{Past}
+use Rattle.hm_model.specs.Keys.{same_region}
+use Rattle.hm_data.specs.declared.part.Part.{Part}
+use Rattle.hm_data.specs.declared.part.Part.TheVariants as part_is
 use Rattle.hm_model.specs.Reports.{is_the_region}
 use Rattle.hm_model.specs.TransitActs.{nowhere, is_placed, is_state}
 use Rattle.hm_model.specs.Tree.{Node, node_of}
@@ -26,6 +29,16 @@ abbrev pub placed_by : Region → Option Region → Option Place → Place → P
 placed_by region own None place = place
 placed_by region own (Some given) place = if is_the_region region own then given else place
 
+-- the place of a region, with a part
+abbrev pub part_place : Part → Region → Place → Place
+part_place (part_is.Head entries last parts sheets) region place = place
+part_place (part_is.Namespace ns) region place = place
+part_place (part_is.Table table drawn own) region place = place
+part_place (part_is.Region own range status parents given) region place = if same_region region own then given else place
+part_place (part_is.Server server fenced) region place = place
+part_place (part_is.Root pid nonce args cause) region place = place
+part_place (part_is.Layout pid) region place = place
+
 -- the place of a region: what the last step that gave it one said, and Offline before any
 abbrev pub place_of : Past → Region → Place
 place_of [] region = nowhere place_is.Offline
@@ -38,6 +51,8 @@ place_of (entry_is.Report call told ∷ before) region = place_of before region
 place_of (entry_is.Up server ∷ before) region = place_of before region
 place_of (entry_is.Down server ∷ before) region = place_of before region
 place_of (entry_is.Abort pid ∷ before) region = place_of before region
+place_of (entry_is.Adopt sheets ∷ before) region = place_of before region
+place_of (entry_is.Base part ∷ before) region = part_place part region (place_of before region)
 
 -- a region beside the first of some in name order, by how they compare, and what the rest of them is with it
 abbrev pub joined_at : Ordering → Region → Region → List Region → List Region → List Region
@@ -56,6 +71,16 @@ joined_if own None regions = regions
 joined_if None (Some place) regions = regions
 joined_if (Some region) (Some place) regions = joined_by region regions
 
+-- regions in name order, with that of a part
+abbrev pub part_placed : Part → List Region → List Region
+part_placed (part_is.Head entries last parts sheets) regions = regions
+part_placed (part_is.Namespace ns) regions = regions
+part_placed (part_is.Table table drawn own) regions = regions
+part_placed (part_is.Region own range status parents given) regions = joined_by own regions
+part_placed (part_is.Server server fenced) regions = regions
+part_placed (part_is.Root pid nonce args cause) regions = regions
+part_placed (part_is.Layout pid) regions = regions
+
 -- the regions that were ever given a place, in name order
 abbrev pub placed : Past → List Region
 placed [] = []
@@ -67,6 +92,8 @@ placed (entry_is.Report call told ∷ before) = placed before
 placed (entry_is.Up server ∷ before) = placed before
 placed (entry_is.Down server ∷ before) = placed before
 placed (entry_is.Abort pid ∷ before) = placed before
+placed (entry_is.Adopt sheets ∷ before) = placed before
+placed (entry_is.Base part ∷ before) = part_placed part (placed before)
 
 -- it is the server
 abbrev pub is_the_server : Server → Option Server → Bool
@@ -110,3 +137,5 @@ tries_of (entry_is.Report call told ∷ before) p = tries_of before p
 tries_of (entry_is.Up server ∷ before) p = tries_of before p
 tries_of (entry_is.Down server ∷ before) p = tries_of before p
 tries_of (entry_is.Abort pid ∷ before) p = tries_of before p
+tries_of (entry_is.Adopt sheets ∷ before) p = tries_of before p
+tries_of (entry_is.Base part ∷ before) p = 0

@@ -2,24 +2,35 @@
 use Rattle.std.specs.Prelude.{ℕ, ◌+◌, List, [], ◌∷◌, Option, Some, None, if◌then◌else◌}
 use Rattle.hm_data.specs.declared.sheet.Sheet.{Sheet}
 use Rattle.hm_data.specs.declared.step.StepIn.{StepIn}
+use Rattle.hm_data.specs.declared.entry.Entry.TheVariants as entry_is
 use Rattle.hm_model.specs.Journal.{Past}
 use Rattle.hm_model.specs.Kinds.{kind_of}
 use Rattle.hm_model.specs.Phase.{root_ended}
-use Rattle.hm_model.specs.Sheets.{sheet_for, sheets_of}
-use Rattle.hm_model.specs.Tree.{Node, node_of}
+use Rattle.hm_model.specs.Sheets.{sheet_for, sheets_by}
+use Rattle.hm_model.specs.Tree.{Node, made, node_of}
 use Rattle.hm_model.specs.Undo.{Undoable, stack}
 
--- the number before that of the first procedure
+-- the number before that of the first procedure that an entry made
 abbrev pub offset : Past → ℕ
-offset J = 0
+offset [] = 0
+offset (entry_is.Start sheets ∷ before) = offset before
+offset (entry_is.Submit nonce request ∷ before) = offset before
+offset (entry_is.Step pid pick out ∷ before) = offset before
+offset (entry_is.Undo pid row out ∷ before) = offset before
+offset (entry_is.Report call told ∷ before) = offset before
+offset (entry_is.Up server ∷ before) = offset before
+offset (entry_is.Down server ∷ before) = offset before
+offset (entry_is.Abort pid ∷ before) = offset before
+offset (entry_is.Adopt sheets ∷ before) = offset before
+offset (entry_is.Base part ∷ before) = made (entry_is.Base part ∷ before)
 
 -- the number of the procedure at a place among those that were made, counted from 0
 abbrev pub number_at : Past → ℕ → ℕ
 number_at J place = offset J + place + 1
 
--- the sheet of a procedure: that of its kind, with which the journal began
+-- the sheet of a procedure: that of its kind, of those that were in force when its root was made
 abbrev pub sheet_of : Past → ℕ → Node → Option Sheet
-sheet_of before p node = sheet_for (sheets_of before) (kind_of node.args)
+sheet_of before p node = sheet_for (sheets_by before node.root) (kind_of node.args)
 
 -- the same of a procedure by its number
 abbrev pub sheet_by : Past → ℕ → Option Sheet

@@ -3,6 +3,7 @@ use Rattle.std.specs.Prelude.{ℕ, ◌+◌, Option, not, ◌&&◌}
 use Rattle.std.specs.Option.{option_map}
 use Rattle.hm_data.specs.declared.record.Record.{Record}
 use Rattle.hm_model.specs.Counts.{count_below}
+use Rattle.hm_model.specs.Editions.{edition_of}
 use Rattle.hm_model.specs.Journal.{Past}
 use Rattle.hm_model.specs.Kinds.{kind_of}
 use Rattle.hm_model.specs.Places.{tries_of}
@@ -17,6 +18,7 @@ record_at before p node = record {
   parent = option_map pid_of (parent_in node.above);
   root = pid_of node.root;
   kind = kind_of node.args;
+  edition = edition_of before node.root;
   row = row_of before p node;
   args = node.args;
   tries = tries_of before p;

@@ -25,6 +25,8 @@ AreNamed (entry_is.Report call told ∷ before) = AreNamed before
 AreNamed (entry_is.Up server ∷ before) = AreNamed before
 AreNamed (entry_is.Down server ∷ before) = AreNamed before
 AreNamed (entry_is.Abort pid ∷ before) = AreNamed before
+AreNamed (entry_is.Adopt sheets ∷ before) = AreNamed before
+AreNamed (entry_is.Base part ∷ before) = Unit {0}
 
 -- what a procedure works on names regions by their ids, and the first id that it draws or adds is below 2^32
 abbrev pub NamesIds : Args → Type 0
@@ -40,6 +42,8 @@ children_asked (entry_is.Report call told) = []
 children_asked (entry_is.Up server) = []
 children_asked (entry_is.Down server) = []
 children_asked (entry_is.Abort pid) = []
+children_asked (entry_is.Adopt sheets) = []
+children_asked (entry_is.Base part) = []
 
 -- a child is a transit of the region number 0, which no region has
 abbrev pub is_zero_transit : Child → Bool

@@ -32,6 +32,8 @@ verb_of (entry_is.Report call told ∷ before) p = verb_of before p
 verb_of (entry_is.Up server ∷ before) p = verb_of before p
 verb_of (entry_is.Down server ∷ before) p = verb_of before p
 verb_of (entry_is.Abort pid ∷ before) p = verb_of before p
+verb_of (entry_is.Adopt sheets ∷ before) p = verb_of before p
+verb_of (entry_is.Base part ∷ before) p = None
 
 -- who is called: the server of a call about a region, and the storage for all others
 abbrev pub peer_in : Args → Peer
@@ -103,6 +105,8 @@ last_call (entry_is.Report call told ∷ before) region = last_call before regio
 last_call (entry_is.Up server ∷ before) region = last_call before region
 last_call (entry_is.Down server ∷ before) region = last_call before region
 last_call (entry_is.Abort pid ∷ before) region = last_call before region
+last_call (entry_is.Adopt sheets ∷ before) region = last_call before region
+last_call (entry_is.Base part ∷ before) region = None
 
 -- an answer is one of some
 abbrev pub is_one_of : Told → List Told → Bool

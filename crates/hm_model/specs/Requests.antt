@@ -1,5 +1,6 @@
 -- Which requests may be submitted.
-use Rattle.std.specs.Prelude.{◌≡◌, ℕ, ◌+◌, ◌≤◌, List, [], ◌∷◌, length, Option, Some, None, Bool, true, false, not, ◌==◌, ◌&&◌, ◌||◌, nat_lt, if◌then◌else◌, codes}
+use Rattle.std.specs.Prelude.{◌≡◌, ℕ, ◌+◌, ◌≤◌, List, [], ◌∷◌, length, Option, Some, None, Bool, true, false, not, ◌==◌, ◌&&◌, ◌||◌, nat_lt, nat_le, if◌then◌else◌, codes}
+use Rattle.std.specs.List.{list_all}
 use Rattle.std.specs.Ordering.{is_lt}
 use Rattle.std.specs.Str.{bytes_eq}
 use Rattle.hm_names.specs.Order.{bytes_cmp}
@@ -17,12 +18,18 @@ abbrev pub rise : List ℕ → List (List ℕ) → Bool
 rise key [] = true
 rise key (next ∷ more) = is_lt (bytes_cmp key next) && rise next more
 
--- two different regions of one table
-abbrev pub is_pair : List Region → Bool
-is_pair [] = false
-is_pair (one ∷ []) = false
-is_pair (one ∷ other ∷ []) = same_table one.table other.table && not (one.id == other.id)
-is_pair (one ∷ other ∷ third ∷ more) = false
+-- two regions are of one table, and not the same
+abbrev pub are_apart : Region → Region → Bool
+are_apart one other = same_table one.table other.table && not (one.id == other.id)
+
+-- different regions of one table
+abbrev pub are_siblings : List Region → Bool
+are_siblings [] = true
+are_siblings (region ∷ more) = list_all (are_apart region) more && are_siblings more
+
+-- two to ten different regions of one table
+abbrev pub may_merge : List Region → Bool
+may_merge regions = nat_le 2 (length regions) && (nat_le (length regions) 10 && are_siblings regions)
 
 -- the namespaces that are there from the start
 abbrev pub is_fixed : List ℕ → Bool
@@ -43,7 +50,7 @@ wrong_in (request_is.EnableTable table) = None
 wrong_in (request_is.DisableTable table) = None
 wrong_in (request_is.ModifyTable table version) = None
 wrong_in (request_is.SplitRegion region key) = if length key == 0 then Some 5 else None
-wrong_in (request_is.MergeRegions regions) = if is_pair regions then None else Some 4
+wrong_in (request_is.MergeRegions regions) = if may_merge regions then None else Some 4
 wrong_in (request_is.Move region to) = None
 
 -- a request that can be submitted: nothing is wrong with it

@@ -1,5 +1,5 @@
 -- Which entries may follow one another.
-use Rattle.std.specs.Prelude.{◌≡◌, ◌≢◌, ℕ, List, [], ◌∷◌, map, Some, None, true, false, ◌⊎◌}
+use Rattle.std.specs.Prelude.{◌≡◌, ◌≢◌, ℕ, List, [], ◌∷◌, Some, None, true, false, ◌⊎◌}
 use Rattle.hm_names.specs.declared.nonce.Nonce.{Nonce}
 use Rattle.hm_data.specs.declared.call.Told.{Told}
 use Rattle.hm_data.specs.declared.call.Verb.{Verb}
@@ -8,11 +8,11 @@ use Rattle.hm_data.specs.declared.entry.Entry.TheVariants as entry_is
 use Rattle.hm_data.specs.declared.sheet.Row.{Row}
 use Rattle.hm_data.specs.declared.sheet.Sheet.{Sheet}
 use Rattle.hm_model.specs.Answers.{report_of, is_aborted}
+use Rattle.hm_model.specs.Base.{AreSheets, IsBegun, PartFits}
 use Rattle.hm_model.specs.Fleet.{is_live, has_newer, has_older_live}
 use Rattle.hm_model.specs.Holding.{IsFree}
 use Rattle.hm_model.specs.Inputs.{IsEvaluated, undoes}
 use Rattle.hm_model.specs.Journal.{Past}
-use Rattle.hm_model.specs.Kinds.{all_kinds}
 use Rattle.hm_model.specs.Nonces.{by_nonce}
 use Rattle.hm_model.specs.Phase.{cause, ended}
 use Rattle.hm_model.specs.Picks.{PicksRight}
@@ -20,14 +20,9 @@ use Rattle.hm_model.specs.Procedures.{latest, left_to_undo}
 use Rattle.hm_model.specs.Reports.{verb_of, fits_verb}
 use Rattle.hm_model.specs.Requests.{MaySubmit, StaysWithin}
 use Rattle.hm_model.specs.Rest.{MayStep}
-use Rattle.hm_model.specs.Sheets.{next_row}
+use Rattle.hm_model.specs.Sheets.{next_row, sheets_of}
 use Rattle.hm_model.specs.Tree.{Node, node_of, root_of, is_root}
 use Rattle.hm_model.specs.Undo.{Undoable}
-use Rattle.hm_model.specs.Validity.{AllValid}
-
--- valid sheets, one for each kind, in the order of the kinds
-abbrev pub AreSheets : List Sheet → Type 0
-AreSheets sheets = (map (λ sheet. sheet.kind) sheets ≡ all_kinds) × AllValid sheets
 
 -- the nonce is none, or nothing was submitted under it
 abbrev pub IsFresh : Past → Nonce → Type 0
@@ -57,47 +52,59 @@ abbrev pub IsBeforePoint : Past → ℕ → Type 0
 IsBeforePoint before p =
     (node : Node) × (node_of before p ≡ Some node) × (row : Row) × (next_row before p node ≡ Some row) × (row.after ≡ false)
 
+-- the rule that an entry breaks where nothing has begun: 1 at the very start, 18 after parts that are no whole base
+abbrev pub unbegun : Past → ℕ
+unbegun [] = 1
+unbegun (entry ∷ before) = 18
+
 -- the rules for an entry after others, by number
 abbrev pub rules : Past → Entry → List (ℕ × Type 0)
 rules before (entry_is.Start sheets) =
     (1, (before ≡ []) × AreSheets sheets)
     ∷ []
 rules before (entry_is.Submit nonce request) =
-    (1, before ≢ [])
+    (unbegun before, IsBegun before)
     ∷ (2, MaySubmit request)
     ∷ (3, IsFresh before nonce)
     ∷ (4, StaysWithin before request)
     ∷ []
 rules before (entry_is.Step pid pick out) =
-    (1, before ≢ [])
+    (unbegun before, IsBegun before)
     ∷ (5, MayStep before pid.0)
     ∷ (6, IsFree before [] pid.0)
     ∷ (7, PicksRight before pid.0 pick)
     ∷ (8, IsEvaluated before pid.0 pick out)
     ∷ []
 rules before (entry_is.Undo pid row out) =
-    (1, before ≢ [])
+    (unbegun before, IsBegun before)
     ∷ (9, IsLatest before pid.0 row)
     ∷ (10, IsEvaluated before (root_of before pid.0) None out)
     ∷ []
 rules before (entry_is.Report call told) =
-    (1, before ≢ [])
+    (unbegun before, IsBegun before)
     ∷ (11, IsOutstanding before call.0)
     ∷ (12, FitsCall before call.0 told)
     ∷ []
 rules before (entry_is.Up server) =
-    (1, before ≢ [])
+    (unbegun before, IsBegun before)
     ∷ (13, has_newer before server ≡ false)
     ∷ (14, has_older_live before server ≡ false)
     ∷ []
 rules before (entry_is.Down server) =
-    (1, before ≢ [])
+    (unbegun before, IsBegun before)
     ∷ (15, is_live before server ≡ true)
     ∷ []
 rules before (entry_is.Abort pid) =
-    (1, before ≢ [])
+    (unbegun before, IsBegun before)
     ∷ (16, CanAbort before pid.0)
     ∷ (17, IsBeforePoint before pid.0)
+    ∷ []
+rules before (entry_is.Adopt sheets) =
+    (unbegun before, IsBegun before)
+    ∷ (19, AreSheets sheets × (sheets ≢ sheets_of before))
+    ∷ []
+rules before (entry_is.Base part) =
+    (18, PartFits part before)
     ∷ []
 
 -- all of numbered rules hold

@@ -9,6 +9,7 @@ use Rattle.hm_model.specs.Catalog.{Catalog, edited, at_start, keys_of}
 use Rattle.hm_model.specs.Deeds.{Deed, deed_of}
 use Rattle.hm_model.specs.Journal.{Past}
 use Rattle.hm_model.specs.Tree.{Node, node_of}
+use Rattle.hm_model.specs.Parts.{part_row}
 
 -- the edits of a deed, none where there is a cause against it
 abbrev pub edits_in : Deed → List Edit
@@ -46,3 +47,5 @@ serial (entry_is.Report call told ∷ before) key = serial before key
 serial (entry_is.Up server ∷ before) key = serial before key
 serial (entry_is.Down server ∷ before) key = serial before key
 serial (entry_is.Abort pid ∷ before) key = serial before key
+serial (entry_is.Adopt sheets ∷ before) key = serial before key
+serial (entry_is.Base part ∷ before) key = part_row part key (serial before key)

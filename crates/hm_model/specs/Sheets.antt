@@ -1,5 +1,5 @@
--- The sheets of a journal, and the row that a procedure runs next.
-use Rattle.std.specs.Prelude.{ℕ, List, [], ◌∷◌, Option, Some, None, ◌==◌, if◌then◌else◌, slice_get}
+-- The sheets of a journal and of its roots, and the row that a procedure runs next.
+use Rattle.std.specs.Prelude.{ℕ, ◌+◌, List, [], ◌∷◌, Option, Some, None, ◌==◌, if◌then◌else◌, nat_lt, slice_get}
 use Rattle.hm_data.specs.declared.act.Back.{Back}
 use Rattle.hm_data.specs.declared.act.Back.TheVariants as back_is
 use Rattle.hm_data.specs.declared.entry.Entry.TheVariants as entry_is
@@ -7,10 +7,11 @@ use Rattle.hm_data.specs.declared.sheet.Row.{Row}
 use Rattle.hm_data.specs.declared.sheet.Sheet.{Sheet}
 use Rattle.hm_model.specs.Journal.{Past}
 use Rattle.hm_model.specs.Kinds.{kind_of}
-use Rattle.hm_model.specs.Tree.{Node}
+use Rattle.hm_model.specs.Tree.{Node, made}
 use Rattle.hm_model.specs.Answers.{row_of}
+use Rattle.hm_model.specs.Parts.{part_sheets}
 
--- the sheets that the journal began with
+-- the sheets in force
 abbrev pub sheets_of : Past → List Sheet
 sheets_of [] = []
 sheets_of (entry_is.Start sheets ∷ before) = sheets
@@ -21,6 +22,18 @@ sheets_of (entry_is.Report call told ∷ before) = sheets_of before
 sheets_of (entry_is.Up server ∷ before) = sheets_of before
 sheets_of (entry_is.Down server ∷ before) = sheets_of before
 sheets_of (entry_is.Abort pid ∷ before) = sheets_of before
+sheets_of (entry_is.Adopt sheets ∷ before) = sheets
+sheets_of (entry_is.Base part ∷ before) = part_sheets part (sheets_of before)
+
+-- the sheets that were in force when a root was made; the roots of a base have ended, and need none
+abbrev pub sheets_by : Past → ℕ → List Sheet
+sheets_by [] root = []
+sheets_by (entry_is.Submit nonce request ∷ before) root =
+    if root == made before + 1 then sheets_of before else sheets_by before root
+sheets_by (entry_is.Undo pid row out ∷ before) root = if nat_lt (made before) root then sheets_of before else sheets_by before root
+sheets_by (entry_is.Down server ∷ before) root = if root == made before + 1 then sheets_of before else sheets_by before root
+sheets_by (entry_is.Base part ∷ before) root = []
+sheets_by (entry ∷ before) root = sheets_by before root
 
 -- the sheet of a kind: the first
 abbrev pub sheet_for : List Sheet → ℕ → Option Sheet
@@ -34,7 +47,7 @@ row_in (Some sheet) place = slice_get sheet.rows place
 
 -- the row that a procedure runs next
 abbrev pub next_row : Past → ℕ → Node → Option Row
-next_row before p node = row_in (sheet_for (sheets_of before) (kind_of node.args)) (row_of before p node)
+next_row before p node = row_in (sheet_for (sheets_by before node.root) (kind_of node.args)) (row_of before p node)
 
 -- how a row is undone
 abbrev pub undo_by : Option Row → Back

@@ -11,12 +11,17 @@ use Rattle.hm_data.specs.declared.call.Verb.TheVariants as verb_is
 use Rattle.hm_data.specs.declared.catalog.CatKey.TheVariants as key_is
 use Rattle.hm_data.specs.declared.catalog.Edit.{Edit}
 use Rattle.hm_data.specs.declared.entry.Entry.TheVariants as entry_is
+use Rattle.hm_data.specs.declared.place.Place.{Place}
+use Rattle.hm_data.specs.declared.place.RegionState.TheVariants as place_is
 use Rattle.hm_model.specs.Answers.{report_of}
 use Rattle.hm_model.specs.Fleet.{is_fenced}
 use Rattle.hm_model.specs.Journal.{Past}
 use Rattle.hm_model.specs.Keys.{same_table, same_region, same_key}
 use Rattle.hm_model.specs.Reports.{verb_of, peer_of}
 use Rattle.hm_model.specs.RowsSaid.{range_in}
+use Rattle.hm_model.specs.Parts.{part_range}
+use Rattle.hm_model.specs.Places.{place_of}
+use Rattle.hm_model.specs.TransitActs.{nowhere}
 
 -- the range that an edit gives a region, else the one before
 abbrev pub ranged_by : Edit → Region → Option KeyRange → Option KeyRange
@@ -39,6 +44,8 @@ range_of (entry_is.Report call told ∷ before) region = range_of before region
 range_of (entry_is.Up server ∷ before) region = range_of before region
 range_of (entry_is.Down server ∷ before) region = range_of before region
 range_of (entry_is.Abort pid ∷ before) region = range_of before region
+range_of (entry_is.Adopt sheets ∷ before) region = range_of before region
+range_of (entry_is.Base part ∷ before) region = part_range part region (range_of before region)
 
 -- two ranges that are known overlap
 abbrev pub overlap_if : Option KeyRange → Option KeyRange → Bool
@@ -62,6 +69,8 @@ called_at (entry_is.Report call told ∷ before) p = called_at before p
 called_at (entry_is.Up server ∷ before) p = called_at before p
 called_at (entry_is.Down server ∷ before) p = called_at before p
 called_at (entry_is.Abort pid ∷ before) p = called_at before p
+called_at (entry_is.Adopt sheets ∷ before) p = called_at before p
+called_at (entry_is.Base part ∷ before) p = 0
 
 -- a later call to the same server to close the region was answered so
 abbrev pub IsClosedSince : Past → ℕ → Region → Type 0
@@ -77,12 +86,30 @@ IsGone J p = (server : Server) × (peer_of J p ≡ Some (peer_is.Server server))
 abbrev pub IsOver : Past → ℕ → Region → Type 0
 IsOver J p region = (report_of J p ≡ Some told_is.FailedOpen) ⊎ (IsClosedSince J p region ⊎ IsGone J p)
 
--- each call to open a region that touches one is over
+-- the place that the base gives a region
+abbrev pub based_place : Past → Region → Place
+based_place [] region = nowhere place_is.Offline
+based_place (entry_is.Base part ∷ before) region = place_of (entry_is.Base part ∷ before) region
+based_place (entry ∷ before) region = based_place before region
+
+-- the base has a region open at a server
+abbrev pub IsBasedAt : Past → Region → Server → Type 0
+IsBasedAt J region server = based_place J region ≡ record { state = place_is.Opened; server = Some server }
+
+-- a region that the base has open at a server can't be open there any more: it was closed since, or the server is fenced
+abbrev pub IsLeft : Past → Region → Server → Type 0
+IsLeft J region server =
+    ((q : ℕ) × (verb_of J q ≡ Some (verb_is.CloseRegion region)) × (peer_of J q ≡ Some (peer_is.Server server)) × (report_of J q ≡ Some told_is.Closed))
+    ⊎ (is_fenced J server ≡ true)
+
+-- each call to open a region that touches one is over, and each such region that the base has open was left
 abbrev pub AllOver : Past → Region → Type 0
 AllOver J region =
-    (p : ℕ) (other : Region) → verb_of J p ≡ Some (verb_is.AssignRegion other) → touches J region other ≡ true → IsOver J p other
+    ((p : ℕ) (other : Region) → verb_of J p ≡ Some (verb_is.AssignRegion other) → touches J region other ≡ true → IsOver J p other)
+    × ((other : Region) (server : Server) → IsBasedAt J other server → touches J region other ≡ true → IsLeft J other server)
 
--- what must hold of the entries before a call: before a region is opened each other opening that touches it is over
+-- what must hold of the entries before a call: before a region is opened each other opening that touches it is over, one of
+-- the base too
 abbrev pub MayCall : Past → Option Verb → Type 0
 MayCall before None = Unit {0}
 MayCall before (Some (verb_is.AssignRegion region)) = AllOver before region
@@ -102,3 +129,5 @@ Single (entry_is.Report call told ∷ before) = Single before
 Single (entry_is.Up server ∷ before) = Single before
 Single (entry_is.Down server ∷ before) = Single before
 Single (entry_is.Abort pid ∷ before) = Single before
+Single (entry_is.Adopt sheets ∷ before) = Single before
+Single (entry_is.Base part ∷ before) = Unit {0}

@@ -18,6 +18,8 @@ StepsFree before taken (entry_is.Report call told) = Unit {0}
 StepsFree before taken (entry_is.Up server) = Unit {0}
 StepsFree before taken (entry_is.Down server) = Unit {0}
 StepsFree before taken (entry_is.Abort pid) = Unit {0}
+StepsFree before taken (entry_is.Adopt sheets) = Unit {0}
+StepsFree before taken (entry_is.Base part) = Unit {0}
 
 -- a journal, and those who are taken: one was taken that was there and free, an allowed entry was recorded, or some
 -- were let go

@@ -14,6 +14,7 @@ use Rattle.hm_data.specs.declared.request.Request.TheVariants as request_is
 use Rattle.hm_model.specs.Journal.{Past}
 use Rattle.hm_model.specs.Keys.{same_table}
 use Rattle.hm_model.specs.Kinds.{table_of_request}
+use Rattle.hm_model.specs.Parts.{part_drawn, part_made}
 
 -- a procedure: its ancestors, the nearest first; its root; what it works on; and the lowest region id not yet
 -- drawn for the table of its root's request before it was submitted, 1 where the request has no table
@@ -49,6 +50,8 @@ made (entry_is.Report call told ∷ before) = made before
 made (entry_is.Up server ∷ before) = made before
 made (entry_is.Down server ∷ before) = made before + 1
 made (entry_is.Abort pid ∷ before) = made before
+made (entry_is.Adopt sheets ∷ before) = made before
+made (entry_is.Base part ∷ before) = part_made part (made before)
 
 -- how many region ids a request draws: one for each region of a new table, two for a split, one for a merge
 abbrev pub new_ids : Request → ℕ
@@ -80,6 +83,8 @@ drawn (entry_is.Report call told ∷ before) table = drawn before table
 drawn (entry_is.Up server ∷ before) table = drawn before table
 drawn (entry_is.Down server ∷ before) table = drawn before table
 drawn (entry_is.Abort pid ∷ before) table = drawn before table
+drawn (entry_is.Adopt sheets ∷ before) table = drawn before table
+drawn (entry_is.Base part ∷ before) table = part_drawn part table (drawn before table)
 
 -- the lowest id not yet drawn for a table, and 1 where there is no table
 abbrev pub first_of : Past → Option TableName → ℕ
@@ -119,6 +124,8 @@ node_of (entry_is.Up server ∷ before) p = node_of before p
 node_of (entry_is.Down server ∷ before) p =
     if p == made before + 1 then Some (root_node p (args_are.Crash server) 1) else node_of before p
 node_of (entry_is.Abort pid ∷ before) p = node_of before p
+node_of (entry_is.Adopt sheets ∷ before) p = node_of before p
+node_of (entry_is.Base part ∷ before) p = None
 
 -- the root of a procedure, 0 where there is none
 abbrev pub root_in : Option Node → ℕ

@@ -24,3 +24,5 @@ TreeEdits (entry_is.Report call told ∷ before) r key = TreeEdits before r key
 TreeEdits (entry_is.Up server ∷ before) r key = TreeEdits before r key
 TreeEdits (entry_is.Down server ∷ before) r key = TreeEdits before r key
 TreeEdits (entry_is.Abort pid ∷ before) r key = TreeEdits before r key
+TreeEdits (entry_is.Adopt sheets ∷ before) r key = TreeEdits before r key
+TreeEdits (entry_is.Base part ∷ before) r key = ⊥

@@ -54,6 +54,8 @@ stack (entry_is.Report call told ∷ before) r = stack before r
 stack (entry_is.Up server ∷ before) r = stack before r
 stack (entry_is.Down server ∷ before) r = stack before r
 stack (entry_is.Abort pid ∷ before) r = stack before r
+stack (entry_is.Adopt sheets ∷ before) r = stack before r
+stack (entry_is.Base part ∷ before) r = []
 
 -- nothing is left to undo
 abbrev pub is_empty : List Undoable → Bool

@@ -6,7 +6,7 @@ use Rattle.hm_data.specs.declared.sheet.Row.{Row}
 use Rattle.hm_data.specs.declared.sheet.Sheet.{Sheet}
 use Rattle.hm_model.specs.ActSorts.{is_check, is_layout, is_edit, editing_kinds}
 use Rattle.hm_model.specs.Answers.{no_row}
-use Rattle.hm_model.specs.Lists.{Line, lines_of, exact_rows}
+use Rattle.hm_model.specs.Lists.{Line, orders_of, exact_rows}
 
 -- a number is among these
 abbrev pub is_among : List ℕ → ℕ → Bool
@@ -60,6 +60,22 @@ astray rows line [] place =
 astray rows line (following ∷ lines) place =
     elim (slice_get rows place) as (λ r. Option ℕ) [ None ↦ None | Some row ↦ if fits line row && not (row.next == no_row) then astray rows following lines row.next else Some place ]
 
+-- how many rows, led through from a place, are as listed before the first that isn't
+abbrev pub kept : List Row → List Line → ℕ → ℕ
+kept rows [] place = 0
+kept rows (line ∷ lines) place =
+    elim (slice_get rows place) as (λ r. ℕ) [ None ↦ 0 | Some row ↦ if fits line row then kept rows lines row.next + 1 else 0 ]
+
+-- of two orders the one that rows keep to longer
+abbrev pub longer_kept : List Row → List Line → List Line → List Line
+longer_kept rows one other = if nat_lt (kept rows one 0) (kept rows other 0) then other else one
+
+-- of several orders the one that rows keep to longest
+abbrev pub longest_kept : List Row → List (List Line) → List Line
+longest_kept rows [] = []
+longest_kept rows (order ∷ []) = order
+longest_kept rows (order ∷ other ∷ others) = longer_kept rows order (longest_kept rows (other ∷ others))
+
 -- two rows are equal
 abbrev pub same_row : Row → Row → Bool
 same_row a b =
@@ -81,9 +97,9 @@ misfit_in (first ∷ exact) lines (row ∷ rows) = difference (first ∷ exact) 
 misfit_in [] [] (row ∷ rows) = Some 0
 misfit_in [] (line ∷ lines) (row ∷ rows) = astray (row ∷ rows) line lines 0
 
--- the place at which the rows of a sheet are not those of its kind
+-- the place at which the rows of a sheet are not those of its kind: of its orders the one counts that they keep to longest
 abbrev pub misfit : Sheet → Option ℕ
-misfit sheet = misfit_in (exact_rows sheet.kind) (lines_of sheet.kind) sheet.rows
+misfit sheet = misfit_in (exact_rows sheet.kind) (longest_kept sheet.rows (orders_of sheet.kind)) sheet.rows
 
 -- a number is not the one that is there
 abbrev pub is_not : ℕ → Option ℕ → Bool

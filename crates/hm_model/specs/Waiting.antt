@@ -35,6 +35,8 @@ children_made (entry_is.Report call told) = 0
 children_made (entry_is.Up server) = 0
 children_made (entry_is.Down server) = 0
 children_made (entry_is.Abort pid) = 0
+children_made (entry_is.Adopt sheets) = 0
+children_made (entry_is.Base part) = 0
 
 -- who steps passes a test, 0 where nobody does
 abbrev pub steps_one : (ℕ → Bool) → Entry → Bool
@@ -46,6 +48,8 @@ steps_one test (entry_is.Report call told) = false
 steps_one test (entry_is.Up server) = false
 steps_one test (entry_is.Down server) = false
 steps_one test (entry_is.Abort pid) = false
+steps_one test (entry_is.Adopt sheets) = false
+steps_one test (entry_is.Base part) = false
 
 -- who steps passes a test and ends by it
 abbrev pub ends_one : (ℕ → Bool) → Entry → Bool
@@ -57,6 +61,8 @@ ends_one test (entry_is.Report call told) = false
 ends_one test (entry_is.Up server) = false
 ends_one test (entry_is.Down server) = false
 ends_one test (entry_is.Abort pid) = false
+ends_one test (entry_is.Adopt sheets) = false
+ends_one test (entry_is.Base part) = false
 
 -- what an entry adds to a count: the procedures that a step makes of one that passes the test
 abbrev pub added : (ℕ → Bool) → Entry → ℕ

@@ -2,6 +2,7 @@
 ghost use Rattle.hm_model.specs.Laws.{TablesDecided, RegionsDecided, KeysDecided, KeysTied, OlderIsLegal, FrontIsLegal, BackIsCut, PushIsNewest, AllGrown, SteppersAreMade, AllBegin, NoncesFind, IdsStayWithin, NoncesActOnceInAll, UnfinishedTells};
 ghost use Rattle.hm_model.specs.Apart.{OthersStay};
 ghost use Rattle.hm_model.specs.Calls.{CallsAreOwn, CallsStay, ReportsFit};
+ghost use Rattle.hm_model.specs.EditionLaws.{EditionsAreSheets, EditionsStay, LastIsInForce, RootsAreMadeInForce, RootsHaveEditions, SheetsStay, TreesHaveOneEdition};
 ghost use Rattle.hm_model.specs.Forest.{AllForest, AllRooted, NodesStay, RootsWait};
 ghost use Rattle.hm_model.specs.Forms.{StepsAreFormed, UndosAreFormed};
 ghost use Rattle.hm_model.specs.GoingBack.{AllIsUndone, EditsGoBack, UndosAreLast, UndosGoBack};
@@ -34,6 +35,18 @@ pub fn journals_grow()
     ensures begin { AllBegin }
     ensures nonces { NoncesFind }
     ensures ids { IdsStayWithin }
+{}
+
+/// A root is made in the edition in force and keeps it, and all of its tree have it; the sheets of each edition stay, and those
+/// of the last are in force.
+pub fn editions_stand()
+    ensures made { RootsAreMadeInForce }
+    ensures stay { EditionsStay }
+    ensures trees { TreesHaveOneEdition }
+    ensures roots { RootsHaveEditions }
+    ensures sheets { EditionsAreSheets }
+    ensures old { SheetsStay }
+    ensures last { LastIsInForce }
 {}
 
 /// What is made stays, ancestors stand up to the root, each made before its children; whoever goes on has a parent and a

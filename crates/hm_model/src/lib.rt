@@ -4,9 +4,9 @@
 
 pub mod laws;
 mod lock;
-mod part;
+mod merged;
 mod standing;
 
 pub use lock::{Ask, Resource};
-pub use part::Part;
+pub use merged::Merged;
 pub use standing::Standing;

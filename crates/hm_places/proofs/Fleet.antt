@@ -12,9 +12,11 @@ use Rattle.hm_data.specs.declared.args.Args.TheVariants as args_are
 use Rattle.hm_data.specs.declared.call.Told.{Told}
 use Rattle.hm_data.specs.declared.call.Told.TheVariants as told_is
 use Rattle.hm_data.specs.declared.entry.Entry.TheVariants as entry_is
+use Rattle.hm_data.specs.declared.part.Part.{Part}
 use Rattle.hm_index.specs.Index.{changed, find}
-use Rattle.hm_model.specs.Fleet.{came_up, fences_by, fences_if, has_live, has_newer, has_older_live, has_other_live, is_fenced, is_live, same_address, same_server, servers_of, with_server, with_server_at}
+use Rattle.hm_model.specs.Fleet.{came_up, fences_by, fences_if, has_live, has_newer, has_older_live, has_other_live, is_fenced, is_live, part_servers, same_address, same_server, servers_of, with_server, with_server_at}
 use Rattle.hm_model.specs.Journal.{Past}
+use Rattle.hm_model.specs.Parts.{part_server}
 use Rattle.hm_model.specs.Rules.{IsLegal}
 use Rattle.hm_model.specs.Standings.{is_live_in, live_if, live_servers, standing_of, standings_of}
 use Rattle.hm_model.specs.Tree.{Node, node_of}
@@ -35,6 +37,13 @@ joins = record {
   greater = λ key first more e. ap (λ o. with_server_at o key first more (with_server key more)) e;
 }
 
+rises_part : (part : Part) (servers : List Server) → Rises server_cmp servers → Rises server_cmp (part_servers part servers)
+rises_part part servers rises = by (part_server part)
+  where
+    by : (both : Option (Server × Bool)) → Rises server_cmp (elim both as (λ s. List Server) [ None ↦ servers | Some own ↦ with_server own.0 servers ])
+    by None = rises
+    by (Some own) = rises_join server_cmp servers_total with_server joins own.0 servers rises
+
 servers_rise : (J : Past) → Rises server_cmp (servers_of J)
 servers_rise [] = tt
 servers_rise (entry_is.Start sheets ∷ J) = servers_rise J
@@ -45,6 +54,8 @@ servers_rise (entry_is.Report call told ∷ J) = servers_rise J
 servers_rise (entry_is.Up server ∷ J) = rises_join server_cmp servers_total with_server joins server (servers_of J) (servers_rise J)
 servers_rise (entry_is.Down server ∷ J) = servers_rise J
 servers_rise (entry_is.Abort pid ∷ J) = servers_rise J
+servers_rise (entry_is.Adopt sheets ∷ J) = servers_rise J
+servers_rise (entry_is.Base part ∷ J) = rises_part part (servers_of J) (servers_rise J)
 
 -- who came up is among them
 came_has : (server : Server) (servers : List Server) → has server_cmp servers server ≡ list_any (λ other. same_server server other) servers
@@ -250,19 +261,16 @@ reported J p told (Some server) is =
     ∙ changed_by server_cmp servers_total server_cmp-is (standing_of J) _ server (stands (is_live J server) true) (servers_of J) (fence_set J server _ (λ s. shows (node_of J p) told server s is)) (servers_rise J)
 
 pub entries_stand : EntriesStand
-entries_stand (entry_is.Start sheets) J legal = refl
-entries_stand (entry_is.Submit nonce request) J legal = refl
-entries_stand (entry_is.Step pid pick out) J legal = refl
-entries_stand (entry_is.Undo pid row out) J legal = refl
-entries_stand (entry_is.Report call told) J legal = reported J call.0 told (shown_fenced (node_of J call.0) told) refl
-entries_stand (entry_is.Up server) J legal =
+entries_stand (entry_is.Report call told) J legal plain = reported J call.0 told (shown_fenced (node_of J call.0) told) refl
+entries_stand (entry_is.Up server) J legal plain =
     let none : came_up J server ≡ false = newer_not_came J server legal.1.1.0 in
     placed_by server_cmp servers_total server_cmp-is with_server joins (standing_of J) (standing_of (entry_is.Up server ∷ J)) server fresh (servers_of J)
     (up_set J server (not_came (came_up J server) (is_fenced J server) (fenced_came J legal.0 server) none)) (servers_rise J)
-entries_stand (entry_is.Down server) J legal =
+entries_stand (entry_is.Down server) J legal plain =
     ap (λ f. changed server_cmp (standings_of J) server (stands false f)) (fenced_told J legal.0 server)
     ∙ changed_by server_cmp servers_total server_cmp-is (standing_of J) (standing_of (entry_is.Down server ∷ J)) server (stands false (is_fenced J server)) (servers_of J) (down_set J server) (servers_rise J)
-entries_stand (entry_is.Abort pid) J legal = refl
+entries_stand (entry_is.Base part) J legal plain = absurd plain
+entries_stand entry J legal plain = refl
 
 pub fenced_came_up : FencedCameUp
 fenced_came_up J legal p told server is = fence_names J (named_came J legal) p (node_of J p) refl server (by (node_of J p) is)

@@ -9,12 +9,14 @@ use Rattle.hm_names.specs.Order.{region_cmp}
 use Rattle.hm_names.specs.Region.{Region}
 use Rattle.hm_names.specs.Server.{Server}
 use Rattle.hm_data.specs.declared.entry.Entry.TheVariants as entry_is
+use Rattle.hm_data.specs.declared.part.Part.{Part}
+use Rattle.hm_data.specs.declared.part.Part.TheVariants as part_is
 use Rattle.hm_data.specs.declared.place.Place.{Place}
 use Rattle.hm_data.specs.declared.place.RegionState.TheVariants as place_is
 use Rattle.hm_model.specs.Journal.{Past}
 use Rattle.hm_model.specs.Keys.{same_region}
 use Rattle.hm_model.specs.Loads.{places_of, regions_at}
-use Rattle.hm_model.specs.Places.{is_at, joined_at, joined_by, joined_if, place_of, placed, placed_by as place_given, region_if}
+use Rattle.hm_model.specs.Places.{is_at, joined_at, joined_by, joined_if, part_place, part_placed, place_of, placed, placed_by as place_given, region_if}
 use Rattle.hm_model.specs.TransitActs.{nowhere, told_place}
 use Rattle.hm_model.specs.Tree.{node_of}
 use Rattle.hm_model.proofs.KeyTests.{region_cmp-is}
@@ -37,6 +39,11 @@ rises_if own None regions rises = rises
 rises_if None (Some place) regions rises = rises
 rises_if (Some region) (Some place) regions rises = rises_join region_cmp regions_total joined_by joins region regions rises
 
+-- so with the region of a part
+rises_part : (part : Part) (regions : List Region) → Rises region_cmp regions → Rises region_cmp (part_placed part regions)
+rises_part (part_is.Region own range status parents given) regions rises = rises_join region_cmp regions_total joined_by joins own regions rises
+rises_part part regions rises = rises
+
 -- the regions that were given a place stand in name order
 placed_rises : (J : Past) → Rises region_cmp (placed J)
 placed_rises [] = tt
@@ -48,6 +55,8 @@ placed_rises (entry_is.Report call told ∷ J) = placed_rises J
 placed_rises (entry_is.Up server ∷ J) = placed_rises J
 placed_rises (entry_is.Down server ∷ J) = placed_rises J
 placed_rises (entry_is.Abort pid ∷ J) = placed_rises J
+placed_rises (entry_is.Adopt sheets ∷ J) = placed_rises J
+placed_rises (entry_is.Base part ∷ J) = rises_part part (placed J) (placed_rises J)
 
 reversed : (r : Ordering) → is_eq (ordering_reverse r) ≡ is_eq r
 reversed Less = refl
@@ -70,14 +79,9 @@ places_by J (Some region) (Some place) =
     set other = ap (λ b. if b then place else place_of J other) (sym (ties_turned region other))
 
 pub entries_place : EntriesPlace
-entries_place (entry_is.Start sheets) J = refl
-entries_place (entry_is.Submit nonce request) J = refl
-entries_place (entry_is.Step pid pick out) J = places_by J (region_if (node_of J pid.0)) out.place
-entries_place (entry_is.Undo pid row out) J = refl
-entries_place (entry_is.Report call told) J = refl
-entries_place (entry_is.Up server) J = refl
-entries_place (entry_is.Down server) J = refl
-entries_place (entry_is.Abort pid) J = refl
+entries_place (entry_is.Step pid pick out) J plain = places_by J (region_if (node_of J pid.0)) out.place
+entries_place (entry_is.Base part) J plain = absurd plain
+entries_place entry J plain = refl
 
 -- a region that was given no place is offline
 or_false : (a b : Bool) → (a || b) ≡ false → (a ≡ false) × (b ≡ false)
@@ -94,6 +98,11 @@ step_unplaced J region was (Some given) (Some place) none =
     let other : same_region region given ≡ false = sym (ties_turned given region) ∙ apart.0 in
     rw other (was apart.1)
 
+part_unplaced : (J : Past) (region : Region) → (has region_cmp (placed J) region ≡ false → place_of J region ≡ nowhere place_is.Offline) → (part : Part)
+    → has region_cmp (part_placed part (placed J)) region ≡ false → part_place part region (place_of J region) ≡ nowhere place_is.Offline
+part_unplaced J region was (part_is.Region own range status parents given) none = step_unplaced J region was (Some own) (Some given) none
+part_unplaced J region was part none = was none
+
 unplaced : (J : Past) (region : Region) → has region_cmp (placed J) region ≡ false → place_of J region ≡ nowhere place_is.Offline
 unplaced [] region none = refl
 unplaced (entry_is.Start sheets ∷ J) region none = unplaced J region none
@@ -104,6 +113,8 @@ unplaced (entry_is.Report call told ∷ J) region none = unplaced J region none
 unplaced (entry_is.Up server ∷ J) region none = unplaced J region none
 unplaced (entry_is.Down server ∷ J) region none = unplaced J region none
 unplaced (entry_is.Abort pid ∷ J) region none = unplaced J region none
+unplaced (entry_is.Adopt sheets ∷ J) region none = unplaced J region none
+unplaced (entry_is.Base part ∷ J) region none = part_unplaced J region (unplaced J region) part none
 
 place_told : (J : Past) (region : Region) → place_in (places_of J) region ≡ place_of J region
 place_told J region = ap told_place (find_by region_cmp regions_total region_cmp-is (place_of J) (placed J) region) ∙ by (has region_cmp (placed J) region) refl

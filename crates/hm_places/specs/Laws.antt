@@ -16,6 +16,7 @@ use Rattle.hm_model.specs.Fleet.{came_up, has_live, has_newer, has_older_live, h
 use Rattle.hm_model.specs.Journal.{Past}
 use Rattle.hm_model.specs.Loads.{load_in, places_of, regions_at}
 use Rattle.hm_model.specs.Places.{at_server, load, place_of, region_if}
+use Rattle.hm_model.specs.Plain.{IsPlain}
 use Rattle.hm_model.specs.Rules.{IsLegal}
 use Rattle.hm_model.specs.Standings.{is_live_in, standings_of}
 use Rattle.hm_model.specs.Tree.{Node, node_of}
@@ -39,15 +40,17 @@ placed_now before (entry_is.Report call told) = None
 placed_now before (entry_is.Up server) = None
 placed_now before (entry_is.Down server) = None
 placed_now before (entry_is.Abort pid) = None
+placed_now before (entry_is.Adopt sheets) = None
+placed_now before (entry_is.Base part) = None
 
 -- the rows with one more, if there is one
 abbrev pub with_place : List (Region × Place) → Option (Region × Place) → List (Region × Place)
 with_place places None = places
 with_place places (Some row) = placed_in region_cmp places row.0 row.1
 
--- an entry leads from the places of a journal to those of the longer one: the region that it gives a place gets it
+-- a plain entry leads from the places of a journal to those of the longer one: the region that it gives a place gets it
 abbrev pub EntriesPlace : Type 0
-EntriesPlace = (entry : Entry) (before : Past) → with_place (places_of before) (placed_now before entry) ≡ places_of (entry ∷ before)
+EntriesPlace = (entry : Entry) (before : Past) → IsPlain entry → with_place (places_of before) (placed_now before entry) ≡ places_of (entry ∷ before)
 
 -- the places of a journal tell where each region is, which are at a server, and how many
 abbrev pub PlacesTell : Type 0
@@ -90,11 +93,13 @@ stand_behind before (entry_is.Report call told) servers = with_fence servers (sh
 stand_behind before (entry_is.Up server) servers = placed_in server_cmp servers server fresh
 stand_behind before (entry_is.Down server) servers = put_down servers (Some server)
 stand_behind before (entry_is.Abort pid) servers = servers
+stand_behind before (entry_is.Adopt sheets) servers = servers
+stand_behind before (entry_is.Base part) servers = servers
 
--- an entry of a legal journal leads from the servers of the journal before it to those of the longer one
+-- a plain entry of a legal journal leads from the servers of the journal before it to those of the longer one
 abbrev pub EntriesStand : Type 0
 EntriesStand =
-    (entry : Entry) (before : Past) → IsLegal (entry ∷ before) → stand_behind before entry (standings_of before) ≡ standings_of (entry ∷ before)
+    (entry : Entry) (before : Past) → IsLegal (entry ∷ before) → IsPlain entry → stand_behind before entry (standings_of before) ≡ standings_of (entry ∷ before)
 
 -- the servers of a legal journal tell who came up, is live, is fenced; whether a newer one of an address came up, an older one,
 -- another one or any is live

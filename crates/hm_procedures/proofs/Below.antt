@@ -8,9 +8,11 @@ use Rattle.hm_names.specs.declared.pid.Pid.{Pid}
 use Rattle.hm_data.specs.declared.args.Args.{Args}
 use Rattle.hm_data.specs.declared.entry.Entry.{Entry}
 use Rattle.hm_data.specs.declared.entry.Entry.TheVariants as entry_is
+use Rattle.hm_data.specs.declared.part.Part.{Part}
 use Rattle.hm_data.specs.declared.record.Record.{Record}
 use Rattle.hm_data.specs.declared.step.StepOut.{StepOut}
 use Rattle.hm_model.specs.Answers.{is_stop, is_stopped, last_answer}
+use Rattle.hm_model.specs.Base.{PartFits}
 use Rattle.hm_model.specs.Counts.{count_below, one_if}
 use Rattle.hm_model.specs.Journal.{Past}
 use Rattle.hm_model.specs.Phase.{ended, ended_node, root_ended}
@@ -21,6 +23,7 @@ use Rattle.hm_model.specs.Waiting.{children_made, ends_one}
 use Rattle.hm_model.proofs.Counting.{count_same}
 use Rattle.hm_model.proofs.Grown.{down_new, down_old, grown_all, made_up_to, not_stepped, step_old, stepped, submit_new, submit_old, undo_new, undo_old}
 use Rattle.hm_model.proofs.LegalSteps.{ready_stops}
+use Rattle.hm_model.proofs.Parted.{by_parts, count_none}
 use Rattle.hm_model.proofs.Trees.{grown_all as trees_all, new_child, step_of}
 use Rattle.hm_procedures.specs.Below.{is_below, is_open_below, open_below}
 use Rattle.hm_procedures.specs.Kept.{args_made}
@@ -95,7 +98,8 @@ module _ (pid : Pid) (pick : Option Server) (out : StepOut) (J : Past) (legal : 
   -- what it makes is open
   new_now : (q : ℕ) → made J < q → q ≤ made after → is_open_below after q ≡ true
   new_now q lt le =
-      let there = (grown_all after legal).there q (omega (arith, lt)) le in
+      let least = (grown_all J legal.0).low in
+      let there = (grown_all after legal).there q (omega (arith, lt, least)) le in
       let c = new_child pid pick out J me is_me q lt there.0 there.1 in
       let few = low in
       ap (λ o. is_below o && not (is_stopped (last_answer after q))) (there.1 ∙ ap Some c.2)
@@ -111,6 +115,10 @@ module _ (pid : Pid) (pick : Option Server) (out : StepOut) (J : Past) (legal : 
 
 nothing_more : {a b : ℕ} → a ≡ b → a + 0 ≡ b + 0
 nothing_more e = ap (λ n. n + 0) e
+
+-- before a part there is none
+none_below : (part : Part) (before : Past) → PartFits part before → open_below before ≡ 0
+none_below = by_parts (λ J. open_below J ≡ 0) refl (λ own older. count_none (made (entry_is.Base own ∷ older) + 1))
 
 -- an entry makes so many descendants, and ends one or none
 pub below_change : (entry : Entry) (J : Past) → IsLegal (entry ∷ J) → open_below (entry ∷ J) + one_if (ends_one (λ q. is_below (node_of J q)) entry) ≡ open_below J + children_made entry
@@ -138,6 +146,8 @@ below_change (entry_is.Down server) J legal = nothing_more (roots_only J (entry_
     ])
     (λ q. refl))
 below_change (entry_is.Abort pid) J legal = refl
+below_change (entry_is.Adopt sheets) J legal = refl
+below_change (entry_is.Base part) J legal = omega (arith, count_none (made (entry_is.Base part ∷ J) + 1), none_below part J legal.1.0)
 
 -- none but what it makes at all
 pub below_few : (entry : Entry) (J : Past) → children_made entry ≤ length (args_made J entry)
@@ -149,6 +159,8 @@ below_few (entry_is.Report call told) J = omega arith
 below_few (entry_is.Up server) J = omega arith
 below_few (entry_is.Down server) J = omega arith
 below_few (entry_is.Abort pid) J = omega arith
+below_few (entry_is.Adopt sheets) J = omega arith
+below_few (entry_is.Base part) J = omega arith
 
 -- the roots and the descendants that haven't ended are the procedures that haven't
 pub unfinished_sum : (J : Past) → unfinished J + open_below J ≡ unfinished_procedures J

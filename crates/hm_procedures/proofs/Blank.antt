@@ -115,6 +115,8 @@ blank_on (entry_is.Abort pid) J legal p none was = record {
   children = children_on (entry_is.Abort pid) J legal p was refl;
   under = under_on (entry_is.Abort pid) J legal p was refl;
 }
+blank_on (entry_is.Adopt sheets) J legal p none was = record { last = was.last; verb = was.verb; report = was.report; aborted = was.aborted; tries = was.tries; before = was.before; count = was.count; first = was.first; cause_is = was.cause_is; children = children_on (entry_is.Adopt sheets) J legal p was refl; under = under_on (entry_is.Adopt sheets) J legal p was refl }
+blank_on (entry_is.Base part) J legal p none was = record { last = refl; verb = refl; report = refl; aborted = refl; tries = refl; before = refl; count = refl; first = refl; cause_is = refl; children = children_on (entry_is.Base part) J legal p was refl; under = under_on (entry_is.Base part) J legal p was refl }
 
 -- who isn't there wasn't there
 gone : (entry : Entry) (J : Past) → IsLegal (entry ∷ J) → (p : ℕ) → node_of (entry ∷ J) p ≡ None → node_of J p ≡ None

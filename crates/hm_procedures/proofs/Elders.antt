@@ -181,7 +181,7 @@ module _ (J : Past) (legal : IsLegal J) (list : List Pid) (are : AreElders J lis
         same x is [] e = refl
         same x is (up ∷ above) e =
             let found = first_there J legal up (q + 1) (ap (child_in up) is ∙ ap (is_parent up) e ∙ eq-eqb up up refl) in
-            ap (elder_by (q + 1)) (found.1 ∙ sym (first_stays entry J up found.0 found.1))
+            ap (elder_by (q + 1)) (found.1 ∙ sym (first_stays entry J legal' up found.0 found.1))
 
         by : (o : Option Node) → node_of J (q + 1) ≡ o → option_map (eldest_of J (q + 1)) o ≡ option_map (eldest_of now (q + 1)) o
         by None e = refl
@@ -227,6 +227,8 @@ module _ (J : Past) (legal : IsLegal J) (list : List Pid) (are : AreElders J lis
         more_elders (entry_is.Down server) legal' long None (λ p a. root_node p a 1) (args_are.Crash server ∷ []) (λ p a. refl)
         (one_new J (entry_is.Down server ∷ J) legal (args_are.Crash server) 1 (λ q differs. down_old server J q differs) (λ q same. down_new server J q same))
     elders_root (entry_is.Abort pid) makes legal' = absurd makes
+    elders_root (entry_is.Adopt sheets) makes legal' = absurd makes
+    elders_root (entry_is.Base part) makes legal' = absurd makes
 
     pub elders_undo : (pid : Pid) (row : ℕ) (out : StepOut) → IsLegal (entry_is.Undo pid row out ∷ J) → AreElders (entry_is.Undo pid row out ∷ J) (list ++ elders (made J) None (args_in out.followers))
     elders_undo pid row out legal' =

@@ -19,6 +19,7 @@ use Rattle.hm_model.specs.Apart.{tree_of}
 use Rattle.hm_model.specs.Journal.{Past}
 use Rattle.hm_model.specs.Kinds.{table_of_request}
 use Rattle.hm_model.specs.Phase.{ended, phase}
+use Rattle.hm_model.specs.Plain.{IsPlain}
 use Rattle.hm_model.specs.Rules.{IsLegal}
 use Rattle.hm_model.specs.Tree.{Node, first_of, is_root, is_root_in, is_top, made, node_of, root_node}
 use Rattle.hm_model.proofs.Forest.{rooted_all}
@@ -92,7 +93,7 @@ one_new J J' legal args first old new q le = elim (cases_eq q (made J)) [
 ]
 
 -- an entry that makes a root of its own
-module _ (entry : Entry) (J : Past) (legal : IsLegal (entry ∷ J)) (kept : List Tracked) (roots : List Pid) (left : ℕ) (was : IsKept J kept roots left) (args : Args) (first : ℕ)
+module _ (entry : Entry) (J : Past) (legal : IsLegal (entry ∷ J)) (plain : IsPlain entry) (kept : List Tracked) (roots : List Pid) (left : ℕ) (was : IsKept J kept roots left) (args : Args) (first : ℕ)
     (tree : tree_of J entry ≡ made J + 1) (made_is : made (entry ∷ J) ≡ made J + 1)
     (old : (q : ℕ) → q ≢ made J + 1 → node_of (entry ∷ J) q ≡ node_of J q) (new : (q : ℕ) → q ≡ made J + 1 → node_of (entry ∷ J) q ≡ Some (root_node q args first))
     (still : (shown : Phase) (p : ℕ) (x : Node) → kept_in shown (entry ∷ J) p x ≡ kept_in shown J p x) where
@@ -138,6 +139,7 @@ module _ (entry : Entry) (J : Past) (legal : IsLegal (entry ∷ J)) (kept : List
   pub rooted_kept : IsKept now (kept ++ added (length kept) None made_now) (roots ++ map root_shown (added (length kept) None made_now)) (left + 1)
   rooted_kept = record {
     legal = legal;
+    plain = (was.plain, plain);
     count = count_more kept None made_now (made J) was.count ∙ sym made_is;
     kept_are = more_made now (made J) None (λ p a. root_node p a first) (λ p a blank. fresh_root now p a first blank) (phase now) kept was.count made_now old_kept (one_new J now legal.0 args first old new) (λ p lt. blank_new entry J legal p lt) new_runs;
     roots_are = roots_added roots kept (added (length kept) None made_now) was.roots_are;
@@ -147,14 +149,14 @@ module _ (entry : Entry) (J : Past) (legal : IsLegal (entry ∷ J)) (kept : List
 -- entries that make nothing: what is kept stays, or is changed of one
 module _ (J : Past) (kept : List Tracked) (roots : List Pid) (left : ℕ) (was : IsKept J kept roots left) where
   pub start_kept : (sheets : List Sheet) → IsLegal (entry_is.Start sheets ∷ J) → IsKept (entry_is.Start sheets ∷ J) kept roots left
-  start_kept sheets legal = record { legal = legal; count = was.count; kept_are = λ q. was.kept_are q ∙ by (q + 1) (node_of J (q + 1)); roots_are = was.roots_are; left_are = was.left_are }
+  start_kept sheets legal = record { legal = legal; plain = (was.plain, tt); count = was.count; kept_are = λ q. was.kept_are q ∙ by (q + 1) (node_of J (q + 1)); roots_are = was.roots_are; left_are = was.left_are }
     where
       by : (p : ℕ) (o : Option Node) → option_map (kept_at J p) o ≡ option_map (kept_at (entry_is.Start sheets ∷ J) p) o
       by p None = refl
       by p (Some x) = ap Some (sym (still_start (phase J p x) J p x sheets legal))
 
   pub up_kept : (server : Server) → IsLegal (entry_is.Up server ∷ J) → IsKept (entry_is.Up server ∷ J) kept roots left
-  up_kept server legal = record { legal = legal; count = was.count; kept_are = λ q. was.kept_are q ∙ by (q + 1) (node_of J (q + 1)); roots_are = was.roots_are; left_are = was.left_are }
+  up_kept server legal = record { legal = legal; plain = (was.plain, tt); count = was.count; kept_are = λ q. was.kept_are q ∙ by (q + 1) (node_of J (q + 1)); roots_are = was.roots_are; left_are = was.left_are }
     where
       by : (p : ℕ) (o : Option Node) → option_map (kept_at J p) o ≡ option_map (kept_at (entry_is.Up server ∷ J) p) o
       by p None = refl
@@ -164,6 +166,7 @@ module _ (J : Past) (kept : List Tracked) (roots : List Pid) (left : ℕ) (was :
       → ((q : ℕ) → slice_get new q ≡ option_map (reported (q + 1 == call.0) told) (slice_get kept q)) → IsKept (entry_is.Report call told ∷ J) new roots left
   report_kept call told legal new each = record {
     legal = legal;
+    plain = (was.plain, tt);
     count = same_length (λ q. reported (q + 1 == call.0) told) new kept each ∙ was.count;
     kept_are = λ q. each q ∙ ap (option_map (reported (q + 1 == call.0) told)) (was.kept_are q) ∙ by (q + 1) (node_of J (q + 1));
     roots_are = λ q. was.roots_are q ∙ same (q + 1 == call.0) (slice_get kept q) ∙ sym (ap (option_map root_shown) (each q));
@@ -182,6 +185,7 @@ module _ (J : Past) (kept : List Tracked) (roots : List Pid) (left : ℕ) (was :
       → ((q : ℕ) → slice_get new q ≡ option_map (aborted (q + 1 == pid.0)) (slice_get kept q)) → IsKept (entry_is.Abort pid ∷ J) new roots left
   abort_kept pid legal new each = record {
     legal = legal;
+    plain = (was.plain, tt);
     count = same_length (λ q. aborted (q + 1 == pid.0)) new kept each ∙ was.count;
     kept_are = λ q. each q ∙ ap (option_map (aborted (q + 1 == pid.0))) (was.kept_are q) ∙ by (q + 1) (node_of J (q + 1));
     roots_are = λ q. was.roots_are q ∙ same (q + 1 == pid.0) (slice_get kept q) ∙ sym (ap (option_map root_shown) (each q));
@@ -199,13 +203,13 @@ module _ (J : Past) (kept : List Tracked) (roots : List Pid) (left : ℕ) (was :
   pub submit_kept : (nonce : Nonce) (request : Request) → IsLegal (entry_is.Submit nonce request ∷ J)
       → let args : Args = args_are.Root request (first_of J (table_of_request request)) in IsKept (entry_is.Submit nonce request ∷ J) (kept ++ added (length kept) None (args ∷ [])) (roots ++ map root_shown (added (length kept) None (args ∷ []))) (left + 1)
   submit_kept nonce request legal =
-      rooted_kept (entry_is.Submit nonce request) J legal kept roots left was (args_are.Root request (first_of J (table_of_request request))) (first_of J (table_of_request request)) refl refl
+      rooted_kept (entry_is.Submit nonce request) J legal tt kept roots left was (args_are.Root request (first_of J (table_of_request request))) (first_of J (table_of_request request)) refl refl
       (λ q differs. submit_old nonce request J q differs) (λ q same. submit_new nonce request J q same) (λ shown p x. still_submit shown J p x nonce request legal)
 
   pub down_kept : (server : Server) → IsLegal (entry_is.Down server ∷ J)
       → IsKept (entry_is.Down server ∷ J) (kept ++ added (length kept) None (args_are.Crash server ∷ [])) (roots ++ map root_shown (added (length kept) None (args_are.Crash server ∷ []))) (left + 1)
   down_kept server legal =
-      rooted_kept (entry_is.Down server) J legal kept roots left was (args_are.Crash server) 1 refl refl
+      rooted_kept (entry_is.Down server) J legal tt kept roots left was (args_are.Crash server) 1 refl refl
       (λ q differs. down_old server J q differs) (λ q same. down_new server J q same) (λ shown p x. still_down shown J p x server legal)
 
   pub root_kept : (entry : Entry) → IsRooting entry → IsLegal (entry ∷ J)
@@ -218,3 +222,5 @@ module _ (J : Past) (kept : List Tracked) (roots : List Pid) (left : ℕ) (was :
   root_kept (entry_is.Up server) makes legal = absurd makes
   root_kept (entry_is.Down server) makes legal = down_kept server legal
   root_kept (entry_is.Abort pid) makes legal = absurd makes
+  root_kept (entry_is.Adopt sheets) makes legal = absurd makes
+  root_kept (entry_is.Base part) makes legal = absurd makes

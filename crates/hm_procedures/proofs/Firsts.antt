@@ -12,7 +12,8 @@ use Rattle.hm_model.specs.Journal.{Past}
 use Rattle.hm_model.specs.Phase.{child_in}
 use Rattle.hm_model.specs.Rules.{IsLegal}
 use Rattle.hm_model.specs.Tree.{args_in, made, node_of, root_node}
-use Rattle.hm_model.proofs.Grown.{down_new, down_old, grown_all, nodes_stay, submit_new, submit_old, undo_new}
+use Rattle.hm_model.proofs.Grown.{down_new, down_old, grown_all, step_old, submit_new, submit_old, undo_new, undo_old}
+use Rattle.hm_model.proofs.Parted.{no_node}
 use Rattle.hm_procedures.specs.Changes.{first_made}
 use Rattle.hm_procedures.specs.Kept.{first_child_of}
 use Rattle.hm_procedures.specs.Procedures.{IsNextChild}
@@ -31,29 +32,31 @@ child_within J legal p q child = (
   ],
 )
 
+-- who was there stays
+pub stays : (entry : Entry) (J : Past) → IsLegal (entry ∷ J) → (q : ℕ) → q ≤ made J → node_of (entry ∷ J) q ≡ node_of J q
+stays (entry_is.Submit nonce request) J legal q le = submit_old nonce request J q (λ e. omega (arith, le, e))
+stays (entry_is.Step pid pick out) J legal q le = step_old pid pick out J q le
+stays (entry_is.Undo pid row out) J legal q le = undo_old pid row out J q le
+stays (entry_is.Down server) J legal q le = down_old server J q (λ e. omega (arith, le, e))
+stays (entry_is.Base part) J legal q le = sym (no_node part J legal.1.0 q)
+stays entry J legal q le = refl
+
 module _ (entry : Entry) (J : Past) (legal : IsLegal (entry ∷ J)) where
   abbrev now : Past
   now = entry ∷ J
-
-  -- who was there stays
-  pub stays : (q : ℕ) → q ≤ made J → node_of now q ≡ node_of J q
-  stays q le = elim (cases_lt 0 q) [
-    | inl low ↦ (let there = (grown_all J legal.0).there q (omega (arith, low)) le in nodes_stay entry J legal q there.0 there.1 ∙ sym there.1)
-    | inr none ↦ (let e : q ≡ 0 = omega (arith, none) in ap (node_of now) e ∙ (grown_all now legal).none ∙ sym (ap (node_of J) e ∙ (grown_all J legal.0).none))
-  ]
 
   module _ (p : ℕ) where
     some_stays : (first : Pid) → IsNextChild J p 0 (Some first) → IsNextChild now p 0 (Some first)
     some_stays first was =
         let most = (child_within J legal.0 p first.0 was.1).1 in
-        (was.0, ap (child_in p) (stays first.0 most) ∙ was.1, λ q lt below. ap (child_in p) (stays q (omega (arith, most, below))) ∙ was.2 q lt below)
+        (was.0, ap (child_in p) (stays entry J legal first.0 most) ∙ was.1, λ q lt below. ap (child_in p) (stays entry J legal q (omega (arith, most, below))) ∙ was.2 q lt below)
 
     -- where no child is made
     still : (o : Option Pid) → ((q : ℕ) → made J < q → child_in p (node_of now q) ≡ false) → IsNextChild J p 0 o → IsNextChild now p 0 o
     still (Some first) new was = some_stays first was
     still None new was = λ q lt. elim (cases_lt (made J) q) [
       | inl over ↦ new q over
-      | inr le ↦ ap (child_in p) (stays q le) ∙ was q lt
+      | inr le ↦ ap (child_in p) (stays entry J legal q le) ∙ was q lt
     ]
 
 module _ (pid : Pid) (pick : Option Server) (out : StepOut) (J : Past) (legal : IsLegal (entry_is.Step pid pick out ∷ J)) (p : ℕ) where
@@ -119,6 +122,8 @@ firsts (entry_is.Down server ∷ J) legal p =
     ])
     (firsts J legal.0 p)
 firsts (entry_is.Abort pid ∷ J) legal p = still (entry_is.Abort pid) J legal p (first_child_of J p) (λ q lt. ap (child_in p) ((grown_all J legal.0).numbered q lt)) (firsts J legal.0 p)
+firsts (entry_is.Adopt sheets ∷ J) legal p = still (entry_is.Adopt sheets) J legal p (first_child_of J p) (λ q lt. ap (child_in p) ((grown_all J legal.0).numbered q lt)) (firsts J legal.0 p)
+firsts (entry_is.Base part ∷ J) legal p = λ q lt. refl
 
 -- a child has a first child of its parent, which is no later
 pub first_there : (J : Past) → IsLegal J → (p q : ℕ) → child_in p (node_of J q) ≡ true → (first : Pid) × (first_child_of J p ≡ Some first) × (first.0 ≤ q) × (child_in p (node_of J first.0) ≡ true)
@@ -140,16 +145,12 @@ first_there J legal p q child = by (first_child_of J p) refl (firsts J legal p)
     )
 
 -- a first child stays
-pub first_stays : (entry : Entry) (J : Past) (p : ℕ) (first : Pid) → first_child_of J p ≡ Some first → first_child_of (entry ∷ J) p ≡ Some first
-first_stays (entry_is.Start sheets) J p first is = is
-first_stays (entry_is.Submit nonce request) J p first is = is
-first_stays (entry_is.Step pid pick out) J p first is = ap (λ o. if p == pid.0 then option_or o (first_made (made J) (length (args_in out.children))) else o) is ∙ by (p == pid.0)
+pub first_stays : (entry : Entry) (J : Past) → IsLegal (entry ∷ J) → (p : ℕ) (first : Pid) → first_child_of J p ≡ Some first → first_child_of (entry ∷ J) p ≡ Some first
+first_stays (entry_is.Step pid pick out) J legal p first is = ap (λ o. if p == pid.0 then option_or o (first_made (made J) (length (args_in out.children))) else o) is ∙ by (p == pid.0)
   where
     by : (b : _) → (if b then Some first else Some first) ≡ Some first
     by true = refl
     by false = refl
-first_stays (entry_is.Undo pid row out) J p first is = is
-first_stays (entry_is.Report call told) J p first is = is
-first_stays (entry_is.Up server) J p first is = is
-first_stays (entry_is.Down server) J p first is = is
-first_stays (entry_is.Abort pid) J p first is = is
+first_stays (entry_is.Base part) J legal p first is =
+    let child = (subst (IsNextChild J p 0) is (firsts J legal.0 p)).1 in absurd (false≢true (sym (ap (child_in p) (no_node part J legal.1.0 first.0)) ∙ child))
+first_stays entry J legal p first is = is

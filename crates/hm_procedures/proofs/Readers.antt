@@ -8,10 +8,13 @@ use Rattle.hm_model.specs.Answers.{done_with}
 use Rattle.hm_model.specs.Journal.{Past}
 use Rattle.hm_model.specs.Inputs.{undoes}
 use Rattle.hm_model.specs.Phase.{end_of, ended}
+use Rattle.hm_model.specs.Plain.{ArePlain}
+use Rattle.hm_model.specs.Records.{record_at, record_of}
 use Rattle.hm_model.specs.Rest.{MayUndo}
 use Rattle.hm_model.specs.Rules.{IsLegal}
 use Rattle.hm_model.specs.Tree.{Node, node_of}
 use Rattle.hm_model.proofs.Grown.{grown_all}
+use Rattle.hm_model.proofs.Plain.{first_edition}
 use Rattle.hm_procedures.specs.Changes.{ends_in, has_ended, is_undoing}
 use Rattle.hm_procedures.specs.Kept.{kept_at, kept_of}
 use Rattle.hm_procedures.specs.declared.kept.Tracked.{Tracked}
@@ -44,6 +47,14 @@ undoes_by J legal p one is b said =
     let t = there_of J p one is in
     let same : b ≡ undoes J p t.0 = said ∙ ap is_undoing t.2 ∙ undoes_kept J legal p t.0 t.1 in
     (λ on. (t.0, t.1, sym same ∙ on), λ may. same ∙ ap (undoes J p) (same_Some t.0 may.0 (sym t.1 ∙ may.1)) ∙ may.2)
+
+-- who is kept is shown as told of a plain journal, which has one edition
+pub shown_by : (J : Past) → ArePlain J → (p : ℕ) (one : Tracked) → Some one ≡ kept_of J p → Some one.shown ≡ record_of J p
+shown_by J plain p one is =
+    let t = there_of J p one is in
+    ap (λ (k : Tracked). Some k.shown) t.2
+    ∙ ap (λ n. Some (record (record_at J p t.0) { edition = n })) (sym (first_edition J plain t.0.root))
+    ∙ sym (ap (option_map (record_at J p)) t.1)
 
 -- the same list, where there is one
 pub ends_said : {A E : Type 0} {xs ys : List A} (r : Result (List A) E) → xs ≡ ys → IfOk r (λ ends. ends ≡ xs) → IfOk r (λ ends. ends ≡ ys)

@@ -68,7 +68,8 @@ module _ (pid : Pid) (pick : Option Server) (out : StepOut) (J : Past) (legal : 
   -- what is new is a child of who steps
   pub child_new : (q : ℕ) → made J < q → q ≤ made after → child_in p (node_of after q) ≡ (pid.0 == p)
   child_new q lt le =
-      let there = (grown_all after legal).there q (omega (arith, lt)) le in
+      let few = (grown_all J legal.0).low in
+      let there = (grown_all after legal).there q (omega (arith, lt, few)) le in
       let c = new_child pid pick out J me is_me q lt there.0 there.1 in
       ap (child_in p) (there.1 ∙ ap Some c.2)
 
@@ -103,11 +104,15 @@ module _ (pid : Pid) (pick : Option Server) (out : StepOut) (J : Past) (legal : 
       ])
       run
 
+-- where nothing was made
+none_new : (q : ℕ) → (nat_lt 0 q && false) ≡ is_among 0 0 q
+none_new q = and_right (nat_lt 0 q) false refl ∙ elim (cases_lt 0 q) [
+  | inl lt ↦ sym (among_not 0 0 q lt)
+  | inr le ↦ sym (and_left (nat_lt 0 q) (nat_lt q (0 + 0 + 1)) (le-ltb 0 q le))
+]
+
 pub run_all : (J : Past) → IsLegal J → (p : ℕ) → IsRun J p
-run_all [] legal p = record { most = omega arith; are = λ q. and_right (nat_lt 0 q) false refl ∙ none q }
-  where
-    none : (q : ℕ) → false ≡ is_among 0 0 q
-    none q = elim (cases_lt 0 q) [ inl lt ↦ sym (among_not 0 0 q lt) | inr le ↦ sym (and_left (nat_lt 0 q) (nat_lt q (0 + 0 + 1)) (le-ltb 0 q le)) ]
+run_all [] legal p = record { most = omega arith; are = none_new }
 run_all (entry_is.Start sheets ∷ J) legal p = run_still J (entry_is.Start sheets ∷ J) p (omega arith) refl refl (λ q le. refl) (λ q lt. ap (child_in p) ((grown_all J legal.0).numbered q lt)) (run_all J legal.0 p)
 run_all (entry_is.Submit nonce request ∷ J) legal p = run_still J (entry_is.Submit nonce request ∷ J) p (omega arith) refl refl (λ q le. submit_old nonce request J q (λ e. omega (arith, le, e)))
     (λ q lt. elim (cases_eq q (made J + 1)) [
@@ -135,6 +140,8 @@ run_all (entry_is.Down server ∷ J) legal p = run_still J (entry_is.Down server
     ])
     (run_all J legal.0 p)
 run_all (entry_is.Abort pid ∷ J) legal p = run_still J (entry_is.Abort pid ∷ J) p (omega arith) refl refl (λ q le. refl) (λ q lt. ap (child_in p) ((grown_all J legal.0).numbered q lt)) (run_all J legal.0 p)
+run_all (entry_is.Adopt sheets ∷ J) legal p = run_still J (entry_is.Adopt sheets ∷ J) p (omega arith) refl refl (λ q le. refl) (λ q lt. ap (child_in p) ((grown_all J legal.0).numbered q lt)) (run_all J legal.0 p)
+run_all (entry_is.Base part ∷ J) legal p = record { most = omega arith; are = none_new }
 
 -- what those below a number ended with, where none of them is a new child
 module _ (J : Past) (legal : IsLegal J) (p : ℕ) (kept : List Tracked) (are : (q : ℕ) → slice_get kept q ≡ kept_of J (q + 1)) where

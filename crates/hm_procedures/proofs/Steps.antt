@@ -14,6 +14,7 @@ use Rattle.hm_model.specs.Apart.{tree_of}
 use Rattle.hm_model.specs.Counts.{one_if}
 use Rattle.hm_model.specs.Journal.{Past}
 use Rattle.hm_model.specs.Phase.{ended, phase}
+use Rattle.hm_model.specs.Plain.{ArePlain}
 use Rattle.hm_model.specs.Records.{unfinished}
 use Rattle.hm_model.specs.Rules.{IsLegal}
 use Rattle.hm_model.specs.Tree.{Node, args_in, child_of, is_root, is_root_in, is_top, made, node_of, pid_of, root_node}
@@ -116,9 +117,10 @@ module _ (entry : Entry) (J : Past) (legal : IsLegal (entry ∷ J)) (pid : Pid) 
           | inr below ↦ no_root now q x (tree.old q le ∙ e) below ∙ sym (no_root J q x e below)
         ]
 
-    pub tree_kept : length mid ≡ made now → (count left_now : ℕ) → count ≡ unfinished J + (if b then m else 0) → left_now + one_if (ended now me.root) ≡ count → IsKept now new roots left_now
-    tree_kept long count left_now count_is left_is = record {
+    pub tree_kept : ArePlain now → length mid ≡ made now → (count left_now : ℕ) → count ≡ unfinished J + (if b then m else 0) → left_now + one_if (ended now me.root) ≡ count → IsKept now new roots left_now
+    tree_kept plain long count left_now count_is left_is = record {
       legal = legal;
+      plain = plain;
       count = same_length shown_at new mid (shown top_kept top_is_kept) ∙ long;
       kept_are = kept_shown;
       roots_are = roots_kept;
@@ -183,7 +185,8 @@ module _ (J : Past) (kept : List Tracked) (roots : List Pid) (left : ℕ) (was :
 
     no_new_root : (q : ℕ) → made J < q → q ≤ made J + length (args_in out.children) → is_open after q ≡ false
     no_new_root q lt le =
-        let there = (grown_all after legal).there q (omega (arith, lt)) le in
+        let least = (grown_all J legal.0).low in
+        let there = (grown_all after legal).there q (omega (arith, lt, least)) le in
         let c = new_child pid pick out J me is_me q lt there.0 there.1 in
         no_root after q there.0 there.1 (ap (λ (n : Node). is_top n.above) c.2)
 
@@ -204,7 +207,7 @@ module _ (J : Past) (kept : List Tracked) (roots : List Pid) (left : ℕ) (was :
 
       pub step_kept : left_now + one_if over ≡ left → IsKept after new roots_mid left_now
       step_kept less = tree_kept (entry_is.Step pid pick out) J legal pid me (in_tree_step pid pick out J legal me is_me) mid new roots_mid nothing_left mid_are roots_are_mid is_left shown (step_tree pid pick out J legal me is_me) (step_open pid pick out J legal me is_me) (length (args_in out.children)) refl false no_new_root
-          (count_more three (Some (pid, pid_of me.root)) (args_in out.children) (made J) long) left left_now (was.left_are ∙ omega arith) (ap (λ b. left_now + one_if b) (sym step_over) ∙ less)
+          (was.plain, tt) (count_more three (Some (pid, pid_of me.root)) (args_in out.children) (made J) long) left left_now (was.left_are ∙ omega arith) (ap (λ b. left_now + one_if b) (sym step_over) ∙ less)
 
   -- an undo
   module _ (pid : Pid) (row : ℕ) (out : StepOut) (legal : IsLegal (entry_is.Undo pid row out ∷ J)) (me : Node) (is_me : node_of J pid.0 ≡ Some me) where
@@ -237,7 +240,8 @@ module _ (J : Past) (kept : List Tracked) (roots : List Pid) (left : ℕ) (was :
 
     new_root : (q : ℕ) → made J < q → q ≤ made J + length (args_in out.followers) → is_open behind q ≡ true
     new_root q lt le =
-        let there = (grown_all behind legal).there q (omega (arith, lt)) le in
+        let least = (grown_all J legal.0).low in
+        let there = (grown_all behind legal).there q (omega (arith, lt, least)) le in
         by there.0 there.1 (slice_get (args_in out.followers) (q - made J - 1)) (sym (undo_new pid row out J q lt) ∙ there.1)
       where
         by : (x : Node) → node_of behind q ≡ Some x → (o : Option Args) → option_map (λ a. root_node q a 1) o ≡ Some x → is_open behind q ≡ true
@@ -260,4 +264,4 @@ module _ (J : Past) (kept : List Tracked) (roots : List Pid) (left : ℕ) (was :
 
       pub undo_kept : left_now + one_if over ≡ left + length (args_in out.followers) → IsKept behind new roots_undo left_now
       undo_kept less = tree_kept (entry_is.Undo pid row out) J legal pid me (in_tree_undo pid row out J legal me is_me) mid_undo new roots_undo nothing_left mid_undo_are roots_undo_are is_left shown (undo_tree pid row out J legal me is_me) (undo_open pid row out J legal me is_me) (length (args_in out.followers)) refl true new_root
-          (count_more kept None (args_in out.followers) (made J) was.count) (left + length (args_in out.followers)) left_now (ap (λ n. n + length (args_in out.followers)) was.left_are) (ap (λ b. left_now + one_if b) (sym undo_over) ∙ less)
+          (was.plain, tt) (count_more kept None (args_in out.followers) (made J) was.count) (left + length (args_in out.followers)) left_now (ap (λ n. n + length (args_in out.followers)) was.left_are) (ap (λ b. left_now + one_if b) (sym undo_over) ∙ less)

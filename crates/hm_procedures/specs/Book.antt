@@ -39,6 +39,8 @@ IsRooting (entry_is.Report call told) = ⊥
 IsRooting (entry_is.Up server) = ⊥
 IsRooting (entry_is.Down server) = Unit {0}
 IsRooting (entry_is.Abort pid) = ⊥
+IsRooting (entry_is.Adopt sheets) = ⊥
+IsRooting (entry_is.Base part) = ⊥
 
 -- the entry undoes a step
 abbrev pub IsUndo : Entry → Type 0
@@ -50,6 +52,8 @@ IsUndo (entry_is.Report call told) = ⊥
 IsUndo (entry_is.Up server) = ⊥
 IsUndo (entry_is.Down server) = ⊥
 IsUndo (entry_is.Abort pid) = ⊥
+IsUndo (entry_is.Adopt sheets) = ⊥
+IsUndo (entry_is.Base part) = ⊥
 
 -- the entry is the report of a call
 abbrev pub IsReport : Entry → Type 0
@@ -61,6 +65,8 @@ IsReport (entry_is.Report call told) = Unit {0}
 IsReport (entry_is.Up server) = ⊥
 IsReport (entry_is.Down server) = ⊥
 IsReport (entry_is.Abort pid) = ⊥
+IsReport (entry_is.Adopt sheets) = ⊥
+IsReport (entry_is.Base part) = ⊥
 
 -- the entry is an abort
 abbrev pub IsAbort : Entry → Type 0
@@ -72,3 +78,5 @@ IsAbort (entry_is.Report call told) = ⊥
 IsAbort (entry_is.Up server) = ⊥
 IsAbort (entry_is.Down server) = ⊥
 IsAbort (entry_is.Abort pid) = Unit {0}
+IsAbort (entry_is.Adopt sheets) = ⊥
+IsAbort (entry_is.Base part) = ⊥

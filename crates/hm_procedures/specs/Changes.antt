@@ -33,7 +33,7 @@ parent_by (Some up) = Some up.0
 -- a new procedure, as a root or with its parent and its root
 abbrev pub fresh : ℕ → Option (Pid × Pid) → Args → Tracked
 fresh p up args = record {
-  shown = record { pid = record { 0 = p }; parent = parent_by up; root = root_by p up; kind = kind_of args; row = first_row_of args; args = args; tries = 0; aborted = false; phase = phase_is.Runnable };
+  shown = record { pid = record { 0 = p }; parent = parent_by up; root = root_by p up; kind = kind_of args; edition = 0; row = first_row_of args; args = args; tries = 0; aborted = false; phase = phase_is.Runnable };
   last = None;
   report = None;
   has_called = false;

@@ -10,6 +10,7 @@ use Rattle.hm_data.specs.declared.record.Phase.{Phase}
 use Rattle.hm_model.specs.Answers.{is_aborted, last_answer, report_of, row_of}
 use Rattle.hm_model.specs.Inputs.{made_at_step}
 use Rattle.hm_model.specs.Journal.{Past}
+use Rattle.hm_model.specs.Plain.{ArePlain}
 use Rattle.hm_model.specs.Kinds.{kind_of, table_of_request}
 use Rattle.hm_model.specs.Phase.{cause, phase}
 use Rattle.hm_model.specs.Places.{tries_of}
@@ -31,6 +32,8 @@ args_made before (entry_is.Report call told) = []
 args_made before (entry_is.Up server) = []
 args_made before (entry_is.Down server) = args_are.Crash server ∷ []
 args_made before (entry_is.Abort pid) = []
+args_made before (entry_is.Adopt sheets) = []
+args_made before (entry_is.Base part) = []
 
 -- how many procedures the last step of a procedure made
 abbrev pub made_in_step : Past → ℕ → ℕ
@@ -43,6 +46,8 @@ made_in_step (entry_is.Report call told ∷ before) p = made_in_step before p
 made_in_step (entry_is.Up server ∷ before) p = made_in_step before p
 made_in_step (entry_is.Down server ∷ before) p = made_in_step before p
 made_in_step (entry_is.Abort pid ∷ before) p = made_in_step before p
+made_in_step (entry_is.Adopt sheets ∷ before) p = made_in_step before p
+made_in_step (entry_is.Base part ∷ before) p = 0
 
 -- the first child that a procedure made
 abbrev pub first_child_of : Past → ℕ → Option Pid
@@ -56,8 +61,10 @@ first_child_of (entry_is.Report call told ∷ before) p = first_child_of before 
 first_child_of (entry_is.Up server ∷ before) p = first_child_of before p
 first_child_of (entry_is.Down server ∷ before) p = first_child_of before p
 first_child_of (entry_is.Abort pid ∷ before) p = first_child_of before p
+first_child_of (entry_is.Adopt sheets ∷ before) p = first_child_of before p
+first_child_of (entry_is.Base part ∷ before) p = None
 
--- what is kept of a procedure that is shown in a phase
+-- what is kept of a procedure that is shown in a phase; a plain journal has one edition
 abbrev pub kept_in : Phase → Past → ℕ → Node → Tracked
 kept_in phase before p node = record {
   shown = record {
@@ -65,6 +72,7 @@ kept_in phase before p node = record {
     parent = option_map pid_of (parent_in node.above);
     root = pid_of node.root;
     kind = kind_of node.args;
+    edition = 0;
     row = row_of before p node;
     args = node.args;
     tries = tries_of before p;
@@ -107,9 +115,10 @@ eldest_of past p node = eldest_in past p node.above
 abbrev pub AreElders : Past → List Pid → Type 0
 AreElders past elders = (p : ℕ) → slice_get elders p ≡ option_map (eldest_of past (p + 1)) (node_of past (p + 1))
 
--- what is kept is what a legal journal says of its procedures, of their roots, and of how many roots haven't ended
+-- what is kept is what a legal, plain journal says of its procedures, of their roots, and of how many roots haven't ended
 pub record IsKept (past : Past) (kept : List Tracked) (roots : List Pid) (left : ℕ) : Type 0 where
   pub legal : IsLegal past
+  pub plain : ArePlain past
   pub count : length kept ≡ made past
   pub kept_are : (p : ℕ) → slice_get kept p ≡ kept_of past (p + 1)
   pub roots_are : (p : ℕ) → slice_get roots p ≡ option_map root_shown (slice_get kept p)

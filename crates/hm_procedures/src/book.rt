@@ -6,6 +6,7 @@ ghost use Rattle.hm_model.specs.Apart.{tree_of};
 ghost use Rattle.hm_model.specs.Counts.{one_if};
 ghost use Rattle.hm_model.specs.Rules.{IsLegal};
 ghost use Rattle.hm_model.specs.Undo.{is_empty, stack};
+ghost use Rattle.hm_model.specs.Plain.{IsPlain};
 ghost use Rattle.hm_procedures.specs.Book.{HasElder, HasRoot, IsAbort, IsBook, IsReport, IsRooting, IsUndo, room_of, spare_of};
 ghost use Rattle.hm_procedures.specs.Changes.{added, elder_by, elders};
 ghost use Rattle.hm_procedures.specs.Kept.{args_made, root_shown};
@@ -239,6 +240,7 @@ impl Book {
     )
         requires book { IsBook past.now.entries self.old }
         requires legal { IsLegal (entry.now ∷ past.now.entries) }
+        requires plain { IsPlain entry.now }
         requires made { made ≡ args_made past.now.entries entry.now }
         requires left { nothing_left ≡ is_empty (stack (entry.now ∷ past.now.entries) (tree_of past.now.entries entry.now)) }
         requires room { length made ≤ spare_of self.old }
@@ -260,7 +262,10 @@ impl Book {
             } => self.undo(past, entry, made, nothing_left),
             Entry::Report { call: _, told: _ } => self.report(past, entry),
             Entry::Abort { pid: _ } => self.abort(past, entry),
-            Entry::Start { sheets: _ } | Entry::Up { server: _ } => {}
+            Entry::Start { sheets: _ }
+            | Entry::Up { server: _ }
+            | Entry::Base { part: _ }
+            | Entry::Adopt { sheets: _ } => {}
         }
     }
 }

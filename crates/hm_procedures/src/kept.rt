@@ -177,6 +177,8 @@ impl Tracked {
                 parent,
                 root,
                 kind,
+                // No sheets were adopted.
+                edition: 0,
                 row,
                 args,
                 tries: 0,

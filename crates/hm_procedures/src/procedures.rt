@@ -11,6 +11,7 @@ ghost use Rattle.hm_model.specs.Rules.{IsLegal};
 ghost use Rattle.hm_model.specs.Tree.{made, node_of};
 ghost use Rattle.hm_model.specs.Undo.{is_empty, stack};
 ghost use Rattle.hm_model.specs.Waiting.{children_made, ends_one};
+ghost use Rattle.hm_model.specs.Plain.{ArePlain, IsPlain};
 ghost use Rattle.hm_procedures.specs.Below.{is_below};
 ghost use Rattle.hm_procedures.specs.Kept.{args_made, first_child_of, kept_of, made_in_step};
 ghost use Rattle.hm_procedures.specs.Procedures.{IsNextChild, children, roots, unfinished_procedures};
@@ -73,6 +74,7 @@ impl Procedures {
         ensures last { result ≡ made self.now.past }
         ensures small { result < 2 ^ 63 }
         ensures legal { IsLegal self.now.past }
+        ensures plain { ArePlain self.now.past }
     {
         self.book.kept.len() as u64
     }
@@ -81,6 +83,7 @@ impl Procedures {
     fn kept(&self, pid: Pid) -> Option<&Tracked>
         ensures kept { option_copied result ≡ kept_of self.now.past pid.0 }
         ensures legal { IsLegal self.now.past }
+        ensures plain { ArePlain self.now.past }
     {
         let kept = &self.book.kept;
         if pid.0 == 0 {
@@ -289,6 +292,7 @@ impl Procedures {
     /// left to undo of its tree after it. It takes no memory.
     pub fn enter(&mut self, entry: &Entry, made: List<Args>, nothing_left: bool)
         requires legal { IsLegal (entry.now ∷ self.old.past) }
+        requires plain { IsPlain entry.now }
         requires made { made ≡ args_made self.old.past entry.now }
         requires left { nothing_left ≡ is_empty (stack (entry.now ∷ self.old.past) (tree_of self.old.past entry.now)) }
         requires room { length made ≤ self.old.spare }

@@ -5,14 +5,20 @@ use Rattle.hm_data.specs.declared.entry.Entry.{Entry}
 use Rattle.hm_data.specs.declared.entry.Entry.TheVariants as entry_is
 use Rattle.hm_data.specs.declared.sheet.Sheet.{Sheet}
 use Rattle.hm_model.specs.Apart.{tree_of}
+use Rattle.hm_model.specs.Base.{AreSheets}
 use Rattle.hm_model.specs.Journal.{Past}
-use Rattle.hm_model.specs.Rules.{AreSheets, IsLegal}
+use Rattle.hm_model.specs.Plain.{IsPlain}
+use Rattle.hm_model.specs.Rules.{IsLegal}
 use Rattle.hm_model.specs.Undo.{is_empty, stack}
 use Rattle.hm_procedures.specs.Kept.{args_made}
 
 -- it is legal
 pub begins : (entry : Entry) (past : Past) (sheets : List Sheet) → entry ≡ entry_is.Start sheets → past ≡ [] → AreSheets sheets → IsLegal (entry ∷ past)
 begins entry past sheets is none valid = rw (is, none) (tt, ((refl, valid), tt))
+
+-- its start is plain
+pub starts_plain : (entry : Entry) (sheets : List Sheet) → entry ≡ entry_is.Start sheets → IsPlain entry
+starts_plain entry sheets is = rw is tt
 
 -- it makes no procedures
 pub makes_none : (entry : Entry) (past : Past) (sheets : List Sheet) → entry ≡ entry_is.Start sheets → args_made past entry ≡ []

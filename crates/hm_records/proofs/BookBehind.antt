@@ -80,6 +80,8 @@ made_fits (entry_is.Up server) J legal k args is = absurd (none-some args is)
 made_fits (entry_is.Down server) J legal zero args is = ap has_first (sym (same_Some (args_are.Crash server) args is))
 made_fits (entry_is.Down server) J legal (suc k) args is = absurd (none-some args is)
 made_fits (entry_is.Abort pid) J legal k args is = absurd (none-some args is)
+made_fits (entry_is.Adopt sheets) J legal k args is = absurd (none-some args is)
+made_fits (entry_is.Base part) J legal k args is = absurd (none-some args is)
 
 -- a node that is new has the row of its draft
 drafts_row : (p : ℕ) (above : List ℕ) (args : Args) (root first : ℕ) → has_first args ≡ true
@@ -138,6 +140,8 @@ fresh_row (entry_is.Up server) J legal p behind = ap (book_row false false p) ((
 fresh_row (entry_is.Down server) J legal p behind =
     one_row J p behind (args_are.Crash server) 1 refl (node_of (entry_is.Down server ∷ J) p) (down_new server J p) (λ e. down_old server J p e ∙ (grown_all J legal.0).numbered p behind)
 fresh_row (entry_is.Abort pid) J legal p behind = ap (book_row false false p) ((grown_all J legal.0).numbered p behind)
+fresh_row (entry_is.Adopt sheets) J legal p behind = ap (book_row false false p) ((grown_all J legal.0).numbered p behind)
+fresh_row (entry_is.Base part) J legal p behind = refl
 
 module _ (entry : Entry) (J : Past) (legal : IsLegal (entry ∷ J)) (p : ℕ) where
   abbrev after : Past

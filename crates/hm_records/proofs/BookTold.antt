@@ -95,6 +95,8 @@ module _ (past : Past) (rows : List Row) (are : AreRows past rows) where
   stepper_can law (entry_is.Up server) legal pid is = absurd (none-some pid is)
   stepper_can law (entry_is.Down server) legal pid is = absurd (none-some pid is)
   stepper_can law (entry_is.Abort own) legal pid is = absurd (none-some pid is)
+  stepper_can law (entry_is.Adopt sheets) legal pid is = absurd (none-some pid is)
+  stepper_can law (entry_is.Base part) legal pid is = absurd (none-some pid is)
 
 -- who takes holds
 pub taken_rows : (old new : List Row) (pid : Pid) → AreChanged old pid.0 (option_map (holding true) (row_of old pid.0)) new → (p : ℕ) → row_of new p ≡ or_taken (Some pid) p (row_of old p)

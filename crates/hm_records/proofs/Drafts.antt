@@ -21,7 +21,7 @@ use Rattle.hm_model.specs.Journal.{Past}
 use Rattle.hm_model.specs.Kinds.{table_of_request}
 use Rattle.hm_model.specs.Locks.{merge_asks, request_asks}
 use Rattle.hm_model.specs.Rules.{IsLegal}
-use Rattle.hm_model.specs.Tree.{args_in, first_of, made}
+use Rattle.hm_model.specs.Tree.{args_in, first_of}
 use Rattle.hm_procedures.specs.Kept.{args_made}
 use Rattle.hm_records.specs.Book.{above_made, asked, asks_in, asks_of, draft_of, drafts_of, or_drafted, stepper_of}
 use Rattle.hm_records.proofs.BookBehind.{first_fits}
@@ -44,7 +44,7 @@ count_map f [] = refl
 count_map f (x ∷ xs) = ap suc (count_map f xs)
 
 -- as many as there are procedures that the entry makes
-pub drafts_count : (J : Past) (entry : Entry) → length (drafts_of J entry) ≡ made (entry ∷ [])
+pub drafts_count : (J : Past) (entry : Entry) → length (drafts_of J entry) ≡ length (args_made [] entry)
 drafts_count J entry = count_map (draft_of (above_made J (stepper_of entry))) (args_made J entry) ∙ made_count J entry
 
 -- whatever their ancestors
@@ -94,6 +94,8 @@ asks_same (entry_is.Report call told) J legal = refl
 asks_same (entry_is.Up server) J legal = refl
 asks_same (entry_is.Down server) J legal = refl
 asks_same (entry_is.Abort pid) J legal = refl
+asks_same (entry_is.Adopt sheets) J legal = refl
+asks_same (entry_is.Base part) J legal = refl
 
 get_push : {X : Type 0} (xs : List X) (y : X) (k : ℕ) → slice_get (xs ++ y ∷ []) k ≡ cond (eqb (length xs) k) (Some y) (slice_get xs k)
 get_push [] y zero = refl

@@ -14,6 +14,7 @@ use Rattle.hm_index.specs.Index.{find}
 use Rattle.hm_model.specs.Journal.{Past}
 use Rattle.hm_model.specs.Keys.{same_table}
 use Rattle.hm_model.specs.Kinds.{table_of_request}
+use Rattle.hm_model.specs.Plain.{IsPlain}
 use Rattle.hm_model.specs.Rules.{IsLegal}
 use Rattle.hm_model.specs.Tree.{drawn, ids_for, new_ids}
 use Rattle.hm_model.proofs.Grown.{ids_within}
@@ -60,15 +61,17 @@ table_ties a b = by (same_table a b) refl
     by false e = differs (table_cmp a b) refl e
 
 module _ (J : Past) where
-  pub draws_none : (entry : Entry) → ids_drawn entry ≡ None → (t : TableName) → drawn (entry ∷ J) t ≡ drawn J t
-  draws_none (entry_is.Start sheets) none t = refl
-  draws_none (entry_is.Submit nonce request) none t = let zero_is = none_for (table_of_request request) (new_ids request) none t in omega (arith, zero_is)
-  draws_none (entry_is.Step pid pick out) none t = refl
-  draws_none (entry_is.Undo pid row out) none t = refl
-  draws_none (entry_is.Report call told) none t = refl
-  draws_none (entry_is.Up server) none t = refl
-  draws_none (entry_is.Down server) none t = refl
-  draws_none (entry_is.Abort pid) none t = refl
+  pub draws_none : (entry : Entry) → IsPlain entry → ids_drawn entry ≡ None → (t : TableName) → drawn (entry ∷ J) t ≡ drawn J t
+  draws_none (entry_is.Start sheets) plain none t = refl
+  draws_none (entry_is.Submit nonce request) plain none t = let zero_is = none_for (table_of_request request) (new_ids request) none t in omega (arith, zero_is)
+  draws_none (entry_is.Step pid pick out) plain none t = refl
+  draws_none (entry_is.Undo pid row out) plain none t = refl
+  draws_none (entry_is.Report call told) plain none t = refl
+  draws_none (entry_is.Up server) plain none t = refl
+  draws_none (entry_is.Down server) plain none t = refl
+  draws_none (entry_is.Abort pid) plain none t = refl
+  draws_none (entry_is.Adopt sheets) plain none t = refl
+  draws_none (entry_is.Base part) plain none t = absurd plain
 
   pub draws_some : (entry : Entry) (ids : TableName × ℕ) → ids_drawn entry ≡ Some ids → (t : TableName) → drawn (entry ∷ J) t ≡ drawn J t + (if same_table ids.0 t then ids.1 else 0)
   draws_some (entry_is.Start sheets) ids is t = absurd (none-some ids is)
@@ -79,6 +82,8 @@ module _ (J : Past) where
   draws_some (entry_is.Up server) ids is t = absurd (none-some ids is)
   draws_some (entry_is.Down server) ids is t = absurd (none-some ids is)
   draws_some (entry_is.Abort pid) ids is t = absurd (none-some ids is)
+  draws_some (entry_is.Adopt sheets) ids is t = absurd (none-some ids is)
+  draws_some (entry_is.Base part) ids is t = absurd (none-some ids is)
 
   -- they stay within their limit
   pub few_drawn : (entry : Entry) (ids : TableName × ℕ) → ids_drawn entry ≡ Some ids → IsLegal (entry ∷ J) → drawn J ids.0 + ids.1 ≤ 4096
@@ -88,8 +93,8 @@ module _ (J : Past) where
       omega (arith, few, sum)
 
   -- the numbers that are kept
-  pub drawn_none : (entry : Entry) → ids_drawn entry ≡ None → (old : List (TableName × ℕ)) → AreDrawn J old → AreDrawn (entry ∷ J) old
-  drawn_none entry none old was t = was t ∙ sym (draws_none entry none t)
+  pub drawn_none : (entry : Entry) → IsPlain entry → ids_drawn entry ≡ None → (old : List (TableName × ℕ)) → AreDrawn J old → AreDrawn (entry ∷ J) old
+  drawn_none entry plain none old was t = was t ∙ sym (draws_none entry plain none t)
 
   pub drawn_some : (entry : Entry) (ids : TableName × ℕ) → ids_drawn entry ≡ Some ids → (old new : List (TableName × ℕ)) (value : ℕ) → AreDrawn J old → value ≡ count_if (find table_cmp old ids.0) + ids.1
       → ((other : TableName) → find table_cmp new other ≡ (if is_eq (table_cmp ids.0 other) then Some value else find table_cmp old other)) → AreDrawn (entry ∷ J) new

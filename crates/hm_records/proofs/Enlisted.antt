@@ -14,11 +14,11 @@ use Rattle.hm_model.specs.Journal.{Past}
 use Rattle.hm_model.specs.Phase.{cause, ended, ended_node, rolled_back, root_ended}
 use Rattle.hm_model.specs.Rules.{IsLegal}
 use Rattle.hm_model.specs.Tree.{Node, is_root_in, is_top, made, node_of}
-use Rattle.hm_model.proofs.Grown.{grown_all, nodes_stay}
+use Rattle.hm_model.proofs.Grown.{down_old, grown_all, nodes_stay, step_old, submit_old, undo_old}
 use Rattle.hm_model.proofs.Tops.{caused_begun}
 use Rattle.hm_records.specs.Book.{or_taken, row_at, book_row, stepper_of, unless_ended}
 use Rattle.hm_records.proofs.Forgotten.{ends_below}
-use Rattle.hm_records.proofs.Trees.{below_ended, none_answers, none_open, not_over, stays_ended, there_or_not}
+use Rattle.hm_records.proofs.Trees.{below_ended, none_answers, none_open, none_stepped, not_over, stays_ended, there_or_not}
 
 uncaused : (J : Past) → IsLegal J → (p : ℕ) → last_answer J p ≡ None → cause J p ≡ None
 uncaused J legal p none = by (cause J p) refl
@@ -52,15 +52,17 @@ steps_or_not entry p = by (stepper_of entry) refl
     ]
 
 -- another's last answer stays
-pub last_stays : (entry : Entry) (J : Past) (p : ℕ) → ((pid : Pid) → stepper_of entry ≡ Some pid → pid.0 ≢ p) → last_answer (entry ∷ J) p ≡ last_answer J p
-last_stays (entry_is.Start sheets) J p other = refl
-last_stays (entry_is.Submit nonce request) J p other = refl
-last_stays (entry_is.Step pid pick out) J p other = cond-false (p == pid.0) (Some out.answer) (last_answer J p) (ne_eqb p pid.0 (λ e. other pid refl (sym e)))
-last_stays (entry_is.Undo pid row out) J p other = refl
-last_stays (entry_is.Report call told) J p other = refl
-last_stays (entry_is.Up server) J p other = refl
-last_stays (entry_is.Down server) J p other = refl
-last_stays (entry_is.Abort pid) J p other = refl
+pub last_stays : (entry : Entry) (J : Past) → IsLegal (entry ∷ J) → (p : ℕ) → ((pid : Pid) → stepper_of entry ≡ Some pid → pid.0 ≢ p) → last_answer (entry ∷ J) p ≡ last_answer J p
+last_stays (entry_is.Start sheets) J legal p other = refl
+last_stays (entry_is.Submit nonce request) J legal p other = refl
+last_stays (entry_is.Step pid pick out) J legal p other = cond-false (p == pid.0) (Some out.answer) (last_answer J p) (ne_eqb p pid.0 (λ e. other pid refl (sym e)))
+last_stays (entry_is.Undo pid row out) J legal p other = refl
+last_stays (entry_is.Report call told) J legal p other = refl
+last_stays (entry_is.Up server) J legal p other = refl
+last_stays (entry_is.Down server) J legal p other = refl
+last_stays (entry_is.Abort pid) J legal p other = refl
+last_stays (entry_is.Adopt sheets) J legal p other = refl
+last_stays (entry_is.Base part) J legal p other = sym (none_stepped part J legal p)
 
 -- who steps has a step
 last_comes : (entry : Entry) (J : Past) (p : ℕ) (pid : Pid) → stepper_of entry ≡ Some pid → pid.0 ≡ p → is_some (last_answer (entry ∷ J) p) ≡ true
@@ -73,6 +75,8 @@ last_comes (entry_is.Report call told) J p pid is same = absurd (none-some pid i
 last_comes (entry_is.Up server) J p pid is same = absurd (none-some pid is)
 last_comes (entry_is.Down server) J p pid is same = absurd (none-some pid is)
 last_comes (entry_is.Abort own) J p pid is same = absurd (none-some pid is)
+last_comes (entry_is.Adopt sheets) J p pid is same = absurd (none-some pid is)
+last_comes (entry_is.Base part) J p pid is same = absurd (none-some pid is)
 
 -- of another tree the procedure of the step alone ends
 pub ends_by : (entry : Entry) (J : Past) → IsLegal (entry ∷ J) → (p : ℕ) → p ≢ tree_of J entry → ((pid : Pid) → stepper_of entry ≡ Some pid → pid.0 ≢ p) → ended J p ≡ false → ended (entry ∷ J) p ≡ false
@@ -85,7 +89,7 @@ ends_by entry J legal p apart other goes = elim (cases_Bool (ended (entry ∷ J)
     by over (inl none) = true≢false (sym over ∙ unstepped_open (entry ∷ J) legal p (none_answers entry J legal p none))
     by over (inr x) =
         let below : is_top x.0.above ≡ false = sym (ap is_root_in x.1) ∙ ends_below entry J legal p apart goes over in
-        true≢false (sym over ∙ below_ended (entry ∷ J) p x.0 (nodes_stay entry J legal p x.0 x.1) below ∙ ap is_stopped (last_stays entry J p other) ∙ sym (below_ended J p x.0 x.1 below) ∙ goes)
+        true≢false (sym over ∙ below_ended (entry ∷ J) p x.0 (nodes_stay entry J legal p x.0 x.1) below ∙ ap is_stopped (last_stays entry J legal p other) ∙ sym (below_ended J p x.0 x.1 below) ∙ goes)
 
 -- rows of those who aren't there
 row_out : (ended stepped : Bool) (p : ℕ) (o : Option Node) → o ≡ None → book_row ended stepped p o ≡ None
@@ -110,6 +114,19 @@ taken_none s p row e = ap (or_taken s p) e ∙ by s
 unless_none : (b : Bool) → unless_ended b None ≡ None
 unless_none true = refl
 unless_none false = refl
+
+-- who isn't there up to the last number isn't there after an entry
+still_none : (entry : Entry) (J : Past) (p : ℕ) → p ≤ made J → node_of J p ≡ None → node_of (entry ∷ J) p ≡ None
+still_none (entry_is.Start sheets) J p within none = none
+still_none (entry_is.Submit nonce request) J p within none = submit_old nonce request J p (λ e. omega (arith, within, e)) ∙ none
+still_none (entry_is.Step pid pick out) J p within none = step_old pid pick out J p within ∙ none
+still_none (entry_is.Undo pid row out) J p within none = undo_old pid row out J p within ∙ none
+still_none (entry_is.Report call told) J p within none = none
+still_none (entry_is.Up server) J p within none = none
+still_none (entry_is.Down server) J p within none = down_old server J p (λ e. omega (arith, within, e)) ∙ none
+still_none (entry_is.Abort pid) J p within none = none
+still_none (entry_is.Adopt sheets) J p within none = none
+still_none (entry_is.Base part) J p within none = refl
 
 module _ (entry : Entry) (J : Past) (legal : IsLegal (entry ∷ J)) (p : ℕ) where
   abbrev after : Past
@@ -143,16 +160,15 @@ module _ (entry : Entry) (J : Past) (legal : IsLegal (entry ∷ J)) (p : ℕ) wh
           ∙ sym (ap (λ b. if b then option_map (holding true) (book_row false (is_some (last_answer J p)) p (Some x)) else book_row false (is_some (last_answer J p)) p (Some x)) (eq-eqb own.0.0 p own.2))
           ∙ sym (ap (λ s. or_taken s p (book_row false (is_some (last_answer J p)) p (Some x))) own.1)
       by (inr differs) =
-          ap (λ o. book_row false (is_some o) p (Some x)) (last_stays entry J p differs)
+          ap (λ o. book_row false (is_some o) p (Some x)) (last_stays entry J legal p differs)
           ∙ other differs (stepper_of entry) refl (book_row false (is_some (last_answer J p)) p (Some x))
 
   -- the row of one that was made before
   pub row_still : p ≤ made J → row_at after p ≡ unless_ended (ended after p) (or_taken (stepper_of entry) p (row_at J p))
   row_still within = elim (there_or_not J p) [
     | inl none ↦
-        (let first : p ≡ 0 = elim (cases_eq p 0) [ inl e ↦ e | inr some ↦ absurd (let there = (grown_all J legal.0).there p (omega (arith, some)) within in none-some there.0 (sym none ∙ there.1)) ] in
-        row_out (ended after p) (is_some (last_answer after p)) p (node_of after p) (ap (node_of after) first ∙ (grown_all after legal).none)
-        ∙ sym (ap (unless_ended (ended after p)) (taken_none (stepper_of entry) p (row_at J p) (row_out (ended J p) (is_some (last_answer J p)) p (node_of J p) none)) ∙ unless_none (ended after p)))
+        row_out (ended after p) (is_some (last_answer after p)) p (node_of after p) (still_none entry J p within none)
+        ∙ sym (ap (unless_ended (ended after p)) (taken_none (stepper_of entry) p (row_at J p) (row_out (ended J p) (is_some (last_answer J p)) p (node_of J p) none)) ∙ unless_none (ended after p))
     | inr x ↦ elim (cases_Bool (ended after p)) [
       | inl over ↦ row_over (ended after p) (is_some (last_answer after p)) p (node_of after p) over ∙ sym (ap (λ b. unless_ended b (or_taken (stepper_of entry) p (row_at J p))) over)
       | inr goes ↦ row_on x.0 x.1 goes ∙ sym (ap (λ b. unless_ended b (or_taken (stepper_of entry) p (row_at J p))) goes)

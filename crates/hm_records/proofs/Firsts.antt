@@ -55,3 +55,5 @@ node_first (entry_is.Down server ∷ J) legal p x is = elim (cases_eq p (made J 
   | inr old ↦ node_first J legal.0 p x (sym (down_old server J p old) ∙ is)
 ]
 node_first (entry_is.Abort pid ∷ J) legal p x is = node_first J legal.0 p x is
+node_first (entry_is.Adopt sheets ∷ J) legal p x is = node_first J legal.0 p x is
+node_first (entry_is.Base part ∷ J) legal p x is = absurd (none-some x is)

@@ -4,8 +4,10 @@ use Rattle.std.proofs.lemmas.Bool.{cases_Bool, cases_eq, cond-false, eq-eqb, ne_
 use Rattle.hm_names.specs.declared.pid.Pid.{Pid}
 use Rattle.hm_data.specs.declared.entry.Entry.{Entry}
 use Rattle.hm_data.specs.declared.entry.Entry.TheVariants as entry_is
+use Rattle.hm_data.specs.declared.part.Part.{Part}
 use Rattle.hm_model.specs.Answers.{failing}
 use Rattle.hm_model.specs.Apart.{tree_of}
+use Rattle.hm_model.specs.Base.{PartFits}
 use Rattle.hm_model.specs.Journal.{Past}
 use Rattle.hm_model.specs.Phase.{ended}
 use Rattle.hm_model.specs.Rules.{IsLegal}
@@ -15,23 +17,30 @@ use Rattle.hm_model.specs.Undo.{pushed, rest_of, row_if_there, stack}
 use Rattle.hm_model.proofs.Apart.{others_stay}
 use Rattle.hm_model.proofs.Forest.{forest_all, rooted_all, top_is, top_is_own}
 use Rattle.hm_model.proofs.Grown.{nodes_stay}
+use Rattle.hm_model.proofs.Parted.{by_parts}
 use Rattle.hm_undo.specs.Laws.{Tells, kept_of}
 use Rattle.hm_undo.specs.Stacks.{AreWith, Stacks, steps_of}
 use Rattle.hm_undo.specs.declared.slot.Step.{Step}
 use Rattle.hm_records.specs.Records.{AreForgotten, is_open}
 use Rattle.hm_records.proofs.Trees.{stepper_there, there_or_not, tree_open, undone_root}
 
+-- before a part of a base nothing is left to undo
+pub none_stacked : (part : Part) (J : Past) → PartFits part J → (p : ℕ) → stack J p ≡ []
+none_stacked = by_parts (λ J. (p : ℕ) → stack J p ≡ []) (λ p. refl) (λ own older p. refl)
+
 -- what is left of another tree stays
-stack_stays : (entry : Entry) (J : Past) (p : ℕ) → p ≢ tree_of J entry → stack (entry ∷ J) p ≡ stack J p
-stack_stays (entry_is.Start sheets) J p other = refl
-stack_stays (entry_is.Submit nonce request) J p other = refl
-stack_stays (entry_is.Step pid pick out) J p other =
+stack_stays : (entry : Entry) (J : Past) → IsLegal (entry ∷ J) → (p : ℕ) → p ≢ tree_of J entry → stack (entry ∷ J) p ≡ stack J p
+stack_stays (entry_is.Start sheets) J legal p other = refl
+stack_stays (entry_is.Submit nonce request) J legal p other = refl
+stack_stays (entry_is.Step pid pick out) J legal p other =
     cond-false (root_of J pid.0 == p) (pushed (undo_of_next J pid.0 (node_of J pid.0)) (is_some (failing out.answer)) pid.0 (row_if_there J pid.0 (node_of J pid.0)) out.edits (stack J p)) (stack J p) (ne_eqb (root_of J pid.0) p (λ e. other (sym e)))
-stack_stays (entry_is.Undo pid row out) J p other = cond-false (root_of J pid.0 == p) (rest_of (stack J p)) (stack J p) (ne_eqb (root_of J pid.0) p (λ e. other (sym e)))
-stack_stays (entry_is.Report call told) J p other = refl
-stack_stays (entry_is.Up server) J p other = refl
-stack_stays (entry_is.Down server) J p other = refl
-stack_stays (entry_is.Abort pid) J p other = refl
+stack_stays (entry_is.Undo pid row out) J legal p other = cond-false (root_of J pid.0 == p) (rest_of (stack J p)) (stack J p) (ne_eqb (root_of J pid.0) p (λ e. other (sym e)))
+stack_stays (entry_is.Report call told) J legal p other = refl
+stack_stays (entry_is.Up server) J legal p other = refl
+stack_stays (entry_is.Down server) J legal p other = refl
+stack_stays (entry_is.Abort pid) J legal p other = refl
+stack_stays (entry_is.Adopt sheets) J legal p other = refl
+stack_stays (entry_is.Base part) J legal p other = sym (none_stacked part J legal.1.0 p)
 
 -- who is a root stays one
 root_stays : (entry : Entry) (J : Past) → IsLegal (entry ∷ J) → (p : ℕ) (x : Node) → node_of J p ≡ Some x → is_root (entry ∷ J) p ≡ is_root J p
@@ -57,18 +66,20 @@ none_below (entry_is.Start sheets ∷ J) legal p rootless = none_below J legal.0
 none_below (entry_is.Submit nonce request ∷ J) legal p rootless = none_below J legal.0 p (was_no_root (entry_is.Submit nonce request) J legal p rootless)
 none_below (entry_is.Step pid pick out ∷ J) legal p rootless =
     let me = stepper_there pid pick out J legal in
-    stack_stays (entry_is.Step pid pick out) J p (λ same. true≢false (sym (root_is (entry_is.Step pid pick out) J legal pid.0 me.0 me.1) ∙ sym (ap (is_root (entry_is.Step pid pick out ∷ J)) same) ∙ rootless))
+    stack_stays (entry_is.Step pid pick out) J legal p (λ same. true≢false (sym (root_is (entry_is.Step pid pick out) J legal pid.0 me.0 me.1) ∙ sym (ap (is_root (entry_is.Step pid pick out ∷ J)) same) ∙ rootless))
     ∙ none_below J legal.0 p (was_no_root (entry_is.Step pid pick out) J legal p rootless)
 none_below (entry_is.Undo pid row out ∷ J) legal p rootless =
     let root = legal.1.1.0 in
     let undone = entry_is.Undo pid row out in
     let top : is_root (undone ∷ J) (root_of J pid.0) ≡ true = root_stays undone J legal (root_of J pid.0) root.0 root.1 ∙ ap is_root_in root.1 ∙ undone_root pid row out J legal in
-    stack_stays undone J p (λ same. true≢false (sym top ∙ sym (ap (is_root (undone ∷ J)) same) ∙ rootless))
+    stack_stays undone J legal p (λ same. true≢false (sym top ∙ sym (ap (is_root (undone ∷ J)) same) ∙ rootless))
     ∙ none_below J legal.0 p (was_no_root undone J legal p rootless)
 none_below (entry_is.Report call told ∷ J) legal p rootless = none_below J legal.0 p (was_no_root (entry_is.Report call told) J legal p rootless)
 none_below (entry_is.Up server ∷ J) legal p rootless = none_below J legal.0 p (was_no_root (entry_is.Up server) J legal p rootless)
 none_below (entry_is.Down server ∷ J) legal p rootless = none_below J legal.0 p (was_no_root (entry_is.Down server) J legal p rootless)
 none_below (entry_is.Abort pid ∷ J) legal p rootless = none_below J legal.0 p (was_no_root (entry_is.Abort pid) J legal p rootless)
+none_below (entry_is.Adopt sheets ∷ J) legal p rootless = none_below J legal.0 p (was_no_root (entry_is.Adopt sheets) J legal p rootless)
+none_below (entry_is.Base part ∷ J) legal p rootless = refl
 
 module _ (entry : Entry) (J : Past) (legal : IsLegal (entry ∷ J)) where
   -- who has ended is of another tree
@@ -100,7 +111,7 @@ module _ (entry : Entry) (J : Past) (legal : IsLegal (entry ∷ J)) where
       | inl was ↦ forgotten p was
       | inr goes ↦
           tells p (ap not goes)
-          ∙ ap (map kept_of) (stack_stays entry J p.0 other ∙ none_below J legal.0 p.0 (ends_below p.0 other goes over))
+          ∙ ap (map kept_of) (stack_stays entry J legal p.0 other ∙ none_below J legal.0 p.0 (ends_below p.0 other goes over))
     ]
 
     -- while the tree's root goes on

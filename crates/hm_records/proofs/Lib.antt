@@ -1,4 +1,5 @@
 mod Trees
+mod Undos
 mod Stacks
 mod Forgotten
 mod Enlisted

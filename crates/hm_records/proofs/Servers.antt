@@ -31,6 +31,8 @@ up_is (entry_is.Report call told) server is = absurd (none-some server is)
 up_is (entry_is.Up other) server is = ap (λ (s : Server). entry_is.Up s) (same_Some other server is)
 up_is (entry_is.Down other) server is = absurd (none-some server is)
 up_is (entry_is.Abort pid) server is = absurd (none-some server is)
+up_is (entry_is.Adopt sheets) server is = absurd (none-some server is)
+up_is (entry_is.Base part) server is = absurd (none-some server is)
 
 -- a row that isn't newer
 or_false : (a b : Bool) → (a || b) ≡ false → (a ≡ false) × (b ≡ false)
@@ -105,3 +107,5 @@ others_stand (entry_is.Report call told) J servers up report down = absurd (repo
 others_stand (entry_is.Up server) J servers up report down = absurd (none-some server (sym up))
 others_stand (entry_is.Down server) J servers up report down = absurd (down server refl)
 others_stand (entry_is.Abort pid) J servers up report down = refl
+others_stand (entry_is.Adopt sheets) J servers up report down = refl
+others_stand (entry_is.Base part) J servers up report down = refl

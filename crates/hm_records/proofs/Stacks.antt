@@ -17,6 +17,7 @@ use Rattle.hm_undo.specs.Stacks.{AreWith, Stacks, steps_of, told}
 use Rattle.hm_undo.specs.declared.slot.Step.{Step}
 use Rattle.hm_records.specs.Parts.{step_left}
 use Rattle.hm_records.specs.Records.{is_open}
+use Rattle.hm_records.proofs.Forgotten.{none_stacked}
 use Rattle.hm_records.proofs.Trees.{stays_ended, tree_open, undone_left}
 
 -- whether nothing comes next tells whether nothing is left
@@ -89,17 +90,21 @@ module _ (alive : Pid → Bool) (J : Past) (stacks : Stacks) (tells : Tells aliv
   pushed push (entry_is.Up server) step left new with_it = absurd (none-some step left)
   pushed push (entry_is.Down server) step left new with_it = absurd (none-some step left)
   pushed push (entry_is.Abort pid) step left new with_it = absurd (none-some step left)
+  pushed push (entry_is.Adopt sheets) step left new with_it = absurd (none-some step left)
+  pushed push (entry_is.Base part) step left new with_it = absurd (none-some step left)
 
-  pub unpushed : StepsLeave → OthersLeave → (entry : Entry) → step_left J entry ≡ None
+  pub unpushed : StepsLeave → OthersLeave → (entry : Entry) → IsLegal (entry ∷ J) → step_left J entry ≡ None
       → ((pid : Pid) (row : ℕ) (out : StepOut) → entry ≡ entry_is.Undo pid row out → ⊥) → Tells alive (entry ∷ J) stacks
-  unpushed leave others (entry_is.Start sheets) none undo = others alive J (entry_is.Start sheets) stacks refl tells
-  unpushed leave others (entry_is.Submit nonce request) none undo = others alive J (entry_is.Submit nonce request) stacks refl tells
-  unpushed leave others (entry_is.Step pid pick out) none undo = leave alive J pid pick out stacks (step_none (leaves_undo J pid out) (next_step J pid out) none) tells
-  unpushed leave others (entry_is.Undo pid row out) none undo = absurd (undo pid row out refl)
-  unpushed leave others (entry_is.Report call told) none undo = others alive J (entry_is.Report call told) stacks refl tells
-  unpushed leave others (entry_is.Up server) none undo = others alive J (entry_is.Up server) stacks refl tells
-  unpushed leave others (entry_is.Down server) none undo = others alive J (entry_is.Down server) stacks refl tells
-  unpushed leave others (entry_is.Abort pid) none undo = others alive J (entry_is.Abort pid) stacks refl tells
+  unpushed leave others (entry_is.Start sheets) legal none undo = others alive J (entry_is.Start sheets) stacks refl tells
+  unpushed leave others (entry_is.Submit nonce request) legal none undo = others alive J (entry_is.Submit nonce request) stacks refl tells
+  unpushed leave others (entry_is.Step pid pick out) legal none undo = leave alive J pid pick out stacks (step_none (leaves_undo J pid out) (next_step J pid out) none) tells
+  unpushed leave others (entry_is.Undo pid row out) legal none undo = absurd (undo pid row out refl)
+  unpushed leave others (entry_is.Report call told) legal none undo = others alive J (entry_is.Report call told) stacks refl tells
+  unpushed leave others (entry_is.Up server) legal none undo = others alive J (entry_is.Up server) stacks refl tells
+  unpushed leave others (entry_is.Down server) legal none undo = others alive J (entry_is.Down server) stacks refl tells
+  unpushed leave others (entry_is.Abort pid) legal none undo = others alive J (entry_is.Abort pid) stacks refl tells
+  unpushed leave others (entry_is.Adopt sheets) legal none undo = others alive J (entry_is.Adopt sheets) stacks refl tells
+  unpushed leave others (entry_is.Base part) legal none undo = λ root on. tells root on ∙ ap (map kept_of) (none_stacked part J legal.1.0 root.0)
 
 -- there is a step to pop where one is undone
 module _ (J : Past) (stacks : Stacks) (tells : Tells (is_open J) J stacks) (pid : Pid) (row : ℕ) (out : StepOut) (legal : IsLegal (entry_is.Undo pid row out ∷ J)) where

@@ -10,6 +10,7 @@ use Rattle.hm_data.specs.declared.answer.Cause.{Cause}
 use Rattle.hm_data.specs.declared.call.Told.{Told}
 use Rattle.hm_data.specs.declared.entry.Entry.{Entry}
 use Rattle.hm_data.specs.declared.entry.Entry.TheVariants as entry_is
+use Rattle.hm_data.specs.declared.part.Part.{Part}
 use Rattle.hm_data.specs.declared.step.StepOut.{StepOut}
 use Rattle.hm_model.specs.Answers.{done_with, is_stopped, last_answer}
 use Rattle.hm_model.specs.Apart.{tree_of}
@@ -21,8 +22,9 @@ use Rattle.hm_model.specs.Tree.{Node, is_root, is_root_in, is_top, made, node_of
 use Rattle.hm_model.specs.Undo.{is_empty, stack}
 use Rattle.hm_model.proofs.Apart.{others_stay}
 use Rattle.hm_model.proofs.Forest.{forest_all, rooted_all, roots_wait, top_is, top_is_own}
-use Rattle.hm_model.proofs.Grown.{grown_all, made_up_to, nodes_stay, stepper_made}
+use Rattle.hm_model.proofs.Grown.{grown_all, made_up_to, nodes_stay}
 use Rattle.hm_model.proofs.LegalSteps.{ready_stops}
+use Rattle.hm_model.proofs.Parted.{no_node}
 use Rattle.hm_model.proofs.Trees.{all_below_at, grown_all as trees_all, some_of, step_of}
 
 -- who isn't there hasn't ended
@@ -89,7 +91,7 @@ root_open J legal p x is goes = elim (cases_Bool (is_top x.above)) [
 
 -- the procedure of a legal step is there
 pub stepper_there : (pid : Pid) (pick : Option Server) (out : StepOut) (J : Past) → IsLegal (entry_is.Step pid pick out ∷ J) → (me : Node) × (node_of J pid.0 ≡ Some me)
-stepper_there pid pick out J legal = let may = stepper_made pid pick out J legal in (grown_all J legal.0).there pid.0 may.0 may.1
+stepper_there pid pick out J legal = let may = legal.1.1.0 in (may.0, may.1)
 
 -- the procedure of a legal step hasn't ended
 stepper_runs : (pid : Pid) (pick : Option Server) (out : StepOut) (J : Past) → IsLegal (entry_is.Step pid pick out ∷ J) → is_stopped (last_answer J pid.0) ≡ false
@@ -169,6 +171,8 @@ tree_open (entry_is.Down server) J legal = none_open J (made J + 1) ((grown_all 
 tree_open (entry_is.Abort pid) J legal =
     let x = root_is_there J pid.0 legal.1.1.0.0 in
     ap (ended J) (ap root_in x.1) ∙ root_open J legal.0 pid.0 x.0 x.1 legal.1.1.0.1
+tree_open (entry_is.Adopt sheets) J legal = none_open J 0 (grown_all J legal.0).none
+tree_open (entry_is.Base part) J legal = none_open J 0 (grown_all J legal.0).none
 
 -- the root of the tree that an entry belongs to is one, if it was there
 pub tree_root : (entry : Entry) (J : Past) → IsLegal (entry ∷ J) → (top : Node) → node_of J (tree_of J entry) ≡ Some top → top.above ≡ []
@@ -195,6 +199,12 @@ tree_root entry J legal top is = by entry legal is
     by (entry_is.Up server) ok e = none e
     by (entry_is.Down server) ok e = new e
     by (entry_is.Abort pid) ok e = old pid.0 e
+    by (entry_is.Adopt sheets) ok e = none e
+    by (entry_is.Base part) ok e = none e
+
+-- before a part of a base nobody has a step
+pub none_stepped : (part : Part) (J : Past) → IsLegal (entry_is.Base part ∷ J) → (p : ℕ) → last_answer J p ≡ None
+none_stepped part J legal p = (grown_all J legal.0).unmade p (no_node part J legal.1.0 p)
 
 -- who has stopped stays so
 pub stays_stopped : (entry : Entry) (J : Past) → IsLegal (entry ∷ J) → (p : ℕ) → is_stopped (last_answer J p) ≡ true → is_stopped (last_answer (entry ∷ J) p) ≡ true
@@ -210,6 +220,9 @@ stays_stopped (entry_is.Report call told) J legal p stopped = stopped
 stays_stopped (entry_is.Up server) J legal p stopped = stopped
 stays_stopped (entry_is.Down server) J legal p stopped = stopped
 stays_stopped (entry_is.Abort pid) J legal p stopped = stopped
+stays_stopped (entry_is.Adopt sheets) J legal p stopped = stopped
+stays_stopped (entry_is.Base part) J legal p stopped =
+    absurd (true≢false (sym stopped ∙ ap is_stopped (none_stepped part J legal p)))
 
 -- who has ended stays so
 pub stays_ended : (entry : Entry) (J : Past) → IsLegal (entry ∷ J) → (p : ℕ) → ended J p ≡ true → ended (entry ∷ J) p ≡ true
@@ -248,3 +261,5 @@ none_answers entry J legal p none = by entry legal
     by (entry_is.Up server) ok = was
     by (entry_is.Down server) ok = was
     by (entry_is.Abort pid) ok = was
+    by (entry_is.Adopt sheets) ok = was
+    by (entry_is.Base part) ok = refl

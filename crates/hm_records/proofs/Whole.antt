@@ -5,10 +5,10 @@ use Rattle.hm_data.specs.declared.sheet.Sheet.{Sheet}
 use Rattle.hm_data.specs.declared.entry.Entry.{Entry}
 use Rattle.hm_data.specs.declared.entry.Entry.TheVariants as entry_is
 use Rattle.hm_model.specs.Journal.{Past}
+use Rattle.hm_model.specs.Plain.{IsPlain}
 use Rattle.hm_model.specs.RegionIds.{AreNamed}
 use Rattle.hm_model.specs.Rules.{IsLegal}
 use Rattle.hm_model.specs.Sheets.{sheets_of}
-use Rattle.hm_model.specs.Tree.{made}
 use Rattle.hm_index.specs.Index.{find}
 use Rattle.hm_catalog.specs.Rows.{rows_in}
 use Rattle.hm_procedures.specs.Kept.{args_made}
@@ -16,16 +16,12 @@ use Rattle.hm_locks.specs.Book.{Row, row_of}
 use Rattle.hm_undo.specs.Stacks.{Stacks, steps_of}
 use Rattle.hm_records.specs.Records.{AreRecords, Beside, count_if}
 
--- the sheets of a journal that has begun stay
-pub sheets_stay : (entry : Entry) (J : Past) → IsLegal (entry ∷ J) → J ≢ [] → sheets_of (entry ∷ J) ≡ sheets_of J
-sheets_stay (entry_is.Start sheets) J legal begun = absurd (begun legal.1.0.0)
-sheets_stay (entry_is.Submit nonce request) J legal begun = refl
-sheets_stay (entry_is.Step pid pick out) J legal begun = refl
-sheets_stay (entry_is.Undo pid row out) J legal begun = refl
-sheets_stay (entry_is.Report call told) J legal begun = refl
-sheets_stay (entry_is.Up server) J legal begun = refl
-sheets_stay (entry_is.Down server) J legal begun = refl
-sheets_stay (entry_is.Abort pid) J legal begun = refl
+-- the sheets of a journal that has begun stay, with a plain entry
+pub sheets_stay : (entry : Entry) (J : Past) → IsLegal (entry ∷ J) → IsPlain entry → J ≢ [] → sheets_of (entry ∷ J) ≡ sheets_of J
+sheets_stay (entry_is.Start sheets) J legal plain begun = absurd (begun legal.1.0.0)
+sheets_stay (entry_is.Adopt sheets) J legal plain begun = absurd plain
+sheets_stay (entry_is.Base part) J legal plain begun = absurd plain
+sheets_stay entry J legal plain begun = refl
 
 -- an entry more names regions by their ids, where it alone does
 pub named_more : (entry : Entry) (J : Past) → AreNamed (entry ∷ []) → AreNamed J → AreNamed (entry ∷ J)
@@ -37,17 +33,13 @@ named_more (entry_is.Report call told) J one named = named
 named_more (entry_is.Up server) J one named = named
 named_more (entry_is.Down server) J one named = named
 named_more (entry_is.Abort pid) J one named = named
+named_more (entry_is.Adopt sheets) J one named = named
+named_more (entry_is.Base part) J one named = tt
 
--- how many procedures an entry makes
-pub made_count : (J : Past) (entry : Entry) → length (args_made J entry) ≡ made (entry ∷ [])
-made_count J (entry_is.Start sheets) = refl
+-- how many procedures an entry makes, whatever was before it
+pub made_count : (J : Past) (entry : Entry) → length (args_made J entry) ≡ length (args_made [] entry)
 made_count J (entry_is.Submit nonce request) = refl
-made_count J (entry_is.Step pid pick out) = omega arith
-made_count J (entry_is.Undo pid row out) = omega arith
-made_count J (entry_is.Report call told) = refl
-made_count J (entry_is.Up server) = refl
-made_count J (entry_is.Down server) = refl
-made_count J (entry_is.Abort pid) = refl
+made_count J entry = refl
 
 -- the least of two numbers that fall by no more than a number
 pub least_within : (k a b a' b' : ℕ) → a ≤ a' + k → b ≤ b' + k → min a b ≤ min a' b' + k

@@ -44,6 +44,8 @@ stepper_of (entry_is.Report call told) = None
 stepper_of (entry_is.Up server) = None
 stepper_of (entry_is.Down server) = None
 stepper_of (entry_is.Abort pid) = None
+stepper_of (entry_is.Adopt sheets) = None
+stepper_of (entry_is.Base part) = None
 
 -- a root's first region id is one that can be drawn
 abbrev pub has_first : Args → Bool

@@ -8,7 +8,7 @@ use Rattle.hm_data.specs.declared.entry.Entry.{Entry}
 use Rattle.hm_data.specs.declared.entry.Entry.TheVariants as entry_is
 use Rattle.hm_model.specs.Journal.{Past}
 use Rattle.hm_model.specs.Kinds.{table_of_request}
-use Rattle.hm_model.specs.Tree.{made, new_ids}
+use Rattle.hm_model.specs.Tree.{new_ids}
 use Rattle.hm_places.specs.Laws.{placed_now}
 use Rattle.hm_procedures.specs.Kept.{args_made}
 use Rattle.hm_undo.specs.Laws.{leaves_undo, next_step}
@@ -26,6 +26,8 @@ edits_of (entry_is.Report call told) = []
 edits_of (entry_is.Up server) = []
 edits_of (entry_is.Down server) = []
 edits_of (entry_is.Abort pid) = []
+edits_of (entry_is.Adopt sheets) = []
+edits_of (entry_is.Base part) = []
 
 -- the step that an entry leaves to be undone
 abbrev pub step_left : Past → Entry → Option Step
@@ -37,6 +39,8 @@ step_left before (entry_is.Report call told) = None
 step_left before (entry_is.Up server) = None
 step_left before (entry_is.Down server) = None
 step_left before (entry_is.Abort pid) = None
+step_left before (entry_is.Adopt sheets) = None
+step_left before (entry_is.Base part) = None
 
 -- the nonce that an entry uses: one whose number is 0 is none
 abbrev pub nonce_used : Entry → Option Nonce
@@ -48,6 +52,8 @@ nonce_used (entry_is.Report call told) = None
 nonce_used (entry_is.Up server) = None
 nonce_used (entry_is.Down server) = None
 nonce_used (entry_is.Abort pid) = None
+nonce_used (entry_is.Adopt sheets) = None
+nonce_used (entry_is.Base part) = None
 
 -- a table with a number of ids, where there are any
 abbrev pub counted_for : Option TableName → ℕ → Option (TableName × ℕ)
@@ -64,6 +70,8 @@ ids_drawn (entry_is.Report call told) = None
 ids_drawn (entry_is.Up server) = None
 ids_drawn (entry_is.Down server) = None
 ids_drawn (entry_is.Abort pid) = None
+ids_drawn (entry_is.Adopt sheets) = None
+ids_drawn (entry_is.Base part) = None
 
 -- the server that comes up
 abbrev pub comes_up : Entry → Option Server
@@ -75,6 +83,8 @@ comes_up (entry_is.Report call told) = None
 comes_up (entry_is.Up server) = Some server
 comes_up (entry_is.Down server) = None
 comes_up (entry_is.Abort pid) = None
+comes_up (entry_is.Adopt sheets) = None
+comes_up (entry_is.Base part) = None
 
 -- all that is kept of an entry
 pub record AreParts (before : Past) (entry : Entry) (parts : Parts) : Type 0 where
@@ -91,4 +101,4 @@ pub record AreParts (before : Past) (entry : Entry) (parts : Parts) : Type 0 whe
 -- how much room an entry needs of each kind: one for itself, one for each edit and one for each procedure that it makes, or
 -- one for each ask of these procedures where those are more
 abbrev pub size_of : Entry → ℕ
-size_of entry = max (1 + length (edits_of entry) + made (entry ∷ [])) (asks_of entry)
+size_of entry = max (1 + length (edits_of entry) + length (args_made [] entry)) (asks_of entry)

@@ -3,6 +3,7 @@ ghost use Rattle.std.specs.Prelude.{◌≡◌, ◌+◌, ◌≤◌, ◌∷◌, If
 ghost use Rattle.std.specs.Option.{option_copied};
 ghost use Rattle.hm_names.specs.Server.{Server};
 ghost use Rattle.hm_data.specs.declared.entry.Entry.TheVariants as entry_is;
+ghost use Rattle.hm_model.specs.Plain.{IsPlain};
 ghost use Rattle.hm_model.specs.Rules.{IsLegal};
 ghost use Rattle.hm_model.specs.Standings.{standings_of};
 ghost use Rattle.hm_model.specs.Tree.{node_of};
@@ -75,6 +76,7 @@ pub(crate) fn set_servers(
     up: Option<ServerName>,
 )
     requires legal { IsLegal (entry.now ∷ past.now.past) }
+    requires plain { IsPlain entry.now }
     requires servers { servers.old.servers ≡ standings_of past.now.past }
     requires up { up ≡ up_by entry.now }
     requires room { 1 ≤ servers.old.spare }

@@ -4,6 +4,7 @@ ghost use Rattle.std.specs.Option.{option_copied};
 ghost use Rattle.hm_names.specs.Order.{table_cmp};
 ghost use Rattle.hm_index.specs.Index.{find};
 ghost use Rattle.hm_model.specs.Kinds.{table_of_first as first_table, table_of_request as requested_table};
+ghost use Rattle.hm_model.specs.Plain.{IsPlain};
 ghost use Rattle.hm_model.specs.Rules.{IsLegal};
 ghost use Rattle.hm_model.specs.Tree.{first_of as first_id, new_ids as ids_of};
 ghost use Rattle.hm_records.specs.Parts.{ids_drawn as drawn_by};
@@ -103,6 +104,7 @@ pub(crate) fn count_ids(
     ids: Option<(TableName, u64)>,
 )
     requires legal { IsLegal (entry.now ∷ past.now.past) }
+    requires plain { IsPlain entry.now }
     requires drawn { AreDrawn past.now.past drawn.old.pairs }
     requires ids { ids ≡ drawn_by entry.now }
     requires room { 1 ≤ drawn.old.spare }

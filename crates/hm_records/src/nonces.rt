@@ -1,5 +1,6 @@
 //! The procedures that were made under nonces.
 ghost use Rattle.std.specs.Prelude.{◌≡◌, ◌+◌, ◌≤◌, ◌∷◌};
+ghost use Rattle.hm_model.specs.Plain.{IsPlain};
 ghost use Rattle.hm_records.specs.Parts.{nonce_used as used_by};
 ghost use Rattle.hm_records.specs.Records.{AreByNonce};
 
@@ -25,6 +26,7 @@ pub(crate) fn add_nonce(
     entry: &Entry,
     nonce: Option<Nonce>,
 )
+    requires plain { IsPlain entry.now }
     requires nonces { AreByNonce past.now.past nonces.old.pairs }
     requires nonce { nonce ≡ used_by entry.now }
     requires room { 1 ≤ nonces.old.spare }

@@ -2,8 +2,10 @@
 ghost use Rattle.std.specs.Prelude.{◌≡◌, ◌≢◌, ◌+◌, ◌≤◌, [], ◌∷◌, ℕ, IfOk, IfSome, MatchOption, OnOk, Some};
 ghost use Rattle.std.specs.Option.{option_map};
 ghost use Rattle.hm_model.specs.Nonces.{by_nonce};
+ghost use Rattle.hm_model.specs.Plain.{ArePlain, IsPlain};
 ghost use Rattle.hm_model.specs.RegionIds.{AsksForZero, NamesIds};
-ghost use Rattle.hm_model.specs.Rules.{AreSheets, IsLegal};
+ghost use Rattle.hm_model.specs.Rules.{IsLegal};
+ghost use Rattle.hm_model.specs.Base.{AreSheets};
 ghost use Rattle.hm_model.specs.Sheets.{sheets_of};
 ghost use Rattle.hm_model.specs.Standings.{standings_of};
 ghost use Rattle.hm_model.specs.Tree.{Node, drawn, node_of, pid_of};
@@ -38,7 +40,7 @@ use hm_undo::Stack;
 use std::alloc::{AllocError, Global};
 use std::marker::Model;
 
-/// What a legal journal that has begun says. Contracts see the journal, back from its newest entry, and for how much more
+/// What a legal, plain journal that has begun says. Contracts see the journal, back from its newest entry, and for how much more
 /// there is room.
 #[derive(Drop)]
 pub struct Records {
@@ -104,6 +106,7 @@ impl Records {
         ensures past { result.now.past ≡ self.now.past }
         ensures begun { self.now.past ≢ [] }
         ensures legal { IsLegal self.now.past }
+        ensures plain { ArePlain self.now.past }
     {
         let _last = self.procedures.last_pid();
         &self.procedures
@@ -220,6 +223,7 @@ impl Records {
     /// Takes in an entry that may follow. It takes no memory.
     pub fn enter(&mut self, entry: &Entry, parts: Parts)
         requires legal { IsLegal (entry.now ∷ self.old.past) }
+        requires plain { IsPlain entry.now }
         requires parts { AreParts self.old.past entry.now parts }
         requires room { size_of entry.now ≤ self.old.spare }
         ensures past { self.new.past ≡ entry.now ∷ self.old.past }

@@ -2,6 +2,7 @@
 ghost use Rattle.std.specs.Prelude.{◌≡◌, ◌+◌, ◌≤◌, ◌∷◌, IfOk};
 ghost use Rattle.std.specs.Option.{option_copied};
 ghost use Rattle.hm_model.specs.Places.{region_if};
+ghost use Rattle.hm_model.specs.Plain.{IsPlain};
 ghost use Rattle.hm_model.specs.Tree.{node_of};
 ghost use Rattle.hm_model.specs.Views.{region_of as region_in, region_of_request as requested_region};
 ghost use Rattle.hm_model.specs.Loads.{places_of};
@@ -75,6 +76,7 @@ pub(crate) fn set_place(
     entry: &Entry,
     placed: Option<(RegionName, Place)>,
 )
+    requires plain { IsPlain entry.now }
     requires places { places.old.places ≡ places_of past.now.past }
     requires placed { placed ≡ placed_by past.now.past entry.now }
     requires room { 1 ≤ places.old.spare }

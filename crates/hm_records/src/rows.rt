@@ -1,6 +1,7 @@
 //! The rows of the catalog.
 ghost use Rattle.std.specs.Prelude.{◌≡◌, ◌+◌, ◌≤◌, ◌∷◌, length, IfOk};
 ghost use Rattle.hm_catalog.specs.Rows.{rows_in, with_edits, with_row};
+ghost use Rattle.hm_model.specs.Plain.{IsPlain};
 ghost use Rattle.hm_records.specs.Parts.{edits_of as told_edits};
 
 use hm_catalog::Catalog;
@@ -53,6 +54,7 @@ fn set_all(catalog: &mut Catalog, edits: List<Edit>)
 
 // Takes in the edits of an entry.
 pub(crate) fn set_rows(catalog: &mut Catalog, past: &Procedures, entry: &Entry, edits: List<Edit>)
+    requires plain { IsPlain entry.now }
     requires rows { catalog.old.rows ≡ rows_in past.now.past }
     requires edits { edits ≡ told_edits entry.now }
     requires room { length edits ≤ catalog.old.spare }

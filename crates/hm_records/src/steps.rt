@@ -2,6 +2,7 @@
 ghost use Rattle.std.specs.Prelude.{◌≡◌, ◌+◌, ◌≤◌, ◌∷◌, length, is_some, IfOk};
 ghost use Rattle.hm_model.specs.Answers.{failing};
 ghost use Rattle.hm_model.specs.Apart.{tree_of as tree_in};
+ghost use Rattle.hm_model.specs.Plain.{IsPlain};
 ghost use Rattle.hm_model.specs.Rules.{IsLegal};
 ghost use Rattle.hm_model.specs.Sheets.{row_in, sheet_for as sheet_among, undo_by};
 ghost use Rattle.hm_model.specs.Tree.{pid_of, root_of as root_in};
@@ -34,7 +35,10 @@ pub(crate) fn tree_of(past: &Procedures, entry: &Entry) -> Pid
     ensures { result ≡ pid_of (tree_in past.now.past entry.now) }
 {
     match entry {
-        Entry::Start { sheets: _ } | Entry::Up { server: _ } => Pid(0),
+        Entry::Start { sheets: _ }
+        | Entry::Up { server: _ }
+        | Entry::Base { part: _ }
+        | Entry::Adopt { sheets: _ } => Pid(0),
         Entry::Submit {
             nonce: _,
             request: _,
@@ -152,6 +156,7 @@ pub(crate) fn enter_tree(
     step: Option<Step>,
 )
     requires legal { IsLegal (entry.now ∷ procedures.old.past) }
+    requires plain { IsPlain entry.now }
     requires tells { Tells (is_open procedures.old.past) procedures.old.past stack.old.stacks }
     requires forgotten { AreForgotten procedures.old.past stack.old.stacks }
     requires tree { tree ≡ pid_of (tree_in procedures.old.past entry.now) }

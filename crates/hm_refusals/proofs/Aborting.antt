@@ -1,5 +1,5 @@
 -- A root that goes on and wasn't aborted may be aborted.
-use Rattle.std.proofs.Common.{◌≡◌, ◌≢◌, [], ℕ, Bool, true, false, Option, Some, None, is_some, if◌then◌else◌, refl, ap, sym, ◌∙◌}
+use Rattle.std.proofs.Common.{◌≡◌, ℕ, Bool, true, false, Option, Some, None, is_some, if◌then◌else◌, refl, ap, sym, ◌∙◌}
 use Rattle.std.proofs.lemmas.Bool.{cond-true, true≢false}
 use Rattle.hm_names.specs.declared.pid.Pid.{Pid}
 use Rattle.hm_data.specs.declared.answer.Answer.{Answer}
@@ -8,6 +8,7 @@ use Rattle.hm_data.specs.declared.answer.Cause.{Cause}
 use Rattle.hm_data.specs.declared.entry.Entry.TheVariants as entry_is
 use Rattle.hm_data.specs.declared.record.Phase.{Phase}
 use Rattle.hm_model.specs.Answers.{done_with, is_aborted, is_stopped, last_answer}
+use Rattle.hm_model.specs.Base.{IsBegun}
 use Rattle.hm_model.specs.Journal.{Past}
 use Rattle.hm_model.specs.Phase.{cause, children_ended, ended, ended_node, own_phase, phase, phase_table, rolled_back, root_ended, root_over}
 use Rattle.hm_model.specs.Rules.{Allowed, CanAbort, IsLegal}
@@ -48,7 +49,7 @@ can_abort J legal p x is goes unaborted =
     )
 
 -- where it may be aborted and wasn't before, an abort of it may come
-pub may_abort : (J : Past) (pid : Pid) → J ≢ [] → IsLegal J → (before : Bool) → IsAborted J pid.0 before → before ≡ false → Allowed J (entry_is.Abort pid)
+pub may_abort : (J : Past) (pid : Pid) → IsBegun J → IsLegal J → (before : Bool) → IsAborted J pid.0 before → before ≡ false → Allowed J (entry_is.Abort pid)
 may_abort J pid begun legal before at unaborted =
     let in_time = at.0 in
     let found = in_time.0 in

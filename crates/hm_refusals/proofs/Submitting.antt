@@ -11,7 +11,7 @@ use Rattle.hm_data.specs.declared.request.Request.TheVariants as request_is
 use Rattle.hm_model.specs.Journal.{Past}
 use Rattle.hm_model.specs.Kinds.{table_of_request}
 use Rattle.hm_model.specs.Records.{record_of}
-use Rattle.hm_model.specs.Requests.{StaysWithin, is_fixed, is_pair, rise, wrong_in, wrong_keys}
+use Rattle.hm_model.specs.Requests.{StaysWithin, is_fixed, may_merge, rise, wrong_in, wrong_keys}
 use Rattle.hm_model.specs.Tree.{Node, drawn, new_ids, node_of}
 use Rattle.hm_judge.proofs.Found.{gone_of, there_of}
 use Rattle.hm_refusals.specs.Submissions.{DrewTooMany, IsMadeFor}
@@ -38,7 +38,7 @@ wrong_small (request_is.EnableTable table) n e = absurd (none-some n e)
 wrong_small (request_is.DisableTable table) n e = absurd (none-some n e)
 wrong_small (request_is.ModifyTable table version) n e = absurd (none-some n e)
 wrong_small (request_is.SplitRegion region key) n e = if_small (length key == 0) 5 n (omega arith) e
-wrong_small (request_is.MergeRegions regions) n e = unless_small (is_pair regions) 4 n (omega arith) e
+wrong_small (request_is.MergeRegions regions) n e = unless_small (may_merge regions) 4 n (omega arith) e
 wrong_small (request_is.Move region to) n e = absurd (none-some n e)
 
 root_is : (one other : Request) (first second : ℕ) → args_are.Root one first ≡ args_are.Root other second → one ≡ other

@@ -23,8 +23,8 @@ pub enum Refused {
     #[error("the nonce was used for procedure {0:?}")]
     NonceClash(Pid),
     /// The lowest number of what is wrong with the request by itself: 1, it drops a namespace that is there from the start; 2, a
-    /// split key is empty or isn't greater than the one before; 3, there are more than 255 of them; 4, it doesn't merge two
-    /// different regions of one table; 5, a region is split at the empty key.
+    /// split key is empty or isn't greater than the one before; 3, there are more than 255 of them; 4, it doesn't merge two to
+    /// ten different regions of one table; 5, a region is split at the empty key.
     #[error("bad arguments {0}")]
     BadArgs(u8),
     /// So many region ids were drawn for the table that the new ones would pass 4,096.

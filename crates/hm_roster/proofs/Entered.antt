@@ -10,6 +10,7 @@ use Rattle.hm_data.specs.declared.record.Record.{Record}
 use Rattle.hm_locks.specs.Book.{IsEnlisted}
 use Rattle.hm_model.specs.Forest.{Stands}
 use Rattle.hm_model.specs.Journal.{Past}
+use Rattle.hm_model.specs.Plain.{ArePlain}
 use Rattle.hm_model.specs.Records.{record_of}
 use Rattle.hm_model.specs.Rules.{IsLegal}
 use Rattle.hm_model.specs.Tree.{Node, made, node_of, parent_in, pid_of}
@@ -23,14 +24,15 @@ use Rattle.hm_roster.specs.Behind.{IsEntered, entry_debts}
 use Rattle.hm_roster.specs.Roster.{Follows, HasLists, IsSameBut, Owes, number_on, pids_on, roster_of, rows_on, paid, paid_if}
 use Rattle.hm_roster.specs.declared.desk.Desk.{Desk}
 use Rattle.hm_roster.proofs.Desks.{below_still}
+use Rattle.hm_roster.proofs.Plain.{plain_there}
 use Rattle.hm_roster.proofs.Stepped.{chain, chained}
 
 -- no entry makes fewer
-made_rises : (entry : Entry) (J : Past) → IsLegal (entry ∷ J) → made J ≤ made (entry ∷ J)
-made_rises entry J legal = elim (cases_eq (made J) 0) [
+made_rises : (entry : Entry) (J : Past) → IsLegal (entry ∷ J) → ArePlain (entry ∷ J) → made J ≤ made (entry ∷ J)
+made_rises entry J legal plain = elim (cases_eq (made J) 0) [
   | inl none ↦ omega (arith, none)
   | inr some ↦
-      let t = (grown_all J legal.0).there (made J) (omega (arith, some)) (omega arith) in
+      let t = plain_there J legal.0 plain.0 (made J) (omega (arith, some)) (omega arith) in
       (made_up_to (entry ∷ J) (grown_all (entry ∷ J) legal) (made J) t.0 (nodes_stay entry J legal (made J) t.0 t.1)).1
 ]
 
@@ -62,10 +64,13 @@ needs_still J p low high parent root desk new needs same = record {
   below = below_still desk new same needs.below;
 }
 
-module _ (J : Past) (legal : IsLegal J) (p low : ℕ) (late : Bool) (desk : Desk) (entered : IsEntered J p low late desk) where
+module _ (J : Past) (legal : IsLegal J) (plain : ArePlain J) (p low : ℕ) (late : Bool) (desk : Desk) (entered : IsEntered J p low late desk) where
   -- the journal is legal as it grew
   legal_now : IsLegal (entered.entry ∷ entered.before)
   legal_now = subst IsLegal entered.is legal
+
+  plain_now : ArePlain (entered.entry ∷ entered.before)
+  plain_now = subst ArePlain entered.is plain
 
   -- who is there has room
   known_there : (q : ℕ) → node_of J q ≢ None → q < pids_on desk
@@ -110,7 +115,7 @@ module _ (J : Past) (legal : IsLegal J) (p low : ℕ) (late : Bool) (desk : Desk
   needs high parent root up top to =
       let first = entered.first in
       let room = entered.room in
-      let rises = made_rises entered.entry entered.before legal_now in
+      let rises = made_rises entered.entry entered.before legal_now plain_now in
       let same = ap made entered.is in
       record {
         there = own_there;
@@ -121,7 +126,7 @@ module _ (J : Past) (legal : IsLegal J) (p low : ℕ) (late : Bool) (desk : Desk
         root_known = known_there root (top_there root top);
         new_order = omega (arith, first, rises, same, to);
         new_known = omega (arith, room, to);
-        new_there = λ q ge lt none. let t = (grown_all J legal).there q (omega (arith, ge, first)) (omega (arith, to, lt)) in none-some t.0 (sym none ∙ t.1);
+        new_there = λ q ge lt none. let t = plain_there J legal plain q (omega (arith, ge, first)) (omega (arith, to, lt)) in none-some t.0 (sym none ∙ t.1);
         below = entered.below;
       }
 
@@ -133,7 +138,7 @@ module _ (J : Past) (legal : IsLegal J) (p low : ℕ) (late : Bool) (desk : Desk
       let owing = subst (λ K. IsTiedBut K (number_on new) (roster_of new) left) entered.is owes in
       record {
         tied = subst (λ K. IsTied K (number_on new) (roster_of new)) (sym entered.is)
-            (chained entered.entry entered.before legal_now p entered.node late parent up root top low high entered.first (to ∙ ap (λ K. made K + 1) entered.is) (number_on new) (roster_of new) owing);
+            (chained entered.entry entered.before legal_now plain_now p entered.node late parent up root top low high entered.first (to ∙ ap (λ K. made K + 1) entered.is) (number_on new) (roster_of new) owing);
         room = subst (λ (k : ℕ). made J < k) (sym same.pids) entered.room;
         below = below_still desk new same entered.below;
       }

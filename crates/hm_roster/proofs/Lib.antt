@@ -13,6 +13,7 @@ mod Claimed
 mod Changed
 mod Alike
 mod Parents
+pub mod Plain
 pub mod Listing
 mod Tried
 mod Numbered

@@ -13,6 +13,7 @@ use Rattle.hm_data.specs.declared.entry.Entry.TheVariants as entry_is
 use Rattle.hm_locks.specs.Book.{AreChanged, IsEnlisted, Row, above_child, above_in, new_row, row_of}
 use Rattle.hm_model.specs.Journal.{Past}
 use Rattle.hm_model.specs.Locks.{asks}
+use Rattle.hm_model.specs.Plain.{IsPlain}
 use Rattle.hm_model.specs.Rules.{IsLegal}
 use Rattle.hm_model.specs.Tree.{Node, args_in, child_of, made, node_of, root_node, submitted}
 use Rattle.hm_model.proofs.Grown.{down_new, grown_all, submit_new, undo_new}
@@ -80,17 +81,21 @@ is_made (entry_is.Down server) J legal i args is =
     let one = only_one _ args i is in
     (root_node (made J + 1 + i) (args_are.Crash server) 1, down_new server J (made J + 1 + i) (ap (λ k. made J + 1 + k) one.0 ∙ first_place J), one.1, refl)
 is_made (entry_is.Abort pid) J legal i args is = absurd (none-some args is)
+is_made (entry_is.Adopt sheets) J legal i args is = absurd (none-some args is)
+is_made (entry_is.Base part) J legal i args is = absurd (none-some args is)
 
 -- how many there are after an entry
-pub made_more : (entry : Entry) (J : Past) → made (entry ∷ J) ≡ made J + length (args_made J entry)
-made_more (entry_is.Start sheets) J = omega arith
-made_more (entry_is.Submit nonce request) J = refl
-made_more (entry_is.Step pid pick out) J = refl
-made_more (entry_is.Undo pid row out) J = refl
-made_more (entry_is.Report call told) J = omega arith
-made_more (entry_is.Up server) J = omega arith
-made_more (entry_is.Down server) J = refl
-made_more (entry_is.Abort pid) J = omega arith
+pub made_more : (entry : Entry) (J : Past) → IsPlain entry → made (entry ∷ J) ≡ made J + length (args_made J entry)
+made_more (entry_is.Start sheets) J plain = omega arith
+made_more (entry_is.Submit nonce request) J plain = refl
+made_more (entry_is.Step pid pick out) J plain = refl
+made_more (entry_is.Undo pid row out) J plain = refl
+made_more (entry_is.Report call told) J plain = omega arith
+made_more (entry_is.Up server) J plain = omega arith
+made_more (entry_is.Down server) J plain = refl
+made_more (entry_is.Abort pid) J plain = omega arith
+made_more (entry_is.Adopt sheets) J plain = absurd plain
+made_more (entry_is.Base part) J plain = absurd plain
 
 -- the parent of those that an entry makes hasn't ended
 pub made_parent : (entry : Entry) (J : Past) → IsLegal (entry ∷ J) → (pid : Pid) → parent_made entry ≡ Some pid → IsOpen J pid.0
@@ -102,6 +107,8 @@ made_parent (entry_is.Report call told) J legal pid is = absurd (none-some pid i
 made_parent (entry_is.Up server) J legal pid is = absurd (none-some pid is)
 made_parent (entry_is.Down server) J legal pid is = absurd (none-some pid is)
 made_parent (entry_is.Abort own) J legal pid is = absurd (none-some pid is)
+made_parent (entry_is.Adopt sheets) J legal pid is = absurd (none-some pid is)
+made_parent (entry_is.Base part) J legal pid is = absurd (none-some pid is)
 
 -- who isn't there has no row
 no_row : (J : Past) (n : Option Server → ℕ) (roster : Roster) → IsLegal J → IsTied J n roster → (p : ℕ) → made J < p → row_of roster.rows p ≡ None
@@ -203,7 +210,7 @@ module _ (J : Past) (legal : IsLegal J) (desk : Desk) where
 
 -- an entry's are enlisted below the next, from the first on
 pub lists_first : (J : Past) (desk : Desk) (entry : Entry) (works : List Args) (parent : Option Pid) → IsLegal J → Follows J desk → Makes J entry works parent → EnlistsBelow J (entry ∷ J) (rows_on desk) (rows_on desk) (made J + 1)
-lists_first J desk entry works parent legal follows makes = enlisting_begins J (entry ∷ J) (number_on desk) (roster_of desk) legal (legal, makes.allowed) follows.tied
+lists_first J desk entry works parent legal follows makes = enlisting_begins entry J (number_on desk) (roster_of desk) (legal, makes.allowed) follows.tied
 
 -- and then one more
 pub lists_next : (J : Past) (old : List Row) (desk new : Desk) (entry : Entry) (works : List Args) (parent : Option Pid) (place : ℕ) (args : Args) → IsLegal J → HasMore J desk place → Makes J entry works parent → slice_get works place ≡ Some args
@@ -219,7 +226,7 @@ lists_next J old desk new entry works parent place args legal more makes is chan
 pub lists_all : (J : Past) (old desk : Desk) (entry : Entry) (works : List Args) (parent : Option Pid) → IsLegal J → Follows J old → IsSameButBook old desk → Makes J entry works parent → made J + length works < pids_on old
     → EnlistsBelow J (entry ∷ J) (rows_on old) (rows_on desk) (made J + 1 + length works) → IsEnlistedFor (entry ∷ J) entry desk
 lists_all J old desk entry works parent legal follows same makes room below =
-    let count : made (entry ∷ J) ≡ made J + length works = made_more entry J ∙ ap (λ (l : List Args). made J + length l) makes.args in
+    let count : made (entry ∷ J) ≡ made J + length works = made_more entry J makes.plain ∙ ap (λ (l : List Args). made J + length l) makes.args in
     let next : made J + 1 + length works ≡ made (entry ∷ J) + 1 = omega (arith, count) in
     record {
       before = J;

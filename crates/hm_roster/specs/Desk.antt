@@ -9,6 +9,7 @@ use Rattle.hm_data.specs.declared.entry.Entry.TheVariants as entry_is
 use Rattle.hm_index.specs.Index.{find}
 use Rattle.hm_locks.specs.Book.{IsEnlisted, Row, row_of}
 use Rattle.hm_model.specs.Journal.{Past}
+use Rattle.hm_model.specs.Plain.{IsPlain}
 use Rattle.hm_model.specs.Rules.{Allowed}
 use Rattle.hm_model.specs.Tree.{made}
 use Rattle.hm_procedures.specs.Kept.{args_made}
@@ -63,10 +64,13 @@ parent_made (entry_is.Report call told) = None
 parent_made (entry_is.Up server) = None
 parent_made (entry_is.Down server) = None
 parent_made (entry_is.Abort pid) = None
+parent_made (entry_is.Adopt sheets) = None
+parent_made (entry_is.Base part) = None
 
 -- an entry may follow that makes procedures which work on these, with this parent
 pub record Makes (before : Past) (entry : Entry) (works : List Args) (parent : Option Pid) : Type 0 where
   pub allowed : Allowed before entry
+  pub plain : IsPlain entry
   pub args : args_made before entry ≡ works
   pub above : parent_made entry ≡ parent
 

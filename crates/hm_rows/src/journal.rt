@@ -1,7 +1,7 @@
 //! Journals that are opened and recorded in, over memory.
 ghost use Rattle.std.specs.Prelude.{IfOk};
 ghost use Rattle.hm_hall.specs.Recording.{CanBeRecorded};
-ghost use Rattle.hm_model.specs.Rules.{AreSheets};
+ghost use Rattle.hm_model.specs.Base.{AreSheets};
 
 use crate::runs::disk;
 use hm_crash::CrashHands;
@@ -81,8 +81,9 @@ fn record(
     text: &mut String,
 ) -> Result<(), AllocError> {
     let entry = submission(alloc)?;
-    journal.ready(alloc, &entry)?;
+    let readied = journal.ready(alloc, &entry);
     drop(entry);
+    readied?;
     let recorded = journal.record_entry();
     write!(text, "{recorded:?}, ")?;
     add_lengths(text, journal)

@@ -7,7 +7,14 @@ use hm_names::{Ns, TableName};
 use std::alloc::{AllocError, Global};
 use std::test::Fail;
 
-// The regions of a catalog by the numbers of their rows, each with its range and its status.
+fn put_parents(out: &mut String, parents: &[u64]) -> Result<(), AllocError> {
+    for id in parents {
+        write!(out, " {id}")?;
+    }
+    out.push_str(";")
+}
+
+// The regions of a catalog by the numbers of their rows, each with its range, its status and its parents.
 fn regions(alloc: Global, catalog: &Catalog) -> Result<String, AllocError> {
     let mut text = String::new(alloc);
     for number in 0..catalog.len() {
@@ -17,15 +24,15 @@ fn regions(alloc: Global, catalog: &Catalog) -> Result<String, AllocError> {
                 CatRow::Region {
                     range,
                     status,
-                    parents: _,
+                    parents,
                 },
             ),
         ) = catalog.row(number)
         {
             let start = &range.start;
             let end = &range.end;
-            let line = format!(in alloc; "{region} {start} {end} {status:?};")?;
-            text.push_str(line.as_str())?;
+            write!(text, "{region} {start} {end} {status:?}")?;
+            put_parents(&mut text, parents.as_slice())?;
         }
     }
     Ok(text)
@@ -34,15 +41,31 @@ fn regions(alloc: Global, catalog: &Catalog) -> Result<String, AllocError> {
 const RANGES: &[(&[u8], &str)] = &[
     (
         b"create 0:0 t m\nsplit 0:0 t,1 c",
-        "t,1 \\- m Split;t,2 m \\- Live;t,3 \\- c Live;t,4 c m Live;",
+        "t,1 \\- m Split;t,2 m \\- Live;t,3 \\- c Live 1;t,4 c m Live 1;",
     ),
     (
         b"create 0:0 t m\nsplit 0:0 t,1 c\nmerge 0:0 t,4 t,3",
-        "t,1 \\- m Split;t,2 m \\- Live;t,3 \\- c Merged;t,4 c m Merged;t,5 \\- m Live;",
+        "t,1 \\- m Split;t,2 m \\- Live;t,3 \\- c Merged 1;t,4 c m Merged 1;t,5 \\- m Live 3 4;",
     ),
     (
         b"create 0:0 t m\nsplit 0:0 t,2 x\nmerge 0:0 t,1 t,3",
-        "t,1 \\- m Merged;t,2 m \\- Split;t,3 m x Merged;t,4 x \\- Live;t,5 \\- x Live;",
+        "t,1 \\- m Merged;t,2 m \\- Split;t,3 m x Merged 2;t,4 x \\- Live 2;t,5 \\- x Live 1 3;",
+    ),
+    (
+        b"create 0:0 t c m\nmerge 0:0 t,3 t,1 t,2",
+        "t,1 \\- c Merged;t,2 c m Merged;t,3 m \\- Merged;t,4 \\- \\- Live 1 2 3;",
+    ),
+    (
+        b"create 0:0 t c m q\nmerge 0:0 t,3 t,2 t,1",
+        "t,1 \\- c Merged;t,2 c m Merged;t,3 m q Merged;t,4 q \\- Live;t,5 \\- q Live 1 2 3;",
+    ),
+    (
+        b"create 0:0 t m\nsplit 0:0 t,1 c\nmerge 0:0 t,2 t,4 t,3",
+        "t,1 \\- m Split;t,2 m \\- Merged;t,3 \\- c Merged 1;t,4 c m Merged 1;t,5 \\- \\- Live 3 4 2;",
+    ),
+    (
+        b"create 0:0 t c m q\nmerge 0:0 t,1 t,2 t,4",
+        "t,1 \\- c Live;t,2 c m Live;t,3 m q Live;t,4 q \\- Live;",
     ),
     (b"create 0:0 t m\ndisable 0:0 t\ndelete 0:0 t", ""),
 ];

@@ -1,7 +1,7 @@
 //! Requests in a catalog, as lines of a script: what each edits, or the first cause against it.
 use hm_catalog::{Catalog, DeedWhy, deed, wrong_in};
 use hm_data::{CatKey, CatRow, Cause, Edit, Request};
-use hm_names::Same;
+use hm_names::{List, RegionName, Same};
 use hm_script::{Command, parse};
 use std::alloc::{AllocError, Global};
 use std::test::Fail;
@@ -228,6 +228,37 @@ const MERGES: &[(&[u8], Done)] = &[
     (b"create 0:0 t c m\nmerge 0:0 t,3 t,2", Done::Edits(3)),
 ];
 
+const LARGE_MERGES: &[(&[u8], Done)] = &[
+    (b"merge 0:0 t,1 t,2 t,1", Done::Wrong(4)),
+    (b"merge 0:0 t,1 t,2 u,3", Done::Wrong(4)),
+    (b"merge 0:0 t,1 t,2 t,3", Done::Cause(Cause::TableMissing)),
+    (
+        b"create 0:0 t c m\ndisable 0:0 t\nmerge 0:0 t,1 t,2 t,3",
+        Done::Cause(Cause::NotEnabled),
+    ),
+    (
+        b"create 0:0 t c m\nmerge 0:0 t,1 t,2 t,4",
+        Done::Cause(Cause::RegionMissing),
+    ),
+    (
+        b"create 0:0 t c m\nsplit 0:0 t,2 g\nmerge 0:0 t,1 t,2 t,3",
+        Done::Cause(Cause::RegionNotLive),
+    ),
+    (
+        b"create 0:0 t c m q\nmerge 0:0 t,1 t,2 t,4",
+        Done::Cause(Cause::NotAdjacent),
+    ),
+    (
+        b"create 0:0 t c m q\nmerge 0:0 t,4 t,1 t,3",
+        Done::Cause(Cause::NotAdjacent),
+    ),
+    (b"create 0:0 t c m\nmerge 0:0 t,3 t,1 t,2", Done::Edits(4)),
+    (
+        b"create 0:0 t a b c d e f g h i\nmerge 0:0 t,1 t,2 t,3 t,4 t,5 t,6 t,7 t,8 t,9 t,10",
+        Done::Edits(11),
+    ),
+];
+
 const MOVES: &[(&[u8], Done)] = &[
     (b"move 0:0 t,1", Done::Cause(Cause::TableMissing)),
     (
@@ -247,12 +278,43 @@ const MOVES: &[(&[u8], Done)] = &[
 
 #[test]
 fn deed_of_each_request_with_each_of_its_causes(rt: HostRuntime) -> Result<(), Fail> {
-    for cases in [NAMESPACES, TABLES, SPLITS, MERGES, MOVES] {
+    for cases in [NAMESPACES, TABLES, SPLITS, MERGES, LARGE_MERGES, MOVES] {
         for (script, expected) in cases {
             let mut catalog = Catalog::start(rt.alloc())?;
             let done = last(rt.alloc(), &mut catalog, script)?;
             assert_eq!(rt; done, *expected);
         }
+    }
+    Ok(())
+}
+
+// A merge of the regions of a table that have the first numbers, and what is wrong with it by itself.
+const COUNTS: &[(u64, Option<u64>)] = &[
+    (0, Some(4)),
+    (1, Some(4)),
+    (2, None),
+    (10, None),
+    (11, Some(4)),
+];
+
+fn merge_of(alloc: Global, count: u64) -> Result<Request, Fail> {
+    let mut regions = Vec::new(alloc);
+    for id in 1..=count {
+        let text = format!(in alloc; "t,{id}")?;
+        regions.push(RegionName::parse(alloc, text.as_bytes())?)?;
+    }
+    Ok(Request::MergeRegions {
+        regions: List::of(regions),
+    })
+}
+
+#[test]
+fn a_merge_has_two_to_ten_regions(rt: HostRuntime) -> Result<(), Fail> {
+    for (count, expected) in COUNTS {
+        let request = merge_of(rt.alloc(), *count)?;
+        let wrong = wrong_in(&request);
+        drop(request);
+        assert_eq!(rt; wrong, *expected);
     }
     Ok(())
 }

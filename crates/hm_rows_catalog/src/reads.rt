@@ -38,6 +38,7 @@ const REQUESTS: &[(&[u8], &str)] = &[
     (b"modify 0:0 t 2", "t;"),
     (b"split 0:0 t,3 q", "t;t,3;"),
     (b"merge 0:0 t,8 t,7", "t;t,7;t,8;"),
+    (b"merge 0:0 t,8 t,1 t,7", "t;t,1;t,7;t,8;"),
     (b"merge 0:0 u,4 t,1", "t;u;t,1;u,4;"),
     (b"move 0:0 t,9", "t;"),
 ];

@@ -13,6 +13,13 @@ const SUBMIT: [u8; 25] = [
     1, 1, 0, 0, 0, 0, 0, 0, 0, 1, 0, 0, 0, 0, 0, 0, 0, 1, 4, 0, 0x73, 0x68, 0x6F, 0x70, 0,
 ];
 
+// A merge of the regions a:b,1, a:b,2 and a:b,3 with the nonce 1:1.
+const MERGE: [u8; 62] = [
+    1, 1, 0, 0, 0, 0, 0, 0, 0, 1, 0, 0, 0, 0, 0, 0, 0, 9, 3, 0, 1, 0, 97, 1, 0, 98, 1, 0, 0, 0, 0,
+    0, 0, 0, 1, 0, 97, 1, 0, 98, 2, 0, 0, 0, 0, 0, 0, 0, 1, 0, 97, 1, 0, 98, 3, 0, 0, 0, 0, 0, 0,
+    0,
+];
+
 // A step of procedure 1 that goes on at row 1 and does nothing else.
 const PLAIN_STEP: [u8; 20] = [2, 1, 0, 0, 0, 0, 0, 0, 0, 0, 0, 1, 0, 0, 0, 0, 0, 0, 0, 0];
 
@@ -20,6 +27,12 @@ const PLAIN_STEP: [u8; 20] = [2, 1, 0, 0, 0, 0, 0, 0, 0, 0, 0, 1, 0, 0, 0, 0, 0,
 const STEP: [u8; 47] = [
     2, 7, 0, 0, 0, 0, 0, 0, 0, 0, 0, 1, 1, 0, 0, 1, 0, 97, 0, 1, 0, 1, 0, 26, 7, 0, 0, 0, 0, 0, 0,
     0, 1, 3, 7, 0, 0, 0, 0, 0, 0, 0, 1, 0, 0, 0, 0,
+];
+
+// The part of a base that a root was a transit of the region a,b,3 that no request made, and failed.
+const ROOT: [u8; 46] = [
+    8, 5, 9, 0, 0, 0, 0, 0, 0, 0, 0, 0, 0, 0, 0, 0, 0, 0, 0, 0, 0, 0, 0, 0, 0, 0, 255, 1, 0, 97, 1,
+    0, 98, 3, 0, 0, 0, 0, 0, 0, 0, 0, 0, 1, 4, 0,
 ];
 
 fn submission(alloc: Global) -> Result<Entry, NameFault>
@@ -54,7 +67,7 @@ fn plain_step(alloc: Global) -> Entry
 }
 
 // What is written of an entry, and none where that is longer than a frame.
-fn spelled(alloc: Global, entry: &Entry) -> Result<Option<Vec<u8>>, AllocError>
+pub(crate) fn spelled(alloc: Global, entry: &Entry) -> Result<Option<Vec<u8>>, AllocError>
     requires { EntryIsSpelled entry.now }
 {
     let length = length(entry);
@@ -66,11 +79,20 @@ fn spelled(alloc: Global, entry: &Entry) -> Result<Option<Vec<u8>>, AllocError>
     Ok(Some(out))
 }
 
+// The same of an entry that is let go.
+fn written(alloc: Global, entry: Entry) -> Result<Option<Vec<u8>>, AllocError>
+    requires { EntryIsSpelled entry }
+{
+    let bytes = spelled(alloc, &entry);
+    drop(entry);
+    bytes
+}
+
 #[test]
 fn encode_into_writes_the_spelling(rt: HostRuntime) -> Result<(), Fail> {
-    let submit = spelled(rt.alloc(), &submission(rt.alloc())?)?.ok_or("too long")?;
+    let submit = written(rt.alloc(), submission(rt.alloc())?)?.ok_or("too long")?;
     assert_eq!(rt; submit.as_slice(), &SUBMIT[..24]);
-    let step = spelled(rt.alloc(), &plain_step(rt.alloc()))?.ok_or("too long")?;
+    let step = written(rt.alloc(), plain_step(rt.alloc()))?.ok_or("too long")?;
     assert_eq!(rt; step.as_slice(), PLAIN_STEP.as_slice());
     Ok(())
 }
@@ -78,7 +100,10 @@ fn encode_into_writes_the_spelling(rt: HostRuntime) -> Result<(), Fail> {
 // What bytes are read as: an entry, or why they are none.
 fn read(alloc: Global, bytes: &[u8]) -> Result<String, AllocError> {
     match decode(alloc, bytes) {
-        Ok(_) => "an entry".to_string(alloc),
+        Ok(entry) => {
+            drop(entry);
+            "an entry".to_string(alloc)
+        }
         Err(fault) => fault.to_string(alloc),
     }
 }
@@ -90,6 +115,19 @@ fn decode_gives_the_entry_or_the_first_fault(rt: HostRuntime) -> Result<(), Fail
         (&STEP, "an entry"),
         (&SUBMIT[..23], "the field at 18 runs past the end"),
         (&SUBMIT, "bytes follow at 24"),
+        (&MERGE, "an entry"),
+        (&MERGE[..61], "the field at 54 runs past the end"),
+        (&MERGE[..48], "the field at 48 runs past the end"),
+        (&ROOT[..45], "an entry"),
+        (&ROOT, "bytes follow at 45"),
+        (&[8, 6, 7, 0, 0, 0, 0, 0, 0, 0], "an entry"),
+        (&ROOT[..27], "the field at 27 runs past the end"),
+        (&ROOT[..9], "the field at 2 runs past the end"),
+        (&[8], "the field at 1 runs past the end"),
+        (&[8, 7], "no such value at 1"),
+        (&[9, 0, 0], "an entry"),
+        (&[9, 1], "the field at 1 runs past the end"),
+        (&[9, 1, 0, 1, 1, 0, 46], "no such value at 6"),
         (&[0xFF], "no such value at 0"),
     ];
     for (bytes, want) in cases {

@@ -5,3 +5,5 @@
 mod entries;
 #[cfg(test)]
 mod fields;
+#[cfg(test)]
+mod parts;

@@ -3,7 +3,7 @@ ghost use Rattle.std.specs.Prelude.{◌≡◌, ◌+◌, ◌≤◌, nat_le, IfOk,
 ghost use Rattle.hm_data.specs.declared.entry.Entry.TheVariants as entry_is;
 ghost use Rattle.hm_entry.specs.Fits.{EntryFits};
 ghost use Rattle.hm_hall.specs.Recording.{Accepts, CanBeRecorded, entries_of};
-ghost use Rattle.hm_model.specs.Rules.{AreSheets};
+ghost use Rattle.hm_model.specs.Base.{AreSheets};
 ghost use Rattle.hm_rows_exec.specs.Keeping.{IsBegun, IsKeptAlone};
 
 use hm_data::{Entry, Sheet};
@@ -14,6 +14,7 @@ use hm_hall::{Halt, RecordFault, Recorder};
 use hm_names::{Copied, List};
 use std::alloc::{AllocError, Global};
 use std::marker::Model;
+use std::mem;
 
 /// The marks of the bytes that a log of the entries would have, and how many entries are recorded before the list fails.
 #[derive(Clone, Copy)]
@@ -116,7 +117,9 @@ impl Kept {
     {
         entries_fit_frames();
         let entry = start(alloc, sheets)?;
-        Kept::of(alloc, &entry, bounds)
+        let kept = Kept::of(alloc, &entry, bounds);
+        drop(entry);
+        kept
     }
 
     /// The entries that were recorded.
@@ -177,7 +180,7 @@ impl Recorder for Kept {
             self.entries.reserve(1)?;
             Some(spelled(alloc, entry)?)
         };
-        self.copy = copy;
+        drop(mem::replace(&mut self.copy, copy));
         self.next = Some(Anchor::at(entry));
         Ok(())
     }
@@ -193,7 +196,7 @@ impl Recorder for Kept {
             return Err(RecordFault::JournalFull(bytes));
         };
         if self.left == 0 {
-            self.tail = Some(copy);
+            drop(mem::replace(&mut self.tail, Some(copy)));
             self.halted = Some(Halt::LogFault);
             return Err(RecordFault::LogFault);
         }

@@ -4,7 +4,7 @@ ghost use Rattle.hm_exec.specs.Claiming.{AnswersClaim};
 ghost use Rattle.hm_model.specs.Evaluation.{CanRun, answer_of};
 ghost use Rattle.hm_model.specs.Journal.{back};
 ghost use Rattle.hm_model.specs.Locks.{IsIn};
-ghost use Rattle.hm_model.specs.Rules.{AreSheets};
+ghost use Rattle.hm_model.specs.Base.{AreSheets};
 ghost use Rattle.hm_model.specs.Sheets.{sheets_of};
 ghost use Rattle.hm_rows_exec.specs.Keeping.{IsBegun};
 ghost use Rattle.hm_rows_exec.specs.Outs.{AreLeft, AreOthers, IsTaken, at_exec, sheets_at};
@@ -156,6 +156,7 @@ fn take_out(outs: &mut Vec<Out>, pid: u64) -> Option<Out>
     if are_others(outs, out.0) {
         Some(out)
     } else {
+        drop(out);
         None
     }
 }
@@ -220,9 +221,16 @@ impl Run {
         requires runs { CanRun (sheets_at (at_exec self.old.exec)) taken.was }
     {
         let out = answered(alloc, self.exec.state(), taken)?;
-        self.outs.reserve(1)?;
-        self.outs.push_reserved(out);
-        Ok(())
+        match self.outs.reserve(1) {
+            Ok(()) => {
+                self.outs.push_reserved(out);
+                Ok(())
+            }
+            Err(error) => {
+                drop(out);
+                Err(error)
+            }
+        }
     }
 
     /// Claims. False where nobody is available.
@@ -254,9 +262,10 @@ impl Run {
 
     /// Puts the claim of a procedure back. False where it isn't claimed.
     pub(crate) fn put_back(&mut self, pid: u64) -> bool {
-        let Some((pid, was, _)) = take_out(&mut self.outs, pid) else {
+        let Some((pid, was, out)) = take_out(&mut self.outs, pid) else {
             return false;
         };
+        drop(out);
         self.exec.put_back(Taken { pid, was });
         true
     }

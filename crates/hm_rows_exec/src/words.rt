@@ -176,6 +176,8 @@ pub(crate) fn add_entry(text: &mut String, entry: &Entry) -> Result<(), AllocErr
         Entry::Up { server } => write!(text, "up {server}")?,
         Entry::Down { server } => write!(text, "down {server}")?,
         Entry::Abort { pid } => write!(text, "abort {}", pid.0)?,
+        Entry::Base { part: _ } => text.push_str("base")?,
+        Entry::Adopt { sheets: _ } => text.push_str("adopt")?,
     }
     Ok(())
 }

@@ -122,6 +122,27 @@ pub static MERGES: [&str; 18] = [
     "9 5 | root 9 merge t,5 t,2; table t enabled 1 | done nothing",
 ];
 
+/// Merges of three regions and of ten.
+pub static LARGE_MERGES: [&str; 17] = [
+    "9 0 | root 9 merge t,1 t,2 t,3; table t enabled 1; region t,1 live * g; region t,2 live g p | fail RegionMissing",
+    "9 0 | root 9 merge t,1 t,2 t,3; table t enabled 1; region t,1 live * g; region t,2 split g p; region t,3 live p * | fail RegionNotLive",
+    "9 0 | root 9 merge t,1 t,2 t,3; table t enabled 1; region t,1 live * g; region t,2 live g p; region t,3 live q * | fail NotAdjacent",
+    "9 0 | root 9 merge t,1 t,2 t,3; table t enabled 1; region t,1 live * g; region t,2 live g *; region t,3 live p * | fail NotAdjacent",
+    "9 0 | root 9 merge t,3 t,1 t,2; table t enabled 1; region t,1 live * g; region t,2 live g p; region t,3 live p * | more 1",
+    "9 1 | root 9 merge t,3 t,1 t,2; table t enabled 1; region t,1 live * g; region t,2 live g p; region t,3 live p * | wait 2; child transits t unassign 1 2 3",
+    "9 2 | root 9 merge t,3 t,1 t,2; table t enabled 1; region t,1 live * g; region t,2 live g p; region t,3 live p * | wait 3; child layout-call 5",
+    "9 3 | root 9 merge t,3 t,1 t,2; table t enabled 1; region t,1 live * g; region t,2 live g p; region t,3 live p * | more 4; set region t,1 live * g > region t,1 merged * g; set region t,2 live g p > region t,2 merged g p; set region t,3 live p * > region t,3 merged p *; add region t,9 live * * 1 2 3",
+    "9 3 | root 9 merge t,7 t,2 t,5; table t enabled 1; region t,2 live m p 1; region t,5 live p x; region t,7 live c m 3 4 | more 4; set region t,2 live m p 1 > region t,2 merged m p 1; set region t,5 live p x > region t,5 merged p x; set region t,7 live c m 3 4 > region t,7 merged c m 3 4; add region t,9 live c x 7 2 5",
+    "9 4 | root 9 merge t,3 t,1 t,2; table t enabled 1 | wait 5; child transits t assign 9",
+    "9 5 | root 9 merge t,3 t,1 t,2; table t enabled 1 | done nothing",
+    "9 0 | root 20 merge t,10 t,9 t,8 t,7 t,6 t,5 t,4 t,3 t,2 t,1; table t enabled 1; regions t 1 * 1..9 * | more 1",
+    "9 0 | root 20 merge t,10 t,9 t,8 t,7 t,6 t,5 t,4 t,3 t,2 t,1; table t enabled 1; regions t 1 * 1..4; regions t 5 5..10 * | fail NotAdjacent",
+    "9 0 | root 20 merge t,10 t,9 t,8 t,7 t,6 t,5 t,4 t,3 t,2 t,1; table t enabled 1; regions t 1 * 1..9 | fail RegionMissing",
+    "9 1 | root 20 merge t,10 t,9 t,8 t,7 t,6 t,5 t,4 t,3 t,2 t,1; table t enabled 1; regions t 1 * 1..9 * | wait 2; child transits t unassign 1..10",
+    "9 3 | root 20 merge t,10 t,9 t,8 t,7 t,6 t,5 t,4 t,3 t,2 t,1; table t enabled 1; regions t 1 * 1..9 * | more 4; set region t,1 live * 001 > region t,1 merged * 001; set region t,2 live 001 002 > region t,2 merged 001 002; set region t,3 live 002 003 > region t,3 merged 002 003; set region t,4 live 003 004 > region t,4 merged 003 004; set region t,5 live 004 005 > region t,5 merged 004 005; set region t,6 live 005 006 > region t,6 merged 005 006; set region t,7 live 006 007 > region t,7 merged 006 007; set region t,8 live 007 008 > region t,8 merged 007 008; set region t,9 live 008 009 > region t,9 merged 008 009; set region t,10 live 009 * > region t,10 merged 009 *; add region t,20 live * * 1..10",
+    "9 4 | root 20 merge t,10 t,9 t,8 t,7 t,6 t,5 t,4 t,3 t,2 t,1; table t enabled 1 | wait 5; child transits t assign 20",
+];
+
 /// Transits and moves.
 pub static TRANSITS: [&str; 35] = [
     "10 5 | root 1 move t,1 | fail TableMissing",
@@ -186,7 +207,7 @@ pub static CALLS: [&str; 20] = [
 ];
 
 /// Steps that are undone.
-pub static UNDOS: [&str; 12] = [
+pub static UNDOS: [&str; 9] = [
     "3 1 | root 1 create t m; undo; add table t disabled 1 | undone; drop table t disabled 1",
     "3 2 | root 1 create t m; undo | undone; follower sweep-layout 5",
     "3 4 | root 1 create t m; undo; set table t disabled 1 > table t enabling 1 | undone; set table t enabling 1 > table t disabled 1",
@@ -195,8 +216,15 @@ pub static UNDOS: [&str; 12] = [
     "8 1 | root 4 split t,1 m; undo | undone; follower transits t assign 1",
     "8 2 | root 4 split t,1 m; undo | undone; follower sweep-layout 5",
     "8 3 | root 4 split t,1 m; undo; set region t,1 live * * > region t,1 split * *; add region t,4 live * m 1; add region t,5 live m * 1 | undone; drop region t,5 live m * 1; drop region t,4 live * m 1; set region t,1 split * * > region t,1 live * *",
+    "20 0 | add-regions t 5 * g *; undo; add region t,5 live * g; add region t,6 live g * | undone; drop region t,6 live g *; drop region t,5 live * g",
+];
+
+/// Steps of merges that are undone.
+pub static UNDONE_MERGES: [&str; 6] = [
     "9 1 | root 9 merge t,5 t,2; undo | undone; follower transits t assign 2 5",
     "9 2 | root 9 merge t,5 t,2; undo | undone; follower sweep-layout 5",
     "9 3 | root 9 merge t,1 t,2; undo; set region t,1 live * m > region t,1 merged * m; set region t,2 live m * > region t,2 merged m *; add region t,9 live * * 1 2 | undone; drop region t,9 live * * 1 2; set region t,2 merged m * > region t,2 live m *; set region t,1 merged * m > region t,1 live * m",
-    "20 0 | add-regions t 5 * g *; undo; add region t,5 live * g; add region t,6 live g * | undone; drop region t,6 live g *; drop region t,5 live * g",
+    "9 1 | root 9 merge t,3 t,1 t,2; undo | undone; follower transits t assign 1 2 3",
+    "9 3 | root 9 merge t,3 t,1 t,2; undo; set region t,1 live * g > region t,1 merged * g; set region t,2 live g p > region t,2 merged g p; set region t,3 live p * > region t,3 merged p *; add region t,9 live * * 1 2 3 | undone; drop region t,9 live * * 1 2 3; set region t,3 merged p * > region t,3 live p *; set region t,2 merged g p > region t,2 live g p; set region t,1 merged * g > region t,1 live * g",
+    "9 1 | root 20 merge t,10 t,9 t,8 t,7 t,6 t,5 t,4 t,3 t,2 t,1; undo | undone; follower transits t assign 1..10",
 ];

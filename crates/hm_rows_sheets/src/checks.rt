@@ -89,6 +89,82 @@ static SPLIT_EARLY: [Row; 6] = [
     row!(Finish to 255, after),
 ];
 
+// The second order: the layout comes before the parent is closed.
+static LAYOUT_FIRST: [Row; 6] = [
+    row!(CheckSplit to 1),
+    row!(Layout to 2, undone by Sweep),
+    row!(CloseParent to 3, undone by Reopen),
+    row!(UpdateSplitMeta to 4, undone by Edits),
+    row!(OpenDaughters to 5, after),
+    row!(Finish to 255, after),
+];
+
+// The rows stand in the first order, and are led through in the second.
+static LAYOUT_LED_FIRST: [Row; 6] = [
+    row!(CheckSplit to 2),
+    row!(CloseParent to 3, undone by Reopen),
+    row!(Layout to 1, undone by Sweep),
+    row!(UpdateSplitMeta to 4, undone by Edits),
+    row!(OpenDaughters to 5, after),
+    row!(Finish to 255, after),
+];
+
+// Both rows have the undo that the first order has at their places.
+static LAYOUT_REOPENED: [Row; 6] = [
+    row!(CheckSplit to 1),
+    row!(Layout to 2, undone by Reopen),
+    row!(CloseParent to 3, undone by Sweep),
+    row!(UpdateSplitMeta to 4, undone by Edits),
+    row!(OpenDaughters to 5, after),
+    row!(Finish to 255, after),
+];
+
+static PARENT_SWEPT: [Row; 6] = [
+    row!(CheckSplit to 1),
+    row!(Layout to 2, undone by Sweep),
+    row!(CloseParent to 3, undone by Sweep),
+    row!(UpdateSplitMeta to 4, undone by Edits),
+    row!(OpenDaughters to 5, after),
+    row!(Finish to 255, after),
+];
+
+static META_LATE: [Row; 6] = [
+    row!(CheckSplit to 1),
+    row!(Layout to 2, undone by Sweep),
+    row!(CloseParent to 3, undone by Reopen),
+    row!(UpdateSplitMeta to 4, after),
+    row!(OpenDaughters to 5, after),
+    row!(Finish to 255, after),
+];
+
+static DAUGHTERS_EARLY: [Row; 6] = [
+    row!(CheckSplit to 1),
+    row!(Layout to 2, undone by Sweep),
+    row!(CloseParent to 3, undone by Reopen),
+    row!(UpdateSplitMeta to 4, undone by Edits),
+    row!(OpenDaughters to 5),
+    row!(Finish to 255, after),
+];
+
+// The parent stays open.
+static LAYOUT_ALONE: [Row; 5] = [
+    row!(CheckSplit to 1),
+    row!(Layout to 2, undone by Sweep),
+    row!(UpdateSplitMeta to 3, undone by Edits),
+    row!(OpenDaughters to 4, after),
+    row!(Finish to 255, after),
+];
+
+// A merge has one order.
+static MERGE_LAYOUT_FIRST: [Row; 6] = [
+    row!(CheckMerge to 1),
+    row!(Layout to 2, undone by Sweep),
+    row!(CloseParents to 3, undone by Reopen),
+    row!(UpdateMergeMeta to 4, undone by Edits),
+    row!(OpenMerged to 5, after),
+    row!(Finish to 255, after),
+];
+
 static MERGE_LATE: [Row; 1] = [row!(CheckMerge to 255, after)];
 
 static LAYOUT_LATE: [Row; 2] = [row!(Layout to 1), row!(Finish to 255, after)];
@@ -133,7 +209,7 @@ fn found(alloc: Global, kind: u8, rows: &[Row]) -> Result<Option<SheetFault>, Al
 
 #[test]
 fn check_sheet_gives_the_first_fault(rt: HostRuntime) -> Result<(), Fail> {
-    let cases: [Case; 20] = [
+    let cases: [Case; 28] = [
         (1, &NAMESPACE, None),
         (1, &LOOPED, None),
         (11, &CRASH, None),
@@ -154,6 +230,14 @@ fn check_sheet_gives_the_first_fault(rt: HostRuntime) -> Result<(), Fail> {
         (8, &SPLIT_UNDONE, fault!(1, 8)),
         (25, &FENCE_TWICE, fault!(2, 8)),
         (26, &LAYOUT_UNDONE, fault!(0, 8)),
+        (8, &LAYOUT_FIRST, None),
+        (8, &LAYOUT_LED_FIRST, None),
+        (8, &LAYOUT_REOPENED, fault!(1, 8)),
+        (8, &PARENT_SWEPT, fault!(2, 8)),
+        (8, &META_LATE, fault!(3, 8)),
+        (8, &DAUGHTERS_EARLY, fault!(4, 8)),
+        (8, &LAYOUT_ALONE, fault!(2, 8)),
+        (9, &MERGE_LAYOUT_FIRST, fault!(1, 8)),
     ];
     for (kind, rows, expected) in &cases {
         let fault = found(rt.alloc(), *kind, rows)?;

@@ -109,6 +109,7 @@ impl Seen {
             pid: Pid(7),
             root: Pid(5),
             kind,
+            edition: 0,
             row,
             args: args.pop().ok_or("args")?,
             tries,

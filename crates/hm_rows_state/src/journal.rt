@@ -1,6 +1,6 @@
 //! A journal with a table that is created, a split that is undone, and a server that is lost. An independent implementation wrote it.
 ghost use Rattle.std.specs.Prelude.{IfOk};
-ghost use Rattle.hm_model.specs.Rules.{AreSheets};
+ghost use Rattle.hm_model.specs.Base.{AreSheets};
 
 use hm_crash::CrashHands;
 use hm_data::{Entry, Sheet};

@@ -24,6 +24,7 @@ fn input(alloc: Global) -> StepIn
         pid: Pid(0),
         root: Pid(1),
         kind: KIND,
+        edition: 0,
         row: 0,
         args: Args::LayoutCall { root: Pid(1) },
         tries: 0,

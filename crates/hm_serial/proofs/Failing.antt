@@ -1,4 +1,5 @@
 -- A failure leaves no edit, in every legal journal of all kinds.
+use Rattle.std.proofs.lemmas.Option.{none-some}
 use Rattle.std.proofs.Common.{◌≡◌, ◌≢◌, ℕ, List, [], ◌∷◌, true, false, Option, Some, None, refl, ap, sym, ◌∙◌, inl, inr, ◌⊎◌}
 use Rattle.std.proofs.lemmas.Bool.{and_parts, cases_eq, false≢true, true≢false}
 use Rattle.std.proofs.lemmas.Option.{same_Some}
@@ -77,6 +78,8 @@ edits_covered (entry_is.Down server ∷ J) legal r key h =
     let grown = grown_all J legal.0 in
     (c.0, still J (entry_is.Down server ∷ J) (down_rooted server J grown) grown r c.0 c.1, c.2)
 edits_covered (entry_is.Abort pid ∷ J) legal r key h = edits_covered J legal.0 r key h
+edits_covered (entry_is.Adopt sheets ∷ J) legal r key h = edits_covered J legal.0 r key h
+edits_covered (entry_is.Base part ∷ J) legal r key h = elim h [ ]
 
 covered : (J : Past) → IsLegal J → (r : ℕ) (node : Node) → node_of J r ≡ Some node → (key : CatKey) → TreeEdits J r key ⊎ (covers node.args key ≡ true) → covers node.args key ≡ true
 covered J legal r node is key h = elim h [
@@ -162,3 +165,5 @@ failure_leaves_all (entry_is.Down server) J legal r node is at_top was_open ende
     let grown = grown_all J legal.0 in
     rooted_leaves J (entry_is.Down server ∷ J) (down_rooted server J grown) grown (falls_all J legal.0).falls r node (is, at_top) was_open sick (nothing_left (entry_is.Down server ∷ J) r ended sick) key (covered (entry_is.Down server ∷ J) legal r node is key h)
 failure_leaves_all (entry_is.Abort pid) J legal r node is at_top was_open ended sick key h = absurd (true≢false (sym ended ∙ was_open))
+failure_leaves_all (entry_is.Adopt sheets) J legal r node is at_top was_open ended sick key h = absurd (true≢false (sym ended ∙ was_open))
+failure_leaves_all (entry_is.Base part) J legal r node is at_top was_open ended sick key h = absurd (none-some node is)

@@ -14,11 +14,12 @@ use Rattle.hm_data.specs.declared.args.Child.TheVariants as child_is
 use Rattle.hm_data.specs.declared.place.Goal.{Goal}
 use Rattle.hm_data.specs.declared.place.Goal.TheVariants as goal_is
 use Rattle.hm_data.specs.declared.catalog.CatKey.{CatKey}
+use Rattle.hm_data.specs.declared.entry.Entry.{Entry}
 use Rattle.hm_data.specs.declared.entry.Entry.TheVariants as entry_is
 use Rattle.hm_data.specs.declared.request.Request.{Request}
 use Rattle.hm_data.specs.declared.step.StepOut.{StepOut}
 use Rattle.hm_model.specs.Answers.{done_with, last_answer}
-use Rattle.hm_model.specs.Catalog.{cat, edited, was}
+use Rattle.hm_model.specs.Catalog.{Catalog, cat, edited, was}
 use Rattle.hm_model.specs.Journal.{Past}
 use Rattle.hm_model.specs.Reads.{covers}
 use Rattle.hm_model.specs.Phase.{all_stopped, cause, root_ended, root_over, rolled_back}
@@ -28,7 +29,7 @@ use Rattle.hm_model.specs.Pieces.{Batch, batches}
 use Rattle.hm_model.specs.Undoing.{closed_by, undo_edits, undo_followers}
 use Rattle.hm_model.specs.Tree.{Node, args_in, is_top, made, node_of, root_node, root_of, submitted}
 use Rattle.hm_model.specs.Undo.{Undoable, is_empty, rest_of, stack}
-use Rattle.hm_model.proofs.Trees.{Grown, IsRooted, does_of, down_rooted, grown_all, le_or_lt, new_child, node_same, old_or_new, step_of, still, submit_rooted, undo_rooted}
+use Rattle.hm_model.proofs.Trees.{Grown, IsRooted, does_of, down_rooted, grown_all, le_or_lt, new_child, node_same, old_or_new, sheets_stay, step_of, still, submit_rooted, undo_rooted}
 use Rattle.hm_model.proofs.UndoMakes.{IsUndoOf, undo_of}
 use Rattle.hm_kinds.proofs.LockForms.{IsRight}
 use Rattle.hm_serial.proofs.Apart.{Apart, Aside, Asked, apart_back, apart_step, aside_from, begins_apart, step_apart}
@@ -179,7 +180,7 @@ module _ (pid : Pid) (row : ℕ) (out : StepOut) (J : Past) (legal : IsLegal (en
           (λ may key c.
               ap (λ l. unwound l key (cat J' key)) left.stack_is
               ∙ ap (unwound (stack J r) key) (within_others top.args out.edits undo_within key ((aside r node before differs key).0 (cover_guards node.args key c)) (cat J key))
-              ∙ t.0 (may_on J' J r node refl refl refl may) key c),
+              ∙ t.0 (may_on J' J r node refl refl (sym (sheets_stay (entry_is.Undo pid row out) J legal r node before.0.0)) may) key c),
           subst (AllWithin node.args) (sym left.stack_is) t.1,
         )
 
@@ -189,11 +190,21 @@ module _ (pid : Pid) (row : ℕ) (out : StepOut) (J : Past) (legal : IsLegal (en
       | inl same ↦
           let b = undo_back r node h in
           let y_is : node ≡ top = same_Some node top (sym b.0.0 ∙ ap (node_of J) same ∙ top_is.0) in
-          subst (λ k. Unwinds J' k node × AllWithin node.args (stack J' k)) (sym same) (subst (λ n. Unwinds J' R n × AllWithin n.args (stack J' R)) (sym y_is) (undo_unwinds, subst (AllWithin top.args) (sym stack_now) within_all.1))
+          subst (λ k. Unwinds J' k node × AllWithin node.args (stack J' k)) (sym same) (subst (λ n. Unwinds J' R n × AllWithin n.args (stack J' R)) (sym y_is) ((λ may key c. undo_unwinds (may_on J' J R top refl refl (sym (sheets_stay (entry_is.Undo pid row out) J legal R top top_is.0)) may) key c), subst (AllWithin top.args) (sym stack_now) within_all.1))
     ]
 
     pub falls_undo : Falls (entry_is.Undo pid row out ∷ J)
     falls_undo = rooted_falls J (entry_is.Undo pid row out ∷ J) rooted grown falls (λ p. refl) empties rows_now tree_now
+
+-- a tree that an entry leaves alone, with all rows
+unwinds_on : (entry : Entry) (J : Past) → IsLegal (entry ∷ J) → (r : ℕ) (node : Node) → TopHolds J r node → cause (entry ∷ J) r ≡ cause J r → last_answer (entry ∷ J) r ≡ last_answer J r → stack (entry ∷ J) r ≡ stack J r
+    → cat (entry ∷ J) ≡ cat J → was (entry ∷ J) r ≡ was J r → Unwinds J r node × AllWithin node.args (stack J r) → Unwinds (entry ∷ J) r node × AllWithin node.args (stack (entry ∷ J) r)
+unwinds_on entry J legal r node held causes last stacks rows base t = (
+  (λ may key c.
+      let before = may_on (entry ∷ J) J r node (sym causes) (sym last) (sym (sheets_stay entry J legal r node held.0.0)) may in
+      ap (λ l. unwound l key (cat (entry ∷ J) key)) stacks ∙ ap (λ (b : Catalog). unwound (stack J r) key (b key)) rows ∙ t.0 before key c ∙ ap (λ (b : Catalog). b key) (sym base)),
+  subst (AllWithin node.args) (sym stacks) t.1,
+)
 
 pub record All (J : Past) : Type 0 where
   pub falls : Falls J
@@ -315,7 +326,7 @@ falls_all (entry_is.Submit nonce request ∷ J) legal =
     let rooted = submit_rooted nonce request J grown in
     let holds : (r : ℕ) (node : Node) → TopHolds (entry_is.Submit nonce request ∷ J) r node → TopHolds J r node = (λ r node h. held_before J (entry_is.Submit nonce request ∷ J) rooted grown r node refl refl refl h) in
     record {
-      falls = rooted_falls J (entry_is.Submit nonce request ∷ J) rooted grown a.falls (λ p. refl) (λ p e. e) (submit_rows nonce request J grown) (λ r node h. a.falls.tree r node (holds r node h));
+      falls = rooted_falls J (entry_is.Submit nonce request ∷ J) rooted grown a.falls (λ p. refl) (λ p e. e) (submit_rows nonce request J grown) (λ r node h. unwinds_on (entry_is.Submit nonce request) J legal r node (holds r node h) refl refl refl refl refl (a.falls.tree r node (holds r node h)));
       apart = apart_back J (entry_is.Submit nonce request ∷ J) holds a.apart;
       asked = asked_submit nonce request J legal a.asked;
     }
@@ -352,7 +363,7 @@ falls_all (entry_is.Down server ∷ J) legal =
     let rooted = down_rooted server J grown in
     let holds : (r : ℕ) (node : Node) → TopHolds (entry_is.Down server ∷ J) r node → TopHolds J r node = (λ r node h. held_before J (entry_is.Down server ∷ J) rooted grown r node refl refl refl h) in
     record {
-      falls = rooted_falls J (entry_is.Down server ∷ J) rooted grown a.falls (λ p. refl) (λ p e. e) (down_rows server J grown) (λ r node h. a.falls.tree r node (holds r node h));
+      falls = rooted_falls J (entry_is.Down server ∷ J) rooted grown a.falls (λ p. refl) (λ p e. e) (down_rows server J grown) (λ r node h. unwinds_on (entry_is.Down server) J legal r node (holds r node h) refl refl refl refl refl (a.falls.tree r node (holds r node h)));
       apart = apart_back J (entry_is.Down server ∷ J) holds a.apart;
       asked = asked_down server J a.asked;
     }
@@ -360,3 +371,22 @@ falls_all (entry_is.Abort pid ∷ J) legal =
     let a = falls_all J legal.0 in
     let f = a.falls in
     record { falls = record { fresh = f.fresh; gone = f.gone; tops = f.tops; kids = f.kids; belongs = f.belongs; near = f.near; safe = f.safe; bare = f.bare; tree = f.tree }; apart = a.apart; asked = a.asked }
+falls_all (entry_is.Adopt sheets ∷ J) legal =
+    let a = falls_all J legal.0 in
+    let f = a.falls in
+    record { falls = record { fresh = f.fresh; gone = f.gone; tops = f.tops; kids = f.kids; belongs = f.belongs; near = f.near; safe = f.safe; bare = f.bare; tree = f.tree }; apart = a.apart; asked = a.asked }
+falls_all (entry_is.Base part ∷ J) legal = record {
+  falls = record {
+    fresh = λ r node top. absurd (none-some node top.0);
+    gone = λ r none. (refl, refl);
+    tops = λ q x top. absurd (none-some x top.0);
+    kids = λ q x is. absurd (none-some x is);
+    belongs = λ q x is. absurd (none-some x is);
+    near = λ q x is. absurd (none-some x is);
+    safe = λ q x is. absurd (none-some x is);
+    bare = λ q x is. absurd (none-some x is);
+    tree = λ r node h. absurd (none-some node h.0.0);
+  };
+  apart = λ s t x y h k differs clash. none-some x h.0.0;
+  asked = λ q x is. absurd (none-some x is);
+}

@@ -24,7 +24,7 @@ use Rattle.hm_model.specs.Lists.{exact_rows}
 use Rattle.hm_model.specs.Locks.{IsIn, asks, exclusive}
 use Rattle.hm_model.specs.Reads.{covers}
 use Rattle.hm_model.specs.Phase.{cause, or_else}
-use Rattle.hm_model.specs.Sheets.{next_row, row_in, sheet_for, sheets_of, undo_by, undo_of_next}
+use Rattle.hm_model.specs.Sheets.{next_row, row_in, sheet_for, sheets_by, undo_by, undo_of_next}
 use Rattle.hm_model.specs.Tree.{Node, args_in, child_of, is_top, made, node_of, root_in, root_of}
 use Rattle.hm_model.specs.Undo.{pushed, row_if_there, stack}
 use Rattle.hm_model.specs.Whereabouts.{moved_by}
@@ -211,7 +211,7 @@ module _ (pid : Pid) (pick : Option Server) (out : StepOut) (J : Past) (grown : 
   unfolding top
   next_root e =
       ap (next_row (entry_is.Step pid pick out ∷ J) step.node.root) (root_step e).1
-      ∙ ap (λ o. row_in (sheet_for (sheets_of J) (kind_of step.node.args)) (row_after (first_row_of step.node.args) o)) (last_root e)
+      ∙ ap (λ o. row_in (sheet_for (sheets_by J step.node.root) (kind_of step.node.args)) (row_after (first_row_of step.node.args) o)) (last_root e)
       ∙ ap (λ s. row_in s (row_after (first_row_of step.node.args) (Some out.answer))) step.sheet_is
 
   next_before : step.node.above ≡ [] → next_row J step.node.root own_root.0 ≡ Some step.row
@@ -272,7 +272,7 @@ module _ (pid : Pid) (pick : Option Server) (out : StepOut) (J : Past) (grown : 
 
   kid_back : step.node.above ≢ [] → MayFall J' step.node.root own_root.0 → MayFall J step.node.root own_root.0
   kid_back kid (inl listless) = inl listless
-  kid_back kid (inr (inr may)) = inr (inr (ap is_stopped (sym (other_last kid)) ∙ may.0, may.1, subst (λ o. row_in (sheet_for (sheets_of J) (kind_of own_root.0.args)) (row_after (first_row_of own_root.0.args) o) ≡ Some may.1) (other_last kid) may.2, may.3))
+  kid_back kid (inr (inr may)) = inr (inr (ap is_stopped (sym (other_last kid)) ∙ may.0, may.1, subst (λ o. row_in (sheet_for (sheets_by J own_root.0.root) (kind_of own_root.0.args)) (row_after (first_row_of own_root.0.args) o) ≡ Some may.1) (other_last kid) may.2, may.3))
   kid_back kid (inr (inl failed)) = by (cause J step.node.root) refl (failing out.answer) refl
     where
       by : (c : Option Cause) → cause J step.node.root ≡ c → (f : Option Cause) → failing out.answer ≡ f → MayFall J step.node.root own_root.0
@@ -379,7 +379,7 @@ module _ (pid : Pid) (pick : Option Server) (out : StepOut) (J : Past) (grown : 
       or_some : (c e : Option Cause) → c ≢ None → or_else c e ≢ None
       or_some None e some = absurd (some refl)
       or_some (Some c) e some = some
-  kid_on kid (inr (inr may)) = inr (inr (ap is_stopped (other_last kid) ∙ may.0, may.1, subst (λ o. row_in (sheet_for (sheets_of J) (kind_of own_root.0.args)) (row_after (first_row_of own_root.0.args) o) ≡ Some may.1) (sym (other_last kid)) may.2, may.3))
+  kid_on kid (inr (inr may)) = inr (inr (ap is_stopped (other_last kid) ∙ may.0, may.1, subst (λ o. row_in (sheet_for (sheets_by J own_root.0.root) (kind_of own_root.0.args)) (row_after (first_row_of own_root.0.args) o) ≡ Some may.1) (sym (other_last kid)) may.2, may.3))
 
   kid_made : step.node.above ≢ [] → (i : ℕ) (a : Args) → slice_get (args_in out.children) i ≡ Some a → (may_fail a ≡ false) × (is_bare a ≡ false)
   kid_made kid i a get = kid_quiet J pid.0 pick out step d led_here own_root.0.args own_args belongs_here (falls.kids pid.0 step.node step.node_is kid) i a get
@@ -405,7 +405,7 @@ module _ (pid : Pid) (pick : Option Server) (out : StepOut) (J : Past) (grown : 
           let y_old = same_root q x y old at in
           let r = root_of_node J grown q x old in
           let left = left_of x.root r.0 r.1 differs in
-          may_on J J' x.root y left.cause_is left.last left.sheets (falls.safe q x old some (ran q now) may y y_old)
+          may_on J J' x.root y left.cause_is left.last refl (falls.safe q x old some (ran q now) may y y_old)
       by_old old (inl root) = elim kid_or_root [
         | inl e ↦ absurd (root_quiet e q x old root some now)
         | inr kid ↦
@@ -436,7 +436,7 @@ module _ (pid : Pid) (pick : Option Server) (out : StepOut) (J : Past) (grown : 
           let y_old = same_root q x y old at in
           let r = root_of_node J grown q x old in
           let left = left_of x.root r.0 r.1 differs in
-          falls.bare q x old some (ran q now) bare y y_old (may_on J' J x.root y (sym left.cause_is) (sym left.last) (sym left.sheets) may)
+          falls.bare q x old some (ran q now) bare y y_old (may_on J' J x.root y (sym left.cause_is) (sym left.last) refl may)
       by_old old (inl root) = elim kid_or_root [
         | inl e ↦ root_quiet e q x old root some now
         | inr kid ↦
@@ -509,7 +509,7 @@ module _ (pid : Pid) (pick : Option Server) (out : StepOut) (J : Past) (grown : 
           (λ may key c.
               ap (λ l. unwound l key (cat J' key)) left.stack_is
               ∙ ap (unwound (stack J r) key) (within_others own_root.0.args out.edits within_now key ((own_aside r node before differs key).0 (cover_guards node.args key c)) (cat J key))
-              ∙ t.0 (may_on J' J r node (sym left.cause_is) (sym left.last) (sym left.sheets) may) key c ∙ ap (λ (b : Catalog). b key) (sym left.was_is)),
+              ∙ t.0 (may_on J' J r node (sym left.cause_is) (sym left.last) refl may) key c ∙ ap (λ (b : Catalog). b key) (sym left.was_is)),
           subst (AllWithin node.args) (sym left.stack_is) t.1,
         )
   ]

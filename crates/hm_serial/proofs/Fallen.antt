@@ -1,5 +1,5 @@
 -- What every legal journal keeps of the steps that may still be undone: undone, they lead back.
-use Rattle.std.proofs.Common.{◌≡◌, ◌≢◌, ℕ, List, [], ◌∷◌, true, false, Some, None, refl, ap, sym, ◌∙◌, subst, inl, inr, ◌⊎◌}
+use Rattle.std.proofs.Common.{◌≡◌, ◌≢◌, ◌≤◌, ℕ, List, [], ◌∷◌, true, false, Some, None, refl, ap, sym, ◌∙◌, subst, inl, inr, ◌⊎◌}
 use Rattle.std.proofs.lemmas.Option.{none-some, same_Some}
 use Rattle.hm_names.specs.Region.{Region}
 use Rattle.hm_names.specs.declared.table.TableName.{TableName}
@@ -12,12 +12,12 @@ use Rattle.hm_model.specs.Kinds.{first_row_of}
 use Rattle.hm_model.specs.Locks.{IsIn, asks, exclusive}
 use Rattle.hm_model.specs.Reads.{covers}
 use Rattle.hm_model.specs.Phase.{cause}
-use Rattle.hm_model.specs.Sheets.{next_row, sheets_of}
-use Rattle.hm_model.specs.Tree.{Node, node_of}
+use Rattle.hm_model.specs.Sheets.{next_row, sheets_by}
+use Rattle.hm_model.specs.Tree.{Node, made, node_of}
 use Rattle.hm_model.specs.Undo.{stack}
 use Rattle.hm_model.specs.Whereabouts.{moved_by}
 use Rattle.hm_model.specs.declared.lock.Resource.TheVariants as resource_is
-use Rattle.hm_model.proofs.Trees.{Grown}
+use Rattle.hm_model.proofs.Trees.{Grown, root_within}
 use Rattle.hm_serial.proofs.Editing.{rows_table}
 use Rattle.hm_serial.proofs.Frame.{AllWithin, unwound}
 use Rattle.hm_serial.proofs.Kinship.{is_bare, is_kid, is_lined, may_fail}
@@ -57,8 +57,8 @@ falls_nothing = record {
   tree = λ r node h. absurd (none-some node h.0.0);
 }
 
--- a tree whose root's cause and last step are the same may be undone as before
-pub may_on : (J J' : Past) (r : ℕ) (node : Node) → cause J' r ≡ cause J r → last_answer J' r ≡ last_answer J r → sheets_of J' ≡ sheets_of J → MayFall J r node → MayFall J' r node
+-- a tree whose root's cause, last step and sheets are the same may be undone as before
+pub may_on : (J J' : Past) (r : ℕ) (node : Node) → cause J' r ≡ cause J r → last_answer J' r ≡ last_answer J r → sheets_by J' node.root ≡ sheets_by J node.root → MayFall J r node → MayFall J' r node
 may_on J J' r node causes last sheets (inl exact) = inl exact
 may_on J J' r node causes last sheets (inr (inl failed)) = inr (inl (λ none. failed (sym causes ∙ none)))
 may_on J J' r node causes last sheets (inr (inr runs)) = inr (inr (ap is_stopped last ∙ runs.0, runs.1, (rw (sheets, last) runs.2), runs.3))
@@ -84,13 +84,16 @@ module _ (J J' : Past) (grown : Grown J) (falls : Falls J)
     (nobody : (p : ℕ) → node_of J' p ≡ None → node_of J p ≡ None)
     (last : (p : ℕ) → last_answer J' p ≡ last_answer J p)
     (causes : (p : ℕ) → cause J' p ≡ cause J p)
-    (sheets : sheets_of J' ≡ sheets_of J)
+    (sheets : (root : ℕ) → root ≤ made J → sheets_by J' root ≡ sheets_by J root)
     (stacks : (p : ℕ) → stack J p ≡ [] → stack J' p ≡ [])
     (tree : (r : ℕ) (node : Node) → TopHolds J' r node → Unwinds J' r node × AllWithin node.args (stack J' r)) where
   same_root : (q : ℕ) (x y : Node) → node_of J q ≡ Some x → node_of J' x.root ≡ Some y → node_of J x.root ≡ Some y
   same_root q x y is at =
       let r = root_of_node J grown q x is in
       r.1.0 ∙ ap Some (same_Some r.0 y (sym (still x.root r.0 r.1.0) ∙ at))
+
+  same_sheets : (r : ℕ) (node : Node) → node_of J r ≡ Some node → sheets_by J' node.root ≡ sheets_by J node.root
+  same_sheets r node is = sheets node.root (root_within J grown r node is)
 
   pub falls_calm : Falls J'
   falls_calm = record {
@@ -104,11 +107,11 @@ module _ (J J' : Past) (grown : Grown J) (falls : Falls J)
     belongs = λ q x is t rows y at. elim (nodes q x is) [ inl old ↦ falls.belongs q x old t rows y (same_root q x y old at) | inr new ↦ absurd (none-some t (sym new.2 ∙ rows)) ];
     near = λ q x is some r m. elim (nodes q x is) [ inl old ↦ subst (λ o. row_after (first_row_of x.args) o ≢ 5) (sym (last q)) (falls.near q x old some r m) | inr new ↦ absurd (some new.1) ];
     safe = λ q x is some runs may y at. elim (nodes q x is) [
-      | inl old ↦ may_on J J' x.root y (causes x.root) (last x.root) sheets (falls.safe q x old some (ap is_stopped (sym (last q)) ∙ runs) may y (same_root q x y old at))
+      | inl old ↦ may_on J J' x.root y (causes x.root) (last x.root) (same_sheets x.root y (same_root q x y old at)) (falls.safe q x old some (ap is_stopped (sym (last q)) ∙ runs) may y (same_root q x y old at))
       | inr new ↦ absurd (some new.1)
     ];
     bare = λ q x is some runs b y at may. elim (nodes q x is) [
-      | inl old ↦ falls.bare q x old some (ap is_stopped (sym (last q)) ∙ runs) b y (same_root q x y old at) (may_on J' J x.root y (sym (causes x.root)) (sym (last x.root)) (sym sheets) may)
+      | inl old ↦ falls.bare q x old some (ap is_stopped (sym (last q)) ∙ runs) b y (same_root q x y old at) (may_on J' J x.root y (sym (causes x.root)) (sym (last x.root)) (sym (same_sheets x.root y (same_root q x y old at))) may)
       | inr new ↦ absurd (some new.1)
     ];
     tree = tree;

@@ -1,4 +1,6 @@
 -- Every legal journal's trees stand.
+use Rattle.hm_model.proofs.Parted.{no_node}
+use Rattle.hm_model.specs.Parts.{part_row}
 use Rattle.std.proofs.Common.{◌≡◌, ◌≢◌, ℕ, ◌+◌, List, [], ◌∷◌, true, false, map, Option, Some, None, refl, ap, sym, ◌∙◌, subst, inl, inr, arith}
 use Rattle.std.specs.Prelude.{option_map}
 use Rattle.std.proofs.lemmas.Bool.{false≢true}
@@ -28,13 +30,13 @@ use Rattle.hm_model.specs.Phase.{cause, root_ended}
 use Rattle.hm_model.specs.Pieces.{Batch, batches}
 use Rattle.hm_model.specs.Rules.{IsLegal}
 use Rattle.hm_model.specs.Serial.{serial}
-use Rattle.hm_model.specs.Sheets.{sheets_of}
+use Rattle.hm_model.specs.Sheets.{sheets_by}
 use Rattle.hm_model.specs.Tree.{Node, args_in, made, node_of, root_node, root_of, submitted}
 use Rattle.hm_model.specs.Undoing.{closed_by, undo_followers}
 use Rattle.hm_model.proofs.Apart.{others_stay}
 use Rattle.hm_model.proofs.Grown.{nodes_stay}
 use Rattle.hm_model.proofs.Rows.{in_with_keys}
-use Rattle.hm_model.proofs.Trees.{Grown, does_of, down_rooted, grown_all, is_there, step_of, submit_rooted}
+use Rattle.hm_model.proofs.Trees.{Grown, does_of, down_rooted, grown_all, is_there, sheets_stay, step_of, submit_rooted}
 use Rattle.hm_kinds.proofs.LockForms.{IsRight}
 use Rattle.hm_kinds.proofs.Within.{within_others}
 use Rattle.hm_serial.proofs.Apart.{Aside, step_top}
@@ -79,12 +81,12 @@ stands_nothing = record {
 }
 
 -- an entry of no tree that was there
-rooted_stands : (entry : Entry) (J : Past) → IsLegal (entry ∷ J) → Grown J → Stands J → sheets_of (entry ∷ J) ≡ sheets_of J → keys_of (entry ∷ J) ≡ keys_of J
+rooted_stands : (entry : Entry) (J : Past) → IsLegal (entry ∷ J) → Grown J → Stands J → keys_of (entry ∷ J) ≡ keys_of J
     → ((key : CatKey) → cat (entry ∷ J) key ≡ cat J key) → ((key : CatKey) → serial (entry ∷ J) key ≡ serial J key) → ((s : ℕ) (x : Node) → TopIs J s x → s ≢ tree_of J entry) → ((s : ℕ) (x : Node) → TopHolds (entry ∷ J) s x → TopHolds J s x) → Stands (entry ∷ J)
-rooted_stands entry J legal grown stands sheets keys cats serials other old = record {
+rooted_stands entry J legal grown stands keys cats serials other old = record {
   tree = λ r node h.
       let before = old r node h in
-      tree_on J (entry ∷ J) r node before.0 (grown.tops r node before.0.0 before.0.1) (same_of r node before.0) stays sheets (λ key among. subst (IsIn key) (sym keys) among) (λ key g. cats key) (λ key g. serials key) (stands.tree r node before);
+      tree_on J (entry ∷ J) r node before.0 (grown.tops r node before.0.0 before.0.1) (same_of r node before.0) stays (sheets_stay entry J legal r node before.0.0) (λ key among. subst (IsIn key) (sym keys) among) (λ key g. cats key) (λ key g. serials key) (stands.tree r node before);
   settled = λ key free. cats key ∙ stands.settled key (λ r node h. free r node (holds_behind J (entry ∷ J) r node h.0 (grown.tops r node h.0.0 h.0.1) (same_of r node h.0) stays h)) ∙ sym (serials key);
 }
   where
@@ -100,12 +102,12 @@ not_next J grown s x at same = (let le = is_there J grown s x at.0 in omega (ari
 stands_submit : (nonce : Nonce) (request : Request) (J : Past) → IsLegal (entry_is.Submit nonce request ∷ J) → Stands J → Stands (entry_is.Submit nonce request ∷ J)
 stands_submit nonce request J legal stands =
     let grown = grown_all J legal.0 in
-    rooted_stands (entry_is.Submit nonce request) J legal grown stands refl refl (λ key. refl) (λ key. refl) (not_next J grown) (λ s x h. held_before J (entry_is.Submit nonce request ∷ J) (submit_rooted nonce request J grown) grown s x refl refl refl h)
+    rooted_stands (entry_is.Submit nonce request) J legal grown stands refl (λ key. refl) (λ key. refl) (not_next J grown) (λ s x h. held_before J (entry_is.Submit nonce request ∷ J) (submit_rooted nonce request J grown) grown s x refl refl refl h)
 
 stands_down : (server : Server) (J : Past) → IsLegal (entry_is.Down server ∷ J) → Stands J → Stands (entry_is.Down server ∷ J)
 stands_down server J legal stands =
     let grown = grown_all J legal.0 in
-    rooted_stands (entry_is.Down server) J legal grown stands refl refl (λ key. refl) (λ key. refl) (not_next J grown) (λ s x h. held_before J (entry_is.Down server ∷ J) (down_rooted server J grown) grown s x refl refl refl h)
+    rooted_stands (entry_is.Down server) J legal grown stands refl (λ key. refl) (λ key. refl) (not_next J grown) (λ s x h. held_before J (entry_is.Down server ∷ J) (down_rooted server J grown) grown s x refl refl refl h)
 
 -- a step
 module _ (pid : Pid) (pick : Option Server) (out : StepOut) (J : Past) (legal : IsLegal (entry_is.Step pid pick out ∷ J)) (stands : Stands J) where
@@ -178,8 +180,8 @@ module _ (pid : Pid) (pick : Option Server) (out : StepOut) (J : Past) (legal : 
 
   pub stands_step : Stands (entry_is.Step pid pick out ∷ J)
   stands_step = record {
-    tree = trees_on (entry_is.Step pid pick out) J legal grown stands step.node.root its_top.0 its_top.1 root_of_step refl keys_now cats_now serials_now apart_now begun_now old_now here_now over_now;
-    settled = settled_on (entry_is.Step pid pick out) J legal grown stands step.node.root its_top.0 its_top.1 root_of_step refl keys_now cats_now serials_now apart_now begun_now old_now here_now over_now;
+    tree = trees_on (entry_is.Step pid pick out) J legal grown stands step.node.root its_top.0 its_top.1 root_of_step keys_now cats_now serials_now apart_now begun_now old_now here_now over_now;
+    settled = settled_on (entry_is.Step pid pick out) J legal grown stands step.node.root its_top.0 its_top.1 root_of_step keys_now cats_now serials_now apart_now begun_now old_now here_now over_now;
   }
 
   -- the deed of a root that ends well
@@ -227,14 +229,14 @@ module _ (pid : Pid) (row : ℕ) (out : StepOut) (J : Past) (legal : IsLegal (en
 
   pub stands_undo : Stands (entry_is.Undo pid row out ∷ J)
   stands_undo = record {
-    tree = trees_on (entry_is.Undo pid row out) J legal grown_here stands (root_of J pid.0) root_here at_top refl refl (λ key among. in_with_keys key out.edits (keys_of J) among) (λ key off. within_others root_here.args out.edits (undo_within pid row out J legal grown_here all_here.falls) key off (cat J key)) (λ key off. refl) apart_here holds_it.1 (λ s x h. (undo_back pid row out J legal grown_here all_here.falls s x h).0) (λ running. tree_here) over_here;
-    settled = settled_on (entry_is.Undo pid row out) J legal grown_here stands (root_of J pid.0) root_here at_top refl refl (λ key among. in_with_keys key out.edits (keys_of J) among) (λ key off. within_others root_here.args out.edits (undo_within pid row out J legal grown_here all_here.falls) key off (cat J key)) (λ key off. refl) apart_here holds_it.1 (λ s x h. (undo_back pid row out J legal grown_here all_here.falls s x h).0) (λ running. tree_here) over_here;
+    tree = trees_on (entry_is.Undo pid row out) J legal grown_here stands (root_of J pid.0) root_here at_top refl (λ key among. in_with_keys key out.edits (keys_of J) among) (λ key off. within_others root_here.args out.edits (undo_within pid row out J legal grown_here all_here.falls) key off (cat J key)) (λ key off. refl) apart_here holds_it.1 (λ s x h. (undo_back pid row out J legal grown_here all_here.falls s x h).0) (λ running. tree_here) over_here;
+    settled = settled_on (entry_is.Undo pid row out) J legal grown_here stands (root_of J pid.0) root_here at_top refl (λ key among. in_with_keys key out.edits (keys_of J) among) (λ key off. within_others root_here.args out.edits (undo_within pid row out J legal grown_here all_here.falls) key off (cat J key)) (λ key off. refl) apart_here holds_it.1 (λ s x h. (undo_back pid row out J legal grown_here all_here.falls s x h).0) (λ running. tree_here) over_here;
   }
 
 -- an entry that changes neither procedures nor the catalog
-plain_tree : (entry : Entry) (J : Past) → last_answer (entry ∷ J) ≡ last_answer J → node_of (entry ∷ J) ≡ node_of J → cause (entry ∷ J) ≡ cause J → was (entry ∷ J) ≡ was J → sheets_of (entry ∷ J) ≡ sheets_of J → keys_of (entry ∷ J) ≡ keys_of J → cat (entry ∷ J) ≡ cat J → serial (entry ∷ J) ≡ serial J → (r : ℕ) (node : Node) → Tree J r node → Tree (entry ∷ J) r node
+plain_tree : (entry : Entry) (J : Past) → last_answer (entry ∷ J) ≡ last_answer J → node_of (entry ∷ J) ≡ node_of J → cause (entry ∷ J) ≡ cause J → was (entry ∷ J) ≡ was J → sheets_by (entry ∷ J) ≡ sheets_by J → keys_of (entry ∷ J) ≡ keys_of J → cat (entry ∷ J) ≡ cat J → serial (entry ∷ J) ≡ serial J → (r : ℕ) (node : Node) → Tree J r node → Tree (entry ∷ J) r node
 plain_tree entry J last nodes causes base sheets keys cats serials r node tree =
-    tree_like J (entry ∷ J) r node (ap (λ f. f r) last) (ap (λ f. f r) causes) (ap (λ f. f r) base) sheets (λ key among. subst (IsIn key) (sym keys) among) (λ key g. ap (λ f. f key) cats) (λ key g. ap (λ f. f key) serials)
+    tree_like J (entry ∷ J) r node (ap (λ f. f r) last) (ap (λ f. f r) causes) (ap (λ f. f r) base) (ap (λ f. f node.root) sheets) (λ key among. subst (IsIn key) (sym keys) among) (λ key g. ap (λ f. f key) cats) (λ key g. ap (λ f. f key) serials)
     (λ q x is of. (ap (λ f. f q) (sym nodes) ∙ is, ap (λ f. f q) last)) (λ q x is of. (ap (λ f. f q) nodes ∙ is, ap (λ f. f q) last)) tree
 
 pub stands_all : (J : Past) → IsLegal J → Stands J
@@ -259,3 +261,10 @@ stands_all (entry_is.Down server ∷ J) legal = stands_down server J legal (stan
 stands_all (entry_is.Abort pid ∷ J) legal =
     let s = stands_all J legal.0 in
     record { tree = λ r node h. plain_tree (entry_is.Abort pid) J refl refl refl refl refl refl refl refl r node (s.tree r node h); settled = s.settled }
+stands_all (entry_is.Adopt sheets ∷ J) legal =
+    let s = stands_all J legal.0 in
+    record { tree = λ r node h. plain_tree (entry_is.Adopt sheets) J refl refl refl refl refl refl refl refl r node (s.tree r node h); settled = s.settled }
+stands_all (entry_is.Base part ∷ J) legal = record {
+  tree = λ r node h. absurd (none-some node h.0.0);
+  settled = λ key free. ap (part_row part key) ((stands_all J legal.0).settled key (λ r node h. absurd (none-some node (sym (no_node part J legal.1.0 r) ∙ h.0.0))));
+}

@@ -27,7 +27,7 @@ use Rattle.hm_model.specs.Evaluation.{is_cut_off, row_answer}
 use Rattle.hm_model.specs.Inputs.{step_input}
 use Rattle.hm_model.specs.Journal.{Past}
 use Rattle.hm_model.specs.Kinds.{first_row_of, kind_of}
-use Rattle.hm_model.specs.Lists.{Line, exact_rows, lines_of}
+use Rattle.hm_model.specs.Lists.{Line, exact_rows}
 use Rattle.hm_model.specs.Locks.{IsIn, asks, exclusive}
 use Rattle.hm_model.specs.Reads.{covers, guards}
 use Rattle.hm_model.specs.Outs.{fails}
@@ -35,6 +35,7 @@ use Rattle.hm_model.specs.Phase.{cause, or_else, rolled_back, root_ended, root_o
 use Rattle.hm_model.specs.Serial.{at_end, edits_in, ended_deed, if_root, serial}
 use Rattle.hm_model.specs.Tree.{Node, args_in, child_of, is_top, made, node_of, root_in, root_of}
 use Rattle.hm_model.specs.declared.lock.Resource.TheVariants as resource_is
+use Rattle.hm_model.proofs.ExactRows.{start_leads}
 use Rattle.hm_model.proofs.LegalSteps.{StepFacts, ready_stops}
 use Rattle.hm_model.proofs.PlainActs.{GoesTo, is_plain, plain_act}
 use Rattle.hm_model.proofs.Rows.{has_key, in_with_keys}
@@ -44,7 +45,7 @@ use Rattle.hm_model.proofs.ValidSheets.{Leads, is_last, valid_end}
 use Rattle.hm_kinds.proofs.Clause.{Deeds, Sight, Stepped}
 use Rattle.hm_kinds.proofs.Covering.{rows_table}
 use Rattle.hm_kinds.proofs.Exact.{IsExactKind, IsSettled, exact_asks, exact_settles}
-use Rattle.hm_kinds.proofs.Roots.{Stage, root_leads, serves}
+use Rattle.hm_kinds.proofs.Roots.{Stage, serves}
 use Rattle.hm_kinds.proofs.Shares.{Touched, touches, value}
 use Rattle.hm_kinds.proofs.Within.{Within, within_others}
 use Rattle.hm_serial.proofs.Apart.{Aside}
@@ -201,15 +202,17 @@ module _ (pid : Pid) (pick : Option Server) (out : StepOut) (J : Past) (grown : 
       was_is = first_was none;
       then = [];
       stands_at = elim (kind_or (exact_rows (kind_of step.node.args)) refl) [
-        | inl exact ↦ inl (record {
-          exact = exact;
-          lines = lines_of (kind_of step.node.args);
-          leads = λ sheet found.
-              let one : step.sheet ≡ sheet = same_Some step.sheet sheet (sym step.sheet_is ∙ found) in
-              subst (λ (s : Sheet). Leads s.rows (row_of J pid.0 step.node) (lines_of (kind_of step.node.args))) one
-              (subst (λ o. Leads step.sheet.rows (row_after (first_row_of step.node.args) o) (lines_of (kind_of step.node.args))) (sym none) (root_leads step.node.args exact none_rows step.sheet step.valid step.of_kind));
-          stage = (serves step.node.args exact none_rows).begins (cat J);
-        })
+        | inl exact ↦
+            let starts = start_leads step.node.args exact step.sheet step.valid step.of_kind in
+            inl (record {
+              exact = exact;
+              lines = starts.0;
+              leads = λ sheet found.
+                  let one : step.sheet ≡ sheet = same_Some step.sheet sheet (sym step.sheet_is ∙ found) in
+                  subst (λ (s : Sheet). Leads s.rows (row_of J pid.0 step.node) starts.0) one
+                  (subst (λ o. Leads step.sheet.rows (row_after (first_row_of step.node.args) o) starts.0) (sym none) starts.2);
+              stage = (serves step.node.args exact none_rows).begins (cat J) starts.0 starts.1;
+            })
         | inr exact ↦ inr (exact, refl, inr none)
       ];
       now = λ key g. refl;

@@ -13,7 +13,6 @@ use Rattle.hm_model.specs.Answers.{done_with, is_stopped, last_answer}
 use Rattle.hm_model.specs.Catalog.{was}
 use Rattle.hm_model.specs.Journal.{Past}
 use Rattle.hm_model.specs.Phase.{all_below, all_stopped, cause, children_ended, in_tree, rolled_back, root_ended, root_over, stopped_in}
-use Rattle.hm_model.specs.Sheets.{sheets_of}
 use Rattle.hm_model.specs.Tree.{Node, is_top, made, node_of, root_in, root_of}
 use Rattle.hm_model.specs.Undo.{is_empty, stack}
 use Rattle.hm_model.proofs.LegalSteps.{ReadyBy, StepFacts, ready_stops}
@@ -130,7 +129,6 @@ pub record Left (J J' : Past) (s : ℕ) : Type 0 where
   pub cause_is : cause J' s ≡ cause J s
   pub stack_is : stack J' s ≡ stack J s
   pub was_is : was J' s ≡ was J s
-  pub sheets : sheets_of J' ≡ sheets_of J
   pub stopped : all_stopped J s ≡ true → all_stopped J' s ≡ true
 
 same_done : (J J' : Past) (s : ℕ) → Left J J' s → done_with (last_answer J' s) ≡ done_with (last_answer J s)
@@ -172,7 +170,6 @@ module _ (pid : Pid) (pick : Option Server) (out : StepOut) (J : Past) (grown : 
         cause_is = cond-false (root_of J pid.0 == s) _ (cause J s) off;
         stack_is = cond-false (root_of J pid.0 == s) _ (stack J s) off;
         was_is = cond-false ((s == pid.0) && is_none (last_answer J pid.0)) _ (was J s) (and_left (s == pid.0) (is_none (last_answer J pid.0)) (ne_eqb s pid.0 ne));
-        sheets = refl;
         stopped = λ all. all_from (made (entry_is.Step pid pick out ∷ J) + 1) (stopped_in (entry_is.Step pid pick out ∷ J) s) (λ q lt. by q (le_or_lt q (made J)) all);
       }
     where
@@ -230,7 +227,6 @@ rooted_left J J' rooted grown s node top causes stacks base = record {
   cause_is = causes;
   stack_is = stacks;
   was_is = base;
-  sheets = rooted.sheets;
   stopped = λ all. all_from (made J' + 1) (stopped_in J' s) (λ q lt. by q (le_or_lt q (made J)) all);
 }
   where
@@ -247,7 +243,3 @@ rooted_left J J' rooted grown s node top causes stacks base = record {
               let root : x.root ≡ q = ap (λ (n : Node). n.root) new.2 in
               or_left (not (in_tree s (node_of J' q))) _ (not_from_false _ (ap (in_tree s) e ∙ ne_eqb x.root s (λ same. omega (arith, le, lt, root, same))))
         ]
-
--- a tree that nothing is said of
-pub same_left : (J J' : Past) (s : ℕ) → node_of J' s ≡ node_of J s → last_answer J' s ≡ last_answer J s → cause J' s ≡ cause J s → stack J' s ≡ stack J s → was J' s ≡ was J s → sheets_of J' ≡ sheets_of J → all_stopped J' s ≡ all_stopped J s → Left J J' s
-same_left J J' s node last causes stacks base sheets stopped = record { node = node; last = last; cause_is = causes; stack_is = stacks; was_is = base; sheets = sheets; stopped = λ all. stopped ∙ all }

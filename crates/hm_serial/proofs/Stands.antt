@@ -17,12 +17,12 @@ use Rattle.hm_model.specs.Reads.{covers, guards}
 use Rattle.hm_model.specs.Phase.{all_stopped, cause, rolled_back, root_ended, root_over}
 use Rattle.hm_model.specs.Rules.{IsLegal}
 use Rattle.hm_model.specs.Serial.{serial}
-use Rattle.hm_model.specs.Sheets.{sheet_for, sheets_of}
+use Rattle.hm_model.specs.Sheets.{sheet_for, sheets_by}
 use Rattle.hm_model.specs.Tree.{Node, node_of}
 use Rattle.hm_model.specs.Undo.{is_empty, stack}
 use Rattle.hm_model.proofs.Apart.{others_stay}
 use Rattle.hm_model.proofs.Grown.{nodes_stay}
-use Rattle.hm_model.proofs.Trees.{Grown}
+use Rattle.hm_model.proofs.Trees.{Grown, sheets_stay}
 use Rattle.hm_model.proofs.ValidSheets.{Leads}
 use Rattle.hm_kinds.proofs.Exact.{IsExactKind, IsSettled}
 use Rattle.hm_kinds.proofs.Roots.{Stage}
@@ -36,7 +36,7 @@ Pending J r key =
 
 -- the rows lead through these lines from where the root is
 abbrev pub LedBy : Past → ℕ → Node → List Line → Type 0
-LedBy J r node lines = (sheet : Sheet) → sheet_for (sheets_of J) (kind_of node.args) ≡ Some sheet → Leads sheet.rows (row_of J r node) lines
+LedBy J r node lines = (sheet : Sheet) → sheet_for (sheets_by J node.root) (kind_of node.args) ≡ Some sheet → Leads sheet.rows (row_of J r node) lines
 
 -- a root that lists its rows: the lines that are left, and its stage
 pub record IsListed (J : Past) (r : ℕ) (node : Node) (base : Catalog) (then : List Edit) : Type 0 where
@@ -67,7 +67,7 @@ pub record Stands (J : Past) : Type 0 where
   pub settled : (key : CatKey) → ((r : ℕ) (node : Node) → TopHolds J r node → covers node.args key ≡ false) → cat J key ≡ serial J key
 
 -- a tree of which the same is told
-module _ (J J' : Past) (s : ℕ) (node : Node) (last_is : last_answer J' s ≡ last_answer J s) (cause_is : cause J' s ≡ cause J s) (was_is : was J' s ≡ was J s) (sheets : sheets_of J' ≡ sheets_of J)
+module _ (J J' : Past) (s : ℕ) (node : Node) (last_is : last_answer J' s ≡ last_answer J s) (cause_is : cause J' s ≡ cause J s) (was_is : was J' s ≡ was J s) (sheets : sheets_by J' node.root ≡ sheets_by J node.root)
     (keys : (key : CatKey) → IsIn key (keys_of J) → IsIn key (keys_of J')) (cats : (key : CatKey) → guards node.args key ≡ true → cat J' key ≡ cat J key) (serials : (key : CatKey) → guards node.args key ≡ true → serial J' key ≡ serial J key)
     (members : (q : ℕ) (x : Node) → node_of J' q ≡ Some x → x.root ≡ s → (node_of J q ≡ Some x) × (last_answer J' q ≡ last_answer J q))
     (stay : (q : ℕ) (x : Node) → node_of J q ≡ Some x → x.root ≡ s → (node_of J' q ≡ Some x) × (last_answer J' q ≡ last_answer J q)) (tree : Tree J s node) where
@@ -119,14 +119,14 @@ module _ (J J' : Past) (s : ℕ) (node : Node) (top : TopIs J s node) (own : nod
   pub holds_behind : TopHolds J s node → TopHolds J' s node
   holds_behind h = ((stays s node top.0, top.1), (λ e. h.1 (sym last_same ∙ e)), ended_same ∙ h.2)
 
-  pub tree_on : sheets_of J' ≡ sheets_of J → ((key : CatKey) → IsIn key (keys_of J) → IsIn key (keys_of J')) → ((key : CatKey) → guards node.args key ≡ true → cat J' key ≡ cat J key) → ((key : CatKey) → guards node.args key ≡ true → serial J' key ≡ serial J key) → Tree J s node → Tree J' s node
+  pub tree_on : sheets_by J' node.root ≡ sheets_by J node.root → ((key : CatKey) → IsIn key (keys_of J) → IsIn key (keys_of J')) → ((key : CatKey) → guards node.args key ≡ true → cat J' key ≡ cat J key) → ((key : CatKey) → guards node.args key ≡ true → serial J' key ≡ serial J key) → Tree J s node → Tree J' s node
   tree_on sheets keys cats serials tree = tree_like J J' s node last_same same.cause_is same.was_is sheets keys cats serials
       (λ q x is of. let there = same.members q x is of in (there, (same.same q x there of).last))
       (λ q x is of. (stays q x is, (same.same q x is of).last)) tree
 
 -- an entry of the tree of R
 module _ (entry : Entry) (J : Past) (legal : IsLegal (entry ∷ J)) (grown : Grown J) (stands : Stands J) (R : ℕ) (top : Node) (top_is : TopIs J R top) (of : tree_of J entry ≡ R)
-    (sheets : sheets_of (entry ∷ J) ≡ sheets_of J) (keys : (key : CatKey) → IsIn key (keys_of J) → IsIn key (keys_of (entry ∷ J)))
+    (keys : (key : CatKey) → IsIn key (keys_of J) → IsIn key (keys_of (entry ∷ J)))
     (cats : (key : CatKey) → covers top.args key ≡ false → cat (entry ∷ J) key ≡ cat J key)
     (serials : (key : CatKey) → covers top.args key ≡ false → serial (entry ∷ J) key ≡ serial J key)
     (apart : (s : ℕ) (x : Node) → TopHolds J s x → s ≢ R → (key : CatKey) → guards x.args key ≡ true → covers top.args key ≡ false)
@@ -150,7 +150,7 @@ module _ (entry : Entry) (J : Past) (legal : IsLegal (entry ∷ J)) (grown : Gro
         let own = grown.tops r node is.0 is.1 in
         let same = same_of r node is differs in
         let before = holds_before J (entry ∷ J) r node is own same stays h in
-        tree_on J (entry ∷ J) r node is own same stays sheets keys (λ key g. cats key (apart r node before differs key g)) (λ key g. serials key (apart r node before differs key g)) (stands.tree r node before)
+        tree_on J (entry ∷ J) r node is own same stays (sheets_stay entry J legal r node is.0) keys (λ key g. cats key (apart r node before differs key g)) (λ key g. serials key (apart r node before differs key g)) (stands.tree r node before)
   ]
 
   pub settled_on : (key : CatKey) → ((r : ℕ) (node : Node) → TopHolds (entry ∷ J) r node → covers node.args key ≡ false) → cat (entry ∷ J) key ≡ serial (entry ∷ J) key

@@ -17,7 +17,7 @@ use Rattle.hm_model.specs.Phase.{root_ended}
 use Rattle.hm_model.specs.Rules.{IsLegal}
 use Rattle.hm_model.specs.Tree.{Node, node_of, root_of}
 use Rattle.hm_model.specs.Undo.{Undoable, stack}
-use Rattle.hm_model.proofs.Trees.{does_of, down_rooted, grown_all, step_of, still_there, submit_rooted}
+use Rattle.hm_model.proofs.Trees.{does_of, down_rooted, grown_all, sheets_stay, step_of, still_there, submit_rooted}
 use Rattle.hm_model.proofs.UndoMakes.{IsUndoOf}
 use Rattle.hm_model.specs.GoingBack.{Tells}
 use Rattle.hm_serial.specs.Theorem.{UndosTell}
@@ -53,7 +53,8 @@ tells_all [] legal r node h may = absurd (none-some node h.0.0)
 tells_all (entry_is.Start sheets ∷ J) legal r node h may = absurd (none-some node (sym (none_at J legal.1.0.0 r) ∙ h.0.0))
 tells_all (entry_is.Submit nonce request ∷ J) legal r node h may =
     let grown = grown_all J legal.0 in
-    tells_all J legal.0 r node (held_before J (entry_is.Submit nonce request ∷ J) (submit_rooted nonce request J grown) grown r node refl refl refl h) may
+    let held = held_before J (entry_is.Submit nonce request ∷ J) (submit_rooted nonce request J grown) grown r node refl refl refl h in
+    tells_all J legal.0 r node held (may_on (entry_is.Submit nonce request ∷ J) J r node refl refl (sym (sheets_stay (entry_is.Submit nonce request) J legal r node held.0.0)) may)
 tells_all (entry_is.Step pid pick out ∷ J) legal r node h may =
     let grown = grown_all J legal.0 in
     let a = falls_all J legal.0 in
@@ -73,16 +74,17 @@ tells_all (entry_is.Step pid pick out ∷ J) legal r node h may =
           subst (λ l. AllTell l (cat (entry_is.Step pid pick out ∷ J))) (sym left.stack_is)
           (same_within node.args (stack J r) (a.falls.tree r node held).1 (cat J) (cat (entry_is.Step pid pick out ∷ J))
           (λ key c. sym (within_others own.0.args out.edits (within_now pid pick out J grown a.falls step d aside) key ((own_aside pid pick out J grown a.falls step d aside r node held differs key).0 (cover_guards node.args key c)) (cat J key)))
-          (tells_all J legal.0 r node held (may_on (entry_is.Step pid pick out ∷ J) J r node (sym left.cause_is) (sym left.last) (sym left.sheets) may)))
+          (tells_all J legal.0 r node held (may_on (entry_is.Step pid pick out ∷ J) J r node (sym left.cause_is) (sym left.last) refl may)))
     ]
 tells_all (entry_is.Undo pid row out ∷ J) legal r node h may =
     let grown = grown_all J legal.0 in
     let a = falls_all J legal.0 in
     let held = undo_back pid row out J legal grown a.falls r node h in
+    let could = may_on (entry_is.Undo pid row out ∷ J) J r node refl refl (sym (sheets_stay (entry_is.Undo pid row out) J legal r node held.0.0)) may in
     let is : IsUndoOf J (root_of J pid.0) out = u pid row out J legal grown a.falls in
     elim (cases_eq r (root_of J pid.0)) [
       | inl mine ↦
-          let old : AllTell (is.latest ∷ is.below) (cat J) = subst (λ l. AllTell l (cat J)) (ap (stack J) mine ∙ is.stack_is) (tells_all J legal.0 r node held may) in
+          let old : AllTell (is.latest ∷ is.below) (cat J) = subst (λ l. AllTell l (cat J)) (ap (stack J) mine ∙ is.stack_is) (tells_all J legal.0 r node held could) in
           subst (λ k. AllTell (stack (entry_is.Undo pid row out ∷ J) k) (cat (entry_is.Undo pid row out ∷ J))) (sym mine)
           (subst (λ l. AllTell l (cat (entry_is.Undo pid row out ∷ J))) (sym (stack_now pid row out J legal grown a.falls))
           (subst (λ e. AllTell is.below (λ key. edited e key (cat J key))) (sym (edits_are pid row out J legal grown a.falls)) old.1))
@@ -90,14 +92,17 @@ tells_all (entry_is.Undo pid row out ∷ J) legal r node h may =
           subst (λ l. AllTell l (cat (entry_is.Undo pid row out ∷ J))) (sym (stack_off pid row out J legal grown a.falls r differs))
           (same_within node.args (stack J r) (a.falls.tree r node held).1 (cat J) (cat (entry_is.Undo pid row out ∷ J))
           (λ key c. sym (within_others (top pid row out J legal grown a.falls).args out.edits (undo_within pid row out J legal grown a.falls) key ((undo_aside pid row out J legal a r node held differs key).0 (cover_guards node.args key c)) (cat J key)))
-          (tells_all J legal.0 r node held (may_on (entry_is.Undo pid row out ∷ J) J r node refl refl refl may)))
+          (tells_all J legal.0 r node held could))
     ]
 tells_all (entry_is.Report call told ∷ J) legal r node h may = tells_all J legal.0 r node h may
 tells_all (entry_is.Up server ∷ J) legal r node h may = tells_all J legal.0 r node h may
 tells_all (entry_is.Down server ∷ J) legal r node h may =
     let grown = grown_all J legal.0 in
-    tells_all J legal.0 r node (held_before J (entry_is.Down server ∷ J) (down_rooted server J grown) grown r node refl refl refl h) may
+    let held = held_before J (entry_is.Down server ∷ J) (down_rooted server J grown) grown r node refl refl refl h in
+    tells_all J legal.0 r node held (may_on (entry_is.Down server ∷ J) J r node refl refl (sym (sheets_stay (entry_is.Down server) J legal r node held.0.0)) may)
 tells_all (entry_is.Abort pid ∷ J) legal r node h may = tells_all J legal.0 r node h may
+tells_all (entry_is.Adopt sheets ∷ J) legal r node h may = tells_all J legal.0 r node h may
+tells_all (entry_is.Base part ∷ J) legal r node h may = absurd (none-some node h.0.0)
 
 pub undos_tell : UndosTell
 undos_tell pid row out J legal =

@@ -6,8 +6,8 @@ use Rattle.hm_model.specs.Answers.{no_row}
 use Rattle.hm_sheet.proofs.Walks.{gone}
 use Rattle.hm_data.specs.declared.sheet.Row.{Row}
 use Rattle.hm_data.specs.declared.sheet.Sheet.{Sheet}
-use Rattle.hm_model.specs.Lists.{Line, lines_of, exact_rows}
-use Rattle.hm_model.specs.Validity.{first_broken, rules_of_row, row_rules, sheet_rules, is_not, difference, same_row, astray, misfit_in, misfit, IsValid, fits}
+use Rattle.hm_model.specs.Lists.{Line, orders_of, exact_rows}
+use Rattle.hm_model.specs.Validity.{first_broken, rules_of_row, row_rules, sheet_rules, is_not, difference, same_row, astray, longest_kept, misfit_in, misfit, IsValid, fits}
 
 pub rest_broken : (rules more : List (ℕ × Bool)) → first_broken rules ≡ None → first_broken (rules ++ more) ≡ first_broken more
 rest_broken [] more none = refl
@@ -76,7 +76,7 @@ none_behind (row ∷ rows) (suc place) behind = none_behind rows place (omega ar
 fits_beyond : (sheet : Sheet) (place : ℕ) (found : Option ℕ) → misfit sheet ≡ found → length sheet.rows < place → is_not place found ≡ true
 fits_beyond sheet place None none beyond = refl
 fits_beyond sheet place (Some found) some beyond =
-    let within : found ≤ length sheet.rows = misfit_in_within (exact_rows sheet.kind) (lines_of sheet.kind) sheet.rows found some in
+    let within : found ≤ length sheet.rows = misfit_in_within (exact_rows sheet.kind) (longest_kept sheet.rows (orders_of sheet.kind)) sheet.rows found some in
     grind (arith, nat_tests)
 
 -- a sheet breaks no rule beyond all its rows

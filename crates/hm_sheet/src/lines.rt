@@ -1,6 +1,6 @@
 // The rows that the kinds of procedures list.
 ghost use Rattle.std.specs.Prelude.{◌≡◌, ◌≤◌, length, map};
-ghost use Rattle.hm_model.specs.Lists.{lines_of as listed, exact_rows as exact};
+ghost use Rattle.hm_model.specs.Lists.{lines_of as listed, layout_first as second, exact_rows as exact};
 ghost use Rattle.hm_sheet.specs.Lines.{line_of};
 
 use hm_data::{Act, Back, Row};
@@ -83,6 +83,15 @@ static SPLIT_REGION: [Line; 6] = [
     line!(Finish after),
 ];
 
+static LAYOUT_FIRST: [Line; 6] = [
+    line!(CheckSplit),
+    line!(Layout undone by Sweep),
+    line!(CloseParent undone by Reopen),
+    line!(UpdateSplitMeta undone by Edits),
+    line!(OpenDaughters after),
+    line!(Finish after),
+];
+
 static MERGE_REGIONS: [Line; 6] = [
     line!(CheckMerge),
     line!(CloseParents undone by Reopen),
@@ -96,7 +105,16 @@ static ADD_REGIONS: [Line; 1] = [line!(AddRegionRows undone by Edits)];
 
 static DROP_REGIONS: [Line; 1] = [line!(DropRegionRows after)];
 
-/// The lines of the kinds whose handlers may number their rows as they like, in the order in which they are led through.
+/// The second order of a split: the layout comes before the parent is closed.
+pub(crate) fn layout_first() -> &'static [Line]
+    ensures lines { map line_of result.now ≡ second }
+    ensures few { length result.now ≤ 200 }
+{
+    &LAYOUT_FIRST
+}
+
+/// The lines of the kinds whose handlers may number their rows as they like, in the order in which they are led through; of a
+/// split those of its first order.
 pub(crate) fn lines_of(kind: u8) -> &'static [Line]
     ensures lines { map line_of result.now ≡ listed kind }
     ensures few { length result.now ≤ 200 }

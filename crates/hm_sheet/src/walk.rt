@@ -1,10 +1,11 @@
 // Whether the rows of a sheet are those of its kind.
-ghost use Rattle.std.specs.Prelude.{◌≡◌, ◌==◌, ◌&&◌, not, map, slice_get};
-ghost use Rattle.hm_model.specs.Validity.{fits as does_fit, astray as goes_astray, same_row as same, difference as differs, misfit as misfits, misfit_in as misfits_in};
+ghost use Rattle.std.specs.Prelude.{◌≡◌, ◌≤◌, ◌==◌, ◌&&◌, not, length, map, slice_get};
+ghost use Rattle.hm_model.specs.Lists.{orders_of};
+ghost use Rattle.hm_model.specs.Validity.{fits as does_fit, astray as goes_astray, same_row as same, difference as differs, misfit as misfits, misfit_in as misfits_in, kept as are_kept, longest_kept};
 ghost use Rattle.hm_sheet.specs.Lines.{line_of};
 ghost use Rattle.hm_model.specs.Answers.{no_row};
 
-use crate::lines::{Line, exact_rows, lines_of};
+use crate::lines::{Line, exact_rows, layout_first, lines_of};
 use hm_acts::NO_ROW;
 use hm_data::{Row, Sheet};
 
@@ -73,6 +74,37 @@ fn astray(rows: &[Row], line: Line, following: &[Line], place: usize) -> Option<
     }
 }
 
+// How many rows, led through from a place, are as listed before the first that isn't.
+fn kept(rows: &[Row], lines: &[Line], place: usize) -> usize
+    requires { length lines.now ≤ 200 }
+    ensures count { result ≡ are_kept rows.now (map line_of lines.now) place }
+    ensures few { result ≤ length lines.now }
+{
+    let [line, rest @ ..] = lines else {
+        return 0;
+    };
+    match row_at(rows, place) {
+        Some(row) if fits(*line, row) => kept(rows, rest, usize::from(row.next)) + 1,
+        _ => 0,
+    }
+}
+
+// Of the orders of a kind the one that rows keep to longest.
+fn order_for(kind: u8, rows: &[Row]) -> &'static [Line]
+    ensures { map line_of result.now ≡ longest_kept rows.now (orders_of kind) }
+{
+    let first = lines_of(kind);
+    if kind != 8 {
+        return first;
+    }
+    let second = layout_first();
+    if kept(rows, first, 0) < kept(rows, second, 0) {
+        second
+    } else {
+        first
+    }
+}
+
 // The first place at which two lists of rows differ.
 fn difference(rows: &[Row], others: &[Row]) -> Option<usize>
     ensures { result ≡ differs rows.now others.now 0 }
@@ -109,9 +141,6 @@ fn misfit_in(exact: &[Row], lines: &[Line], rows: &[Row]) -> Option<usize>
 pub(crate) fn misfit(sheet: &Sheet) -> Option<usize>
     ensures { result ≡ misfits sheet.now }
 {
-    misfit_in(
-        exact_rows(sheet.kind),
-        lines_of(sheet.kind),
-        sheet.rows.as_slice(),
-    )
+    let rows = sheet.rows.as_slice();
+    misfit_in(exact_rows(sheet.kind), order_for(sheet.kind, rows), rows)
 }

@@ -114,3 +114,5 @@ aimless_all (entry_is.Report call told ∷ J) legal p x is = aimless_all J legal
 aimless_all (entry_is.Up server ∷ J) legal p x is = aimless_all J legal.0 p x is
 aimless_all (entry_is.Down server ∷ J) legal p x is = root_aimless J (root_node p (args_are.Crash server) 1) tt (aimless_all J legal.0) p x is
 aimless_all (entry_is.Abort pid ∷ J) legal p x is = aimless_all J legal.0 p x is
+aimless_all (entry_is.Adopt sheets ∷ J) legal p x is = aimless_all J legal.0 p x is
+aimless_all (entry_is.Base part ∷ J) legal p x is = absurd (none-some x is)

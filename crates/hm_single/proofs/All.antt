@@ -1,4 +1,19 @@
 -- The laws.
+use Rattle.std.proofs.lemmas.Bool.{true≢false}
+use Rattle.hm_model.specs.TransitActs.{is_placed}
+use Rattle.hm_single.proofs.Transit.{IsRest}
+use Rattle.std.proofs.Common.{if◌then◌else◌}
+use Rattle.hm_data.specs.declared.place.Place.{Place}
+use Rattle.hm_model.specs.Base.{MayStand, PartFits}
+use Rattle.hm_data.specs.declared.part.Part.{Part}
+use Rattle.hm_data.specs.declared.part.Part.TheVariants as part_is
+use Rattle.hm_model.specs.Keys.{same_region}
+use Rattle.hm_model.proofs.Grown.{ends_parted}
+use Rattle.hm_model.proofs.Parted.{by_parts}
+use Rattle.hm_data.specs.declared.catalog.Status.{Status}
+use Rattle.hm_data.specs.declared.catalog.Status.TheVariants as status_is
+use Rattle.hm_data.specs.declared.catalog.TableState.{TableState}
+use Rattle.hm_data.specs.declared.catalog.TableState.TheVariants as state_is
 use Rattle.std.proofs.Common.{◌≡◌, ◌≢◌, ℕ, ◌+◌, ◌-◌, ◌<◌, ◌≤◌, nat_lt, slice_get, option_map, [], ◌∷◌, length, Bool, true, false, ◌==◌, cond, Option, Some, None, refl, ap, sym, ◌∙◌, subst, inl, inr, ◌⊎◌, arith}
 use Rattle.std.proofs.lemmas.Bool.{cases_eq, cond-false, cond-true, eq-eqb, false≢true, ne_eqb, or_right, lt-ltb}
 use Rattle.std.proofs.lemmas.Option.{none-some, same_Some}
@@ -25,10 +40,10 @@ use Rattle.hm_model.specs.Journal.{Past}
 use Rattle.hm_model.specs.Kinds.{first_row_of}
 use Rattle.hm_model.specs.Rules.{IsLegal}
 use Rattle.hm_model.specs.Phase.{cause}
-use Rattle.hm_model.specs.Places.{place_of}
+use Rattle.hm_model.specs.Places.{place_of, part_place}
 use Rattle.hm_model.specs.Reports.{last_call, peer_if, peer_of, verb_of}
 use Rattle.hm_model.specs.Inputs.{made_at_step}
-use Rattle.hm_model.specs.Single.{IsOver, called_at}
+use Rattle.hm_model.specs.Single.{IsOver, based_place, called_at}
 use Rattle.hm_model.specs.TransitActs.{is_state}
 use Rattle.hm_model.specs.Tree.{Node, args_in, made, node_of, root_node, root_of}
 use Rattle.hm_model.specs.Undo.{rest_of, stack}
@@ -41,7 +56,7 @@ use Rattle.hm_single.proofs.Kept.{IsCalm, IsGoing, Lasting, kept_calm, kept_noth
 use Rattle.hm_single.proofs.Kin.{goes_holds, holds_goes}
 use Rattle.hm_model.proofs.PlainActs.{is_caller, quiet_args}
 use Rattle.hm_single.proofs.Stage.{StageFor, child_of_step, work_of}
-use Rattle.hm_single.proofs.Transit.{AtRest, AtRow, IsFreeRow}
+use Rattle.hm_single.proofs.Transit.{AtRest, AtRow, IsFreeRow, placed}
 use Rattle.hm_model.proofs.UndoMakes.{undo_quiet}
 
 -- what an entry that only makes roots leaves
@@ -85,7 +100,7 @@ submit_calm nonce request J grown =
       stacks = λ p h. h;
       calls_at = λ p. refl;
       longer = omega arith;
-      later = record { reports = λ p t h. h; fences = λ s h. h; peers = peers_rooted J (entry_is.Submit nonce request ∷ J) rooted grown };
+      later = record { based = λ r. refl; reports = λ p t h. h; fences = λ s h. h; peers = peers_rooted J (entry_is.Submit nonce request ∷ J) rooted grown };
     }
 
 down_calm : (server : Server) (J : Past) → Grown J → IsCalm J (entry_is.Down server ∷ J)
@@ -105,7 +120,7 @@ down_calm server J grown =
       stacks = λ p h. h;
       calls_at = λ p. refl;
       longer = omega arith;
-      later = record { reports = λ p t h. h; fences = λ s h. h; peers = peers_rooted J (entry_is.Down server ∷ J) rooted grown };
+      later = record { based = λ r. refl; reports = λ p t h. h; fences = λ s h. h; peers = peers_rooted J (entry_is.Down server ∷ J) rooted grown };
     }
 
 undo_roots : (pid : Pid) (row : ℕ) (out : StepOut) (J : Past) → Grown J → IsLegal (entry_is.Undo pid row out ∷ J) → (p : ℕ) (node : Node) → made J < p → node_of (entry_is.Undo pid row out ∷ J) p ≡ Some node → is_caller node.args ≡ false
@@ -132,7 +147,7 @@ undo_calm pid row out J grown legal =
       stacks = λ p h. by p (root_of J pid.0 == p) h;
       calls_at = λ p. refl;
       longer = omega arith;
-      later = record { reports = λ p t h. h; fences = λ s h. h; peers = peers_rooted J (entry_is.Undo pid row out ∷ J) rooted grown };
+      later = record { based = λ r. refl; reports = λ p t h. h; fences = λ s h. h; peers = peers_rooted J (entry_is.Undo pid row out ∷ J) rooted grown };
     }
   where
     by : (p : ℕ) (b : Bool) → stack J p ≡ [] → cond b (rest_of (stack J p)) (stack J p) ≡ []
@@ -141,8 +156,8 @@ undo_calm pid row out J grown legal =
 
 -- an entry that makes nobody
 same_calm : (J J' : Past) → (made J' ≡ made J) → ((p : ℕ) → node_of J' p ≡ node_of J p) → ((p : ℕ) → last_answer J' p ≡ last_answer J p) → ((p : ℕ) → verb_of J' p ≡ verb_of J p) → ((r : Region) → last_call J' r ≡ last_call J r) → ((p : ℕ) → made_at_step J' p ≡ made_at_step J p) → ((r : Region) → place_of J' r ≡ place_of J r) → ((r : Region) → work_of J' r ≡ work_of J r) → ((p : ℕ) → cause J' p ≡ cause J p) → ((p : ℕ) → stack J' p ≡ stack J p) → ((p : ℕ) → called_at J' p ≡ called_at J p) → length J ≤ length J'
-    → ((p : ℕ) (told : Told) → report_of J p ≡ Some told → report_of J' p ≡ Some told) → ((server : Server) → is_fenced J server ≡ true → is_fenced J' server ≡ true) → IsCalm J J'
-same_calm J J' made_is node last verb lasts steps places works causes stacks calls_at longer reports fences = record {
+    → ((p : ℕ) (told : Told) → report_of J p ≡ Some told → report_of J' p ≡ Some told) → ((server : Server) → is_fenced J server ≡ true → is_fenced J' server ≡ true) → ((r : Region) → based_place J' r ≡ based_place J r) → IsCalm J J'
+same_calm J J' made_is node last verb lasts steps places works causes stacks calls_at longer reports fences based = record {
   nodes = λ p n is. inl (sym (node p) ∙ is);
   still = λ p n is. node p ∙ is;
   gone = λ p none. sym (node p) ∙ none;
@@ -156,13 +171,77 @@ same_calm J J' made_is node last verb lasts steps places works causes stacks cal
   stacks = λ p h. stacks p ∙ h;
   calls_at = calls_at;
   longer = longer;
-  later = record { reports = reports; fences = fences; peers = λ p peer h. rw (node p, verb p) h };
+  later = record { based = based; reports = reports; fences = fences; peers = λ p peer h. rw (node p, verb p) h };
 }
+
+-- a place that a base may give
+abbrev pub Rested : RegionState → Option Server → Type 0
+Rested place_is.Offline server = Unit {0}
+Rested place_is.Opening server = ⊥
+Rested place_is.Opened server = (at : Server) × (server ≡ Some at)
+Rested place_is.Closing server = ⊥
+Rested place_is.Closed server = Unit {0}
+Rested place_is.FailedOpen server = ⊥
+Rested place_is.AbnormallyClosed server = Unit {0}
+
+may_rest : (place : Place) (status : Status) (table : TableState) → MayStand place status table → Rested place.state place.server
+may_rest place status table may = by place.state may
+  where
+    by : (state : RegionState) → ((is_placed (record place { state = state }) ≡ false) × (is_state place_is.FailedOpen (record place { state = state }) ≡ false) × (place.server ≡ None)) ⊎ ((is_state place_is.Opened (record place { state = state }) ≡ true) × (status ≡ status_is.Live) × (table ≡ state_is.Enabled) × (server : Server) × (place.server ≡ Some server)) → Rested state place.server
+    by place_is.Offline may = tt
+    by place_is.Closed may = tt
+    by place_is.FailedOpen (inl off) = absurd (true≢false off.1)
+    by place_is.FailedOpen (inr on) = absurd (false≢true on.0)
+    by place_is.AbnormallyClosed may = tt
+    by place_is.Opening (inl off) = absurd (true≢false off.0)
+    by place_is.Opening (inr on) = absurd (false≢true on.0)
+    by place_is.Closing (inl off) = absurd (true≢false off.0)
+    by place_is.Closing (inr on) = absurd (false≢true on.0)
+    by place_is.Opened (inl off) = absurd (true≢false off.0)
+    by place_is.Opened (inr on) = (on.3, on.4)
+
+part_rests : (part : Part) (J : Past) → PartFits part J → (r : Region) → Rested (place_of J r).state (place_of J r).server → Rested (part_place part r (place_of J r)).state (part_place part r (place_of J r)).server
+part_rests (part_is.Head entries last parts sheets) J fits r was = was
+part_rests (part_is.Namespace ns) J fits r was = was
+part_rests (part_is.Table table own row) J fits r was = was
+part_rests (part_is.Server server fenced) J fits r was = was
+part_rests (part_is.Root pid nonce args cause) J fits r was = was
+part_rests (part_is.Layout pid) J fits r was = was
+part_rests (part_is.Region own range status parents given) J fits r was = by (same_region r own)
+  where
+    by : (b : Bool) → Rested (if b then given else place_of J r).state (if b then given else place_of J r).server
+    by true = may_rest given status fits.4.0 fits.4.3
+    by false = was
+
+pub base_rests : (J : Past) → IsLegal J → ends_parted J ≡ true → (r : Region) → Rested (place_of J r).state (place_of J r).server
+base_rests [] legal is r = tt
+base_rests (entry_is.Base part ∷ J) legal is r = part_rests part J legal.1.0 r (base_rests J legal.0 (by_parts (λ j. ends_parted j ≡ true) refl (λ own older. refl) part J legal.1.0) r)
+base_rests (entry_is.Start sheets ∷ J) legal is r = absurd (false≢true is)
+base_rests (entry_is.Submit nonce request ∷ J) legal is r = absurd (false≢true is)
+base_rests (entry_is.Step pid pick out ∷ J) legal is r = absurd (false≢true is)
+base_rests (entry_is.Undo pid row out ∷ J) legal is r = absurd (false≢true is)
+base_rests (entry_is.Report call told ∷ J) legal is r = absurd (false≢true is)
+base_rests (entry_is.Up server ∷ J) legal is r = absurd (false≢true is)
+base_rests (entry_is.Down server ∷ J) legal is r = absurd (false≢true is)
+base_rests (entry_is.Abort pid ∷ J) legal is r = absurd (false≢true is)
+base_rests (entry_is.Adopt sheets ∷ J) legal is r = absurd (false≢true is)
+
+rests : (J : Past) (r : Region) (place : Place) → based_place J r ≡ place → Rested place.state place.server → IsRest J r None place
+rests J r place based rested = by place.state place.server based rested
+  where
+    by : (state : RegionState) (server : Option Server) → based_place J r ≡ record { state = state; server = server } → Rested state server → AtRest J r None state server
+    by place_is.Offline server e h = λ s is. absurd (false≢true (ap (is_state place_is.Opened) (sym e ∙ is)))
+    by place_is.Opening server e h = h
+    by place_is.Opened server e h = (h.0, h.1, inr (refl, e ∙ ap (placed place_is.Opened) h.1))
+    by place_is.Closing server e h = h
+    by place_is.Closed server e h = λ s is. absurd (false≢true (ap (is_state place_is.Opened) (sym e ∙ is)))
+    by place_is.FailedOpen server e h = absurd h
+    by place_is.AbnormallyClosed server e h = λ s is. absurd (false≢true (ap (is_state place_is.Opened) (sym e ∙ is)))
 
 pub kept_all : (J : Past) → IsLegal J → Lasting J
 kept_all [] legal = kept_nothing
 kept_all (entry_is.Start sheets ∷ J) legal =
-    kept_calm J (entry_is.Start sheets ∷ J) (same_calm J (entry_is.Start sheets ∷ J) refl (λ p. refl) (λ p. refl) (λ p. refl) (λ r. refl) (λ p. refl) (λ r. refl) (λ r. refl) (λ p. refl) (λ p. refl) (λ p. refl) (omega arith) (λ p t h. h) (λ s h. h)) (grown_all J legal.0) (kept_all J legal.0)
+    kept_calm J (entry_is.Start sheets ∷ J) (same_calm J (entry_is.Start sheets ∷ J) refl (λ p. refl) (λ p. refl) (λ p. refl) (λ r. refl) (λ p. refl) (λ r. refl) (λ r. refl) (λ p. refl) (λ p. refl) (λ p. refl) (omega arith) (λ p t h. h) (λ s h. h) (λ r. refl)) (grown_all J legal.0) (kept_all J legal.0)
 kept_all (entry_is.Submit nonce request ∷ J) legal =
     let grown = grown_all J legal.0 in
     kept_calm J (entry_is.Submit nonce request ∷ J) (submit_calm nonce request J grown) grown (kept_all J legal.0)
@@ -174,7 +253,7 @@ kept_all (entry_is.Undo pid row out ∷ J) legal =
     let grown = grown_all J legal.0 in
     kept_calm J (entry_is.Undo pid row out ∷ J) (undo_calm pid row out J grown legal) grown (kept_all J legal.0)
 kept_all (entry_is.Report call told ∷ J) legal =
-    kept_calm J (entry_is.Report call told ∷ J) (same_calm J (entry_is.Report call told ∷ J) refl (λ p. refl) (λ p. refl) (λ p. refl) (λ r. refl) (λ p. refl) (λ r. refl) (λ r. refl) (λ p. refl) (λ p. refl) (λ p. refl) (omega arith) reports (λ s h. or_right _ (is_fenced J s) h)) (grown_all J legal.0) (kept_all J legal.0)
+    kept_calm J (entry_is.Report call told ∷ J) (same_calm J (entry_is.Report call told ∷ J) refl (λ p. refl) (λ p. refl) (λ p. refl) (λ r. refl) (λ p. refl) (λ r. refl) (λ r. refl) (λ p. refl) (λ p. refl) (λ p. refl) (omega arith) reports (λ s h. or_right _ (is_fenced J s) h) (λ r. refl)) (grown_all J legal.0) (kept_all J legal.0)
   where
     reports : (p : ℕ) (t : Told) → report_of J p ≡ Some t → report_of (entry_is.Report call told ∷ J) p ≡ Some t
     reports p t h = elim (cases_eq p call.0) [
@@ -182,12 +261,28 @@ kept_all (entry_is.Report call told ∷ J) legal =
       | inr differs ↦ cond-false (p == call.0) (Some told) (report_of J p) (ne_eqb p call.0 differs) ∙ h
     ]
 kept_all (entry_is.Up server ∷ J) legal =
-    kept_calm J (entry_is.Up server ∷ J) (same_calm J (entry_is.Up server ∷ J) refl (λ p. refl) (λ p. refl) (λ p. refl) (λ r. refl) (λ p. refl) (λ r. refl) (λ r. refl) (λ p. refl) (λ p. refl) (λ p. refl) (omega arith) (λ p t h. h) (λ s h. h)) (grown_all J legal.0) (kept_all J legal.0)
+    kept_calm J (entry_is.Up server ∷ J) (same_calm J (entry_is.Up server ∷ J) refl (λ p. refl) (λ p. refl) (λ p. refl) (λ r. refl) (λ p. refl) (λ r. refl) (λ r. refl) (λ p. refl) (λ p. refl) (λ p. refl) (omega arith) (λ p t h. h) (λ s h. h) (λ r. refl)) (grown_all J legal.0) (kept_all J legal.0)
 kept_all (entry_is.Down server ∷ J) legal =
     let grown = grown_all J legal.0 in
     kept_calm J (entry_is.Down server ∷ J) (down_calm server J grown) grown (kept_all J legal.0)
 kept_all (entry_is.Abort pid ∷ J) legal =
-    kept_calm J (entry_is.Abort pid ∷ J) (same_calm J (entry_is.Abort pid ∷ J) refl (λ p. refl) (λ p. refl) (λ p. refl) (λ r. refl) (λ p. refl) (λ r. refl) (λ r. refl) (λ p. refl) (λ p. refl) (λ p. refl) (omega arith) (λ p t h. h) (λ s h. h)) (grown_all J legal.0) (kept_all J legal.0)
+    kept_calm J (entry_is.Abort pid ∷ J) (same_calm J (entry_is.Abort pid ∷ J) refl (λ p. refl) (λ p. refl) (λ p. refl) (λ r. refl) (λ p. refl) (λ r. refl) (λ r. refl) (λ p. refl) (λ p. refl) (λ p. refl) (omega arith) (λ p t h. h) (λ s h. h) (λ r. refl)) (grown_all J legal.0) (kept_all J legal.0)
+kept_all (entry_is.Adopt sheets ∷ J) legal =
+    kept_calm J (entry_is.Adopt sheets ∷ J) (same_calm J (entry_is.Adopt sheets ∷ J) refl (λ p. refl) (λ p. refl) (λ p. refl) (λ r. refl) (λ p. refl) (λ r. refl) (λ r. refl) (λ p. refl) (λ p. refl) (λ p. refl) (omega arith) (λ p t h. h) (λ s h. h) (λ r. refl)) (grown_all J legal.0) (kept_all J legal.0)
+kept_all (entry_is.Base part ∷ J) legal = record {
+  works = λ p r m going. absurd going;
+  worker = λ p r is. absurd (none-some p is);
+  calling = λ q node r is. absurd (none-some node is);
+  only = λ p r m. absurd (none-some m.0 m.1);
+  stage = λ r. rests (entry_is.Base part ∷ J) r (place_of (entry_is.Base part ∷ J) r) refl (base_rests (entry_is.Base part ∷ J) legal refl r);
+  fresh = λ p none. (refl, refl);
+  caused = λ p m. refl;
+  stacks = λ p m. refl;
+  sound = λ p r m. tt;
+  called = λ p verb is. absurd (none-some verb is);
+  settled = λ r p is. absurd (none-some (verb_is.AssignRegion r) is);
+  based = λ r server is. inr (inl refl);
+}
 
 pub last_is_recorded : LastIsRecorded
 last_is_recorded J legal region p is = (grown_all J legal).last_is region p is
@@ -199,13 +294,13 @@ one_transit_is J legal region p q moves_p holds_p moves_q holds_q =
     same_Some p q (sym (kept.works p region moves_p (holds_goes J grown kept p region moves_p holds_p)) ∙ kept.works q region moves_q (holds_goes J grown kept q region moves_q holds_q))
 
 -- a place at rest is neither Opening nor Closing
-rest_not_opening : (J : Past) (last : Option ℕ) (state : RegionState) (server : Option Server) → AtRest J last state server → is_state place_is.Opening (record { state = state; server = server }) ≡ true → ⊥
-rest_not_opening J last place_is.Opening server rest h = rest
-rest_not_opening J last state server rest h = false≢true h
+rest_not_opening : (J : Past) (r : Region) (last : Option ℕ) (state : RegionState) (server : Option Server) → AtRest J r last state server → is_state place_is.Opening (record { state = state; server = server }) ≡ true → ⊥
+rest_not_opening J r last place_is.Opening server rest h = rest
+rest_not_opening J r last state server rest h = false≢true h
 
-rest_not_closing : (J : Past) (last : Option ℕ) (state : RegionState) (server : Option Server) → AtRest J last state server → is_state place_is.Closing (record { state = state; server = server }) ≡ true → ⊥
-rest_not_closing J last place_is.Closing server rest h = rest
-rest_not_closing J last state server rest h = false≢true h
+rest_not_closing : (J : Past) (r : Region) (last : Option ℕ) (state : RegionState) (server : Option Server) → AtRest J r last state server → is_state place_is.Closing (record { state = state; server = server }) ≡ true → ⊥
+rest_not_closing J r last place_is.Closing server rest h = rest
+rest_not_closing J r last state server rest h = false≢true h
 
 module _ (J : Past) (legal : IsLegal J) (region : Region) where
   at_work : (p : ℕ) → Moves J p region → HoldsWith J [] p → AtRow J p region (place_of J region) (last_call J region) (last_answer J p) (child_of_step J p) (node_of J (child_of_step J p)) (last_answer J (child_of_step J p))
@@ -269,36 +364,36 @@ module _ (J : Past) (legal : IsLegal J) (region : Region) where
   opening_row opening = by_work (work_of J region) refl ((kept_all J legal).stage region)
     where
       by_row : (p : ℕ) → Moves J p region → (o : Option Answer) → last_answer J p ≡ o → AtRow J p region (place_of J region) (last_call J region) o (child_of_step J p) (node_of J (child_of_step J p)) (last_answer J (child_of_step J p)) → NextIs J region 1 ⊎ NextIs J region 2
-      by_row p moves None l h = absurd (rest_not_opening J (last_call J region) (place_of J region).state (place_of J region).server h opening)
-      by_row p moves (Some (answer_is.More n)) l (inl h) = absurd (rest_not_opening J (last_call J region) (place_of J region).state (place_of J region).server h.1 opening)
+      by_row p moves None l h = absurd (rest_not_opening J region (last_call J region) (place_of J region).state (place_of J region).server h opening)
+      by_row p moves (Some (answer_is.More n)) l (inl h) = absurd (rest_not_opening J region (last_call J region) (place_of J region).state (place_of J region).server h.1 opening)
       by_row p moves (Some (answer_is.More n)) l (inr h) = inl (next_is p 1 (Some (answer_is.More n)) moves l tt (λ node. h.0))
       by_row p moves (Some (answer_is.Wait n)) l (inl h) = inr (next_is p 2 (Some (answer_is.Wait n)) moves l tt (λ node. h.0))
       by_row p moves (Some (answer_is.Wait n)) l (inr h) = absurd (false≢true (ap (is_state place_is.Opening) (sym h.2) ∙ opening))
       by_row p moves (Some (answer_is.Await n)) l h = absurd h
-      by_row p moves (Some (answer_is.Done told)) l h = absurd (rest_not_opening J (last_call J region) (place_of J region).state (place_of J region).server h opening)
-      by_row p moves (Some (answer_is.Fail cause)) l h = absurd (rest_not_opening J (last_call J region) (place_of J region).state (place_of J region).server h opening)
+      by_row p moves (Some (answer_is.Done told)) l h = absurd (rest_not_opening J region (last_call J region) (place_of J region).state (place_of J region).server h opening)
+      by_row p moves (Some (answer_is.Fail cause)) l h = absurd (rest_not_opening J region (last_call J region) (place_of J region).state (place_of J region).server h opening)
       by_row p moves (Some answer_is.Undone) l h = absurd h
 
       by_work : (w : Option ℕ) → work_of J region ≡ w → StageFor J region w → NextIs J region 1 ⊎ NextIs J region 2
-      by_work None e h = absurd (rest_not_opening J (last_call J region) (place_of J region).state (place_of J region).server h opening)
+      by_work None e h = absurd (rest_not_opening J region (last_call J region) (place_of J region).state (place_of J region).server h opening)
       by_work (Some p) e h = by_row p ((kept_all J legal).worker p region e).0 (last_answer J p) refl h
 
   closing_row : is_state place_is.Closing (place_of J region) ≡ true → NextIs J region 4
   closing_row closing = by_work (work_of J region) refl ((kept_all J legal).stage region)
     where
       by_row : (p : ℕ) → Moves J p region → (o : Option Answer) → last_answer J p ≡ o → AtRow J p region (place_of J region) (last_call J region) o (child_of_step J p) (node_of J (child_of_step J p)) (last_answer J (child_of_step J p)) → NextIs J region 4
-      by_row p moves None l h = absurd (rest_not_closing J (last_call J region) (place_of J region).state (place_of J region).server h closing)
-      by_row p moves (Some (answer_is.More n)) l (inl h) = absurd (rest_not_closing J (last_call J region) (place_of J region).state (place_of J region).server h.1 closing)
+      by_row p moves None l h = absurd (rest_not_closing J region (last_call J region) (place_of J region).state (place_of J region).server h closing)
+      by_row p moves (Some (answer_is.More n)) l (inl h) = absurd (rest_not_closing J region (last_call J region) (place_of J region).state (place_of J region).server h.1 closing)
       by_row p moves (Some (answer_is.More n)) l (inr h) = absurd (false≢true (ap (is_state place_is.Closing) (sym h.2) ∙ closing))
       by_row p moves (Some (answer_is.Wait n)) l (inl h) = absurd (false≢true (ap (is_state place_is.Closing) (sym h.2) ∙ closing))
       by_row p moves (Some (answer_is.Wait n)) l (inr h) = next_is p 4 (Some (answer_is.Wait n)) moves l tt (λ node. h.0)
       by_row p moves (Some (answer_is.Await n)) l h = absurd h
-      by_row p moves (Some (answer_is.Done told)) l h = absurd (rest_not_closing J (last_call J region) (place_of J region).state (place_of J region).server h closing)
-      by_row p moves (Some (answer_is.Fail cause)) l h = absurd (rest_not_closing J (last_call J region) (place_of J region).state (place_of J region).server h closing)
+      by_row p moves (Some (answer_is.Done told)) l h = absurd (rest_not_closing J region (last_call J region) (place_of J region).state (place_of J region).server h closing)
+      by_row p moves (Some (answer_is.Fail cause)) l h = absurd (rest_not_closing J region (last_call J region) (place_of J region).state (place_of J region).server h closing)
       by_row p moves (Some answer_is.Undone) l h = absurd h
 
       by_work : (w : Option ℕ) → work_of J region ≡ w → StageFor J region w → NextIs J region 4
-      by_work None e h = absurd (rest_not_closing J (last_call J region) (place_of J region).state (place_of J region).server h closing)
+      by_work None e h = absurd (rest_not_closing J region (last_call J region) (place_of J region).state (place_of J region).server h closing)
       by_work (Some p) e h = by_row p ((kept_all J legal).worker p region e).0 (last_answer J p) refl h
 
   opening_from : (row : ℕ) → (row ≡ 1) ⊎ (row ≡ 2) → NextIs J region row → is_state place_is.Opening (place_of J region) ≡ true
@@ -318,7 +413,7 @@ calls_find pid pick out J legal =
     let d = does_of pid pick out J grown step in
     (step.node, step.node_is, by step.node out.call refl (λ verb e. (call_mine pid pick out J grown step d verb e).3) (λ r e. finds_open pid pick out J grown kept step d (step_free pid pick out J legal) r e) (λ r e. finds_close pid pick out J grown kept step d (step_free pid pick out J legal) r e))
   where
-    by : (node : Node) (o : Option Verb) → out.call ≡ o → ((verb : Verb) → out.call ≡ Some verb → verb_of J pid.0 ≡ None) → ((r : Region) → out.call ≡ Some (verb_is.AssignRegion r) → IsVoid J (last_call J r) × IsLater pid.0 (last_call J r)) → ((r : Region) → out.call ≡ Some (verb_is.CloseRegion r) → (server : Server) × (node.args ≡ args_are.CloseCall r server) × IsOpenedBy J (last_call J r) server × IsLater pid.0 (last_call J r)) → Finds J pid.0 node o
+    by : (node : Node) (o : Option Verb) → out.call ≡ o → ((verb : Verb) → out.call ≡ Some verb → verb_of J pid.0 ≡ None) → ((r : Region) → out.call ≡ Some (verb_is.AssignRegion r) → IsVoid J r (last_call J r) × IsLater pid.0 (last_call J r)) → ((r : Region) → out.call ≡ Some (verb_is.CloseRegion r) → (server : Server) × (node.args ≡ args_are.CloseCall r server) × IsOpenedBy J r (last_call J r) server × IsLater pid.0 (last_call J r)) → Finds J pid.0 node o
     by node None e silent opens closes = tt
     by node (Some (verb_is.AssignRegion r)) e silent opens closes = let f = opens r e in (silent _ e, f.1, f.0)
     by node (Some (verb_is.CloseRegion r)) e silent opens closes = let f = closes r e in (silent _ e, f.3, f.0, f.1, f.2)

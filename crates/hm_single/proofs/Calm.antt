@@ -41,6 +41,7 @@ use Rattle.hm_model.specs.TransitActs.{is_placed}
 use Rattle.hm_model.specs.Tree.{Node, made, node_of, root_in}
 use Rattle.hm_model.specs.Undo.{is_empty, pushed, row_if_there, stack}
 use Rattle.hm_model.specs.Whereabouts.{moved_by}
+use Rattle.hm_model.proofs.ExactRows.{begin_alike, first_act}
 use Rattle.hm_model.proofs.KeyTests.{same_table-is, same_table-refl}
 use Rattle.hm_model.proofs.Rows.{row_read}
 use Rattle.hm_model.proofs.Trees.{Grown, IsWaiting, answer_now, grown_all}
@@ -176,13 +177,15 @@ module _ (pid : Pid) (pick : Option Server) (out : StepOut) (J : Past) (legal : 
     act_of act [] = ⊥
     act_of act (line ∷ lines) = act ≡ line.act
 
-    first_act : (h : fills request ≡ true) → act_of its.row.act (lines_of (request_kind request))
-    first_act h =
+    begins_with : (act : Act) (lines : List Line) → Some act ≡ first_act lines → act_of act lines
+    begins_with act [] is = absurd (none-some act (sym is))
+    begins_with act (line ∷ lines) is = same_Some act line.act is
+
+    act_begins : (h : fills request ≡ true) → act_of its.row.act (lines_of (request_kind request))
+    act_begins h =
         let mine = own pid pick out J legal top (exact h) in
-        subst (act_of its.row.act) ((mine.fresh unbegun).1 ∙ ap (λ a. lines_of (kind_of a)) args_is) (by mine)
-      where
-        by : (mine : Own pid pick out J legal top (exact h)) → act_of its.row.act (mine.line ∷ mine.behind)
-        by mine = mine.act_is
+        begins_with its.row.act (lines_of (request_kind request))
+        (ap Some mine.act_is ∙ begin_alike (kind_of its.node.args) (mine.line ∷ mine.behind) (mine.fresh unbegun).1 ∙ ap (λ a. first_act (lines_of (kind_of a))) args_is)
 
     disabled : (u : TableName) → reads its.node.args (key_is.Table u) ≡ true → out ≡ checked its.row.next (table_disabled (row_at (step_input J pid.0 its.node pick).rows (key_is.Table u))) → is_on (cat J (key_is.Table u)) ≡ false
     disabled u reading is = disabled_off (cat J (key_is.Table u)) (ap table_disabled (sym (row_read J its.node.args (key_is.Table u) reading)) ∙ checks_fine its.row.next _ (ap (λ (o : StepOut). failing o.answer) (sym is) ∙ fine))
@@ -206,7 +209,7 @@ module _ (pid : Pid) (pick : Option Server) (out : StepOut) (J : Past) (legal : 
         own_args q e = args_is ∙ ap (λ x. args_are.Root x first) e
 
         act_first : (q : Request) → request ≡ q → act_of its.row.act (lines_of (request_kind q))
-        act_first q e = subst (λ x. act_of its.row.act (lines_of (request_kind x))) e (first_act h)
+        act_first q e = subst (λ x. act_of its.row.act (lines_of (request_kind x))) e (act_begins h)
 
         by : (q : Request) → request ≡ q → fills q ≡ true → is_on (cat J (key_is.Table t)) ≡ false
         by (request_is.CreateTable u keys) e hq =
@@ -274,7 +277,7 @@ module _ (pid : Pid) (pick : Option Server) (out : StepOut) (J : Past) (legal : 
           let left = step_left pid pick out J grown its (does pid pick out J legal) r node old differs in
           let was = holds_left J J' r node left holds in
           let covered : covers node.args (key_is.Region region) ≡ true = ap (λ a. covers a (key_is.Region region)) own_args ∙ fills_regions request first h region ∙ ap (λ a. covers a (key_is.Table region.table)) (sym own_args) ∙ c in
-          let unplaced = before r node request first was own_args h (elim falls [ inl may ↦ inl (may_on J' J r node (sym left.cause_is) (sym left.last) (sym left.sheets) may) | inr rest ↦ inr rest ]) region c in
+          let unplaced = before r node request first was own_args h (elim falls [ inl may ↦ inl (may_on J' J r node (sym left.cause_is) (sym left.last) refl may) | inr rest ↦ inr rest ]) region c in
           elim (held_stay pid pick out J legal r node was.0.0 was.0.1 was.1 was.2 region covered) [
             | inl same ↦ absurd (differs (sym same ∙ ap root_in its.node_is))
             | inr stay ↦ ap is_placed stay ∙ unplaced

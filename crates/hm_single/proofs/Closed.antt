@@ -236,6 +236,8 @@ said_all (entry_is.Report call told ∷ J) legal = said_all J legal.0
 said_all (entry_is.Up server ∷ J) legal = said_all J legal.0
 said_all (entry_is.Down server ∷ J) legal = let g = grown_all J legal.0 in calm_said J (entry_is.Down server ∷ J) (down_rooted server J g) g (grown_all (entry_is.Down server ∷ J) legal) (said_all J legal.0)
 said_all (entry_is.Abort pid ∷ J) legal = said_all J legal.0
+said_all (entry_is.Adopt sheets ∷ J) legal = said_all J legal.0
+said_all (entry_is.Base part ∷ J) legal = λ root top request first at. absurd (none-some top at.0)
 
 -- a transit unassigns or assigns
 goals_differ : (region : Region) (to other : Option Server) → args_are.Transit region goal_is.Unassign to ≡ args_are.Transit region goal_is.Assign other → ⊥

@@ -25,6 +25,7 @@ use Rattle.hm_data.specs.declared.place.Place.{Place}
 use Rattle.hm_data.specs.declared.sheet.Row.{Row}
 use Rattle.hm_data.specs.declared.step.StepOut.{StepOut}
 use Rattle.hm_model.specs.Answers.{done_with, failing, is_stopped, last_answer, report_of, row_of}
+use Rattle.hm_model.specs.Fleet.{is_fenced}
 use Rattle.hm_model.specs.Holding.{IsFree}
 use Rattle.hm_model.specs.Journal.{Past}
 use Rattle.hm_model.specs.Kinds.{kind_of}
@@ -34,7 +35,7 @@ use Rattle.hm_model.specs.Places.{place_of, placed_by, region_if}
 use Rattle.hm_model.specs.Reports.{fits_verb, is_about, is_the_region, last_call, peer_if, peer_in, peer_of, verb_of}
 use Rattle.hm_model.specs.Sheets.{row_in, undo_by, undo_of_next}
 use Rattle.hm_model.specs.Inputs.{is_new_child, made_at_step}
-use Rattle.hm_model.specs.Single.{IsOver, called_at}
+use Rattle.hm_model.specs.Single.{IsBasedAt, IsLeft, IsOver, called_at}
 use Rattle.hm_model.specs.Tree.{Node, args_in, child_of, is_top, made, node_of, root_in, root_of}
 use Rattle.hm_model.specs.Undo.{pushed, row_if_there, stack}
 use Rattle.hm_model.specs.Views.{region_of}
@@ -45,14 +46,14 @@ use Rattle.hm_model.proofs.CallSteps.{laying_not_caller}
 use Rattle.hm_model.proofs.StepDoes.{Does, lined, crash, moves, calls, move_row, part_of}
 use Rattle.hm_model.proofs.ExactRows.{all_rows, exact_is, row_passes}
 use Rattle.hm_model.proofs.Trees.{Grown, IsWaiting, answer_now, call_mine, child_stopped, is_there, le_or_lt, new_child, node_new, node_same, other_answer, other_steps, pid_there, runs, still_there, steps_now, verb_now, verb_or, verb_stays}
-use Rattle.hm_single.proofs.Kept.{CallsLater, IsGoing, IsMove, IsSettled, IsSoundLast, Lasting, fail_in, over_later, settled_later}
+use Rattle.hm_single.proofs.Kept.{CallsLater, IsBaseSettled, IsGoing, IsMove, IsSettled, IsSoundLast, Lasting, based_later, fail_in, left_later, over_later, settled_later}
 use Rattle.hm_single.proofs.Kin.{goes_holds, kin_of, moved_not_caller, root_there, transits_conflict}
 use Rattle.hm_model.proofs.LegalSteps.{ReadyBy, StepFacts}
 use Rattle.hm_model.proofs.PlainActs.{is_caller}
 use Rattle.hm_single.proofs.Rows.{transit_step}
 use Rattle.hm_single.proofs.Stage.{Later, StageFor, called_region, caller_facts, caller_region, calls_step, child_of_step, is_itself, moved_if, moved_region, opened_later, region_caller, row_next, stage_later, the_region, void_later, work_of, worked}
 use Rattle.hm_single.proofs.Told.{fits_close, fits_open, not_told_by, told_by, told_opened}
-use Rattle.hm_single.proofs.Transit.{AtRow, CallIs, Calls, IsRest, Leaves, Next, set_place}
+use Rattle.hm_single.proofs.Transit.{AtRow, CallIs, Calls, IsRest, Leaves, Next, based_one, set_place}
 
 -- the region of a step: none of its procedure's, the one that it moves, or the one whose server it calls
 pub data Where (args : Args) (r : Region) : Type 0 where
@@ -122,7 +123,7 @@ module _ (pid : Pid) (pick : Option Server) (out : StepOut) (J : Past) (grown : 
   runs_now = runs pid pick out J grown step d
 
   -- a region whose transit doesn't go on is at rest
-  rests : (p : ℕ) (r : Region) (o : Option Answer) (q : ℕ) (made : Option Node) (answer : Option Answer) → (IsGoing o → ⊥) → AtRow J p r (place_of J r) (last_call J r) o q made answer → IsRest J (last_call J r) (place_of J r)
+  rests : (p : ℕ) (r : Region) (o : Option Answer) (q : ℕ) (made : Option Node) (answer : Option Answer) → (IsGoing o → ⊥) → AtRow J p r (place_of J r) (last_call J r) o q made answer → IsRest J r (last_call J r) (place_of J r)
   rests p r None q made answer idle h = h
   rests p r (Some (answer_is.More n)) q made answer idle h = absurd (idle tt)
   rests p r (Some (answer_is.Wait n)) q made answer idle h = absurd (idle tt)
@@ -135,7 +136,7 @@ module _ (pid : Pid) (pick : Option Server) (out : StepOut) (J : Past) (grown : 
   at_start : (r : Region) → moved_by step.node.args ≡ Some r → (o : Option Answer) → last_answer J pid.0 ≡ o → AtRow J pid.0 r (place_of J r) (last_call J r) o (child_of_step J pid.0) (node_of J (child_of_step J pid.0)) (last_answer J (child_of_step J pid.0))
   at_start r m None l = by (work_of J r) refl (kept.stage r)
     where
-      by : (w : Option ℕ) → work_of J r ≡ w → StageFor J r w → IsRest J (last_call J r) (place_of J r)
+      by : (w : Option ℕ) → work_of J r ≡ w → StageFor J r w → IsRest J r (last_call J r) (place_of J r)
       by None e h = h
       by (Some p) e h =
           let w = kept.worker p r e in
@@ -215,6 +216,7 @@ module _ (pid : Pid) (pick : Option Server) (out : StepOut) (J : Past) (grown : 
   later_step = record {
     reports = λ p t h. h;
     fences = λ s h. h;
+    based = λ r. refl;
     peers = λ p peer h. by_node p (node_of J p) refl (verb_of J p) refl peer h;
   }
     where
@@ -337,10 +339,10 @@ module _ (pid : Pid) (pick : Option Server) (out : StepOut) (J : Past) (grown : 
         h.1,
         h.2,
         (step.node, still_there pid pick out J grown step d pid.0 step.node step.node_is, args, (h.3.3.0, ap (λ (x : Node). x.above) (sym one) ∙ h.3.3.1)),
-        calls_step J J' later_step pid.0 step.node.args h.1 (verb_is.AssignRegion r) out (ap is_caller args) (ap called_by args) (last_call J r) (last_call J' r) (IsVoid J (last_call J r)) (IsVoid J' (last_call J' r)) (last_silent r)
+        calls_step J J' later_step pid.0 step.node.args h.1 (verb_is.AssignRegion r) out (ap is_caller args) (ap called_by args) (last_call J r) (last_call J' r) (IsVoid J r (last_call J r)) (IsVoid J' r (last_call J' r)) (last_silent r)
             (λ asks. (last_here r (ap (is_about r) asks ∙ is_itself r (Some r) refl), ap (λ x. peer_if x (verb_of J' pid.0)) (still_there pid pick out J grown step d pid.0 step.node step.node_is) ∙ ap (peer_if (Some step.node)) (verb_now pid pick out J ∙ ap (λ o. option_or o (verb_of J pid.0)) asks) ∙ ap (λ a. Some (peer_in a)) args))
             (last_answer J pid.0) (d.calls (verb_is.AssignRegion r) (ap verb_in args)) runs_now h.4
-            (λ same void. subst (IsVoid J') (sym same) (void_later J J' later_step (last_call J r) void)),
+            (λ same void. subst (IsVoid J' r) (sym same) (void_later J J' later_step r (last_call J r) void)),
       )
   call_row p r n c (inr h) =
       let one : h.3.0 ≡ step.node = same_Some h.3.0 step.node (sym h.3.1 ∙ step.node_is) in
@@ -350,10 +352,10 @@ module _ (pid : Pid) (pick : Option Server) (out : StepOut) (J : Past) (grown : 
         h.1,
         h.2,
         (step.node, still_there pid pick out J grown step d pid.0 step.node step.node_is, args, (h.3.3.0, ap (λ (x : Node). x.above) (sym one) ∙ h.3.3.1)),
-        calls_step J J' later_step pid.0 step.node.args h.1 (verb_is.CloseRegion r) out (ap is_caller args) (ap called_by args) (last_call J r) (last_call J' r) (IsOpenedBy J (last_call J r) h.1) (IsOpenedBy J' (last_call J' r) h.1) (last_silent r)
+        calls_step J J' later_step pid.0 step.node.args h.1 (verb_is.CloseRegion r) out (ap is_caller args) (ap called_by args) (last_call J r) (last_call J' r) (IsOpenedBy J r (last_call J r) h.1) (IsOpenedBy J' r (last_call J' r) h.1) (last_silent r)
             (λ asks. (last_here r (ap (is_about r) asks ∙ is_itself r (Some r) refl), ap (λ x. peer_if x (verb_of J' pid.0)) (still_there pid pick out J grown step d pid.0 step.node step.node_is) ∙ ap (peer_if (Some step.node)) (verb_now pid pick out J ∙ ap (λ o. option_or o (verb_of J pid.0)) asks) ∙ ap (λ a. Some (peer_in a)) args))
             (last_answer J pid.0) (d.calls (verb_is.CloseRegion r) (ap verb_in args)) runs_now h.4
-            (λ same opened. subst (λ l. IsOpenedBy J' l h.1) (sym same) (opened_later J J' later_step (last_call J r) h.1 opened)),
+            (λ same opened. subst (λ l. IsOpenedBy J' r l h.1) (sym same) (opened_later J J' later_step r (last_call J r) h.1 opened)),
       )
 
   -- the transit for which a call is made, and where it stands
@@ -699,15 +701,15 @@ module _ (pid : Pid) (pick : Option Server) (out : StepOut) (J : Past) (grown : 
   unmade_call : (server : Server) (r : Region) (Before : Type 0) → last_answer J pid.0 ≡ None → Calls J pid.0 server (last_call J r) Before (last_answer J pid.0) → Before × IsLater pid.0 (last_call J r)
   unmade_call server r Before none h = subst (Calls J pid.0 server (last_call J r) Before) none h
 
-  pub finds_open : (r : Region) → out.call ≡ Some (verb_is.AssignRegion r) → IsVoid J (last_call J r) × IsLater pid.0 (last_call J r)
+  pub finds_open : (r : Region) → out.call ≡ Some (verb_is.AssignRegion r) → IsVoid J r (last_call J r) × IsLater pid.0 (last_call J r)
   finds_open r e =
       let me = call_mine pid pick out J grown step d (verb_is.AssignRegion r) e in
       let c = about_is r (ap (is_about r) e ∙ is_itself r (Some r) refl) in
       let k = calling_row r c in
       by k.0 k.3 me.0 me.1 k.5
     where
-      by : (p n : ℕ) → verb_in step.node.args ≡ Some (verb_is.AssignRegion r) → last_answer J pid.0 ≡ None → AtRow J p r (place_of J r) (last_call J r) (Some (answer_is.Wait n)) pid.0 (node_of J pid.0) (last_answer J pid.0) → IsVoid J (last_call J r) × IsLater pid.0 (last_call J r)
-      by p n v none (inl h) = unmade_call h.1 r (IsVoid J (last_call J r)) none h.4
+      by : (p n : ℕ) → verb_in step.node.args ≡ Some (verb_is.AssignRegion r) → last_answer J pid.0 ≡ None → AtRow J p r (place_of J r) (last_call J r) (Some (answer_is.Wait n)) pid.0 (node_of J pid.0) (last_answer J pid.0) → IsVoid J r (last_call J r) × IsLater pid.0 (last_call J r)
+      by p n v none (inl h) = unmade_call h.1 r (IsVoid J r (last_call J r)) none h.4
       by p n v none (inr h) =
           let one : h.3.0 ≡ step.node = same_Some h.3.0 step.node (sym h.3.1 ∙ step.node_is) in
           absurd (differ (same_Some _ _ (sym v ∙ ap (λ (x : Node). verb_in x.args) (sym one) ∙ ap verb_in h.3.2)))
@@ -715,17 +717,17 @@ module _ (pid : Pid) (pick : Option Server) (out : StepOut) (J : Past) (grown : 
           differ : verb_is.AssignRegion r ≡ verb_is.CloseRegion r → ⊥
           differ x = cc
 
-  pub finds_close : (r : Region) → out.call ≡ Some (verb_is.CloseRegion r) → (server : Server) × (step.node.args ≡ args_are.CloseCall r server) × IsOpenedBy J (last_call J r) server × IsLater pid.0 (last_call J r)
+  pub finds_close : (r : Region) → out.call ≡ Some (verb_is.CloseRegion r) → (server : Server) × (step.node.args ≡ args_are.CloseCall r server) × IsOpenedBy J r (last_call J r) server × IsLater pid.0 (last_call J r)
   finds_close r e =
       let me = call_mine pid pick out J grown step d (verb_is.CloseRegion r) e in
       let c = about_is r (ap (is_about r) e ∙ is_itself r (Some r) refl) in
       let k = calling_row r c in
       by k.0 k.3 me.0 me.1 k.5
     where
-      by : (p n : ℕ) → verb_in step.node.args ≡ Some (verb_is.CloseRegion r) → last_answer J pid.0 ≡ None → AtRow J p r (place_of J r) (last_call J r) (Some (answer_is.Wait n)) pid.0 (node_of J pid.0) (last_answer J pid.0) → (server : Server) × (step.node.args ≡ args_are.CloseCall r server) × IsOpenedBy J (last_call J r) server × IsLater pid.0 (last_call J r)
+      by : (p n : ℕ) → verb_in step.node.args ≡ Some (verb_is.CloseRegion r) → last_answer J pid.0 ≡ None → AtRow J p r (place_of J r) (last_call J r) (Some (answer_is.Wait n)) pid.0 (node_of J pid.0) (last_answer J pid.0) → (server : Server) × (step.node.args ≡ args_are.CloseCall r server) × IsOpenedBy J r (last_call J r) server × IsLater pid.0 (last_call J r)
       by p n v none (inr h) =
           let one : h.3.0 ≡ step.node = same_Some h.3.0 step.node (sym h.3.1 ∙ step.node_is) in
-          let f = unmade_call h.1 r (IsOpenedBy J (last_call J r) h.1) none h.4 in
+          let f = unmade_call h.1 r (IsOpenedBy J r (last_call J r) h.1) none h.4 in
           (h.1, ap (λ (x : Node). x.args) (sym one) ∙ h.3.2, f.0, f.1)
       by p n v none (inl h) =
           let one : h.3.0 ≡ step.node = same_Some h.3.0 step.node (sym h.3.1 ∙ step.node_is) in
@@ -748,13 +750,13 @@ module _ (pid : Pid) (pick : Option Server) (out : StepOut) (J : Past) (grown : 
   not_opened r p v is = false≢true (told_verb p (verb_is.CloseRegion r) told_is.Opened v is)
 
   -- where the last call is void, each opening is over
-  pub void_over : (r : Region) (p : ℕ) → verb_of J p ≡ Some (verb_is.AssignRegion r) → IsSettled J r p → IsVoid J (last_call J r) → IsOver J p r
+  pub void_over : (r : Region) (p : ℕ) → verb_of J p ≡ Some (verb_is.AssignRegion r) → IsSettled J r p → IsVoid J r (last_call J r) → IsOver J p r
   void_over r p v (inl over) void = over
-  void_over r p v (inr (inl last)) void = elim (subst (IsVoid J) last void) [
+  void_over r p v (inr (inl last)) void = elim (subst (IsVoid J r) last void) [
     | inl failed ↦ inl failed
     | inr other ↦ elim other [ inl closed ↦ absurd (not_closed r p v closed) | inr gone ↦ inr (inr gone) ]
   ]
-  void_over r p v (inr (inr c)) void = elim (subst (IsVoid J) c.1 void) [
+  void_over r p v (inr (inr c)) void = elim (subst (IsVoid J r) c.1 void) [
     | inl failed ↦ absurd (not_failed r c.0 c.2 failed)
     | inr other ↦ elim other [
       | inl closed ↦ inr (inl (c.0, c.2, c.3, c.4, closed))
@@ -762,8 +764,32 @@ module _ (pid : Pid) (pick : Option Server) (out : StepOut) (J : Past) (grown : 
     ]
   ]
 
+  -- where the last call is void, a region that the base has open was left
+  pub void_left : (r : Region) (server : Server) → IsBasedAt J r server → IsBaseSettled J r server → IsVoid J r (last_call J r) → IsLeft J r server
+  void_left r server based (inl left) void = left
+  void_left r server based (inr (inl none)) void = inr (subst (IsVoid J r) none void server based)
+  void_left r server based (inr (inr c)) void = elim (subst (IsVoid J r) c.1 void) [
+    | inl failed ↦ absurd (not_failed r c.0 c.2 failed)
+    | inr other ↦ elim other [
+      | inl closed ↦ inl (c.0, c.2, c.3, closed)
+      | inr gone ↦ inr (subst (λ s. is_fenced J s ≡ true) (same_peer gone.0 server (sym gone.1 ∙ c.3)) gone.2)
+    ]
+  ]
+    where
+      same_peer : (s t : Server) → Some (peer_is.Server s) ≡ Some (peer_is.Server t) → s ≡ t
+      same_peer s t e = cc
+
   over_now : (r : Region) (p : ℕ) → verb_of J p ≡ Some (verb_is.AssignRegion r) → IsOver J p r → IsOver J' p r
   over_now r p v over = over_later J J' later_step grown calls_later_now r p v over
+
+  -- a close that is recorded now, and its server
+  verb_called : (r : Region) → out.call ≡ Some (verb_is.CloseRegion r) → verb_of J' pid.0 ≡ Some (verb_is.CloseRegion r)
+  unfolding J'
+  verb_called r e = verb_now pid pick out J ∙ ap (λ o. option_or o (verb_of J pid.0)) e
+
+  peer_called : (r : Region) (server : Server) → verb_of J' pid.0 ≡ Some (verb_is.CloseRegion r) → step.node.args ≡ args_are.CloseCall r server → peer_of J' pid.0 ≡ Some (peer_is.Server server)
+  unfolding J'
+  peer_called r server v args = ap (λ n. peer_if n (verb_of (entry_is.Step pid pick out ∷ J) pid.0)) (still_there pid pick out J grown step d pid.0 step.node step.node_is) ∙ ap (peer_if (Some step.node)) v ∙ ap (λ a. Some (peer_in a)) args
 
   -- where a close is recorded, each opening is over or that is its close
   close_settles : (r : Region) (p : ℕ) → out.call ≡ Some (verb_is.CloseRegion r) → verb_of J p ≡ Some (verb_is.AssignRegion r) → IsSettled J r p → IsSettled J' r p
@@ -771,23 +797,23 @@ module _ (pid : Pid) (pick : Option Server) (out : StepOut) (J : Past) (grown : 
   close_settles r p e v (inl over) = inl (over_now r p v over)
   close_settles r p e v (inr (inr c)) =
       let f = finds_close r e in
-      let same : f.2.0 ≡ c.0 = same_Some f.2.0 c.0 (sym f.2.1 ∙ c.1) in
-      absurd (not_opened r c.0 c.2 (ap (report_of J) (sym same) ∙ f.2.3))
+      elim f.2 [
+        | inl o ↦ let same : o.0 ≡ c.0 = same_Some o.0 c.0 (sym o.1 ∙ c.1) in absurd (not_opened r c.0 c.2 (ap (report_of J) (sym same) ∙ o.3))
+        | inr based ↦ absurd (none-some c.0 (sym based.0 ∙ c.1))
+      ]
   close_settles r p e v (inr (inl last)) =
       let f = finds_close r e in
-      let same : f.2.0 ≡ p = same_Some f.2.0 p (sym f.2.1 ∙ last) in
-      let on = ap (is_about r) e ∙ is_itself r (Some r) refl in
-      let verb : verb_of J' pid.0 ≡ Some (verb_is.CloseRegion r) = now e in
-      let mine : peer_of J' pid.0 ≡ Some (peer_is.Server f.0) = peer_now f.0 verb f.1 in
-      let other : peer_of J' p ≡ Some (peer_is.Server f.0) = later_step.peers p (peer_is.Server f.0) (ap (peer_of J) (sym same) ∙ f.2.2) in
-      inr (inr (pid.0, last_here r on, verb, earlier (kept.called p (verb_is.AssignRegion r) v) (calls_later_now p (verb_is.AssignRegion r) v).1 (called_here (verb_is.CloseRegion r) e), mine ∙ sym other))
+      elim f.2 [
+        | inr based ↦ absurd (none-some p (sym based.0 ∙ last))
+        | inl o ↦
+            let same : o.0 ≡ p = same_Some o.0 p (sym o.1 ∙ last) in
+            let on = ap (is_about r) e ∙ is_itself r (Some r) refl in
+            let verb = verb_called r e in
+            let mine = peer_called r f.0 verb f.1 in
+            let other : peer_of J' p ≡ Some (peer_is.Server f.0) = later_step.peers p (peer_is.Server f.0) (ap (peer_of J) (sym same) ∙ o.2) in
+            inr (inr (pid.0, last_here r on, verb, earlier (kept.called p (verb_is.AssignRegion r) v) (calls_later_now p (verb_is.AssignRegion r) v).1 (called_here (verb_is.CloseRegion r) e), mine ∙ sym other))
+      ]
     where
-      now : out.call ≡ Some (verb_is.CloseRegion r) → verb_of (entry_is.Step pid pick out ∷ J) pid.0 ≡ Some (verb_is.CloseRegion r)
-      now e = verb_now pid pick out J ∙ ap (λ o. option_or o (verb_of J pid.0)) e
-
-      peer_now : (server : Server) → verb_of (entry_is.Step pid pick out ∷ J) pid.0 ≡ Some (verb_is.CloseRegion r) → step.node.args ≡ args_are.CloseCall r server → peer_of (entry_is.Step pid pick out ∷ J) pid.0 ≡ Some (peer_is.Server server)
-      peer_now server v args = ap (λ n. peer_if n (verb_of (entry_is.Step pid pick out ∷ J) pid.0)) (still_there pid pick out J grown step d pid.0 step.node step.node_is) ∙ ap (peer_if (Some step.node)) v ∙ ap (λ a. Some (peer_in a)) args
-
       earlier : {a b c : ℕ} → c < length J → a ≡ c → b ≡ length J → a < b
       earlier lt e f = omega (arith, lt, e, f)
 
@@ -817,6 +843,51 @@ module _ (pid : Pid) (pick : Option Server) (out : StepOut) (J : Past) (grown : 
           by_verb (verb_is.Layout root) e on was = absurd (false≢true on)
           by_verb (verb_is.Sweep root) e on was = absurd (false≢true on)
 
+  verbs_later : (p : ℕ) (verb : Verb) → verb_of J p ≡ Some verb → verb_of J' p ≡ Some verb
+  verbs_later p verb is = (calls_later_now p verb is).0
+
+  -- where a close is recorded of a region that the base has open, it was left, or that is its close
+  close_based : (r : Region) (server : Server) → out.call ≡ Some (verb_is.CloseRegion r) → IsBasedAt J r server → IsBaseSettled J r server → IsBaseSettled J' r server
+  unfolding J'
+  close_based r server e based (inl left) = inl (left_later J J' later_step verbs_later r server left)
+  close_based r server e based (inr (inr c)) = elim (finds_close r e).2 [
+    | inl o ↦ let same : o.0 ≡ c.0 = same_Some o.0 c.0 (sym o.1 ∙ c.1) in absurd (not_opened r c.0 c.2 (ap (report_of J) (sym same) ∙ o.3))
+    | inr still ↦ absurd (none-some c.0 (sym still.0 ∙ c.1))
+  ]
+  close_based r server e based (inr (inl none)) =
+      let f = finds_close r e in
+      elim f.2 [
+        | inl o ↦ absurd (none-some o.0 (sym none ∙ o.1))
+        | inr still ↦
+            let verb = verb_called r e in
+            inr (inr (pid.0, last_here r (ap (is_about r) e ∙ is_itself r (Some r) refl), verb, peer_called r f.0 verb f.1 ∙ ap (λ s. Some (peer_is.Server s)) (based_one J r f.0 server still.1 based)))
+      ]
+
+  based_now : (r : Region) (server : Server) → IsBasedAt J' r server → IsBaseSettled J' r server
+  unfolding J'
+  based_now r server based = by out.call refl
+    where
+      was : IsBaseSettled J r server
+      was = kept.based r server based
+
+      by : (o : Option Verb) → out.call ≡ o → IsBaseSettled (entry_is.Step pid pick out ∷ J) r server
+      by None e = based_later J (entry_is.Step pid pick out ∷ J) later_step verbs_later r server (last_silent r e) was
+      by (Some verb) e = elim (cases_Bool (is_about r (Some verb))) [
+        | inr off ↦ based_later J (entry_is.Step pid pick out ∷ J) later_step verbs_later r server (cond-false (is_about r out.call) (Some pid.0) (last_call J r) (ap (is_about r) e ∙ off)) was
+        | inl on ↦ by_verb verb e on
+      ]
+        where
+          by_verb : (verb : Verb) → out.call ≡ Some verb → is_about r (Some verb) ≡ true → IsBaseSettled (entry_is.Step pid pick out ∷ J) r server
+          by_verb (verb_is.AssignRegion s) e on =
+              let same : s ≡ r = sym ((Rattle.hm_model.proofs.KeyTests.same_region-Decides r s).0 on) in
+              inl (left_later J (entry_is.Step pid pick out ∷ J) later_step verbs_later r server (void_left r server based was (finds_open r (e ∙ ap (λ x. Some (verb_is.AssignRegion x)) same)).0))
+          by_verb (verb_is.CloseRegion s) e on =
+              let same : s ≡ r = sym ((Rattle.hm_model.proofs.KeyTests.same_region-Decides r s).0 on) in
+              close_based r server (e ∙ ap (λ x. Some (verb_is.CloseRegion x)) same) based was
+          by_verb (verb_is.Fence peer) e on = absurd (false≢true on)
+          by_verb (verb_is.Layout root) e on = absurd (false≢true on)
+          by_verb (verb_is.Sweep root) e on = absurd (false≢true on)
+
   pub kept_step : Lasting (entry_is.Step pid pick out ∷ J)
   unfolding J'
   kept_step = record {
@@ -831,4 +902,5 @@ module _ (pid : Pid) (pick : Option Server) (out : StepOut) (J : Past) (grown : 
     sound = sound_now;
     called = λ p verb is. let lt = called_now p verb is in omega (arith, lt);
     settled = settled_now;
+    based = based_now;
   }

@@ -3,19 +3,22 @@ use Rattle.std.proofs.Common.{◌≡◌, ◌≢◌, ℕ, ◌+◌, ◌<◌, ◌�
 use Rattle.std.proofs.lemmas.Bool.{true≢false}
 use Rattle.std.proofs.lemmas.Option.{none-some, same_Some}
 use Rattle.hm_names.specs.Region.{Region}
+use Rattle.hm_names.specs.Server.{Server}
 use Rattle.hm_data.specs.declared.answer.Answer.{Answer}
 use Rattle.hm_data.specs.declared.answer.Answer.TheVariants as answer_is
 use Rattle.hm_data.specs.declared.answer.Cause.{Cause}
+use Rattle.hm_data.specs.declared.call.Peer.TheVariants as peer_is
 use Rattle.hm_data.specs.declared.call.Told.TheVariants as told_is
 use Rattle.hm_data.specs.declared.call.Verb.{Verb}
 use Rattle.hm_data.specs.declared.call.Verb.TheVariants as verb_is
+use Rattle.hm_data.specs.declared.place.Place.{Place}
 use Rattle.hm_model.specs.Answers.{failing, is_stopped, last_answer}
 use Rattle.hm_model.specs.Journal.{Past}
 use Rattle.hm_model.specs.Phase.{cause}
 use Rattle.hm_model.specs.Places.{place_of}
 use Rattle.hm_model.specs.Reports.{last_call, peer_if, peer_in, peer_of, verb_of}
 use Rattle.hm_model.specs.Inputs.{made_at_step}
-use Rattle.hm_model.specs.Single.{IsOver, called_at}
+use Rattle.hm_model.specs.Single.{IsBasedAt, IsLeft, IsOver, called_at}
 use Rattle.hm_model.specs.Tree.{Node, node_of}
 use Rattle.hm_model.specs.Undo.{stack}
 use Rattle.hm_model.specs.Whereabouts.{moved_by}
@@ -60,6 +63,13 @@ IsSettled J r p =
     ⊎ ((last_call J r ≡ Some p)
     ⊎ ((q : ℕ) × (last_call J r ≡ Some q) × (verb_of J q ≡ Some (verb_is.CloseRegion r)) × (called_at J p < called_at J q) × (peer_of J q ≡ peer_of J p)))
 
+-- a region that the base has open was left, no call of it was made since, or the last is a close of it there
+abbrev pub IsBaseSettled : Past → Region → Server → Type 0
+IsBaseSettled J r server =
+    IsLeft J r server
+    ⊎ ((last_call J r ≡ None)
+    ⊎ ((q : ℕ) × (last_call J r ≡ Some q) × (verb_of J q ≡ Some (verb_is.CloseRegion r)) × (peer_of J q ≡ Some (peer_is.Server server))))
+
 pub record Lasting (J : Past) : Type 0 where
   pub works : (p : ℕ) (r : Region) → Moves J p r → IsGoing (last_answer J p) → work_of J r ≡ Some p
   pub worker : (p : ℕ) (r : Region) → work_of J r ≡ Some p → Moves J p r × (last_answer J p ≢ None)
@@ -72,6 +82,7 @@ pub record Lasting (J : Past) : Type 0 where
   pub sound : (p : ℕ) (r : Region) → Moves J p r → IsSoundLast (last_answer J p)
   pub called : (p : ℕ) (verb : Verb) → verb_of J p ≡ Some verb → called_at J p < length J
   pub settled : (r : Region) (p : ℕ) → verb_of J p ≡ Some (verb_is.AssignRegion r) → IsSettled J r p
+  pub based : (r : Region) (server : Server) → IsBasedAt J r server → IsBaseSettled J r server
 
 pub kept_nothing : Lasting []
 kept_nothing = record {
@@ -79,13 +90,14 @@ kept_nothing = record {
   worker = λ p r is. absurd (none-some p is);
   calling = λ q node r is. absurd (none-some node is);
   only = λ p r m. absurd (none-some m.0 m.1);
-  stage = λ r. tt;
+  stage = λ r server is. absurd (none-some server (ap (λ (p : Place). p.server) is));
   fresh = λ p none. (refl, refl);
   caused = λ p m. refl;
   stacks = λ p m. refl;
   sound = λ p r m. tt;
   called = λ p verb is. absurd (none-some verb is);
   settled = λ r p is. absurd (none-some (verb_is.AssignRegion r) is);
+  based = λ r server is. inr (inl refl);
 }
 
 -- who made a call has a peer
@@ -113,6 +125,17 @@ module _ (J J' : Past) (later : Later J J') (grown : Grown J) (stays : CallsLate
   settled_later r p same is (inr (inr closed)) =
       let q = stays closed.0 (verb_is.CloseRegion r) closed.2 in
       inr (inr (closed.0, same ∙ closed.1, q.0, rw ((stays p (verb_is.AssignRegion r) is).1, q.1) closed.3, same_peers p closed.0 (verb_is.AssignRegion r) is closed.4))
+
+module _ (J J' : Past) (later : Later J J') (verbs : (p : ℕ) (verb : Verb) → verb_of J p ≡ Some verb → verb_of J' p ≡ Some verb) where
+  pub left_later : (r : Region) (server : Server) → IsLeft J r server → IsLeft J' r server
+  left_later r server (inl closed) =
+      inl (closed.0, verbs closed.0 (verb_is.CloseRegion r) closed.1, later.peers closed.0 (peer_is.Server server) closed.2, later.reports closed.0 told_is.Closed closed.3)
+  left_later r server (inr fenced) = inr (later.fences server fenced)
+
+  pub based_later : (r : Region) (server : Server) → last_call J' r ≡ last_call J r → IsBaseSettled J r server → IsBaseSettled J' r server
+  based_later r server same (inl left) = inl (left_later r server left)
+  based_later r server same (inr (inl none)) = inr (inl (same ∙ none))
+  based_later r server same (inr (inr c)) = inr (inr (c.0, same ∙ c.1, verbs c.0 (verb_is.CloseRegion r) c.2, later.peers c.0 (peer_is.Server server) c.3))
 
 -- an entry that makes no step
 pub record IsCalm (J J' : Past) : Type 0 where
@@ -181,6 +204,7 @@ module _ (J J' : Past) (calm : IsCalm J J') (grown : Grown J) (kept : Lasting J)
     ];
     called = λ p verb is. let lt = kept.called p verb (sym (calm.verb p) ∙ is) in let e = calm.calls_at p in let le = calm.longer in omega (arith, lt, e, le);
     settled = λ r p is. let was = sym (calm.verb p) ∙ is in settled_later J J' calm.later grown (λ q v w. (calm.verb q ∙ w, calm.calls_at q)) r p (calm.lasts r) was (kept.settled r p was);
+    based = λ r server is. based_later J J' calm.later (λ p verb v. calm.verb p ∙ v) r server (calm.lasts r) (kept.based r server (sym (calm.later.based r) ∙ is));
   }
     where
       nil_cons : (p : ℕ) (rest : List ℕ) → [] ≡ p ∷ rest → ⊥

@@ -1,5 +1,6 @@
 -- What the lines are at which roots open and close regions. No journal.
-use Rattle.std.proofs.Common.{◌≡◌, ℕ, List, [], ◌∷◌, Bool, true, false, ◌&&◌, cond, Option, Some, None, refl, ap, sym, ◌∙◌, subst, inl, inr, ◌⊎◌, slice_get, arith, ◌++◌, option_map}
+use Rattle.std.proofs.Common.{◌≡◌, ℕ, List, [], ◌∷◌, Bool, true, false, not, ◌&&◌, cond, Option, Some, None, refl, ap, sym, ◌∙◌, subst, inl, inr, ◌⊎◌, slice_get, arith, ◌++◌, option_map}
+use Rattle.std.specs.List.{list_any}
 use Rattle.std.proofs.lemmas.Bool.{cond-false, cond-true, false≢true, true≢false}
 use Rattle.std.proofs.lemmas.Option.{none-some, same_Some}
 use Rattle.hm_names.specs.Region.{Region}
@@ -25,11 +26,11 @@ use Rattle.hm_model.specs.Catalog.{Catalog, edited, keep, rows_at}
 use Rattle.hm_model.specs.Checks.{table_disabled, table_enabled}
 use Rattle.hm_model.specs.Keys.{same_key, same_table}
 use Rattle.hm_model.specs.Kinds.{kind_of, request_kind, table_of_request}
-use Rattle.hm_model.specs.Lists.{Line, lines_of}
+use Rattle.hm_model.specs.Lists.{Line, lines_of, orders_of}
 use Rattle.hm_model.specs.ActSorts.{is_edit}
 use Rattle.hm_model.specs.Changes.{add_merged, mark_merged, merge_edits, merged_of, split_edits, split_range}
 use Rattle.hm_model.specs.Checks.{by_start, parts_of}
-use Rattle.hm_model.specs.declared.part.Part.{Part}
+use Rattle.hm_model.specs.declared.merged.Merged.{Merged}
 use Rattle.hm_kinds.proofs.Covering.{order_has}
 use Rattle.hm_model.specs.Locks.{IsIn, in_name_order}
 use Rattle.hm_data.specs.declared.args.Child.{Child}
@@ -41,8 +42,9 @@ use Rattle.hm_model.specs.RegionActs.{close_regions}
 use Rattle.hm_model.specs.Tree.{args_in}
 use Rattle.hm_model.specs.Undoing.{closed_by, closed_by_request}
 use Rattle.hm_model.specs.RowsSaid.{Rows, in_state, is_live_status, range_in, live_among, status_in, table_state_in}
-use Rattle.hm_model.proofs.ExactRows.{is_listed}
+use Rattle.hm_model.proofs.ExactRows.{first_act, is_listed}
 use Rattle.hm_model.proofs.KeyTests.{cases_key, same_table-refl}
+use Rattle.hm_model.proofs.ValidSheets.{acts_of}
 use Rattle.hm_kinds.proofs.CreateTable.{Creating}
 use Rattle.hm_kinds.proofs.DeleteTable.{Deleting}
 use Rattle.hm_kinds.proofs.DisableTable.{Disabling}
@@ -77,13 +79,23 @@ abbrev pub is_finish : Act → Bool
 is_finish act_is.Finish = true
 is_finish act = false
 
--- acts after the one that closes regions, up to the one that changes them
-abbrev pub is_shut : Act → Bool
-is_shut act_is.Layout = true
-is_shut act_is.UpdateSplitMeta = true
-is_shut act_is.UpdateMergeMeta = true
-is_shut act_is.SetDisabled = true
-is_shut act = false
+-- the acts that change regions that are closed
+abbrev pub is_changing : Act → Bool
+is_changing act_is.UpdateSplitMeta = true
+is_changing act_is.UpdateMergeMeta = true
+is_changing act_is.SetDisabled = true
+is_changing act = false
+
+-- the acts that close regions
+abbrev pub is_shutting : Act → Bool
+is_shutting act_is.CloseParent = true
+is_shutting act_is.CloseParents = true
+is_shutting act_is.CloseRegions = true
+is_shutting act = false
+
+-- what is left closes no regions any more, and changes them
+abbrev pub is_shut : List Act → Bool
+is_shut acts = list_any is_changing acts && not (list_any is_shutting acts)
 
 -- the act by which a request closes regions
 abbrev pub closer : Request → Act
@@ -100,6 +112,9 @@ pub shut_next : (request : Request) (first : ℕ) (base : Catalog) (line next : 
 shut_next (request_is.SplitRegion region key) first base line next more then h Splitting.begins ne = (refl, inl refl)
 shut_next (request_is.SplitRegion region key) first base line next more then h (Splitting.found can) ne = (refl, inr refl)
 shut_next (request_is.SplitRegion region key) first base line next more then h (Splitting.closed can) ne = (refl, inl refl)
+shut_next (request_is.SplitRegion region key) first base line next more then h Splitting.starts ne = (refl, inl refl)
+shut_next (request_is.SplitRegion region key) first base line next more then h (Splitting.tested can) ne = (refl, inl refl)
+shut_next (request_is.SplitRegion region key) first base line next more then h (Splitting.ahead can) ne = (refl, inr refl)
 shut_next (request_is.SplitRegion region key) first base line next more then h (Splitting.laid can) ne = (refl, inl refl)
 shut_next (request_is.SplitRegion region key) first base line next more then h (Splitting.told can) ne = absurd (true≢false ne)
 shut_next (request_is.MergeRegions regions) first base line next more then h Merging.begins ne = (refl, inl refl)
@@ -112,22 +127,48 @@ shut_next (request_is.DisableTable table) first base line next more then h (Disa
 shut_next (request_is.DisableTable table) first base line next more then h (Disabling.told none) ne = (refl, inr refl)
 shut_next request first base line next more then h stage ne = absurd (false≢true h)
 
--- what stands before such an act is one, or what closes the regions
-pub shut_before : (request : Request) (first : ℕ) (base : Catalog) (line next : Line) (more : List Line) (then : List Edit) → shuts request ≡ true → StageOf request first base (line ∷ next ∷ more) then → is_shut next.act ≡ true → (is_shut line.act ≡ true) ⊎ (line.act ≡ closer request)
+-- what stands before such acts is one more, or what closes the regions
+pub shut_before : (request : Request) (first : ℕ) (base : Catalog) (line next : Line) (more : List Line) (then : List Edit) → shuts request ≡ true → StageOf request first base (line ∷ next ∷ more) then → is_shut (acts_of (next ∷ more)) ≡ true → (is_shut (acts_of (line ∷ next ∷ more)) ≡ true) ⊎ (line.act ≡ closer request)
 shut_before (request_is.SplitRegion region key) first base line next more then h Splitting.begins is = absurd (false≢true is)
 shut_before (request_is.SplitRegion region key) first base line next more then h (Splitting.found can) is = inr refl
 shut_before (request_is.SplitRegion region key) first base line next more then h (Splitting.closed can) is = inl refl
-shut_before (request_is.SplitRegion region key) first base line next more then h (Splitting.laid can) is = inl refl
+shut_before (request_is.SplitRegion region key) first base line next more then h Splitting.starts is = absurd (false≢true is)
+shut_before (request_is.SplitRegion region key) first base line next more then h (Splitting.tested can) is = absurd (false≢true is)
+shut_before (request_is.SplitRegion region key) first base line next more then h (Splitting.ahead can) is = inr refl
+shut_before (request_is.SplitRegion region key) first base line next more then h (Splitting.laid can) is = absurd (false≢true is)
 shut_before (request_is.SplitRegion region key) first base line next more then h (Splitting.told can) is = absurd (false≢true is)
 shut_before (request_is.MergeRegions regions) first base line next more then h Merging.begins is = absurd (false≢true is)
 shut_before (request_is.MergeRegions regions) first base line next more then h (Merging.found can) is = inr refl
 shut_before (request_is.MergeRegions regions) first base line next more then h (Merging.closed can) is = inl refl
-shut_before (request_is.MergeRegions regions) first base line next more then h (Merging.laid can) is = inl refl
+shut_before (request_is.MergeRegions regions) first base line next more then h (Merging.laid can) is = absurd (false≢true is)
 shut_before (request_is.MergeRegions regions) first base line next more then h (Merging.told can) is = absurd (false≢true is)
 shut_before (request_is.DisableTable table) first base line next more then h Disabling.begins is = absurd (false≢true is)
 shut_before (request_is.DisableTable table) first base line next more then h (Disabling.found none) is = absurd (false≢true is)
 shut_before (request_is.DisableTable table) first base line next more then h (Disabling.told none) is = inr refl
 shut_before request first base line next more then h stage is = absurd (false≢true h)
+
+-- where a request changes the regions that it closed, no act that closes some follows
+pub shut_now : (request : Request) (first : ℕ) (base : Catalog) (line : Line) (behind : List Line) (then : List Edit) → shuts request ≡ true → StageOf request first base (line ∷ behind) then → is_changing line.act ≡ true → is_shut (acts_of (line ∷ behind)) ≡ true
+shut_now (request_is.SplitRegion region key) first base line behind then h Splitting.begins is = absurd (false≢true is)
+shut_now (request_is.SplitRegion region key) first base line behind then h (Splitting.found can) is = absurd (false≢true is)
+shut_now (request_is.SplitRegion region key) first base line behind then h (Splitting.closed can) is = absurd (false≢true is)
+shut_now (request_is.SplitRegion region key) first base line behind then h Splitting.starts is = absurd (false≢true is)
+shut_now (request_is.SplitRegion region key) first base line behind then h (Splitting.tested can) is = absurd (false≢true is)
+shut_now (request_is.SplitRegion region key) first base line behind then h (Splitting.ahead can) is = absurd (false≢true is)
+shut_now (request_is.SplitRegion region key) first base line behind then h (Splitting.laid can) is = refl
+shut_now (request_is.SplitRegion region key) first base line behind then h (Splitting.told can) is = absurd (false≢true is)
+shut_now (request_is.SplitRegion region key) first base line behind then h (Splitting.opened can) is = absurd (false≢true is)
+shut_now (request_is.MergeRegions regions) first base line behind then h Merging.begins is = absurd (false≢true is)
+shut_now (request_is.MergeRegions regions) first base line behind then h (Merging.found can) is = absurd (false≢true is)
+shut_now (request_is.MergeRegions regions) first base line behind then h (Merging.closed can) is = absurd (false≢true is)
+shut_now (request_is.MergeRegions regions) first base line behind then h (Merging.laid can) is = refl
+shut_now (request_is.MergeRegions regions) first base line behind then h (Merging.told can) is = absurd (false≢true is)
+shut_now (request_is.MergeRegions regions) first base line behind then h (Merging.opened can) is = absurd (false≢true is)
+shut_now (request_is.DisableTable table) first base line behind then h Disabling.begins is = absurd (false≢true is)
+shut_now (request_is.DisableTable table) first base line behind then h (Disabling.found none) is = absurd (false≢true is)
+shut_now (request_is.DisableTable table) first base line behind then h (Disabling.told none) is = absurd (false≢true is)
+shut_now (request_is.DisableTable table) first base line behind then h (Disabling.moved none) is = refl
+shut_now request first base line behind then h stage is = absurd (false≢true h)
 
 -- where such a request opens regions it is past the point
 pub fill_makes : (request : Request) (first : ℕ) (base : Catalog) (line : Line) (behind : List Line) (then : List Edit) → fills request ≡ true → StageOf request first base (line ∷ behind) then → (makes line.act ≡ None) ⊎ ((line.after ≡ true) × (rests request ≡ false))
@@ -246,16 +287,16 @@ module _ (u : TableName) (asked : CatKey → Bool) where
       (subst (λ o. IsIn r (live_among u (keep true (key_is.Region r) o (rows_at asked there keys)))) (sym is) (live_here r range parents (rows_at asked there keys) own)))
   live_listed there (first ∷ keys) r range parents own on (inr later) is = live_kept (asked first) first (there first) (rows_at asked there keys) r (live_listed there keys r range parents own on later is)
 
--- no first act stands after one that closes
-abbrev pub begins_shut : List Line → Bool
-begins_shut [] = false
-begins_shut (line ∷ lines) = is_shut line.act
-
-pub first_open : (request : Request) → shuts request ≡ true → begins_shut (lines_of (request_kind request)) ≡ false
-first_open (request_is.DisableTable table) h = refl
-first_open (request_is.SplitRegion region key) h = refl
-first_open (request_is.MergeRegions regions) h = refl
-first_open request h = absurd (false≢true h)
+-- a request begins before it has closed its regions
+pub first_open : (request : Request) → shuts request ≡ true → (lines : List Line) → IsIn lines (orders_of (request_kind request)) → is_shut (acts_of lines) ≡ false
+first_open (request_is.DisableTable table) h lines (inl same) = ap (λ l. is_shut (acts_of l)) same
+first_open (request_is.DisableTable table) h lines (inr never) = absurd never
+first_open (request_is.MergeRegions regions) h lines (inl same) = ap (λ l. is_shut (acts_of l)) same
+first_open (request_is.MergeRegions regions) h lines (inr never) = absurd never
+first_open (request_is.SplitRegion region key) h lines (inl same) = ap (λ l. is_shut (acts_of l)) same
+first_open (request_is.SplitRegion region key) h lines (inr (inl same)) = ap (λ l. is_shut (acts_of l)) same
+first_open (request_is.SplitRegion region key) h lines (inr (inr never)) = absurd never
+first_open request h lines among = absurd (false≢true h)
 
 spawned : (next : ℕ) (children : List Child) → (spawns next children).children ≡ children
 spawned next [] = refl
@@ -300,21 +341,17 @@ fill_late (request_is.ModifyTable table version) first base line behind then h r
 fill_late request first base line behind then h r stage late e = absurd (false≢true h)
 
 -- the first act of a request only tests
-abbrev pub begins_edit : List Line → Bool
-begins_edit [] = false
-begins_edit (line ∷ lines) = is_edit line.act
-
-pub first_tests : (request : Request) → begins_edit (lines_of (request_kind request)) ≡ false
-first_tests (request_is.CreateNamespace ns) = refl
-first_tests (request_is.DropNamespace ns) = refl
-first_tests (request_is.CreateTable table keys) = refl
-first_tests (request_is.DeleteTable table) = refl
-first_tests (request_is.EnableTable table) = refl
-first_tests (request_is.DisableTable table) = refl
-first_tests (request_is.ModifyTable table version) = refl
-first_tests (request_is.SplitRegion region key) = refl
-first_tests (request_is.MergeRegions regions) = refl
-first_tests (request_is.Move region to) = refl
+pub first_tests : (request : Request) (act : Act) → Some act ≡ first_act (lines_of (request_kind request)) → is_edit act ≡ false
+first_tests (request_is.CreateNamespace ns) act is = ap is_edit (same_Some act _ is)
+first_tests (request_is.DropNamespace ns) act is = ap is_edit (same_Some act _ is)
+first_tests (request_is.CreateTable table keys) act is = ap is_edit (same_Some act _ is)
+first_tests (request_is.DeleteTable table) act is = ap is_edit (same_Some act _ is)
+first_tests (request_is.EnableTable table) act is = ap is_edit (same_Some act _ is)
+first_tests (request_is.DisableTable table) act is = ap is_edit (same_Some act _ is)
+first_tests (request_is.ModifyTable table version) act is = ap is_edit (same_Some act _ is)
+first_tests (request_is.SplitRegion region key) act is = ap is_edit (same_Some act _ is)
+first_tests (request_is.MergeRegions regions) act is = ap is_edit (same_Some act _ is)
+first_tests (request_is.Move region to) act is = absurd (none-some act (sym is))
 
 pub disable_edit : (table : TableName) (base : Catalog) (line : Line) (behind : List Line) (then : List Edit) → Disabling table base (line ∷ behind) then → is_edit line.act ≡ true → (line.act ≡ act_is.SetDisabling) ⊎ (line.act ≡ act_is.SetDisabled)
 disable_edit table base line behind then Disabling.begins e = absurd (false≢true e)
@@ -326,6 +363,9 @@ pub split_edit_act : (region : Region) (key : List ℕ) (first : ℕ) (base : Ca
 split_edit_act region key first base line behind then Splitting.begins e = absurd (false≢true e)
 split_edit_act region key first base line behind then (Splitting.found can) e = absurd (false≢true e)
 split_edit_act region key first base line behind then (Splitting.closed can) e = absurd (false≢true e)
+split_edit_act region key first base line behind then Splitting.starts e = absurd (false≢true e)
+split_edit_act region key first base line behind then (Splitting.tested can) e = absurd (false≢true e)
+split_edit_act region key first base line behind then (Splitting.ahead can) e = absurd (false≢true e)
 split_edit_act region key first base line behind then (Splitting.laid can) e = refl
 split_edit_act region key first base line behind then (Splitting.told can) e = absurd (false≢true e)
 split_edit_act region key first base line behind then (Splitting.opened can) e = absurd (false≢true e)
@@ -379,7 +419,7 @@ merge_good there regions first region out_of = good_both region (mark_merged the
     marks [] off = tt
     marks (one ∷ more) off = (inl (λ same. off (inl (same_Some region one (ap region_in same)))), marks more (λ later. off (inr later)))
 
-    parts : (table : TableName) (list : List Part) → AllGood region (merged_of there table first list)
+    parts : (table : TableName) (list : List Merged) → AllGood region (merged_of there table first list)
     parts table [] = tt
     parts table (part ∷ more) = (inr (_, _, refl), tt)
 

@@ -1,4 +1,11 @@
 -- Each region with a place is live, and its table is there and not disabled.
+use Rattle.std.proofs.Common.{if◌then◌else◌}
+use Rattle.hm_model.specs.Base.{MayStand, PartFits}
+use Rattle.hm_data.specs.declared.part.Part.{Part}
+use Rattle.hm_data.specs.declared.part.Part.TheVariants as part_is
+use Rattle.hm_model.proofs.Grown.{ends_parted}
+use Rattle.hm_model.proofs.Parted.{by_parts}
+use Rattle.hm_model.proofs.Rising.{table_new}
 use Rattle.std.proofs.Common.{◌≡◌, ◌≢◌, ℕ, ◌||◌, ◌&&◌, List, [], ◌∷◌, Bool, true, false, Option, Some, None, option_map, refl, ap, sym, ◌∙◌, subst, inl, inr, ◌⊎◌}
 use Rattle.std.proofs.lemmas.Bool.{and_parts, cases_Bool, cond-false, cond-true, false≢true, true≢false}
 use Rattle.std.proofs.lemmas.Option.{none-some, same_Some}
@@ -47,11 +54,11 @@ use Rattle.hm_model.specs.Undoing.{undo_edits}
 use Rattle.hm_model.specs.Whereabouts.{moved_by}
 use Rattle.hm_model.specs.declared.lock.Ask.{Ask}
 use Rattle.hm_model.specs.declared.lock.Resource.TheVariants as resource_is
-use Rattle.hm_model.proofs.ExactRows.{cons_nil}
+use Rattle.hm_model.proofs.ExactRows.{begin_alike, cons_nil, first_act}
 use Rattle.hm_model.proofs.KeyTests.{same_region-is, same_region-refl, same_table-is, same_table-refl}
 use Rattle.hm_model.proofs.LegalSteps.{ready_stops}
 use Rattle.hm_model.proofs.Rows.{row_read}
-use Rattle.hm_model.proofs.Trees.{Grown, down_rooted, grown_all, submit_rooted}
+use Rattle.hm_model.proofs.Trees.{Grown, down_rooted, grown_all, sheets_stay, submit_rooted}
 use Rattle.hm_kinds.proofs.Covering.{covers_from, merge_own, rows_table}
 use Rattle.hm_kinds.proofs.Roots.{Stage, StageOf}
 use Rattle.hm_serial.proofs.Apart.{Aside}
@@ -67,7 +74,7 @@ use Rattle.hm_cover.proofs.Spared.{Spares, spared_all}
 use Rattle.hm_single.specs.Calls.{MovesIn}
 use Rattle.hm_single.specs.Theorem.{PlacedLive, PlacedWhereOn}
 use Rattle.hm_single.proofs.Calm.{AllCalm, AllOn, fills_regions, place_still, step_calm}
-use Rattle.hm_single.proofs.Lines.{IsLiveRow, begins_edit, disable_edit, disable_keeps, fill_late, fills, first_tests, good_live, is_creating, is_deleting, is_finish, is_on, is_shut, merge_edit_act, merge_good, on_changed, on_state, rests, shuts, split_edit_act, split_good}
+use Rattle.hm_single.proofs.Lines.{IsLiveRow, disable_edit, disable_keeps, fill_late, fills, first_tests, good_live, is_changing, is_creating, is_deleting, is_finish, is_on, merge_edit_act, merge_good, on_changed, on_state, rests, shut_now, shuts, split_edit_act, split_good}
 use Rattle.hm_single.proofs.Own.{Own, RunsNext, cut_or, does, led_now, own, root_is, step}
 use Rattle.hm_single.proofs.Placing.{placed_live}
 use Rattle.hm_single.proofs.Tidies.{edits_or, kid_editless, lined_unmoved, tidy_all}
@@ -263,7 +270,7 @@ module _ (pid : Pid) (pick : Option Server) (out : StepOut) (J : Past) (legal : 
     top_here = (ap (node_of J) me ∙ its.node_is, e)
 
     begun : last_answer J pid.0 ≢ None
-    begun none = true≢false (sym (ap is_edit (sym mine.act_is) ∙ edit) ∙ ap begins_edit (mine.fresh none).1 ∙ ap (λ a. begins_edit (lines_of (kind_of a))) args_is ∙ first_tests request)
+    begun none = true≢false (sym (ap is_edit (sym mine.act_is) ∙ edit) ∙ first_tests request mine.line.act (begin_alike (kind_of its.node.args) (mine.line ∷ mine.behind) (mine.fresh none).1 ∙ ap (λ a. first_act (lines_of (kind_of a))) args_is))
 
     running : root_ended J pid.0 ≡ false
     running = subst (λ r. root_ended J r ≡ false) me (step_open pid pick out J grown its (does pid pick out J legal))
@@ -278,10 +285,11 @@ module _ (pid : Pid) (pick : Option Server) (out : StepOut) (J : Past) (legal : 
     line_edit = ap is_edit (sym mine.act_is) ∙ edit
 
     -- the regions that the root closes have no place
-    closed_none : shuts request ≡ true → is_shut its.row.act ≡ true → is_finish its.row.act ≡ false → Closes J pid.0 request region → covers its.node.args (key_is.Region region) ≡ true → ⊥
-    closed_none h shut unfinished c cov =
+    closed_none : shuts request ≡ true → is_changing its.row.act ≡ true → is_finish its.row.act ≡ false → Closes J pid.0 request region → covers its.node.args (key_is.Region region) ≡ true → ⊥
+    closed_none h changing unfinished c cov =
         let t = tidy_all J legal.0 pid.0 its.node request first (its.node_is, e) args_is listed in
-        let closed = t.closed h begun its.row.act runs_it shut region c in
+        let shut = shut_now request first mine.base mine.line mine.behind mine.then h stage (ap is_changing (sym mine.act_is) ∙ changing) in
+        let closed = t.closed h begun (mine.line ∷ mine.behind) mine.led shut region c in
         true≢false (sym placed ∙ unassigned J legal.0 pid.0 its.node its.node_is e running region cov (
           (closed.0, closed.1, closed.2, quiet_tree J grown pid.0 its.node its.ready closed.0 closed.1 closed.2.0 closed.2.1 (below closed.0 closed.1 closed.2)),
           λ p x m. t.unassigns h its.row.act runs_it unfinished p x region m,
@@ -365,7 +373,7 @@ module _ (pid : Pid) (pick : Option Server) (out : StepOut) (J : Past) (legal : 
                 let reading : reads its.node.args (key_is.Region region) ≡ true = ap (λ a. reads a (key_is.Region region)) args ∙ same in
                 let now = mine.now (key_is.Region region) (Rattle.std.proofs.lemmas.Bool.or_right (covers its.node.args (key_is.Region region)) (reads its.node.args (key_is.Region region)) reading)
                 ∙ disable_keeps table mine.base (mine.line ∷ mine.behind) mine.then region disabling ∙ ap (λ (c : Rattle.hm_model.specs.Catalog.Catalog). c (key_is.Region region)) (mine.begun begun) in
-                absurd (closed_none (ap shuts is) (ap is_shut act) (ap is_finish act) (inr (table, is, one, fine.0.0, (fine.0.1, sym now ∙ fine.0.2))) (ap (λ a. covers a (key_is.Region region)) args ∙ ap (λ b. b || false) same))
+                absurd (closed_none (ap shuts is) (ap is_changing act) (ap is_finish act) (inr (table, is, one, fine.0.0, (fine.0.1, sym now ∙ fine.0.2))) (ap (λ a. covers a (key_is.Region region)) args ∙ ap (λ b. b || false) same))
           ]
         ]
     by_request (request_is.SplitRegion parent key) is =
@@ -374,7 +382,7 @@ module _ (pid : Pid) (pick : Option Server) (out : StepOut) (J : Past) (legal : 
         let fine = live region placed in
         let edits : out.edits ≡ split_edits (row_at at_now.rows) parent key first = act_out act_is.UpdateSplitMeta act ∙ ap (λ a. (update_split_meta its.row.next a at_now.rows).edits) args in
         elim (among_or region (parent ∷ [])) [
-          | inl own_it ↦ absurd (closed_none (ap shuts is) (ap is_shut act) (ap is_finish act) (inl (subst (λ q. IsIn region (Rattle.hm_model.specs.Undoing.closed_by_request q)) (sym is) own_it))
+          | inl own_it ↦ absurd (closed_none (ap shuts is) (ap is_changing act) (ap is_finish act) (inl (subst (λ q. IsIn region (Rattle.hm_model.specs.Undoing.closed_by_request q)) (sym is) own_it))
               (ap (λ a. covers a (key_is.Region region)) args ∙ covers_from (args_are.Root (request_is.SplitRegion parent key) first) (resource_is.Region parent) (key_is.Region region) (inr (inr (inl refl))) (elim own_it [ inl same ↦ ap (same_region parent) same ∙ same_region-refl parent | inr never ↦ absurd never ])))
           | inr out_of ↦ (
             subst (λ l. IsLiveRow (edited l (key_is.Region region) (cat J (key_is.Region region)))) (sym edits) (good_live region (split_edits (row_at at_now.rows) parent key first) (split_good (row_at at_now.rows) parent key first region (λ same. out_of (inl same))) (cat J (key_is.Region region)) fine.0),
@@ -387,7 +395,7 @@ module _ (pid : Pid) (pick : Option Server) (out : StepOut) (J : Past) (legal : 
         let fine = live region placed in
         let edits : out.edits ≡ merge_edits (row_at at_now.rows) regions first = act_out act_is.UpdateMergeMeta act ∙ ap (λ a. (update_merge_meta its.row.next a at_now.rows).edits) args in
         elim (among_or region regions) [
-          | inl own_it ↦ absurd (closed_none (ap shuts is) (ap is_shut act) (ap is_finish act) (inl (subst (λ q. IsIn region (Rattle.hm_model.specs.Undoing.closed_by_request q)) (sym is) own_it))
+          | inl own_it ↦ absurd (closed_none (ap shuts is) (ap is_changing act) (ap is_finish act) (inl (subst (λ q. IsIn region (Rattle.hm_model.specs.Undoing.closed_by_request q)) (sym is) own_it))
               (ap (λ a. covers a (key_is.Region region)) args ∙ covers_from (args_are.Root (request_is.MergeRegions regions) first) (resource_is.Region region) (key_is.Region region) (merge_own regions first region own_it) (same_region-refl region)))
           | inr out_of ↦ (
             subst (λ l. IsLiveRow (edited l (key_is.Region region) (cat J (key_is.Region region)))) (sym edits) (good_live region (merge_edits (row_at at_now.rows) regions first) (merge_good (row_at at_now.rows) regions first region out_of) (cat J (key_is.Region region)) fine.0),
@@ -518,7 +526,8 @@ module _ (pid : Pid) (row : ℕ) (out : StepOut) (J : Past) (legal : IsLegal (en
 
   undo_calm : AllCalm K
   undo_calm r node request first holds own_args h falls region c =
-      calm r node request first (undo_back pid row out J legal its_grown its_all.falls r node holds) own_args h (elim falls [ inl f ↦ inl (may_on K J r node refl refl refl f) | inr rest ↦ inr rest ]) region c
+      let held = undo_back pid row out J legal its_grown its_all.falls r node holds in
+      calm r node request first held own_args h (elim falls [ inl f ↦ inl (may_on K J r node refl refl (sym (sheets_stay (entry_is.Undo pid row out) J legal r node held.0.0)) f) | inr rest ↦ inr rest ]) region c
 
 -- in every legal journal
 abbrev pub BothFine : Past → Type 0
@@ -527,22 +536,73 @@ BothFine J = AllFine J × AllCalm J
 on_all : (J : Past) → AllFine J → AllOn J
 on_all J live region placed = (live region placed).1
 
+part_fine : (part : Part) (J : Past) → IsLegal J → PartFits part J → AllFine J → AllFine (entry_is.Base part ∷ J)
+part_fine (part_is.Head entries last parts sheets) J legal fits was region placed = absurd (false≢true (ap (λ j. is_placed (place_of j region)) (sym fits.0) ∙ placed))
+part_fine (part_is.Namespace ns) J legal fits was region placed = was region placed
+part_fine (part_is.Server server fenced) J legal fits was region placed = was region placed
+part_fine (part_is.Root pid nonce args cause) J legal fits was region placed = was region placed
+part_fine (part_is.Layout pid) J legal fits was region placed = was region placed
+part_fine (part_is.Table own ids row) J legal fits was region placed = by (same_table region.table own) refl (was region placed)
+  where
+    by : (b : Bool) → same_table region.table own ≡ b → IsFine J region → IsFine (entry_is.Base (part_is.Table own ids row) ∷ J) region
+    by false e fine = rw e fine
+    by true e fine = absurd (gone (cat J (key_is.Table region.table)) (ap (λ t. cat J (key_is.Table t)) (same_table-is region.table own e) ∙ (table_new own ids row J legal fits).0) fine.1)
+      where
+        gone : (o : Option CatRow) → o ≡ None → is_on o ≡ true → ⊥
+        gone None n on = false≢true on
+        gone (Some r) n on = none-some r (sym n)
+part_fine (part_is.Region own range status parents given) J legal fits was region placed = by (same_region region own) refl placed
+  where
+    opens : MayStand given status fits.4.0 → is_placed given ≡ true → (status ≡ status_is.Live) × (fits.4.0 ≡ state_is.Enabled)
+    opens (inl off) on = absurd (true≢false (sym on ∙ off.0))
+    opens (inr up) on = (up.1, up.2)
+
+    by : (b : Bool) → same_region region own ≡ b → is_placed (if same_region region own then given else place_of J region) ≡ true → IsFine (entry_is.Base (part_is.Region own range status parents given) ∷ J) region
+    by false e on = rw e (was region (sym (ap (λ b. is_placed (if b then given else place_of J region)) e) ∙ on))
+    by true e on =
+        let is = opens fits.4.3 (sym (ap (λ b. is_placed (if b then given else place_of J region)) e) ∙ on) in
+        let table : cat J (key_is.Table region.table) ≡ Some (row_is.Table fits.4.0 fits.4.1) = ap (λ (r : Region). cat J (key_is.Table r.table)) (same_region-is region own e) ∙ fits.4.2 in
+        rw e ((range, parents, ap (λ s. Some (row_is.Region range s parents)) is.0), ap is_on table ∙ ap (λ s. is_on (Some (row_is.Table s fits.4.1))) is.1)
+
+parts_fine : (J : Past) → IsLegal J → ends_parted J ≡ true → AllFine J
+parts_fine [] legal is = λ region placed. absurd (false≢true placed)
+parts_fine (entry_is.Base part ∷ J) legal is = part_fine part J legal.0 legal.1.0 (parts_fine J legal.0 (by_parts (λ j. ends_parted j ≡ true) refl (λ own older. refl) part J legal.1.0))
+parts_fine (entry_is.Start sheets ∷ J) legal is = absurd (false≢true is)
+parts_fine (entry_is.Submit nonce request ∷ J) legal is = absurd (false≢true is)
+parts_fine (entry_is.Step pid pick out ∷ J) legal is = absurd (false≢true is)
+parts_fine (entry_is.Undo pid row out ∷ J) legal is = absurd (false≢true is)
+parts_fine (entry_is.Report call told ∷ J) legal is = absurd (false≢true is)
+parts_fine (entry_is.Up server ∷ J) legal is = absurd (false≢true is)
+parts_fine (entry_is.Down server ∷ J) legal is = absurd (false≢true is)
+parts_fine (entry_is.Abort pid ∷ J) legal is = absurd (false≢true is)
+parts_fine (entry_is.Adopt sheets ∷ J) legal is = absurd (false≢true is)
+
 pub fine_all : (J : Past) → IsLegal J → BothFine J
 fine_all [] legal = ((λ region placed. absurd (false≢true placed)), (λ r node request first holds. absurd (none-some node holds.0.0)))
 fine_all (entry_is.Start sheets ∷ J) legal = (let b = fine_all J legal.0 in (b.0, (λ r node request first holds. absurd (none-some node (sym (none_at J legal.1.0.0 r) ∙ holds.0.0)))))
 fine_all (entry_is.Submit nonce asked ∷ J) legal =
     let b = fine_all J legal.0 in
-    let g = grown_all J legal.0 in
-    (b.0, (λ r node request first holds own_args h falls region c. b.1 r node request first (held_before J (entry_is.Submit nonce asked ∷ J) (submit_rooted nonce asked J g) g r node refl refl refl holds) own_args h (elim falls [ inl f ↦ inl (may_on (entry_is.Submit nonce asked ∷ J) J r node refl refl refl f) | inr rest ↦ inr rest ]) region c))
+    let g = grown_all J legal.0 in (
+      b.0,
+      (λ r node request first holds own_args h falls region c.
+          let held = held_before J (entry_is.Submit nonce asked ∷ J) (submit_rooted nonce asked J g) g r node refl refl refl holds in
+          b.1 r node request first held own_args h (elim falls [ inl f ↦ inl (may_on (entry_is.Submit nonce asked ∷ J) J r node refl refl (sym (sheets_stay (entry_is.Submit nonce asked) J legal r node held.0.0)) f) | inr rest ↦ inr rest ]) region c),
+    )
 fine_all (entry_is.Step pid pick out ∷ J) legal = (let b = fine_all J legal.0 in (step_fine pid pick out J legal b.0 b.1, step_calm pid pick out J legal (on_all J b.0) b.1))
 fine_all (entry_is.Undo pid row out ∷ J) legal = (let b = fine_all J legal.0 in (undo_fine pid row out J legal b.0 b.1, undo_calm pid row out J legal b.0 b.1))
 fine_all (entry_is.Report call told ∷ J) legal = (let b = fine_all J legal.0 in (b.0, (λ r node request first holds own_args h falls region c. b.1 r node request first holds own_args h falls region c)))
 fine_all (entry_is.Up server ∷ J) legal = (let b = fine_all J legal.0 in (b.0, (λ r node request first holds own_args h falls region c. b.1 r node request first holds own_args h falls region c)))
 fine_all (entry_is.Down server ∷ J) legal =
     let b = fine_all J legal.0 in
-    let g = grown_all J legal.0 in
-    (b.0, (λ r node request first holds own_args h falls region c. b.1 r node request first (held_before J (entry_is.Down server ∷ J) (down_rooted server J g) g r node refl refl refl holds) own_args h (elim falls [ inl f ↦ inl (may_on (entry_is.Down server ∷ J) J r node refl refl refl f) | inr rest ↦ inr rest ]) region c))
+    let g = grown_all J legal.0 in (
+      b.0,
+      (λ r node request first holds own_args h falls region c.
+          let held = held_before J (entry_is.Down server ∷ J) (down_rooted server J g) g r node refl refl refl holds in
+          b.1 r node request first held own_args h (elim falls [ inl f ↦ inl (may_on (entry_is.Down server ∷ J) J r node refl refl (sym (sheets_stay (entry_is.Down server) J legal r node held.0.0)) f) | inr rest ↦ inr rest ]) region c),
+    )
 fine_all (entry_is.Abort pid ∷ J) legal = (let b = fine_all J legal.0 in (b.0, (λ r node request first holds own_args h falls region c. b.1 r node request first holds own_args h falls region c)))
+fine_all (entry_is.Adopt sheets ∷ J) legal = (let b = fine_all J legal.0 in (b.0, (λ r node request first holds own_args h falls region c. b.1 r node request first holds own_args h falls region c)))
+fine_all (entry_is.Base part ∷ J) legal = (parts_fine (entry_is.Base part ∷ J) legal refl, (λ r node request first holds. absurd (none-some node holds.0.0)))
 
 -- each region with a place is live, and its table there and not disabled
 pub all_live : PlacedLive

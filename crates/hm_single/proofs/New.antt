@@ -2,7 +2,7 @@
 use Rattle.std.proofs.Common.{◌≡◌, ◌≢◌, ℕ, ◌+◌, ◌<◌, ◌≤◌, ◌&&◌, ◌==◌, cond, not, List, [], ◌∷◌, Bool, true, false, Option, Some, None, is_none, refl, ap, sym, ◌∙◌, subst, inl, inr, arith}
 use Rattle.std.specs.List.{list_any}
 use Rattle.std.proofs.lemmas.Bool.{cases_Bool, cond-true, false≢true, or_left, or_parts, true≢false}
-use Rattle.std.proofs.lemmas.Option.{none-some}
+use Rattle.std.proofs.lemmas.Option.{none-some, same_Some}
 use Rattle.hm_names.specs.Region.{Region}
 use Rattle.hm_names.specs.Server.{Server}
 use Rattle.hm_names.specs.declared.pid.Pid.{Pid}
@@ -29,7 +29,7 @@ use Rattle.hm_model.specs.Lists.{Line, exact_rows, lines_of}
 use Rattle.hm_model.specs.Locks.{IsIn}
 use Rattle.hm_model.specs.Phase.{or_else, root_ended}
 use Rattle.hm_model.specs.Reads.{covers, reads}
-use Rattle.hm_model.specs.Requests.{wrong_in}
+use Rattle.hm_model.specs.Requests.{are_siblings, wrong_in}
 use Rattle.hm_model.specs.RowsSaid.{range_in, status_in}
 use Rattle.hm_model.specs.Rules.{IsLegal}
 use Rattle.hm_model.specs.Serial.{serial}
@@ -37,7 +37,10 @@ use Rattle.hm_model.specs.Tree.{new_ids}
 use Rattle.hm_model.specs.Undoing.{closed_by_request}
 use Rattle.hm_model.specs.Views.{asked_of}
 use Rattle.hm_model.specs.Whereabouts.{moved_by}
-use Rattle.hm_model.proofs.KeyTests.{same_region-refl, same_table-is}
+use Rattle.hm_model.proofs.Parted.{no_half}
+use Rattle.hm_model.proofs.ExactRows.{begin_alike, first_act}
+use Rattle.hm_model.proofs.KeyTests.{same_region-refl}
+use Rattle.hm_model.proofs.Siblings.{merge_is, one_table}
 use Rattle.hm_model.proofs.LegalSteps.{StepFacts, ready_stops}
 use Rattle.hm_model.proofs.Tops.{TopHolds}
 use Rattle.hm_model.proofs.Trees.{grown_all}
@@ -72,16 +75,12 @@ is_closing act_is.CloseParent = true
 is_closing act_is.CloseParents = true
 is_closing act = false
 
-abbrev begins_closing : List Line → Bool
-begins_closing [] = false
-begins_closing (line ∷ lines) = is_closing line.act
-
 -- no first act of a request does
-first_checks : (request : Request) → closes_first request ≡ true → begins_closing (lines_of (request_kind request)) ≡ false
-first_checks (request_is.DisableTable t) h = refl
-first_checks (request_is.SplitRegion own_region key) h = refl
-first_checks (request_is.MergeRegions regions) h = refl
-first_checks request h = absurd (false≢true h)
+first_checks : (request : Request) → closes_first request ≡ true → (act : Act) → Some act ≡ first_act (lines_of (request_kind request)) → is_closing act ≡ false
+first_checks (request_is.DisableTable t) h act is = ap is_closing (same_Some act _ is)
+first_checks (request_is.SplitRegion own_region key) h act is = ap is_closing (same_Some act _ is)
+first_checks (request_is.MergeRegions regions) h act is = ap is_closing (same_Some act _ is)
+first_checks request h act is = absurd (false≢true h)
 
 -- rows of live regions are there
 none_missing : (rows : List (Option CatRow)) → regions_live rows ≡ None → list_any (λ row. is_none (status_in row)) rows ≡ false
@@ -120,6 +119,9 @@ closed_there : (request : Request) (first : ℕ) (base : Catalog) (line : Line) 
 closed_there (request_is.SplitRegion own_region key) first base line behind then Splitting.begins h c r among = absurd (false≢true c)
 closed_there (request_is.SplitRegion own_region key) first base line behind then (Splitting.found can) h c r among = split_there own_region key base can r among
 closed_there (request_is.SplitRegion own_region key) first base line behind then (Splitting.closed can) h c r among = absurd (false≢true c)
+closed_there (request_is.SplitRegion own_region key) first base line behind then Splitting.starts h c r among = absurd (false≢true c)
+closed_there (request_is.SplitRegion own_region key) first base line behind then (Splitting.tested can) h c r among = absurd (false≢true c)
+closed_there (request_is.SplitRegion own_region key) first base line behind then (Splitting.ahead can) h c r among = split_there own_region key base can r among
 closed_there (request_is.SplitRegion own_region key) first base line behind then (Splitting.laid can) h c r among = absurd (false≢true c)
 closed_there (request_is.SplitRegion own_region key) first base line behind then (Splitting.told can) h c r among = absurd (false≢true c)
 closed_there (request_is.SplitRegion own_region key) first base line behind then (Splitting.opened can) h c r among = absurd (false≢true c)
@@ -143,28 +145,16 @@ closed_covered (request_is.MergeRegions regions) first h r among =
 closed_covered (request_is.DisableTable t) first h r among = absurd among
 closed_covered request first h r among = absurd (false≢true h)
 
--- what is wrong with regions that aren't a pair
-abbrev wrong_unless : Bool → Option ℕ
-wrong_unless fine = cond fine None (Some 4)
-
--- regions that can be submitted for a merge are of one table
-pair_table : (regions : List Region) → wrong_in (request_is.MergeRegions regions) ≡ None → (r : Region) → IsIn r regions → table_of_first regions ≡ Some r.table
-pair_table [] right r among = absurd among
-pair_table (one ∷ []) right r among = absurd (none-some 4 (sym right))
-pair_table (one ∷ other ∷ []) right r (inl same) = ap (λ (x : Region). Some x.table) (sym same)
-pair_table (one ∷ other ∷ []) right r (inr (inl same)) = by (same_table one.table other.table) refl right
-  where
-    by : (b : Bool) → same_table one.table other.table ≡ b → wrong_unless (b && not (one.id == other.id)) ≡ None → Some one.table ≡ Some r.table
-    by true e h = ap Some (same_table-is one.table other.table e) ∙ ap (λ (x : Region). Some x.table) (sym same)
-    by false e h = absurd (none-some 4 (sym h))
-pair_table (one ∷ other ∷ []) right r (inr (inr never)) = absurd never
-pair_table (one ∷ other ∷ third ∷ more) right r among = absurd (none-some 4 (sym right))
+-- regions that can be merged are of the table of the first
+merge_table : (regions : List Region) → are_siblings regions ≡ true → (r : Region) → IsIn r regions → table_of_first regions ≡ Some r.table
+merge_table [] siblings r among = absurd among
+merge_table (region ∷ more) siblings r among = ap Some (one_table region more siblings r among)
 
 -- the regions that a request names are of its table
 closed_table : (request : Request) → closes_first request ≡ true → wrong_in request ≡ None → (r : Region) → IsIn r (closed_by_request request) → table_of_request request ≡ Some r.table
 closed_table (request_is.SplitRegion own_region key) h right r (inl same) = ap (λ (x : Region). Some x.table) (sym same)
 closed_table (request_is.SplitRegion own_region key) h right r (inr never) = absurd never
-closed_table (request_is.MergeRegions regions) h right r among = pair_table regions right r among
+closed_table (request_is.MergeRegions regions) h right r among = merge_table regions (merge_is regions right).siblings r among
 closed_table (request_is.DisableTable t) h right r among = absurd among
 closed_table request h right r among = absurd (false≢true h)
 
@@ -181,7 +171,7 @@ module _ (pid : Pid) (pick : Option Server) (out : StepOut) (J : Past) (legal : 
     mine = own pid pick out J legal top exact
 
     begun : last_answer J pid.0 ≢ None
-    begun none = true≢false (sym (ap is_closing (sym mine.act_is) ∙ closing) ∙ ap begins_closing (mine.fresh none).1 ∙ ap (λ a. begins_closing (lines_of (kind_of a))) args_is ∙ first_checks request h)
+    begun none = true≢false (sym (ap is_closing (sym mine.act_is) ∙ closing) ∙ first_checks request h mine.line.act (begin_alike (kind_of its.node.args) (mine.line ∷ mine.behind) (mine.fresh none).1 ∙ ap (λ a. first_act (lines_of (kind_of a))) args_is))
 
     holds : TopHolds J pid.0 its.node
     holds = ((its.node_is, top), begun, subst (λ r. root_ended J r ≡ false) (root_is pid pick out J legal top exact) (step_open pid pick out J (grown_all J legal.0) its (does pid pick out J legal)))
@@ -195,7 +185,7 @@ module _ (pid : Pid) (pick : Option Server) (out : StepOut) (J : Past) (legal : 
         let guarded = or_left (covers its.node.args (key_is.Region r)) (reads its.node.args (key_is.Region r)) (ap (λ a. covers a (key_is.Region r)) args_is ∙ closed_covered request first h r among) in
         sym (((stands_all J legal.0).tree pid.0 its.node holds).base (key_is.Region r) guarded)
         ∙ ap (serial J) (sym (key_of_id r r.table refl))
-        ∙ (whole_all n big J legal.0).free pid.0 its.node (record { request = request; first = first }) its.node_is (ap asked_of args_is) (running_undone (last_answer J pid.0) (ready_stops J pid.0 its.node (last_answer J pid.0) its.ready)) r.table r.id (closed_table request h right r among, new.0, new.1)
+        ∙ (whole_all n big J legal.0 (no_half J legal.1.0)).free pid.0 its.node (record { request = request; first = first }) its.node_is (ap asked_of args_is) (running_undone (last_answer J pid.0) (ready_stops J pid.0 its.node (last_answer J pid.0) its.ready)) r.table r.id (closed_table request h right r among, new.0, new.1)
 
     was_there : (r : Region) → IsIn r (closed_by_request request) → was J pid.0 (key_is.Region r) ≢ None
     was_there r among none =

@@ -31,13 +31,13 @@ use Rattle.hm_model.specs.Places.{is_the_server, place_of, tries_of}
 use Rattle.hm_model.specs.Procedures.{sheet_at, sheet_by, sheet_of}
 use Rattle.hm_model.specs.Rest.{IsReady}
 use Rattle.hm_model.specs.Rules.{IsLegal}
-use Rattle.hm_model.specs.Sheets.{sheet_for, sheets_of}
+use Rattle.hm_model.specs.Sheets.{sheet_for, sheets_by}
 use Rattle.hm_model.specs.TransitActs.{is_state, told_place}
 use Rattle.hm_model.specs.Tree.{Node, is_top, node_of}
 use Rattle.hm_model.specs.Undo.{is_empty, stack}
 use Rattle.hm_model.specs.Wanted.{wanted_by_request, wanted_of}
 use Rattle.hm_model.specs.Whereabouts.{moved_by}
-use Rattle.hm_model.proofs.ExactRows.{all_valid, exact_is, sheet_is}
+use Rattle.hm_model.proofs.ExactRows.{exact_is, sheet_is, valid_by}
 use Rattle.hm_model.proofs.NameTies.{same_server-is, same_server-refl}
 use Rattle.hm_model.proofs.Trees.{grown_all}
 use Rattle.hm_single.specs.Picking.{PicksAreRight, PicksAreThere}
@@ -136,16 +136,16 @@ module _ (J : Past) (legal : IsLegal J) (p : ℕ) (node : Node) (is : node_of J 
   sight : input J p node None ≡ step_input J p node None
   sight = ap (λ b. turn_input J b (stack J p) (step_input J p node None)) undoes_not
 
-  sheet_there : sheet_by J p ≡ sheet_for (sheets_of J) (kind_of node.args)
+  sheet_there : sheet_by J p ≡ sheet_for (sheets_by J node.root) (kind_of node.args)
   sheet_there = ap (λ n. elim n as (λ x. Option Sheet) [ None ↦ None | Some x ↦ sheet_of J p x ]) is
 
   module _ (needs : needs_server J p node ≡ true) where
-    needs_step : picks_by (sheet_for (sheets_of J) (kind_of node.args)) (step_input J p node None) ≡ true
+    needs_step : picks_by (sheet_for (sheets_by J node.root) (kind_of node.args)) (step_input J p node None) ≡ true
     needs_step = ap (λ s. picks_by s (step_input J p node None)) (sym sheet_there) ∙ ap (λ at. picks_by (sheet_at J at) at) (sym sight) ∙ needs
 
     -- a request to move has passed its first row
     begun : (region : Region) (to : Option Server) (first : ℕ) → node.args ≡ args_are.Root (request_is.Move region to) first → last_answer J p ≢ None
-    begun region to first args none = by (sheet_for (sheets_of J) (kind_of node.args)) refl needs_step
+    begun region to first args none = by (sheet_for (sheets_by J node.root) (kind_of node.args)) refl needs_step
       where
         at : StepIn
         at = step_input J p node None
@@ -153,10 +153,10 @@ module _ (J : Past) (legal : IsLegal J) (p : ℕ) (node : Node) (is : node_of J 
         row_five : row_after (first_row_of node.args) (last_answer J p) ≡ 5
         row_five = ap (row_after (first_row_of node.args)) none ∙ ap first_row_of args
 
-        by : (o : Option Sheet) → sheet_for (sheets_of J) (kind_of node.args) ≡ o → picks_by o (step_input J p node None) ≡ true → ⊥
+        by : (o : Option Sheet) → sheet_for (sheets_by J node.root) (kind_of node.args) ≡ o → picks_by o (step_input J p node None) ≡ true → ⊥
         by None e h = false≢true h
         by (Some sheet) e h =
-            let valid = sheet_is (sheets_of J) (all_valid J legal) (kind_of node.args) sheet e in
+            let valid = sheet_is (sheets_by J node.root) (valid_by J legal node.root) (kind_of node.args) sheet e in
             let rows : sheet.rows ≡ exact_rows 10 = exact_is sheet valid.0 10 (valid.1 ∙ ap kind_of args) _ _ refl in
             false≢true (sym (ap (λ n. picks_at (slice_get sheet.rows n) (step_input J p node None)) row_five ∙ ap (λ l. picks_at (slice_get l 5) (step_input J p node None)) rows) ∙ h)
 

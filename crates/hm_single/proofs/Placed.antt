@@ -22,20 +22,20 @@ use Rattle.hm_single.proofs.Stage.{StageFor, caller_region, child_of_step, work_
 use Rattle.hm_single.proofs.Transit.{AtRest, AtRow, IsRest, at_place}
 
 -- at rest: open where the last call opened it, or void
-rest_opened : (J : Past) (last : Option ℕ) (state : RegionState) (server : Option Server) → AtRest J last state server → is_state place_is.Opened (record { state = state; server = server }) ≡ true → (at : Server) × (server ≡ Some at) × IsOpenedBy J last at
-rest_opened J last place_is.Opened server rest h = rest
-rest_opened J last place_is.Opening server rest h = absurd rest
-rest_opened J last place_is.Closing server rest h = absurd rest
-rest_opened J last state server rest h = absurd (false≢true h)
+rest_opened : (J : Past) (r : Region) (last : Option ℕ) (state : RegionState) (server : Option Server) → AtRest J r last state server → is_state place_is.Opened (record { state = state; server = server }) ≡ true → (at : Server) × (server ≡ Some at) × IsOpenedBy J r last at
+rest_opened J r last place_is.Opened server rest h = rest
+rest_opened J r last place_is.Opening server rest h = absurd rest
+rest_opened J r last place_is.Closing server rest h = absurd rest
+rest_opened J r last state server rest h = absurd (false≢true h)
 
-rest_void : (J : Past) (last : Option ℕ) (state : RegionState) (server : Option Server) → AtRest J last state server → is_placed (record { state = state; server = server }) ≡ false → IsVoid J last
-rest_void J last place_is.Offline server rest h = rest
-rest_void J last place_is.Closed server rest h = rest
-rest_void J last place_is.FailedOpen server rest h = rest
-rest_void J last place_is.AbnormallyClosed server rest h = rest
-rest_void J last place_is.Opening server rest h = absurd rest
-rest_void J last place_is.Closing server rest h = absurd rest
-rest_void J last place_is.Opened server rest h = absurd (true≢false h)
+rest_void : (J : Past) (r : Region) (last : Option ℕ) (state : RegionState) (server : Option Server) → AtRest J r last state server → is_placed (record { state = state; server = server }) ≡ false → IsVoid J r last
+rest_void J r last place_is.Offline server rest h = rest
+rest_void J r last place_is.Closed server rest h = rest
+rest_void J r last place_is.FailedOpen server rest h = rest
+rest_void J r last place_is.AbnormallyClosed server rest h = rest
+rest_void J r last place_is.Opening server rest h = absurd rest
+rest_void J r last place_is.Closing server rest h = absurd rest
+rest_void J r last place_is.Opened server rest h = absurd (true≢false h)
 
 module _ (J : Past) (region : Region) where
   -- the region is being opened or closed
@@ -48,7 +48,7 @@ module _ (J : Past) (region : Region) where
   between_not_open : IsBetween → is_state place_is.Opened (place_of J region) ≡ true → ⊥
   between_not_open is h = elim is.1 [ inl opening ↦ false≢true (ap (is_state place_is.Opened) (sym opening) ∙ h) | inr closing ↦ false≢true (ap (is_state place_is.Opened) (sym closing) ∙ h) ]
 
-  row_or_rest : (p : ℕ) (o : Option Answer) (q : ℕ) (made : Option Node) (answer : Option Answer) → AtRow J p region (place_of J region) (last_call J region) o q made answer → IsRest J (last_call J region) (place_of J region) ⊎ IsBetween
+  row_or_rest : (p : ℕ) (o : Option Answer) (q : ℕ) (made : Option Node) (answer : Option Answer) → AtRow J p region (place_of J region) (last_call J region) o q made answer → IsRest J region (last_call J region) (place_of J region) ⊎ IsBetween
   row_or_rest p None q made answer h = inl h
   row_or_rest p (Some (answer_is.More n)) q made answer (inl h) = inl h.1
   row_or_rest p (Some (answer_is.More n)) q made answer (inr h) = inr (h.1, inl h.2)
@@ -71,10 +71,10 @@ module _ (J : Past) (region : Region) where
   waits_between p (Some answer_is.Undone) q made answer w h = absurd w
 
   module _ (kept : Lasting J) where
-    pub stands : IsRest J (last_call J region) (place_of J region) ⊎ IsBetween
+    pub stands : IsRest J region (last_call J region) (place_of J region) ⊎ IsBetween
     stands = by (work_of J region) (kept.stage region)
       where
-        by : (w : Option ℕ) → StageFor J region w → IsRest J (last_call J region) (place_of J region) ⊎ IsBetween
+        by : (w : Option ℕ) → StageFor J region w → IsRest J region (last_call J region) (place_of J region) ⊎ IsBetween
         by None h = inl h
         by (Some p) h = row_or_rest p (last_answer J p) (child_of_step J p) (node_of J (child_of_step J p)) (last_answer J (child_of_step J p)) h
 
@@ -89,14 +89,14 @@ module _ (J : Past) (region : Region) where
 
 pub opened_told : OpenedAreTold
 opened_told J legal region h = elim (stands J region (kept_all J legal)) [
-  | inl rest ↦ rest_opened J (last_call J region) (place_of J region).state (place_of J region).server rest h
+  | inl rest ↦ rest_opened J region (last_call J region) (place_of J region).state (place_of J region).server rest h
   | inr between ↦ absurd (between_not_open J region between h)
 ]
 
 pub unplaced_free : UnplacedAreFree
 unplaced_free J legal region h = (
   elim (stands J region (kept_all J legal)) [
-    | inl rest ↦ rest_void J (last_call J region) (place_of J region).state (place_of J region).server rest h
+    | inl rest ↦ rest_void J region (last_call J region) (place_of J region).state (place_of J region).server rest h
     | inr between ↦ absurd (true≢false (sym (between_placed J region between) ∙ h))
   ],
   λ p calls. elim (cases_Bool (is_stopped (last_answer J p))) [

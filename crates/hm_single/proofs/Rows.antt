@@ -103,7 +103,7 @@ module _ (J : Past) (p : ℕ) (pick : Option Server) (out : StepOut) (row : Row)
         (not_from_false (is_cut_off (fixed act_is.GetAssignCandidate 1 true) at_row) (and_right at_row.aborted false refl))
         (and_from (may_open_in (rows_read J (args_are.Transit region goal to)) region) (not (is_open (place_of J region) (fenced_if J (place_of J region).server || false))) may (not_from_false (is_open (place_of J region) (fenced_if J (place_of J region).server || false)) shut)))
 
-    check_child : (b : Bool) → is_cut_off (fixed act_is.CheckMove 3 false) (step_input J p (node_at above root (args_are.Transit region goal to) first) pick) ≡ b → row_of J p (node_at above root (args_are.Transit region goal to) first) ≡ 5 → IsRest J last (place_of J region) → Leaves J region last (place_of J region) out
+    check_child : (b : Bool) → is_cut_off (fixed act_is.CheckMove 3 false) (step_input J p (node_at above root (args_are.Transit region goal to) first) pick) ≡ b → row_of J p (node_at above root (args_are.Transit region goal to) first) ≡ 5 → IsRest J region last (place_of J region) → Leaves J region last (place_of J region) out
     check_child true cut e rest =
         let at_row : StepIn = step_input J p (node_at above root (args_are.Transit region goal to) first) pick in
         leaves_child (fails cause_is.Aborted)
@@ -115,7 +115,7 @@ module _ (J : Past) (p : ℕ) (pick : Option Server) (out : StepOut) (row : Row)
         (is ∙ ap (λ x. row_answer x at_row) (row_there 5 row (fixed act_is.CheckMove 3 false) (row_of J p (node_at above root (args_are.Transit region goal to) first)) e refl at) ∙ cond-false (is_cut_off (fixed act_is.CheckMove 3 false) at_row) (fails cause_is.Aborted) (act_answer act_is.CheckMove 3 at_row) cut)
         (check_step J region last (place_of J region) (region_ready (row_at (rows_read J (args_are.Transit region goal to)) (key_is.Table region.table)) (row_at (rows_read J (args_are.Transit region goal to)) (key_is.Region region))) rest)
 
-    free_child : (n : ℕ) → IsFreeRow n → row_of J p (node_at above root (args_are.Transit region goal to) first) ≡ n → is_pick_right J p (node_at above root (args_are.Transit region goal to) first) pick (picks_at (Some row) (step_input J p (node_at above root (args_are.Transit region goal to) first) None)) ≡ true → IsRest J last (place_of J region) → Leaves J region last (place_of J region) out
+    free_child : (n : ℕ) → IsFreeRow n → row_of J p (node_at above root (args_are.Transit region goal to) first) ≡ n → is_pick_right J p (node_at above root (args_are.Transit region goal to) first) pick (picks_at (Some row) (step_input J p (node_at above root (args_are.Transit region goal to) first) None)) ≡ true → IsRest J region last (place_of J region) → Leaves J region last (place_of J region) out
     free_child n (inl zero_is) e right rest =
         leaves_child _ (late_child 0 1 act_is.GetAssignCandidate refl (e ∙ zero_is))
         (candidate_step J region last (place_of J region) (may_open_in (rows_read J (args_are.Transit region goal to)) region) (fenced_if J (place_of J region).server || false) pick refl rest (λ may shut. picked_child (e ∙ zero_is) right may shut))
@@ -133,14 +133,14 @@ module _ (J : Past) (p : ℕ) (pick : Option Server) (out : StepOut) (row : Row)
         leaves_child _ (late_child 1 2 act_is.Open refl (ap (row_after (first_row_of (args_are.Transit region goal to))) l ∙ h.0)) (open_step J region last (place_of J region) h.1 h.2 h.3)
     step_child (Some (answer_is.Wait n)) l runs q made answer right child (inl h) =
         let c = child n refl in
-        let told = ended_with J region last q h.1 (IsVoid J last) answer h.4 c.stopped in
+        let told = ended_with J region last q h.1 (IsVoid J region last) answer h.4 c.stopped in
         leaves_child _ (late_child 2 0 act_is.ConfirmOpened refl (ap (row_after (first_row_of (args_are.Transit region goal to))) l ∙ h.0))
-        (confirm_opened_step J region last q h.1 told.0 (place_of J region) (is_told told_is.Opened (ends_of J p)) h.2 (λ x. c.on told.0 told.1 x) (λ x. c.off told.0 told.1 x) (c.opens region h.1 h.3) (subst (Calls J q h.1 last (IsVoid J last)) told.1 h.4))
+        (confirm_opened_step J region last q h.1 told.0 (place_of J region) (is_told told_is.Opened (ends_of J p)) h.2 (λ x. c.on told.0 told.1 x) (λ x. c.off told.0 told.1 x) (c.opens region h.1 h.3) (subst (Calls J q h.1 last (IsVoid J region last)) told.1 h.4))
     step_child (Some (answer_is.Wait n)) l runs q made answer right child (inr h) =
         let c = child n refl in
-        let told = ended_with J region last q h.1 (IsOpenedBy J last h.1) answer h.4 c.stopped in
+        let told = ended_with J region last q h.1 (IsOpenedBy J region last h.1) answer h.4 c.stopped in
         leaves_child _ (late_child 4 0 act_is.ConfirmClosed refl (ap (row_after (first_row_of (args_are.Transit region goal to))) l ∙ h.0))
-        (confirm_closed_step J region last q h.1 told.0 goal (place_of J region) (is_told told_is.Closed (ends_of J p)) (c.closes region h.1 h.3) (subst (Calls J q h.1 last (IsOpenedBy J last h.1)) told.1 h.4))
+        (confirm_closed_step J region last q h.1 told.0 goal (place_of J region) (is_told told_is.Closed (ends_of J p)) (c.closes region h.1 h.3) (subst (Calls J q h.1 last (IsOpenedBy J region last h.1)) told.1 h.4))
     step_child (Some (answer_is.Await n)) l runs q made answer right child h = absurd h
     step_child (Some (answer_is.Done told)) l runs q made answer right child h = absurd (true≢false runs)
     step_child (Some (answer_is.Fail cause)) l runs q made answer right child h = absurd (true≢false runs)
@@ -169,7 +169,7 @@ module _ (J : Past) (p : ℕ) (pick : Option Server) (out : StepOut) (row : Row)
         (not_from_false (is_cut_off (fixed act_is.GetAssignCandidate 1 true) at_row) (and_right at_row.aborted false refl))
         (and_from (may_open_in (rows_read J (args_are.Root (request_is.Move region to) own)) region) (not (is_open (place_of J region) (fenced_if J (place_of J region).server || false))) may (not_from_false (is_open (place_of J region) (fenced_if J (place_of J region).server || false)) shut)))
 
-    check_move : (b : Bool) → is_cut_off (fixed act_is.CheckMove 3 false) (step_input J p (node_at above root (args_are.Root (request_is.Move region to) own) first) pick) ≡ b → row_of J p (node_at above root (args_are.Root (request_is.Move region to) own) first) ≡ 5 → IsRest J last (place_of J region) → Leaves J region last (place_of J region) out
+    check_move : (b : Bool) → is_cut_off (fixed act_is.CheckMove 3 false) (step_input J p (node_at above root (args_are.Root (request_is.Move region to) own) first) pick) ≡ b → row_of J p (node_at above root (args_are.Root (request_is.Move region to) own) first) ≡ 5 → IsRest J region last (place_of J region) → Leaves J region last (place_of J region) out
     check_move true cut e rest =
         let at_row : StepIn = step_input J p (node_at above root (args_are.Root (request_is.Move region to) own) first) pick in
         leaves_move (fails cause_is.Aborted)
@@ -181,7 +181,7 @@ module _ (J : Past) (p : ℕ) (pick : Option Server) (out : StepOut) (row : Row)
         (is ∙ ap (λ x. row_answer x at_row) (row_there 5 row (fixed act_is.CheckMove 3 false) (row_of J p (node_at above root (args_are.Root (request_is.Move region to) own) first)) e refl at) ∙ cond-false (is_cut_off (fixed act_is.CheckMove 3 false) at_row) (fails cause_is.Aborted) (act_answer act_is.CheckMove 3 at_row) cut)
         (check_step J region last (place_of J region) (region_ready (row_at (rows_read J (args_are.Root (request_is.Move region to) own)) (key_is.Table region.table)) (row_at (rows_read J (args_are.Root (request_is.Move region to) own)) (key_is.Region region))) rest)
 
-    free_move : (n : ℕ) → IsFreeRow n → row_of J p (node_at above root (args_are.Root (request_is.Move region to) own) first) ≡ n → is_pick_right J p (node_at above root (args_are.Root (request_is.Move region to) own) first) pick (picks_at (Some row) (step_input J p (node_at above root (args_are.Root (request_is.Move region to) own) first) None)) ≡ true → IsRest J last (place_of J region) → Leaves J region last (place_of J region) out
+    free_move : (n : ℕ) → IsFreeRow n → row_of J p (node_at above root (args_are.Root (request_is.Move region to) own) first) ≡ n → is_pick_right J p (node_at above root (args_are.Root (request_is.Move region to) own) first) pick (picks_at (Some row) (step_input J p (node_at above root (args_are.Root (request_is.Move region to) own) first) None)) ≡ true → IsRest J region last (place_of J region) → Leaves J region last (place_of J region) out
     free_move n (inl zero_is) e right rest =
         leaves_move _ (late_move 0 1 act_is.GetAssignCandidate refl (e ∙ zero_is))
         (candidate_step J region last (place_of J region) (may_open_in (rows_read J (args_are.Root (request_is.Move region to) own)) region) (fenced_if J (place_of J region).server || false) pick refl rest (λ may shut. picked_move (e ∙ zero_is) right may shut))
@@ -199,14 +199,14 @@ module _ (J : Past) (p : ℕ) (pick : Option Server) (out : StepOut) (row : Row)
         leaves_move _ (late_move 1 2 act_is.Open refl (ap (row_after (first_row_of (args_are.Root (request_is.Move region to) own))) l ∙ h.0)) (open_step J region last (place_of J region) h.1 h.2 h.3)
     step_move (Some (answer_is.Wait n)) l runs q made answer right child (inl h) =
         let c = child n refl in
-        let told = ended_with J region last q h.1 (IsVoid J last) answer h.4 c.stopped in
+        let told = ended_with J region last q h.1 (IsVoid J region last) answer h.4 c.stopped in
         leaves_move _ (late_move 2 0 act_is.ConfirmOpened refl (ap (row_after (first_row_of (args_are.Root (request_is.Move region to) own))) l ∙ h.0))
-        (confirm_opened_step J region last q h.1 told.0 (place_of J region) (is_told told_is.Opened (ends_of J p)) h.2 (λ x. c.on told.0 told.1 x) (λ x. c.off told.0 told.1 x) (c.opens region h.1 h.3) (subst (Calls J q h.1 last (IsVoid J last)) told.1 h.4))
+        (confirm_opened_step J region last q h.1 told.0 (place_of J region) (is_told told_is.Opened (ends_of J p)) h.2 (λ x. c.on told.0 told.1 x) (λ x. c.off told.0 told.1 x) (c.opens region h.1 h.3) (subst (Calls J q h.1 last (IsVoid J region last)) told.1 h.4))
     step_move (Some (answer_is.Wait n)) l runs q made answer right child (inr h) =
         let c = child n refl in
-        let told = ended_with J region last q h.1 (IsOpenedBy J last h.1) answer h.4 c.stopped in
+        let told = ended_with J region last q h.1 (IsOpenedBy J region last h.1) answer h.4 c.stopped in
         leaves_move _ (late_move 4 0 act_is.ConfirmClosed refl (ap (row_after (first_row_of (args_are.Root (request_is.Move region to) own))) l ∙ h.0))
-        (confirm_closed_step J region last q h.1 told.0 goal_is.Move (place_of J region) (is_told told_is.Closed (ends_of J p)) (c.closes region h.1 h.3) (subst (Calls J q h.1 last (IsOpenedBy J last h.1)) told.1 h.4))
+        (confirm_closed_step J region last q h.1 told.0 goal_is.Move (place_of J region) (is_told told_is.Closed (ends_of J p)) (c.closes region h.1 h.3) (subst (Calls J q h.1 last (IsOpenedBy J region last h.1)) told.1 h.4))
     step_move (Some (answer_is.Await n)) l runs q made answer right child h = absurd h
     step_move (Some (answer_is.Done told)) l runs q made answer right child h = absurd (true≢false runs)
     step_move (Some (answer_is.Fail cause)) l runs q made answer right child h = absurd (true≢false runs)

@@ -1,4 +1,11 @@
 -- Single assignment over overlapping ranges, since regions with a place are live.
+use Rattle.std.proofs.lemmas.Option.{same_Some}
+use Rattle.std.proofs.Common.{Bool, if◌then◌else◌}
+use Rattle.hm_data.specs.declared.part.Part.{Part}
+use Rattle.hm_data.specs.declared.part.Part.TheVariants as part_is
+use Rattle.hm_model.specs.Parts.{part_range, part_row}
+use Rattle.hm_model.specs.Keys.{same_region}
+use Rattle.hm_data.specs.declared.catalog.CatRow.TheVariants as row_is
 use Rattle.std.proofs.Common.{◌≡◌, ℕ, List, [], ◌∷◌, true, false, ◌&&◌, cond, Option, Some, None, is_some, refl, ap, sym, ◌∙◌, subst, inl, inr}
 use Rattle.std.proofs.lemmas.Bool.{and_from, and_left, and_parts, cases_Bool, cond-false, cond-true, or_cases, true≢false}
 use Rattle.std.proofs.lemmas.Option.{none-some}
@@ -19,10 +26,10 @@ use Rattle.hm_model.specs.Journal.{Past}
 use Rattle.hm_model.specs.Keys.{same_key, same_region, same_table}
 use Rattle.hm_model.specs.Places.{place_of}
 use Rattle.hm_model.specs.Ranges.{IsLiveWith}
-use Rattle.hm_model.specs.Reports.{verb_of}
+use Rattle.hm_model.specs.Reports.{last_call, verb_of}
 use Rattle.hm_model.specs.RowsSaid.{range_in}
 use Rattle.hm_model.specs.Rules.{IsLegal}
-use Rattle.hm_model.specs.Single.{IsOver, MayCall, overlap_if, range_of, ranged, ranged_by, touches}
+use Rattle.hm_model.specs.Single.{IsBasedAt, IsLeft, IsOver, MayCall, overlap_if, range_of, ranged, ranged_by, touches}
 use Rattle.hm_model.specs.TransitActs.{is_placed}
 use Rattle.hm_model.proofs.KeyTests.{cases_key, same_key-refl, same_region-is, same_table-is}
 use Rattle.hm_model.proofs.LegalSteps.{StepFacts, ready_stops}
@@ -30,10 +37,10 @@ use Rattle.hm_model.proofs.StepDoes.{Does}
 use Rattle.hm_model.proofs.Free.{step_free}
 use Rattle.hm_model.proofs.Trees.{Grown, call_mine, does_of, grown_all, step_of}
 use Rattle.hm_cover.proofs.Never.{never_overlap}
-use Rattle.hm_single.specs.Calls.{MayOpen, PlacedAreLive}
+use Rattle.hm_single.specs.Calls.{IsVoid, MayOpen, PlacedAreLive}
 use Rattle.hm_single.specs.Theorem.{SingleOverRanges}
 use Rattle.hm_single.proofs.All.{kept_all, openings_single}
-use Rattle.hm_single.proofs.Keeps.{void_over}
+use Rattle.hm_single.proofs.Keeps.{finds_open, void_left, void_over}
 use Rattle.hm_single.proofs.Kept.{Lasting}
 use Rattle.hm_single.proofs.Live.{all_live}
 use Rattle.hm_single.proofs.Placed.{between_placed, caller_between, unplaced_free}
@@ -70,6 +77,21 @@ range_now (entry_is.Report call told ∷ J) region range is = range_now J region
 range_now (entry_is.Up server ∷ J) region range is = range_now J region range is
 range_now (entry_is.Down server ∷ J) region range is = range_now J region range is
 range_now (entry_is.Abort pid ∷ J) region range is = range_now J region range is
+range_now (entry_is.Adopt sheets ∷ J) region range is = range_now J region range is
+range_now (entry_is.Base part ∷ J) region range is = part_range_now part (cat J (key_is.Region region)) (range_of J region) (range_now J region) range is
+  where
+    part_range_now : (part : Part) (row : Option CatRow) (told : Option KeyRange) → IsRanged row told → IsRanged (part_row part (key_is.Region region) row) (part_range part region told)
+    part_range_now (part_is.Head entries last parts sheets) row told was = λ now is. absurd (none-some now is)
+    part_range_now (part_is.Namespace ns) row told was = was
+    part_range_now (part_is.Table table own state) row told was = was
+    part_range_now (part_is.Server server fenced) row told was = was
+    part_range_now (part_is.Root pid nonce args cause) row told was = was
+    part_range_now (part_is.Layout pid) row told was = was
+    part_range_now (part_is.Region own range status parents place) row told was = by (same_region region own)
+      where
+        by : (b : Bool) → IsRanged (if b then Some (row_is.Region range status parents) else row) (if b then Some range else told)
+        by true now is = ap Some (same_Some range now is)
+        by false now is = was now is
 
 live_range : (J : Past) (region : Region) (range : KeyRange) → IsLiveWith (cat J) region range → range_of J region ≡ Some range
 live_range J region range live = range_now J region range (ap range_in live.1)
@@ -121,12 +143,33 @@ module _ (pid : Pid) (pick : Option Server) (out : StepOut) (J : Past) (legal : 
         ]
   ]
 
+  -- each region that the base has open and that touches it was left
+  each_left : (other : Region) (server : Server) → IsBasedAt J other server → touches J region other ≡ true → IsLeft J other server
+  each_left other server based touch = elim (or_cases (same_region region other) (same_table region.table other.table && overlap_if (range_of J region) (range_of J other)) touch) [
+    | inl same ↦ own_left (same_region-is region other same)
+    | inr both ↦
+        let parts = and_parts (same_table region.table other.table) (overlap_if (range_of J region) (range_of J other)) both in
+        elim (cases_Bool (same_region region other)) [
+          | inl same ↦ own_left (same_region-is region other same)
+          | inr off ↦ elim (cases_Bool (is_placed (place_of J other))) [
+            | inl placed ↦ absurd (apart other (λ same. true≢false (sym (Rattle.hm_model.proofs.KeyTests.same_region-refl region) ∙ ap (same_region region) same ∙ off)) parts.0 placed parts.1)
+            | inr unplaced ↦ left (unplaced_free J legal.0 other unplaced).0
+          ]
+        ]
+  ]
+    where
+      left : IsVoid J other (last_call J other) → IsLeft J other server
+      left void = void_left pid pick out J grown kept step does (step_free pid pick out J legal) other server based (kept.based other server based) void
+
+      own_left : region ≡ other → IsLeft J other server
+      own_left same = left (subst (λ r. IsVoid J r (last_call J r)) same (finds_open pid pick out J grown kept step does (step_free pid pick out J legal) region call).0)
+
 step_single : (pid : Pid) (pick : Option Server) (out : StepOut) (J : Past) → IsLegal (entry_is.Step pid pick out ∷ J) → PlacedAreLive J → MayCall J out.call
 step_single pid pick out J legal live = by out.call refl
   where
     by : (o : Option Verb) → out.call ≡ o → MayCall J o
     by None e = tt
-    by (Some (verb_is.AssignRegion region)) e = each_over pid pick out J legal live region e
+    by (Some (verb_is.AssignRegion region)) e = (each_over pid pick out J legal live region e, each_left pid pick out J legal live region e)
     by (Some (verb_is.CloseRegion region)) e = tt
     by (Some (verb_is.Fence server)) e = tt
     by (Some (verb_is.Layout root)) e = tt
@@ -142,3 +185,5 @@ single_over (entry_is.Report call told ∷ J) legal = single_over J legal.0
 single_over (entry_is.Up server ∷ J) legal = single_over J legal.0
 single_over (entry_is.Down server ∷ J) legal = single_over J legal.0
 single_over (entry_is.Abort pid ∷ J) legal = single_over J legal.0
+single_over (entry_is.Adopt sheets ∷ J) legal = single_over J legal.0
+single_over (entry_is.Base part ∷ J) legal = tt

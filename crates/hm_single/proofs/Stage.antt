@@ -32,6 +32,7 @@ use Rattle.hm_model.specs.Tree.{Node, node_of}
 use Rattle.hm_model.specs.Views.{region_of}
 use Rattle.hm_model.specs.Whereabouts.{called_by, moved_by}
 use Rattle.hm_model.proofs.KeyTests.{same_region-Decides}
+use Rattle.hm_model.specs.Single.{based_place}
 use Rattle.hm_single.specs.Calls.{IsLater, IsOpenedBy, IsVoid}
 use Rattle.hm_model.specs.Verbs.{verb_in}
 use Rattle.hm_model.proofs.CallSteps.{CallOut, laying_not_caller}
@@ -57,13 +58,15 @@ work_of (entry_is.Report call told ∷ before) r = work_of before r
 work_of (entry_is.Up server ∷ before) r = work_of before r
 work_of (entry_is.Down server ∷ before) r = work_of before r
 work_of (entry_is.Abort pid ∷ before) r = work_of before r
+work_of (entry_is.Adopt sheets ∷ before) r = work_of before r
+work_of (entry_is.Base part ∷ before) r = None
 
 -- the child that a procedure's last step made first
 abbrev pub child_of_step : Past → ℕ → ℕ
 child_of_step J p = made_at_step J p + 1
 
 abbrev pub StageFor : Past → Region → Option ℕ → Type 0
-StageFor J r None = IsRest J (last_call J r) (place_of J r)
+StageFor J r None = IsRest J r (last_call J r) (place_of J r)
 StageFor J r (Some p) =
     AtRow J p r (place_of J r) (last_call J r) (last_answer J p) (child_of_step J p) (node_of J (child_of_step J p)) (last_answer J (child_of_step J p))
 
@@ -124,32 +127,34 @@ pub record Later (J J' : Past) : Type 0 where
   pub reports : (p : ℕ) (told : Told) → report_of J p ≡ Some told → report_of J' p ≡ Some told
   pub fences : (server : Server) → is_fenced J server ≡ true → is_fenced J' server ≡ true
   pub peers : (p : ℕ) (peer : Peer) → peer_of J p ≡ Some peer → peer_of J' p ≡ Some peer
+  pub based : (r : Region) → based_place J' r ≡ based_place J r
 
 module _ (J J' : Past) (later : Later J J') where
   pub gone_later : (p : ℕ) → Rattle.hm_model.specs.Single.IsGone J p → Rattle.hm_model.specs.Single.IsGone J' p
   gone_later p h = (h.0, later.peers p (peer_is.Server h.0) h.1, later.fences h.0 h.2)
 
-  pub void_later : (last : Option ℕ) → IsVoid J last → IsVoid J' last
-  void_later None h = h
-  void_later (Some p) h = elim h [
+  pub void_later : (r : Region) (last : Option ℕ) → IsVoid J r last → IsVoid J' r last
+  void_later r None h = λ server is. later.fences server (h server (sym (later.based r) ∙ is))
+  void_later r (Some p) h = elim h [
     | inl failed ↦ inl (later.reports p told_is.FailedOpen failed)
     | inr other ↦ elim other [ inl closed ↦ inr (inl (later.reports p told_is.Closed closed)) | inr gone ↦ inr (inr (gone_later p gone)) ]
   ]
 
-  pub opened_later : (last : Option ℕ) (server : Server) → IsOpenedBy J last server → IsOpenedBy J' last server
-  opened_later last server h = (h.0, h.1, later.peers h.0 (peer_is.Server server) h.2, later.reports h.0 told_is.Opened h.3)
+  pub opened_later : (r : Region) (last : Option ℕ) (server : Server) → IsOpenedBy J r last server → IsOpenedBy J' r last server
+  opened_later r last server (inl h) = inl (h.0, h.1, later.peers h.0 (peer_is.Server server) h.2, later.reports h.0 told_is.Opened h.3)
+  opened_later r last server (inr h) = inr (h.0, later.based r ∙ h.1)
 
-  rest_at : (last : Option ℕ) (state : RegionState) (server : Option Server) → AtRest J last state server → AtRest J' last state server
-  rest_at last place_is.Offline server h = void_later last h
-  rest_at last place_is.Opening server h = h
-  rest_at last place_is.Opened server h = (h.0, h.1, opened_later last h.0 h.2)
-  rest_at last place_is.Closing server h = h
-  rest_at last place_is.Closed server h = void_later last h
-  rest_at last place_is.FailedOpen server h = void_later last h
-  rest_at last place_is.AbnormallyClosed server h = void_later last h
+  rest_at : (r : Region) (last : Option ℕ) (state : RegionState) (server : Option Server) → AtRest J r last state server → AtRest J' r last state server
+  rest_at r last place_is.Offline server h = void_later r last h
+  rest_at r last place_is.Opening server h = h
+  rest_at r last place_is.Opened server h = (h.0, h.1, opened_later r last h.0 h.2)
+  rest_at r last place_is.Closing server h = h
+  rest_at r last place_is.Closed server h = void_later r last h
+  rest_at r last place_is.FailedOpen server h = void_later r last h
+  rest_at r last place_is.AbnormallyClosed server h = void_later r last h
 
-  pub rest_later : (last : Option ℕ) (place : Place) → IsRest J last place → IsRest J' last place
-  rest_later last place h = rest_at last place.state place.server h
+  pub rest_later : (r : Region) (last : Option ℕ) (place : Place) → IsRest J r last place → IsRest J' r last place
+  rest_later r last place h = rest_at r last place.state place.server h
 
   pub call_later : (q : ℕ) (server : Server) (last : Option ℕ) → IsCall J q server last → IsCall J' q server last
   call_later q server last h = (h.0, later.peers q (peer_is.Server server) h.1)
@@ -167,18 +172,18 @@ module _ (J J' : Past) (later : Later J J') where
   -- the same region, seen later, where the child is as it was
   pub row_later : (p : ℕ) (r : Region) (place : Place) (last : Option ℕ) (was : Option Answer) (q : ℕ) (made made' : Option Node) (answer answer' : Option Answer)
       → ((node : Node) → made ≡ Some node → caller_region node.args ≡ Some r → (made' ≡ made) × (answer' ≡ answer)) → AtRow J p r place last was q made answer → AtRow J' p r place last was q made' answer'
-  row_later p r place last None q made made' answer answer' same h = rest_later last place h
-  row_later p r place last (Some (answer_is.More n)) q made made' answer answer' same (inl h) = inl (h.0, rest_later last place h.1)
-  row_later p r place last (Some (answer_is.More n)) q made made' answer answer' same (inr h) = inr (h.0, h.1, h.2, void_later last h.3)
+  row_later p r place last None q made made' answer answer' same h = rest_later r last place h
+  row_later p r place last (Some (answer_is.More n)) q made made' answer answer' same (inl h) = inl (h.0, rest_later r last place h.1)
+  row_later p r place last (Some (answer_is.More n)) q made made' answer answer' same (inr h) = inr (h.0, h.1, h.2, void_later r last h.3)
   row_later p r place last (Some (answer_is.Wait n)) q made made' answer answer' same (inl h) =
       let e = same h.3.0 h.3.1 (ap caller_region h.3.2) in
-      inl (h.0, h.1, h.2, (h.3.0, e.0 ∙ h.3.1, h.3.2, h.3.3), rw e.1 (calls_later q h.1 last (IsVoid J last) (IsVoid J' last) (void_later last) answer h.4))
+      inl (h.0, h.1, h.2, (h.3.0, e.0 ∙ h.3.1, h.3.2, h.3.3), rw e.1 (calls_later q h.1 last (IsVoid J r last) (IsVoid J' r last) (void_later r last) answer h.4))
   row_later p r place last (Some (answer_is.Wait n)) q made made' answer answer' same (inr h) =
       let e = same h.3.0 h.3.1 (ap caller_region h.3.2) in
-      inr (h.0, h.1, h.2, (h.3.0, e.0 ∙ h.3.1, h.3.2, h.3.3), rw e.1 (calls_later q h.1 last (IsOpenedBy J last h.1) (IsOpenedBy J' last h.1) (opened_later last h.1) answer h.4))
+      inr (h.0, h.1, h.2, (h.3.0, e.0 ∙ h.3.1, h.3.2, h.3.3), rw e.1 (calls_later q h.1 last (IsOpenedBy J r last h.1) (IsOpenedBy J' r last h.1) (opened_later r last h.1) answer h.4))
   row_later p r place last (Some (answer_is.Await n)) q made made' answer answer' same h = h
-  row_later p r place last (Some (answer_is.Done told)) q made made' answer answer' same h = rest_later last place h
-  row_later p r place last (Some (answer_is.Fail cause)) q made made' answer answer' same h = rest_later last place h
+  row_later p r place last (Some (answer_is.Done told)) q made made' answer answer' same h = rest_later r last place h
+  row_later p r place last (Some (answer_is.Fail cause)) q made made' answer answer' same h = rest_later r last place h
   row_later p r place last (Some answer_is.Undone) q made made' answer answer' same h = h
 
   -- a region that the entries between don't touch
@@ -189,7 +194,7 @@ module _ (J J' : Past) (later : Later J J') where
   stage_later r same_place same_last same_work same_p same_q h = rw same_work (by_work (work_of J r) refl h)
     where
       by_work : (work : Option ℕ) → work_of J r ≡ work → StageFor J r work → StageFor J' r work
-      by_work None is h = rw (same_place, same_last) (rest_later (last_call J r) (place_of J r) h)
+      by_work None is h = rw (same_place, same_last) (rest_later r (last_call J r) (place_of J r) h)
       by_work (Some p) is h =
           let e = same_p p is in
           rw (same_place, same_last, e.0, e.1) (row_later p r (place_of J r) (last_call J r) (last_answer J p) (child_of_step J p) (node_of J (child_of_step J p)) (node_of J' (child_of_step J p)) (last_answer J (child_of_step J p)) (last_answer J' (child_of_step J p)) (λ node at on. same_q (child_of_step J p) node at on) h)
@@ -198,18 +203,18 @@ module _ (J J' : Past) (later : Later J J') where
 pub row_next : (J J' : Past) → Later J J' → (p : ℕ) (r : Region) (place : Place) (last : Option ℕ) (answer : Answer) (children : List Child) (q : ℕ) (made : Option Node) (answered : Option Answer)
     → ((args : Args) → children ≡ child_is.One args ∷ [] → CallIs p made args × (answered ≡ None)) → IsLater q last → Next J r last place children answer → AtRow J' p r place last (Some answer) q made answered
 row_next J J' later p r place last (answer_is.More n) children q made answered fresh above h = elim h.0 [
-  | inl free ↦ inl (free.0, rest_later J J' later last place free.1)
-  | inr opens ↦ inr (opens.0, opens.1, opens.2, void_later J J' later last opens.3)
+  | inl free ↦ inl (free.0, rest_later J J' later r last place free.1)
+  | inr opens ↦ inr (opens.0, opens.1, opens.2, void_later J J' later r last opens.3)
 ]
 row_next J J' later p r place last (answer_is.Wait n) children q made answered fresh above (inl h) =
     let e = fresh (args_are.AssignCall r h.1) h.4 in
-    inl (h.0, h.1, h.2, e.0, rw e.1 (void_later J J' later last h.3, above))
+    inl (h.0, h.1, h.2, e.0, rw e.1 (void_later J J' later r last h.3, above))
 row_next J J' later p r place last (answer_is.Wait n) children q made answered fresh above (inr h) =
     let e = fresh (args_are.CloseCall r h.1) h.4 in
-    inr (h.0, h.1, h.2, e.0, rw e.1 (opened_later J J' later last h.1 h.3, above))
+    inr (h.0, h.1, h.2, e.0, rw e.1 (opened_later J J' later r last h.1 h.3, above))
 row_next J J' later p r place last (answer_is.Await n) children q made answered fresh above h = h
-row_next J J' later p r place last (answer_is.Done told) children q made answered fresh above h = rest_later J J' later last place h.0
-row_next J J' later p r place last (answer_is.Fail cause) children q made answered fresh above h = rest_later J J' later last place h.0
+row_next J J' later p r place last (answer_is.Done told) children q made answered fresh above h = rest_later J J' later r last place h.0
+row_next J J' later p r place last (answer_is.Fail cause) children q made answered fresh above h = rest_later J J' later r last place h.0
 row_next J J' later p r place last answer_is.Undone children q made answered fresh above h = h
 
 -- the call's step, seen from its transit

@@ -1,4 +1,5 @@
 -- The rows that a transit reads stay as they are while it goes on.
+use Rattle.hm_model.proofs.Parted.{no_node}
 use Rattle.std.proofs.Common.{◌≡◌, ◌≢◌, ℕ, not, ◌&&◌, List, [], ◌∷◌, true, false, Option, Some, None, is_some, refl, ap, sym, ◌∙◌, subst, inl, inr, ◌⊎◌}
 use Rattle.std.proofs.lemmas.Bool.{and_parts, cases_Bool, cases_eq, true≢false}
 use Rattle.std.proofs.lemmas.Option.{none-some, same_Some}
@@ -186,6 +187,8 @@ steady (entry_is.Report call told) J legal q region m going key reading = refl
 steady (entry_is.Up server) J legal q region m going key reading = refl
 steady (entry_is.Down server) J legal q region m going key reading = refl
 steady (entry_is.Abort pid) J legal q region m going key reading = refl
+steady (entry_is.Adopt sheets) J legal q region m going key reading = refl
+steady (entry_is.Base part) J legal q region m going key reading = absurd (none-some m.0 (sym (no_node part J legal.1.0 q) ∙ m.1))
 
 -- so where its region may be opened, it may be still
 pub may_stay : (entry : Entry) (J : Past) → IsLegal (entry ∷ J) → (q : ℕ) (region : Region) → Moves J q region → IsGoing (last_answer J q)

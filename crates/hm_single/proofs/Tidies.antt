@@ -18,6 +18,7 @@ use Rattle.hm_data.specs.declared.step.StepOut.{StepOut}
 use Rattle.hm_model.specs.Answers.{failing, last_answer}
 use Rattle.hm_model.specs.Catalog.{was}
 use Rattle.hm_model.specs.Journal.{Past}
+use Rattle.hm_model.specs.Phase.{cause}
 use Rattle.hm_model.specs.Kinds.{kind_of, request_kind}
 use Rattle.hm_model.specs.Lists.{exact_rows}
 use Rattle.hm_model.specs.Rules.{IsLegal}
@@ -28,11 +29,11 @@ use Rattle.hm_model.specs.Whereabouts.{moved_by}
 use Rattle.hm_model.proofs.ExactRows.{is_listed}
 use Rattle.hm_model.proofs.PlainActs.{is_caller}
 use Rattle.hm_model.proofs.StepDoes.{bears}
-use Rattle.hm_model.proofs.Trees.{Grown, IsRooted, down_rooted, grown_all, is_there, old_or_new, submit_rooted, undo_rooted}
+use Rattle.hm_model.proofs.Trees.{Grown, IsRooted, down_rooted, grown_all, is_there, old_or_new, root_within, submit_rooted, undo_rooted}
 use Rattle.hm_kinds.proofs.Covering.{rows_table}
 use Rattle.hm_serial.proofs.Apart.{Aside, step_top}
 use Rattle.hm_serial.proofs.FallAll.{All, falls_all, none_at, step_aside}
-use Rattle.hm_serial.proofs.Fallen.{MayFall, may_on, root_of_node}
+use Rattle.hm_serial.proofs.Fallen.{may_on, root_of_node}
 use Rattle.hm_serial.proofs.FallStep.{belongs_here, kid_or_root, led_here, own_args, own_root, other_last}
 use Rattle.hm_serial.proofs.Kinship.{editless, is_kid, kid_rows}
 use Rattle.hm_model.proofs.Tops.{TopIs}
@@ -183,7 +184,7 @@ module _ (pid : Pid) (pick : Option Server) (out : StepOut) (J : Past) (legal : 
     ]
     | inr differs ↦
         let left = step_left pid pick out J grown its (does pid pick out J legal) r node old differs in
-        tidy_like J J' r node request left.last left.sheets left.was_is (λ may. may_on J' J r node (sym left.cause_is) (sym left.last) (sym left.sheets) may)
+        tidy_like J J' r node request left.last refl left.was_is (λ may. may_on J' J r node (sym left.cause_is) (sym left.last) refl may)
         (λ q x is of. elim (members pid pick out J legal q x is) [ inl was_it ↦ inl was_it | inr new ↦ absurd (differs (sym of ∙ ap (λ (n : Node). n.root) new.2)) ])
         (stays pid pick out J legal) (λ table e milds. subst (Mild table) (sym left.stack_is) milds) (before r node request first old own listed)
   ]
@@ -192,10 +193,12 @@ module _ (pid : Pid) (pick : Option Server) (out : StepOut) (J : Past) (legal : 
       old = step_top pid pick out J its r node top
 
 -- an entry that makes roots
-module _ (J J' : Past) (rooted : IsRooted J J') (grown : Grown J) (was_is : (r : ℕ) → was J' r ≡ was J r) (may : (r : ℕ) (node : Node) → MayFall J' r node → MayFall J r node) (milds : (table : TableName) (r : ℕ) → Mild table (stack J r) → Mild table (stack J' r)) (gone : (r : ℕ) → node_of J r ≡ None → stack J r ≡ []) where
+module _ (J J' : Past) (rooted : IsRooted J J') (grown : Grown J) (was_is : (r : ℕ) → was J' r ≡ was J r) (causes : (r : ℕ) → cause J' r ≡ cause J r) (milds : (table : TableName) (r : ℕ) → Mild table (stack J r) → Mild table (stack J' r)) (gone : (r : ℕ) → node_of J r ≡ None → stack J r ≡ []) where
   rooted_tidy : AllTidy J → AllTidy J'
   rooted_tidy before r node request first top own listed = elim (old_or_new J J' rooted grown r node top.0) [
-    | inl old ↦ tidy_like J J' r node request (rooted.last r) rooted.sheets (was_is r) (may r node)
+    | inl old ↦
+        let sheets = rooted.sheets node.root (root_within J grown r node old) in
+        tidy_like J J' r node request (rooted.last r) sheets (was_is r) (may_on J' J r node (sym (causes r)) (sym (rooted.last r)) (sym sheets))
         (λ q x is of. elim (old_or_new J J' rooted grown q x is) [
           | inl was_it ↦ inl was_it
           | inr new ↦
@@ -242,11 +245,11 @@ tidy_all [] legal r node request first top args listed = absurd (none-some node 
 tidy_all (entry_is.Start sheets ∷ J) legal r node request first top args listed = absurd (none-some node (sym (none_at J legal.1.0.0 r) ∙ top.0))
 tidy_all (entry_is.Submit nonce asked ∷ J) legal r node request first top args listed =
     let g = grown_all J legal.0 in
-    rooted_tidy J (entry_is.Submit nonce asked ∷ J) (submit_rooted nonce asked J g) g (λ k. refl) (λ k n m. may_on (entry_is.Submit nonce asked ∷ J) J k n refl refl refl m) (λ table k m. m) (λ k none. ((falls_all J legal.0).falls.gone k none).0) (tidy_all J legal.0) r node request first top args listed
+    rooted_tidy J (entry_is.Submit nonce asked ∷ J) (submit_rooted nonce asked J g) g (λ k. refl) (λ k. refl) (λ table k m. m) (λ k none. ((falls_all J legal.0).falls.gone k none).0) (tidy_all J legal.0) r node request first top args listed
 tidy_all (entry_is.Step pid pick out ∷ J) legal r node request first top args listed = step_tidy pid pick out J legal (tidy_all J legal.0) r node request first top args listed
 tidy_all (entry_is.Undo pid row out ∷ J) legal r node request first top args listed =
     let g = grown_all J legal.0 in
-    rooted_tidy J (entry_is.Undo pid row out ∷ J) (undo_rooted pid row out J g) g (λ k. refl) (λ k n m. may_on (entry_is.Undo pid row out ∷ J) J k n refl refl refl m) (λ table k m. elim (cases_eq (root_of J pid.0) k) [
+    rooted_tidy J (entry_is.Undo pid row out ∷ J) (undo_rooted pid row out J g) g (λ k. refl) (λ k. refl) (λ table k m. elim (cases_eq (root_of J pid.0) k) [
       | inl same ↦ subst (Mild table) (sym (Rattle.std.proofs.lemmas.Bool.cond-true _ (rest_of (stack J k)) (stack J k) (Rattle.std.proofs.lemmas.Bool.eq-eqb (root_of J pid.0) k same))) (rest_mild table (stack J k) m)
       | inr differs ↦ subst (Mild table) (sym (cond-false _ (rest_of (stack J k)) (stack J k) (Rattle.std.proofs.lemmas.Bool.ne_eqb (root_of J pid.0) k differs))) m
     ]) (λ k none. ((falls_all J legal.0).falls.gone k none).0) (tidy_all J legal.0) r node request first top args listed
@@ -254,5 +257,7 @@ tidy_all (entry_is.Report call told ∷ J) legal r node request first top args l
 tidy_all (entry_is.Up server ∷ J) legal r node request first top args listed = let t = tidy_all J legal.0 r node request first top args listed in record { unassigns = t.unassigns; closed = t.closed; still = t.still; adds = t.adds; drops = t.drops; mild = t.mild }
 tidy_all (entry_is.Down server ∷ J) legal r node request first top args listed =
     let g = grown_all J legal.0 in
-    rooted_tidy J (entry_is.Down server ∷ J) (down_rooted server J g) g (λ k. refl) (λ k n m. may_on (entry_is.Down server ∷ J) J k n refl refl refl m) (λ table k m. m) (λ k none. ((falls_all J legal.0).falls.gone k none).0) (tidy_all J legal.0) r node request first top args listed
+    rooted_tidy J (entry_is.Down server ∷ J) (down_rooted server J g) g (λ k. refl) (λ k. refl) (λ table k m. m) (λ k none. ((falls_all J legal.0).falls.gone k none).0) (tidy_all J legal.0) r node request first top args listed
 tidy_all (entry_is.Abort pid ∷ J) legal r node request first top args listed = let t = tidy_all J legal.0 r node request first top args listed in record { unassigns = t.unassigns; closed = t.closed; still = t.still; adds = t.adds; drops = t.drops; mild = t.mild }
+tidy_all (entry_is.Adopt sheets ∷ J) legal r node request first top args listed = let t = tidy_all J legal.0 r node request first top args listed in record { unassigns = t.unassigns; closed = t.closed; still = t.still; adds = t.adds; drops = t.drops; mild = t.mild }
+tidy_all (entry_is.Base part ∷ J) legal r node request first top args listed = absurd (none-some node top.0)

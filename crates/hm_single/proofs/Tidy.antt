@@ -32,13 +32,13 @@ use Rattle.hm_model.specs.Catalog.{Catalog, cat, edited, keys_of, was}
 use Rattle.hm_model.specs.Inputs.{step_input}
 use Rattle.hm_model.specs.Journal.{Past}
 use Rattle.hm_model.specs.Kinds.{first_row_of, kind_of, request_kind}
-use Rattle.hm_model.specs.Lists.{Line, exact_rows}
+use Rattle.hm_model.specs.Lists.{Line, exact_rows, orders_of}
 use Rattle.hm_model.specs.Locks.{IsIn}
 use Rattle.hm_model.specs.NamespaceActs.{set_state}
 use Rattle.hm_model.specs.Ranges.{IsLiveWith}
 use Rattle.hm_model.specs.Reads.{covers, reads}
 use Rattle.hm_model.specs.Rules.{IsLegal}
-use Rattle.hm_model.specs.Sheets.{row_in, sheet_for, sheets_of}
+use Rattle.hm_model.specs.Sheets.{row_in, sheet_for, sheets_by}
 use Rattle.hm_model.specs.Tree.{Node, args_in, child_of, made, node_of}
 use Rattle.hm_model.specs.Undo.{Undoable, pushed, row_if_there, stack}
 use Rattle.hm_model.specs.Undoing.{closed_by_request, undo_edits}
@@ -49,14 +49,16 @@ use Rattle.hm_model.proofs.Rows.{has_key, row_read}
 use Rattle.hm_model.proofs.Trees.{Grown, grown_all, le_or_lt, new_child, node_new, node_same, still_there}
 use Rattle.hm_kinds.proofs.DisableTable.{Disabling}
 use Rattle.hm_kinds.proofs.Roots.{Stage, StageOf}
+use Rattle.hm_model.proofs.ValidSheets.{Leads, acts_of, same_acts}
 use Rattle.hm_serial.proofs.Apart.{Aside}
 use Rattle.hm_serial.proofs.FallAll.{All, falls_all, step_aside}
 use Rattle.hm_serial.proofs.Fallen.{MayFall, root_of_node}
 use Rattle.hm_serial.proofs.FallStep.{own_root}
 use Rattle.hm_model.proofs.Tops.{TopIs}
+use Rattle.hm_serial.proofs.Stands.{LedBy}
 use Rattle.hm_cover.proofs.Spared.{could_fall, late_stands, stack_is}
 use Rattle.hm_single.specs.Calls.{MovesIn}
-use Rattle.hm_single.proofs.Lines.{OnlyShuts, Sent, adds_kind, begins_shut, closer, closer_sends, disable_keeps, drops_kind, enabled_on, fill_makes, fills, first_open, is_creating, is_deleting, is_finish, is_on, is_shut, rests, shut_before, shut_next, shuts}
+use Rattle.hm_single.proofs.Lines.{OnlyShuts, Sent, adds_kind, closer, closer_sends, disable_keeps, drops_kind, enabled_on, fill_makes, fills, first_open, is_creating, is_deleting, is_finish, is_on, is_shut, rests, shut_before, shut_next, shuts}
 use Rattle.hm_single.proofs.Makes.{GoalIs, makes}
 use Rattle.hm_single.proofs.Own.{Follows, Own, RunsNext, cut_or, does, follows, goals, led_now, own, root_is, step}
 
@@ -79,7 +81,7 @@ Mild table (latest ∷ below) = MildOne table (undo_edits latest.undo latest.edi
 -- the tree of a root
 pub record Tidy (J : Past) (r : ℕ) (node : Node) (request : Request) : Type 0 where
   pub unassigns : shuts request ≡ true → (act : Act) → RunsNext J r node act → is_finish act ≡ false → (q : ℕ) (x : Node) (region : Region) → MovesIn J r region q x → (to : Option Server) × (x.args ≡ args_are.Transit region goal_is.Unassign to)
-  pub closed : shuts request ≡ true → last_answer J r ≢ None → (act : Act) → RunsNext J r node act → is_shut act ≡ true → (region : Region) → Closes J r request region → (q : ℕ) × (x : Node) × MovesIn J r region q x
+  pub closed : shuts request ≡ true → last_answer J r ≢ None → (lines : List Line) → LedBy J r node lines → is_shut (acts_of lines) ≡ true → (region : Region) → Closes J r request region → (q : ℕ) × (x : Node) × MovesIn J r region q x
   pub still : fills request ≡ true → MayFall J r node ⊎ (rests request ≡ true) → (q : ℕ) (x : Node) (region : Region) → MovesIn J r region q x → ⊥
   pub adds : (q : ℕ) (x : Node) → node_of J q ≡ Some x → x.root ≡ r → (table : TableName) (first : ℕ) (bounds : List (List ℕ)) → x.args ≡ args_are.AddRegions table first bounds → is_creating node.args ≡ true
   pub drops : (q : ℕ) (x : Node) → node_of J q ≡ Some x → x.root ≡ r → (table : TableName) (ids : List ℕ) → x.args ≡ args_are.DropRegions table ids → is_deleting node.args ≡ true
@@ -113,15 +115,18 @@ moved_goal act (args_are.Crash server) region g m = absurd g
 moved_goal act args region g m = absurd (none-some region m)
 
 -- a tree of which the same is told, but for new calls
-module _ (J J' : Past) (r : ℕ) (node : Node) (request : Request) (last_is : last_answer J' r ≡ last_answer J r) (sheets : sheets_of J' ≡ sheets_of J) (was_is : was J' r ≡ was J r) (may : MayFall J' r node → MayFall J r node)
+module _ (J J' : Past) (r : ℕ) (node : Node) (request : Request) (last_is : last_answer J' r ≡ last_answer J r) (sheets : sheets_by J' node.root ≡ sheets_by J node.root) (was_is : was J' r ≡ was J r) (may : MayFall J' r node → MayFall J r node)
     (members : (q : ℕ) (x : Node) → node_of J' q ≡ Some x → x.root ≡ r → (node_of J q ≡ Some x) ⊎ (is_quiet x.args ≡ true)) (stay : (q : ℕ) (x : Node) → node_of J q ≡ Some x → node_of J' q ≡ Some x)
     (milds : (table : TableName) → request ≡ request_is.DisableTable table → Mild table (stack J r) → Mild table (stack J' r)) (t : Tidy J r node request) where
   runs_back : (act : Act) → RunsNext J' r node act → RunsNext J r node act
   runs_back act runs = (
     runs.0,
-    ap (λ l. row_in (sheet_for l (kind_of node.args)) (row_after (first_row_of node.args) (last_answer J r))) (sym sheets) ∙ ap (λ o. row_in (sheet_for (sheets_of J') (kind_of node.args)) (row_after (first_row_of node.args) o)) (sym last_is) ∙ runs.1,
+    ap (λ l. row_in (sheet_for l (kind_of node.args)) (row_after (first_row_of node.args) (last_answer J r))) (sym sheets) ∙ ap (λ o. row_in (sheet_for (sheets_by J' node.root) (kind_of node.args)) (row_after (first_row_of node.args) o)) (sym last_is) ∙ runs.1,
     runs.2,
   )
+
+  led_back : (lines : List Line) → LedBy J' r node lines → LedBy J r node lines
+  led_back lines led sheet found = subst (λ o. Leads sheet.rows (row_after (first_row_of node.args) o) lines) last_is (led sheet (ap (λ l. sheet_for l (kind_of node.args)) sheets ∙ found))
 
   closes_back : (region : Region) → Closes J' r request region → Closes J r request region
   closes_back region (inl among) = inl among
@@ -133,8 +138,8 @@ module _ (J J' : Past) (r : ℕ) (node : Node) (request : Request) (last_is : la
   pub tidy_like : Tidy J' r node request
   tidy_like = record {
     unassigns = λ h act runs ne q x region m. t.unassigns h act (runs_back act runs) ne q x region (old_move q x region m);
-    closed = λ h begun act runs is region c.
-        let m = t.closed h (λ none. begun (last_is ∙ none)) act (runs_back act runs) is region (closes_back region c) in
+    closed = λ h begun lines led is region c.
+        let m = t.closed h (λ none. begun (last_is ∙ none)) lines (led_back lines led) is region (closes_back region c) in
         (m.0, m.1, (stay m.0 m.1 m.2.0, m.2.1, m.2.2));
     still = λ h falls q x region m. t.still h (elim falls [ inl f ↦ inl (may f) | inr rest ↦ inr rest ]) q x region (old_move q x region m);
     adds = λ q x is of table first bounds e. elim (members q x is of) [ inl old ↦ t.adds q x old of table first bounds e | inr quiet ↦ absurd (true≢false (sym quiet ∙ ap is_quiet e)) ];
@@ -229,10 +234,10 @@ module _ (pid : Pid) (pick : Option Server) (out : StepOut) (J : Past) (legal : 
               ]
         ]
 
-    shut_begun : shuts request ≡ true → is_shut its.row.act ≡ true → last_answer J pid.0 ≢ None
+    shut_begun : shuts request ≡ true → is_shut (acts_of (mine.line ∷ mine.behind)) ≡ true → last_answer J pid.0 ≢ None
     shut_begun h is none =
-        let lines = (mine.fresh none).1 in
-        true≢false (sym (ap is_shut (sym mine.act_is) ∙ is) ∙ ap begins_shut lines ∙ ap (λ a. begins_shut (Rattle.hm_model.specs.Lists.lines_of (kind_of a))) args_is ∙ first_open request h)
+        let among = subst (λ a. IsIn (mine.line ∷ mine.behind) (orders_of (kind_of a))) args_is (mine.fresh none).1 in
+        true≢false (sym is ∙ first_open request h (mine.line ∷ mine.behind) among)
 
     sent_now : (region : Region) → Closes J' pid.0 request region → Sent request (step_input J pid.0 its.node pick) region
     sent_now region (inl among) = inl among
@@ -249,14 +254,17 @@ module _ (pid : Pid) (pick : Option Server) (out : StepOut) (J : Past) (legal : 
     closes_old begun region (inl among) = inl among
     closes_old begun region (inr live) = inr (live.0, live.1, live.2, live.3, subst (λ (c : Catalog). IsLiveWith c region live.3) (mine.was_is ∙ mine.begun begun) live.4)
 
-    closed_now : shuts request ≡ true → (act : Act) → RunsNext J' pid.0 its.node act → is_shut act ≡ true → (region : Region) → Closes J' pid.0 request region → (q : ℕ) × (x : Node) × MovesIn J' pid.0 region q x
-    closed_now h act runs is region c =
-        let f = follows pid pick out J legal top exact act runs in
-        elim (shut_before request first mine.base mine.line f.next f.more mine.then h (follow_stage act f) (ap is_shut f.act_is ∙ is)) [
+    closed_now : shuts request ≡ true → (lines : List Line) → LedBy J' pid.0 its.node lines → is_shut (acts_of lines) ≡ true → (region : Region) → Closes J' pid.0 request region → (q : ℕ) × (x : Node) × MovesIn J' pid.0 region q x
+    closed_now h [] led is region c = absurd (false≢true is)
+    closed_now h (now ∷ later) led is region c =
+        let leads : Leads its.sheet.rows (row_of J' pid.0 its.node) (now ∷ later) = led its.sheet its.sheet_is in
+        let f = follows pid pick out J legal top exact leads.0.act (leads.0, ap (λ s. row_in s (row_of J' pid.0 its.node)) its.sheet_is ∙ leads.1, refl) in
+        let shuts_on = ap is_shut (same_acts its.sheet its.valid (row_of J' pid.0 its.node) (f.next ∷ f.more) (now ∷ later) f.leads leads) ∙ is in
+        elim (shut_before request first mine.base mine.line f.next f.more mine.then h (follow_stage leads.0.act f) shuts_on) [
           | inl shut ↦
-              let on : is_shut its.row.act ≡ true = ap is_shut mine.act_is ∙ shut in
+              let on : is_shut (acts_of (mine.line ∷ mine.behind)) ≡ true = ap (λ l. is_shut (acts_of (mine.line ∷ l))) f.behind_is ∙ shut in
               let begun = shut_begun h on in
-              let m = t.closed h begun its.row.act runs_it on region (closes_old begun region c) in
+              let m = t.closed h begun (mine.line ∷ mine.behind) mine.led on region (closes_old begun region c) in
               (m.0, m.1, (stays m.0 m.1 m.2.0, m.2.1, m.2.2))
           | inr closes ↦
               let sent = closer_sends request first its.row.next (step_input J pid.0 its.node pick) args_is h region (sent_now region c) in

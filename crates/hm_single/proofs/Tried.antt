@@ -1,4 +1,7 @@
 -- A region that is being opened, or failed to open, is held by a transit that may open it, and that counts its failures.
+use Rattle.hm_data.specs.declared.place.Place.{Place}
+use Rattle.hm_data.specs.declared.place.RegionState.{RegionState}
+use Rattle.hm_single.proofs.All.{Rested, base_rests}
 use Rattle.std.proofs.Common.{◌≡◌, ◌≢◌, ℕ, ◌≤◌, ◌==◌, ◌&&◌, not, [], ◌∷◌, true, false, Option, Some, None, refl, ap, sym, ◌∙◌, subst, inl, inr, slice_get, arith}
 use Rattle.std.proofs.lemmas.Bool.{and_from, and_left, and_right, cases_Bool, cases_eq, cond-false, cond-true, eq-eqb, false≢true, ne_eqb, or_cases, or_left, or_right, true≢false}
 use Rattle.std.proofs.lemmas.Option.{none-some, same_Some}
@@ -251,6 +254,19 @@ module _ (pid : Pid) (pick : Option Server) (out : StepOut) (J : Past) (legal : 
     | inr off ↦ other_trying region off trying
   ]
 
+-- in a base none is
+untried : (place : Place) → Rested place.state place.server → is_tried place ≡ true → ⊥
+untried place rested trying = by place.state rested trying
+  where
+    by : (state : RegionState) → Rested state place.server → is_tried (record place { state = state }) ≡ true → ⊥
+    by place_is.Offline h t = false≢true t
+    by place_is.Opening h t = h
+    by place_is.Opened h t = false≢true t
+    by place_is.Closing h t = h
+    by place_is.Closed h t = false≢true t
+    by place_is.FailedOpen h t = h
+    by place_is.AbnormallyClosed h t = false≢true t
+
 -- so it is in every legal journal
 pub trying_all : (J : Past) → IsLegal J → AllTrying J
 trying_all [] legal region trying = absurd (false≢true trying)
@@ -262,3 +278,5 @@ trying_all (entry_is.Report call told ∷ J) legal region trying = calm_trying (
 trying_all (entry_is.Up server ∷ J) legal region trying = calm_trying (entry_is.Up server) J legal (λ r. refl) (λ r. refl) (λ p. refl) (λ p. refl) (trying_all J legal.0) region trying
 trying_all (entry_is.Down server ∷ J) legal region trying = calm_trying (entry_is.Down server) J legal (λ r. refl) (λ r. refl) (λ p. refl) (λ p. refl) (trying_all J legal.0) region trying
 trying_all (entry_is.Abort pid ∷ J) legal region trying = calm_trying (entry_is.Abort pid) J legal (λ r. refl) (λ r. refl) (λ p. refl) (λ p. refl) (trying_all J legal.0) region trying
+trying_all (entry_is.Adopt sheets ∷ J) legal region trying = calm_trying (entry_is.Adopt sheets) J legal (λ r. refl) (λ r. refl) (λ p. refl) (λ p. refl) (trying_all J legal.0) region trying
+trying_all (entry_is.Base part ∷ J) legal region trying = absurd (untried (place_of (entry_is.Base part ∷ J) region) (base_rests (entry_is.Base part ∷ J) legal refl region) trying)

@@ -119,17 +119,17 @@ confirms_so region place told = record {
     by false = refl
 
 -- a place at rest that isn't open is none
-rest_shut : (J : Past) (last : Option ℕ) (state : RegionState) (server : Option Server) → AtRest J last state server → is_state place_is.Opened (record { state = state; server = server }) ≡ false → is_placed (record { state = state; server = server }) ≡ false
-rest_shut J last place_is.Offline server rest h = refl
-rest_shut J last place_is.Closed server rest h = refl
-rest_shut J last place_is.FailedOpen server rest h = refl
-rest_shut J last place_is.AbnormallyClosed server rest h = refl
-rest_shut J last place_is.Opening server rest h = absurd rest
-rest_shut J last place_is.Closing server rest h = absurd rest
-rest_shut J last place_is.Opened server rest h = absurd (true≢false h)
+rest_shut : (J : Past) (r : Region) (last : Option ℕ) (state : RegionState) (server : Option Server) → AtRest J r last state server → is_state place_is.Opened (record { state = state; server = server }) ≡ false → is_placed (record { state = state; server = server }) ≡ false
+rest_shut J r last place_is.Offline server rest h = refl
+rest_shut J r last place_is.Closed server rest h = refl
+rest_shut J r last place_is.FailedOpen server rest h = refl
+rest_shut J r last place_is.AbnormallyClosed server rest h = refl
+rest_shut J r last place_is.Opening server rest h = absurd rest
+rest_shut J r last place_is.Closing server rest h = absurd rest
+rest_shut J r last place_is.Opened server rest h = absurd (true≢false h)
 
 -- by its stage: what is said of an Unassign's answer
-stage_answer : (J : Past) (p : ℕ) (r : Region) (place : Place) (last : Option ℕ) (answer : Answer) (q : ℕ) (made : Option Node) (other : Option Answer) → UnassignAnswers answer → AtRow J p r place last (Some answer) q made other → UnassignAt (Some answer) × (is_stop answer ≡ true → IsRest J last place)
+stage_answer : (J : Past) (p : ℕ) (r : Region) (place : Place) (last : Option ℕ) (answer : Answer) (q : ℕ) (made : Option Node) (other : Option Answer) → UnassignAnswers answer → AtRow J p r place last (Some answer) q made other → UnassignAt (Some answer) × (is_stop answer ≡ true → IsRest J r last place)
 stage_answer J p r place last (answer_is.More n) q made other a (inl h) = absurd (free h.0)
   where
     free : IsFreeRow n → ⊥
@@ -205,7 +205,7 @@ module _ (pid : Pid) (pick : Option Server) (out : StepOut) (J : Past) (legal : 
           subst (Shuts (place_of J region)) (sym same) (confirms_so region (place_of J region) (is_told told_is.Closed at_row.ends))
     ]
 
-    stage_now : UnassignAt (Some out.answer) × (is_stop out.answer ≡ true → IsRest J' (last_call J' region) (place_of J' region))
+    stage_now : UnassignAt (Some out.answer) × (is_stop out.answer ≡ true → IsRest J' region (last_call J' region) (place_of J' region))
     stage_now =
         let at_work : StageFor J' region (Some pid.0) = subst (StageFor J' region) (work_now region moves_it) ((kept_all J' legal).stage region) in
         stage_answer J' pid.0 region (place_of J' region) (last_call J' region) out.answer (child_of_step J' pid.0) (node_of J' (child_of_step J' pid.0)) (last_answer J' (child_of_step J' pid.0)) shuts.answers
@@ -219,7 +219,7 @@ module _ (pid : Pid) (pick : Option Server) (out : StepOut) (J : Past) (legal : 
         by (Some here) e = ap (is_state place_is.Opened) (cond-true (is_the_region region (region_of step.node.args)) here (place_of J region) (ap (λ a. is_the_region region (region_of a)) own ∙ same_region-refl region)) ∙ shuts.given stops here e
 
     pub unplaced_now : is_stop out.answer ≡ true → is_placed (place_of J' region) ≡ false
-    unplaced_now stops = rest_shut J' (last_call J' region) (place_of J' region).state (place_of J' region).server (stage_now.1 stops) (shut_now stops)
+    unplaced_now stops = rest_shut J' region (last_call J' region) (place_of J' region).state (place_of J' region).server (stage_now.1 stops) (shut_now stops)
 
     -- one that goes on finds its region open
     pub goes_placed : is_stop out.answer ≡ false → is_placed (place_of J region) ≡ true
@@ -276,6 +276,8 @@ at_all (entry_is.Report call told ∷ J) legal p x region to is own = at_all J l
 at_all (entry_is.Up server ∷ J) legal p x region to is own = at_all J legal.0 p x region to is own
 at_all (entry_is.Down server ∷ J) legal p x region to is own = let g = grown_all J legal.0 in calm_at J (entry_is.Down server ∷ J) (down_rooted server J g) g (at_all J legal.0) p x region to is own
 at_all (entry_is.Abort pid ∷ J) legal p x region to is own = at_all J legal.0 p x region to is own
+at_all (entry_is.Adopt sheets ∷ J) legal p x region to is own = at_all J legal.0 p x region to is own
+at_all (entry_is.Base part ∷ J) legal p x region to is own = absurd (none-some x is)
 
 -- where an Unassign that has ended worked on a region last, the region has no place
 abbrev pub AllShut : Past → Type 0
@@ -344,6 +346,8 @@ shut_all (entry_is.Report call told ∷ J) legal region p x to work is own stopp
 shut_all (entry_is.Up server ∷ J) legal region p x to work is own stopped = shut_all J legal.0 region p x to work is own stopped
 shut_all (entry_is.Down server ∷ J) legal region p x to work is own stopped = let g = grown_all J legal.0 in calm_shut J (entry_is.Down server ∷ J) (down_rooted server J g) g (λ r. refl) (λ r. refl) (shut_all J legal.0) region p x to work is own stopped
 shut_all (entry_is.Abort pid ∷ J) legal region p x to work is own stopped = shut_all J legal.0 region p x to work is own stopped
+shut_all (entry_is.Adopt sheets ∷ J) legal region p x to work is own stopped = shut_all J legal.0 region p x to work is own stopped
+shut_all (entry_is.Base part ∷ J) legal region p x to work is own stopped = absurd (none-some x is)
 
 -- who worked on a region last while a root asks for it alone, whose tree has worked on it: one of its tree
 pub record Worked (J : Past) (root : ℕ) (region : Region) : Type 0 where
@@ -528,6 +532,9 @@ worked_all (entry_is.Down server ∷ J) legal root top at running region c q x m
     calm_worked J (entry_is.Down server ∷ J) rooted g (λ r. refl) (λ r t is h. still_open J (entry_is.Down server ∷ J) r (rooted_left J (entry_is.Down server ∷ J) rooted g r t is refl refl refl) h) (worked_all J legal.0) root top at running region c q x moves some
 worked_all (entry_is.Abort pid ∷ J) legal root top at running region c q x moves some =
     let w = worked_all J legal.0 root top at running region c q x moves some in record { begun = w.begun; p = w.p; node = w.node; work = w.work; node_is = w.node_is; in_tree = w.in_tree }
+worked_all (entry_is.Adopt sheets ∷ J) legal root top at running region c q x moves some =
+    let w = worked_all J legal.0 root top at running region c q x moves some in record { begun = w.begun; p = w.p; node = w.node; work = w.work; node_is = w.node_is; in_tree = w.in_tree }
+worked_all (entry_is.Base part ∷ J) legal root top at running region c q x moves some = absurd (none-some x moves.0)
 
 pub held_stay : HeldPlacesStay
 held_stay pid pick out J legal root top top_is nil begun running region c =

@@ -13,12 +13,13 @@ use Rattle.hm_data.specs.declared.request.Request.{Request}
 use Rattle.hm_data.specs.declared.request.Request.TheVariants as request_is
 use Rattle.hm_model.specs.Answers.{is_stopped, last_answer, report_of, row_of}
 use Rattle.hm_model.specs.Catalog.{cat}
+use Rattle.hm_model.specs.Fleet.{is_fenced}
 use Rattle.hm_model.specs.Holding.{HoldsWith}
 use Rattle.hm_model.specs.Journal.{Past}
 use Rattle.hm_model.specs.Places.{place_of}
 use Rattle.hm_model.specs.Ranges.{IsLiveWith}
 use Rattle.hm_model.specs.Reports.{verb_of, peer_of, last_call}
-use Rattle.hm_model.specs.Single.{IsOver, IsGone}
+use Rattle.hm_model.specs.Single.{IsBasedAt, IsGone, IsOver}
 use Rattle.hm_model.specs.TransitActs.{is_placed}
 use Rattle.hm_model.specs.Tree.{Node, node_of}
 use Rattle.hm_model.specs.Whereabouts.{moved_by}
@@ -53,10 +54,10 @@ CallsAbout J p region =
 abbrev pub IsVoidCall : Past → ℕ → Type 0
 IsVoidCall J p = (report_of J p ≡ Some told_is.FailedOpen) ⊎ ((report_of J p ≡ Some told_is.Closed) ⊎ IsGone J p)
 
--- the last call of a region, if there is one, can't leave it open
-abbrev pub IsVoid : Past → Option ℕ → Type 0
-IsVoid J None = Unit {0}
-IsVoid J (Some p) = IsVoidCall J p
+-- the last call of a region, if there is one, can't leave it open; without a call a server that has it open by the base is fenced
+abbrev pub IsVoid : Past → Region → Option ℕ → Type 0
+IsVoid J region None = (server : Server) → IsBasedAt J region server → is_fenced J server ≡ true
+IsVoid J region (Some p) = IsVoidCall J p
 
 -- the requests that have regions closed before they go on
 abbrev pub closes_first : Request → Bool
@@ -65,10 +66,11 @@ closes_first (request_is.SplitRegion region key) = true
 closes_first (request_is.MergeRegions regions) = true
 closes_first request = false
 
--- the last call of a region opened it at the server
-abbrev pub IsOpenedBy : Past → Option ℕ → Server → Type 0
-IsOpenedBy J last server =
-    (p : ℕ) × (last ≡ Some p) × (peer_of J p ≡ Some (peer_is.Server server)) × (report_of J p ≡ Some told_is.Opened)
+-- the last call of a region opened it at the server, or the base has it open there and no call of it was made since
+abbrev pub IsOpenedBy : Past → Region → Option ℕ → Server → Type 0
+IsOpenedBy J region last server =
+    ((p : ℕ) × (last ≡ Some p) × (peer_of J p ≡ Some (peer_is.Server server)) × (report_of J p ≡ Some told_is.Opened))
+    ⊎ ((last ≡ None) × IsBasedAt J region server)
 
 -- a call's id is above that of the last one
 abbrev pub IsLater : ℕ → Option ℕ → Type 0
@@ -80,10 +82,10 @@ IsLater id (Some p) = p < id
 abbrev pub Finds : Past → ℕ → Node → Option Verb → Type 0
 Finds J id node None = Unit {0}
 Finds J id node (Some (verb_is.AssignRegion region)) =
-    (verb_of J id ≡ None) × IsLater id (last_call J region) × IsVoid J (last_call J region)
+    (verb_of J id ≡ None) × IsLater id (last_call J region) × IsVoid J region (last_call J region)
 Finds J id node (Some (verb_is.CloseRegion region)) =
     (verb_of J id ≡ None) × IsLater id (last_call J region)
-    × (server : Server) × (node.args ≡ args_are.CloseCall region server) × IsOpenedBy J (last_call J region) server
+    × (server : Server) × (node.args ≡ args_are.CloseCall region server) × IsOpenedBy J region (last_call J region) server
 Finds J id node (Some (verb_is.Fence server)) = verb_of J id ≡ None
 Finds J id node (Some (verb_is.Layout root)) = verb_of J id ≡ None
 Finds J id node (Some (verb_is.Sweep root)) = verb_of J id ≡ None

@@ -60,17 +60,17 @@ OpeningsAreSingle =
     → IsLegal (entry_is.Step pid pick out ∷ before)
     → MayOpen before out.call
 
--- a region that is open at a server was opened there by its last call
+-- a region that is open at a server was opened there by its last call, or is open there by the base
 abbrev pub OpenedAreTold : Type 0
 OpenedAreTold =
     (J : Past) → IsLegal J → (region : Region) → is_state place_is.Opened (place_of J region) ≡ true
-    → (server : Server) × ((place_of J region).server ≡ Some server) × IsOpenedBy J (last_call J region) server
+    → (server : Server) × ((place_of J region).server ≡ Some server) × IsOpenedBy J region (last_call J region) server
 
 -- a region without a place is held by no call: its last call can't leave it open, and who calls about it has stopped
 abbrev pub UnplacedAreFree : Type 0
 UnplacedAreFree =
     (J : Past) → IsLegal J → (region : Region) → is_placed (place_of J region) ≡ false
-    → IsVoid J (last_call J region) × ((p : ℕ) → CallsAbout J p region → is_stopped (last_answer J p) ≡ true)
+    → IsVoid J region (last_call J region) × ((p : ℕ) → CallsAbout J p region → is_stopped (last_answer J p) ≡ true)
 
 -- a region that is neither open nor being opened or closed gets a server only where it is live, and its table is enabled or
 -- being enabled
@@ -117,6 +117,6 @@ PlacedWhereOn =
     → (state : TableState) × (version : ℕ) × (cat J (key_is.Table region.table) ≡ Some (row_is.Table state version)) × (state ≢ state_is.Disabled)
 
 -- no region is assigned while another opening of it, or of one of its table whose range overlaps its own, may still stand:
--- whatever became of that one's row since
+-- whatever became of that one's row since, and also where the base has it open
 abbrev pub SingleOverRanges : Type 0
 SingleOverRanges = (J : Past) → IsLegal J → Single J

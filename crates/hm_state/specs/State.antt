@@ -2,6 +2,7 @@
 use Rattle.std.specs.Prelude.{◌≡◌, ℕ, ◌^◌, ◌<◌, List, length}
 use Rattle.hm_data.specs.declared.entry.Entry.{Entry}
 use Rattle.hm_model.specs.Journal.{Past, back}
+use Rattle.hm_model.specs.Plain.{ArePlain}
 use Rattle.hm_model.specs.Rules.{IsLegal}
 
 -- entries, for how much more there is room, and how much memory there is
@@ -10,10 +11,11 @@ pub record StateView : Type 0 where
   pub spare : ℕ
   pub room : ℕ
 
--- the entries are a legal journal that has begun, what is kept is of that, and they are counted
+-- the entries are a legal, plain journal that has begun, what is kept is of that, and they are counted
 pub record IsState (entries : List Entry) (past : Past) (count : ℕ) : Type 0 where
   pub past_is : past ≡ back entries
   pub legal : IsLegal past
+  pub plain : ArePlain past
   pub begun : 0 < count
   pub counted : count ≡ length entries
   pub small : count < 2 ^ 63

@@ -5,9 +5,11 @@ ghost use Rattle.hm_model.specs.Evaluation.{CanRun};
 ghost use Rattle.hm_model.specs.Journal.{back};
 ghost use Rattle.hm_model.specs.Loads.{places_of};
 ghost use Rattle.hm_model.specs.Nonces.{by_nonce};
+ghost use Rattle.hm_model.specs.Plain.{ArePlain, IsPlain};
 ghost use Rattle.hm_model.specs.Records.{record_of, unfinished};
 ghost use Rattle.hm_model.specs.Reports.{call_of, is_settled};
-ghost use Rattle.hm_model.specs.Rules.{Allowed, AreSheets, IsLegal};
+ghost use Rattle.hm_model.specs.Rules.{Allowed, IsLegal};
+ghost use Rattle.hm_model.specs.Base.{AreSheets};
 ghost use Rattle.hm_model.specs.Sheets.{sheets_of};
 ghost use Rattle.hm_model.specs.Standings.{standings_of};
 ghost use Rattle.hm_model.specs.Tree.{drawn, made, node_of, pid_of};
@@ -34,7 +36,7 @@ use hm_undo::Stack;
 use std::alloc::{AllocError, Global};
 use std::marker::Model;
 
-/// What the entries of a legal journal say that has begun. Contracts see the entries, and for how much more there is room.
+/// What the entries of a legal, plain journal say that has begun. Contracts see the entries, and for how much more there is room.
 #[derive(Drop)]
 pub struct State {
     records: Records,
@@ -59,7 +61,9 @@ fn begin(alloc: Global, entry: Entry, sheets: Vec<Valid>) -> Result<Records, All
     requires sheets { AreSheets sheets.items }
     ensures { IfOk result (λ records. records.past ≡ entry ∷ []) }
 {
-    Records::start(alloc, &entry, sheets)
+    let records = Records::start(alloc, &entry, sheets);
+    drop(entry);
+    records
 }
 
 impl State {
@@ -77,6 +81,7 @@ impl State {
     pub fn entries(&self) -> u64
         ensures count { result ≡ length self.now.entries }
         ensures legal { IsLegal (back self.now.entries) }
+        ensures plain { ArePlain (back self.now.entries) }
         ensures begun { 0 < result }
         ensures small { result < 2 ^ 63 }
     {
@@ -200,6 +205,7 @@ impl State {
     /// Whether an entry may follow these.
     pub fn allowed(&self, alloc: Global, entry: &Entry) -> Result<(), NotAllowed>
         ensures ok { OnOk result (Allowed (back self.now.entries) entry.now) }
+        ensures plain { OnOk result (IsPlain entry.now) }
         ensures why { IfErr result (IsWhy (back self.now.entries) entry.now) }
     {
         hm_judge::allowed(alloc, &self.records, entry)
@@ -221,7 +227,8 @@ impl State {
 
     /// Makes room for an entry that is allowed, of which it makes a copy.
     pub fn prepare(&mut self, alloc: Global, entry: &Entry) -> Result<Ready, AllocError>
-        requires { Allowed (back self.old.entries) entry.now }
+        requires allowed { Allowed (back self.old.entries) entry.now }
+        requires plain { IsPlain entry.now }
         ensures entries { self.new.entries ≡ self.old.entries }
         ensures ready { IfOk result (λ ready. (ready.entry ≡ entry.now) × (ready.past ≡ back self.old.entries)) }
         ensures room { OnOk result (size_of entry.now ≤ self.new.spare) }
@@ -233,7 +240,8 @@ impl State {
 
     /// Makes room for an entry that is allowed, without a copy of it.
     pub fn prepare_own(&mut self, alloc: Global, entry: Entry) -> Result<Ready, AllocError>
-        requires { Allowed (back self.old.entries) entry }
+        requires allowed { Allowed (back self.old.entries) entry }
+        requires plain { IsPlain entry }
         ensures entries { self.new.entries ≡ self.old.entries }
         ensures ready { IfOk result (λ ready. (ready.entry ≡ entry) × (ready.past ≡ back self.old.entries)) }
         ensures room { OnOk result (size_of entry ≤ self.new.spare) }
@@ -247,7 +255,8 @@ impl State {
 
     // Makes what is kept of an entry that is allowed, and room for both.
     fn make_room(&mut self, alloc: Global, entry: &Entry) -> Result<Parts, AllocError>
-        requires { Allowed (back self.old.entries) entry.now }
+        requires allowed { Allowed (back self.old.entries) entry.now }
+        requires plain { IsPlain entry.now }
         ensures entries { self.new.entries ≡ self.old.entries }
         ensures parts { IfOk result (AreParts (back self.old.entries) entry.now) }
         ensures room { OnOk result (size_of entry.now ≤ self.new.spare) }
@@ -265,6 +274,7 @@ impl State {
     pub fn apply(&mut self, ready: Ready)
         requires past { ready.past ≡ back self.old.entries }
         requires allowed { Allowed (back self.old.entries) ready.entry }
+        requires plain { IsPlain ready.entry }
         requires room { size_of ready.entry ≤ self.old.spare }
         ensures entries { self.new.entries ≡ self.old.entries ++ ready.entry ∷ [] }
         ensures spare { self.old.spare ≤ self.new.spare + size_of ready.entry }
@@ -277,5 +287,6 @@ impl State {
         } = ready;
         self.records.enter(&entry, parts);
         self.count += 1;
+        drop(entry);
     }
 }

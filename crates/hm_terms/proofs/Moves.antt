@@ -52,6 +52,7 @@ use Rattle.hm_terms.specs.Refusals.{granted, is_called}
 -- no report
 abbrev pub IsSilent : Entry → Type 0
 IsSilent (entry_is.Report call told) = ⊥
+IsSilent (entry_is.Base part) = ⊥
 IsSilent entry = Unit {0}
 
 -- no report was added

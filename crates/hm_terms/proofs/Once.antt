@@ -55,18 +55,13 @@ reported_more told before p call h = by (p == call) refl h
 -- what a journal has as refused has a report
 reported : (peer : Peer) (J : Past) (p : ℕ) → IsIn p (refused_by peer J) → is_some (report_of J p) ≡ true
 reported peer [] p h = absurd h
-reported peer (entry_is.Start sheets ∷ before) p h = reported peer before p h
-reported peer (entry_is.Submit nonce request ∷ before) p h = reported peer before p h
-reported peer (entry_is.Step pid pick out ∷ before) p h = reported peer before p h
-reported peer (entry_is.Undo pid row out ∷ before) p h = reported peer before p h
 reported peer (entry_is.Report call told ∷ before) p h =
     reported_more told (report_of before p) p call.0 (elim (in_with (is_refusal told && is_called peer (peer_of before call.0)) call.0 p (refused_by peer before) h) [
       | inl here ↦ inl here.1
       | inr there ↦ inr (reported peer before p there)
     ])
-reported peer (entry_is.Up server ∷ before) p h = reported peer before p h
-reported peer (entry_is.Down server ∷ before) p h = reported peer before p h
-reported peer (entry_is.Abort pid ∷ before) p h = reported peer before p h
+reported peer (entry_is.Base part ∷ before) p h = absurd h
+reported peer (entry ∷ before) p h = reported peer before p h
 
 once_more : (refused : Bool) (call : ℕ) (calls : List ℕ) → (IsIn call calls → ⊥) → AreOnce calls → AreOnce (with_refused refused call calls)
 once_more true call calls new once = (new, once)
@@ -75,13 +70,8 @@ once_more false call calls new once = once
 -- each call that is refused is refused once
 pub once : (peer : Peer) (J : Past) → IsLegal J → AreOnce (refused_by peer J)
 once peer [] legal = tt
-once peer (entry_is.Start sheets ∷ before) legal = once peer before legal.0
-once peer (entry_is.Submit nonce request ∷ before) legal = once peer before legal.0
-once peer (entry_is.Step pid pick out ∷ before) legal = once peer before legal.0
-once peer (entry_is.Undo pid row out ∷ before) legal = once peer before legal.0
 once peer (entry_is.Report call told ∷ before) legal =
     once_more (is_refusal told && is_called peer (peer_of before call.0)) call.0 (refused_by peer before)
     (λ there. false≢true (sym (ap is_some legal.1.1.0.1) ∙ reported peer before call.0 there)) (once peer before legal.0)
-once peer (entry_is.Up server ∷ before) legal = once peer before legal.0
-once peer (entry_is.Down server ∷ before) legal = once peer before legal.0
-once peer (entry_is.Abort pid ∷ before) legal = once peer before legal.0
+once peer (entry_is.Base part ∷ before) legal = tt
+once peer (entry ∷ before) legal = once peer before legal.0

@@ -103,14 +103,9 @@ report_is_of o call = by call.peer
 
 -- entries that are no reports
 silent_reports : (entry : Entry) (J : Past) → IsSilent entry → reported_in (entry ∷ J) ≡ reported_in J
-silent_reports (entry_is.Start sheets) J silent = refl
-silent_reports (entry_is.Submit nonce request) J silent = refl
-silent_reports (entry_is.Step pid pick out) J silent = refl
-silent_reports (entry_is.Undo pid row out) J silent = refl
 silent_reports (entry_is.Report call told) J silent = absurd silent
-silent_reports (entry_is.Up server) J silent = refl
-silent_reports (entry_is.Down server) J silent = refl
-silent_reports (entry_is.Abort pid) J silent = refl
+silent_reports (entry_is.Base part) J silent = absurd silent
+silent_reports entry J silent = refl
 
 reports_all : (journal added : List Entry) → All IsSilent added → reported_in (back (journal ++ added)) ≡ reported_in (back journal)
 reports_all journal [] all = ap (λ (j : List Entry). reported_in (back j)) (append-nil journal)
@@ -301,28 +296,18 @@ reported_more told earlier p call h = by (p == call) refl h
 -- each call that is reported has a report
 has_report : (J : Past) (p : ℕ) → IsIn p (reported_in J) → is_some (report_of J p) ≡ true
 has_report [] p h = absurd h
-has_report (entry_is.Start sheets ∷ earlier) p h = has_report earlier p h
-has_report (entry_is.Submit nonce request ∷ earlier) p h = has_report earlier p h
-has_report (entry_is.Step pid pick out ∷ earlier) p h = has_report earlier p h
-has_report (entry_is.Undo pid row out ∷ earlier) p h = has_report earlier p h
 has_report (entry_is.Report call told ∷ earlier) p h =
     reported_more told (report_of earlier p) p call.0 (elim h [ inl here ↦ inl here | inr there ↦ inr (has_report earlier p there) ])
-has_report (entry_is.Up server ∷ earlier) p h = has_report earlier p h
-has_report (entry_is.Down server ∷ earlier) p h = has_report earlier p h
-has_report (entry_is.Abort pid ∷ earlier) p h = has_report earlier p h
+has_report (entry_is.Base part ∷ earlier) p h = absurd h
+has_report (entry ∷ earlier) p h = has_report earlier p h
 
 -- a legal journal reports each call once
 reported_once : (J : Past) → IsLegal J → AreOnce (reported_in J)
 reported_once [] legal = tt
-reported_once (entry_is.Start sheets ∷ earlier) legal = reported_once earlier legal.0
-reported_once (entry_is.Submit nonce request ∷ earlier) legal = reported_once earlier legal.0
-reported_once (entry_is.Step pid pick out ∷ earlier) legal = reported_once earlier legal.0
-reported_once (entry_is.Undo pid row out ∷ earlier) legal = reported_once earlier legal.0
 reported_once (entry_is.Report call told ∷ earlier) legal =
     (λ there. false≢true (sym (ap is_some legal.1.1.0.1) ∙ has_report earlier call.0 there), reported_once earlier legal.0)
-reported_once (entry_is.Up server ∷ earlier) legal = reported_once earlier legal.0
-reported_once (entry_is.Down server ∷ earlier) legal = reported_once earlier legal.0
-reported_once (entry_is.Abort pid ∷ earlier) legal = reported_once earlier legal.0
+reported_once (entry_is.Base part ∷ earlier) legal = tt
+reported_once (entry ∷ earlier) legal = reported_once earlier legal.0
 
 -- the numbers of calls, and of what is reported
 abbrev calls_of : List Call → List ℕ

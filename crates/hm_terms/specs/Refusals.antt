@@ -36,15 +36,10 @@ is_called peer called = false
 -- the calls that this one refused, as the reports of a journal have it
 abbrev pub refused_by : Peer → Past → List ℕ
 refused_by peer [] = []
-refused_by peer (entry_is.Start sheets ∷ before) = refused_by peer before
-refused_by peer (entry_is.Submit nonce request ∷ before) = refused_by peer before
-refused_by peer (entry_is.Step pid pick out ∷ before) = refused_by peer before
-refused_by peer (entry_is.Undo pid row out ∷ before) = refused_by peer before
 refused_by peer (entry_is.Report call told ∷ before) =
     if is_refusal told && is_called peer (peer_of before call.0) then call.0 ∷ refused_by peer before else refused_by peer before
-refused_by peer (entry_is.Up server ∷ before) = refused_by peer before
-refused_by peer (entry_is.Down server ∷ before) = refused_by peer before
-refused_by peer (entry_is.Abort pid ∷ before) = refused_by peer before
+refused_by peer (entry_is.Base part ∷ before) = []
+refused_by peer (entry ∷ before) = refused_by peer before
 
 -- how often a command that was answered so lets this one refuse
 abbrev pub granted : Peer → Command → Option Answer → ℕ

@@ -12,14 +12,9 @@ use Rattle.hm_world.specs.Sound.{IsSent}
 -- the calls that a journal reports, one for each of its reports
 abbrev pub reported_in : Past → List ℕ
 reported_in [] = []
-reported_in (entry_is.Start sheets ∷ before) = reported_in before
-reported_in (entry_is.Submit nonce request ∷ before) = reported_in before
-reported_in (entry_is.Step pid pick out ∷ before) = reported_in before
-reported_in (entry_is.Undo pid row out ∷ before) = reported_in before
 reported_in (entry_is.Report call told ∷ before) = call.0 ∷ reported_in before
-reported_in (entry_is.Up server ∷ before) = reported_in before
-reported_in (entry_is.Down server ∷ before) = reported_in before
-reported_in (entry_is.Abort pid ∷ before) = reported_in before
+reported_in (entry_is.Base part ∷ before) = []
+reported_in (entry ∷ before) = reported_in before
 
 -- each report ever made is of a call that was sent; and each that is recorded was recorded before, or made
 pub record HasTravelled (before recorded : List ℕ) (wire : List Call) (waiting : List ReportMsg) (o : Outside) : Type 0 where

@@ -1,6 +1,6 @@
 -- Whoever can go on stays able to.
 use Rattle.std.proofs.Common.{Bool, None, Option, Some, ap, arith, false, if◌then◌else◌, inl, inr, length, refl, subst, sym, true, ℕ, ◌&&◌, ◌+◌, ◌==◌, ◌∙◌, ◌∷◌, ◌≡◌, ◌≢◌}
-use Rattle.std.proofs.lemmas.Bool.{cases_Bool, cases_eq, cond-false, eqb-true, ne_eqb, or_right, true≢false}
+use Rattle.std.proofs.lemmas.Bool.{cases_Bool, cases_eq, cond-false, eqb-true, ne_eqb, true≢false}
 use Rattle.std.proofs.lemmas.Option.{none-some, same_Some}
 use Rattle.hm_names.specs.Server.{Server}
 use Rattle.hm_names.specs.declared.pid.Pid.{Pid}
@@ -13,7 +13,6 @@ use Rattle.hm_data.specs.declared.record.Phase.{Phase}
 use Rattle.hm_data.specs.declared.step.StepOut.{StepOut}
 use Rattle.hm_model.specs.Answers.{is_stopped, last_answer, report_of}
 use Rattle.hm_model.specs.Apart.{tree_of}
-use Rattle.hm_model.specs.Fleet.{is_fenced}
 use Rattle.hm_model.specs.Inputs.{undoes}
 use Rattle.hm_model.specs.Journal.{Past}
 use Rattle.hm_model.specs.Phase.{all_stopped, cause, children_ended, own_phase, phase, phase_table, rolled_back}
@@ -27,41 +26,34 @@ use Rattle.hm_model.proofs.Grown.{nodes_stay, not_stepped}
 use Rattle.hm_model.proofs.Waiting.{children_change, children_tell}
 use Rattle.hm_tied.specs.Ables.{AblesStay, ClaimedStayAble}
 use Rattle.hm_tied.specs.Tied.{CanGo, IsCalm}
+use Rattle.hm_model.proofs.CameUp.{fenced_stays}
+use Rattle.hm_model.proofs.Parted.{by_parts, no_node}
 use Rattle.hm_model.proofs.Running.{Runs, calm_stopped, ready_runs, run_facts, run_last, top_or_below, undo_facts}
 use Rattle.hm_tied.proofs.Picking.{fenced_still}
 use Rattle.hm_tied.proofs.Staying.{below_none, old_tree, same_tree, same_undoes}
 use Rattle.hm_tied.proofs.Stepping.{other_tree}
 use Rattle.hm_tied.proofs.Undoing.{below_is}
 
--- who is fenced stays so
-fences_stay : (entry : Entry) (J : Past) (s : Server) → is_fenced J s ≡ true → is_fenced (entry ∷ J) s ≡ true
-fences_stay (entry_is.Start sheets) J s on = on
-fences_stay (entry_is.Submit nonce request) J s on = on
-fences_stay (entry_is.Step pid pick out) J s on = on
-fences_stay (entry_is.Undo pid row out) J s on = on
-fences_stay (entry_is.Report call told) J s on = or_right _ (is_fenced J s) on
-fences_stay (entry_is.Up server) J s on = on
-fences_stay (entry_is.Down server) J s on = on
-fences_stay (entry_is.Abort pid) J s on = on
-
 -- a call that has a report keeps one
-reports_stay : (entry : Entry) (J : Past) (q : ℕ) → report_of J q ≢ None → report_of (entry ∷ J) q ≢ None
-reports_stay (entry_is.Start sheets) J q some = some
-reports_stay (entry_is.Submit nonce request) J q some = some
-reports_stay (entry_is.Step pid pick out) J q some = some
-reports_stay (entry_is.Undo pid row out) J q some = some
-reports_stay (entry_is.Up server) J q some = some
-reports_stay (entry_is.Down server) J q some = some
-reports_stay (entry_is.Abort pid) J q some = some
-reports_stay (entry_is.Report call told) J q some = λ none. elim (cases_Bool (q == call.0)) [
+reports_stay : (entry : Entry) (J : Past) → IsLegal (entry ∷ J) → (q : ℕ) → report_of J q ≢ None → report_of (entry ∷ J) q ≢ None
+reports_stay (entry_is.Start sheets) J legal q some = some
+reports_stay (entry_is.Submit nonce request) J legal q some = some
+reports_stay (entry_is.Step pid pick out) J legal q some = some
+reports_stay (entry_is.Undo pid row out) J legal q some = some
+reports_stay (entry_is.Up server) J legal q some = some
+reports_stay (entry_is.Down server) J legal q some = some
+reports_stay (entry_is.Abort pid) J legal q some = some
+reports_stay (entry_is.Adopt sheets) J legal q some = some
+reports_stay (entry_is.Base part) J legal q some = absurd (some (by_parts (λ j. report_of j q ≡ None) refl (λ own older. refl) part J legal.1.0))
+reports_stay (entry_is.Report call told) J legal q some = λ none. elim (cases_Bool (q == call.0)) [
   | inl own ↦ none-some told (sym none ∙ ap (λ b. if b then Some told else report_of J q) own)
   | inr other ↦ some (sym (cond-false (q == call.0) (Some told) (report_of J q) other) ∙ none)
 ]
 
 -- who is answered stays so
-answered_stays : (entry : Entry) (J : Past) (q : ℕ) (x : Node) → IsAnswered J q x → IsAnswered (entry ∷ J) q x
-answered_stays entry J q x (inl some) = inl (reports_stay entry J q some)
-answered_stays entry J q x (inr fenced) = inr (fenced_still J (entry ∷ J) (fences_stay entry J) (called_by x.args) fenced)
+answered_stays : (entry : Entry) (J : Past) → IsLegal (entry ∷ J) → (q : ℕ) (x : Node) → IsAnswered J q x → IsAnswered (entry ∷ J) q x
+answered_stays entry J legal q x (inl some) = inl (reports_stay entry J legal q some)
+answered_stays entry J legal q x (inr fenced) = inr (fenced_still J (entry ∷ J) (fenced_stays entry J) (called_by x.args) fenced)
 
 -- who can go on is there
 go_node : (J : Past) (q : ℕ) → CanGo J q → (x : Node) × (node_of J q ≡ Some x)
@@ -113,7 +105,7 @@ own_same (Some answer_is.Undone) before after runs stay = refl
 go_on : (entry : Entry) (J : Past) → IsLegal (entry ∷ J) → (q : ℕ) (x : Node) → node_of J q ≡ Some x → phase (entry ∷ J) q x ≡ phase J q x → undoes (entry ∷ J) q x ≡ undoes J q x → CanGo J q → CanGo (entry ∷ J) q
 go_on entry J legal q x is phases undos (inl may) =
     let ready : IsReady J q x = subst (IsReady J q) (same_Some may.0 x (sym may.1 ∙ is)) may.2 in
-    inl (x, nodes_stay entry J legal q x is, elim ready [ inl runs ↦ inl (phases ∙ runs) | inr waits ↦ inr (phases ∙ waits.0, answered_stays entry J q x waits.1) ])
+    inl (x, nodes_stay entry J legal q x is, elim ready [ inl runs ↦ inl (phases ∙ runs) | inr waits ↦ inr (phases ∙ waits.0, answered_stays entry J legal q x waits.1) ])
 go_on entry J legal q x is phases undos (inr undo) =
     inr (x, nodes_stay entry J legal q x is, undos ∙ ap (undoes J q) (sym (same_Some undo.0 x (sym undo.1 ∙ is))) ∙ undo.2)
 
@@ -181,6 +173,8 @@ ables_stay (entry_is.Report call told) J p legal go calm apart = let x = go_node
 ables_stay (entry_is.Up server) J p legal go calm apart = let x = go_node J p go in go_on (entry_is.Up server) J legal p x.0 x.1 refl refl go
 ables_stay (entry_is.Down server) J p legal go calm apart = let x = go_node J p go in other_on (entry_is.Down server) J legal p x.0 x.1 (old_tree J legal.0 p x.0 x.1) go
 ables_stay (entry_is.Abort pid) J p legal go calm apart = let x = go_node J p go in go_on (entry_is.Abort pid) J legal p x.0 x.1 refl refl go
+ables_stay (entry_is.Adopt sheets) J p legal go calm apart = let x = go_node J p go in go_on (entry_is.Adopt sheets) J legal p x.0 x.1 refl refl go
+ables_stay (entry_is.Base part) J p legal go calm apart = let x = go_node J p go in absurd (none-some x.0 (sym (no_node part J legal.1.0 p) ∙ x.1))
 
 pub claimed_stay_able : ClaimedStayAble
 claimed_stay_able entry J number_of roster legal tied able q among = ables_stay entry J q legal (able q among) (tied.claims q among).1

@@ -19,9 +19,9 @@ use Rattle.hm_model.specs.Journal.{Past}
 use Rattle.hm_model.specs.Kinds.{first_row_of, kind_of}
 use Rattle.hm_model.specs.Lists.{exact_rows}
 use Rattle.hm_model.specs.Rules.{IsBeforePoint, IsLegal}
-use Rattle.hm_model.specs.Sheets.{next_row, row_in, sheet_for, sheets_of}
+use Rattle.hm_model.specs.Sheets.{next_row, row_in, sheet_for, sheets_by}
 use Rattle.hm_model.specs.Tree.{Node, node_of}
-use Rattle.hm_model.proofs.ExactRows.{all_valid, exact_is, led_row, sheet_is}
+use Rattle.hm_model.proofs.ExactRows.{exact_is, led_row, sheet_is, valid_by}
 use Rattle.hm_model.proofs.Trees.{grown_all}
 use Rattle.hm_model.proofs.PlainActs.{is_plain}
 use Rattle.hm_model.proofs.ValidSheets.{valid_end}
@@ -76,12 +76,12 @@ after_point false after on marked = absurd (false≢true on)
 
 -- the next row of a procedure that places a region is after the point
 placing_is_late : (J : Past) → IsLegal J → (p : ℕ) (x : Node) → node_of J p ≡ Some x → (row : Row) → next_row J p x ≡ Some row → is_picking row.act ≡ true → row.after ≡ true
-placing_is_late J legal p x is row next places = by (sheet_for (sheets_of J) (kind_of x.args)) refl next
+placing_is_late J legal p x is row next places = by (sheet_for (sheets_by J x.root) (kind_of x.args)) refl next
   where
-    by : (o : Option Sheet) → sheet_for (sheets_of J) (kind_of x.args) ≡ o → row_in o (row_of J p x) ≡ Some row → row.after ≡ true
+    by : (o : Option Sheet) → sheet_for (sheets_by J x.root) (kind_of x.args) ≡ o → row_in o (row_of J p x) ≡ Some row → row.after ≡ true
     by None found here = absurd (none-some row here)
     by (Some sheet) found here =
-        let valid = sheet_is (sheets_of J) (all_valid J legal) (kind_of x.args) sheet found in
+        let valid = sheet_is (sheets_by J x.root) (valid_by J legal x.root) (kind_of x.args) sheet found in
         elim (exact_marked x.args) [
           | inr exact ↦
               let rows = exact_is sheet valid.0 (kind_of x.args) valid.1 exact.0 exact.1 exact.2 in

@@ -2,14 +2,11 @@
 use Rattle.std.proofs.Common.{List, None, Option, Some, [], ap, false, if◌then◌else◌, inl, inr, not, refl, subst, sym, true, ℕ, ◌&&◌, ◌+◌, ◌==◌, ◌∙◌, ◌∷◌, ◌≡◌, ◌≢◌}
 use Rattle.std.proofs.lemmas.Bool.{and_parts, cases_Bool, eq-eqb, eqb-true, false≢true, not-true, true≢false}
 use Rattle.std.proofs.lemmas.Option.{none-some}
-use Rattle.hm_data.specs.declared.answer.Answer.TheVariants as answer_is
-use Rattle.hm_data.specs.declared.entry.Entry.TheVariants as entry_is
-use Rattle.hm_data.specs.declared.record.Phase.TheVariants as phase_is
 use Rattle.hm_model.specs.Answers.{is_stopped, last_answer}
 use Rattle.hm_model.specs.Forest.{IsWait}
 use Rattle.hm_model.specs.Holding.{IsFree}
 use Rattle.hm_model.specs.Journal.{Past}
-use Rattle.hm_model.specs.Phase.{children_ended, ended, ended_node, in_tree, phase, root_ended}
+use Rattle.hm_model.specs.Phase.{children_ended, ended_node, in_tree, phase, root_ended}
 use Rattle.hm_model.specs.Picks.{has_pick}
 use Rattle.hm_model.specs.Rest.{MayStep, MayStepPicked}
 use Rattle.hm_model.specs.Rules.{IsLegal}

@@ -36,14 +36,14 @@ use Rattle.hm_model.specs.Picks.{is_pick_right}
 use Rattle.hm_model.specs.Places.{place_of, placed_by, region_if}
 use Rattle.hm_model.specs.Reports.{is_the_region}
 use Rattle.hm_model.specs.Rules.{IsLegal}
-use Rattle.hm_model.specs.Sheets.{next_row, row_in, sheet_for, sheets_of}
+use Rattle.hm_model.specs.Sheets.{next_row, row_in, sheet_for, sheets_by}
 use Rattle.hm_model.specs.TransitActs.{candidate, close_at, close_or_go, closed_or_lost, is_open, is_placed, is_state, is_told, lost_if, may_open_in, nowhere, opened_or_not, told_place}
 use Rattle.hm_model.specs.Tree.{Node, node_of}
 use Rattle.hm_model.specs.Views.{region_of}
 use Rattle.hm_model.specs.Wanted.{goal_in}
 use Rattle.hm_model.specs.Whereabouts.{moved_by}
 use Rattle.hm_model.proofs.CameUp.{live_came}
-use Rattle.hm_model.proofs.ExactRows.{all_valid, exact_is, sheet_is}
+use Rattle.hm_model.proofs.ExactRows.{exact_is, sheet_is, valid_by}
 use Rattle.hm_model.proofs.KeyTests.{same_region-refl}
 use Rattle.hm_model.proofs.LegalSteps.{StepFacts, ready_stops}
 use Rattle.hm_model.proofs.NameTies.{same_server-is}
@@ -273,12 +273,12 @@ pub unopening : (J : Past) → IsLegal J → (p : ℕ) (x : Node) → node_of J 
 unopening J legal p x is free row next picks = by (moved_by x.args) refl
   where
     rows_of : (region : Region) → moved_by x.args ≡ Some region → slice_get (exact_rows 10) (row_of J p x) ≡ Some row
-    rows_of region m = at_sheet (sheet_for (sheets_of J) (kind_of x.args)) refl next
+    rows_of region m = at_sheet (sheet_for (sheets_by J x.root) (kind_of x.args)) refl next
       where
-        at_sheet : (o : Option Sheet) → sheet_for (sheets_of J) (kind_of x.args) ≡ o → row_in o (row_of J p x) ≡ Some row → slice_get (exact_rows 10) (row_of J p x) ≡ Some row
+        at_sheet : (o : Option Sheet) → sheet_for (sheets_by J x.root) (kind_of x.args) ≡ o → row_in o (row_of J p x) ≡ Some row → slice_get (exact_rows 10) (row_of J p x) ≡ Some row
         at_sheet None found here = absurd (none-some row here)
         at_sheet (Some sheet) found here =
-            let valid = sheet_is (sheets_of J) (all_valid J legal) (kind_of x.args) sheet found in
+            let valid = sheet_is (sheets_by J x.root) (valid_by J legal x.root) (kind_of x.args) sheet found in
             ap (λ l. slice_get l (row_of J p x)) (sym (exact_is sheet valid.0 10 (valid.1 ∙ moved_kind x.args region m) _ _ refl)) ∙ here
 
     off_row : (r : Row) → Some r ≡ Some row → is_picking r.act ≡ false → ⊥

@@ -22,7 +22,7 @@ use Rattle.hm_model.specs.Whereabouts.{called_by, moved_by}
 use Rattle.hm_model.proofs.Grown.{nodes_stay}
 use Rattle.hm_model.proofs.Trees.{grown_all, some_of}
 use Rattle.hm_tied.specs.Tied.{CanGo, IsBusy, IsCalm, IsTied, IsTiedBut, LacksPick, Roster, no_debts}
-use Rattle.hm_tied.specs.Entries.{AbortTies, DownOwes, ReportOwes, SubmitOwes, UpOwes, is_fenced_by, late_debts, report_debts, root_debts}
+use Rattle.hm_tied.specs.Entries.{AbortTies, AdoptTies, DownOwes, ReportOwes, SubmitOwes, UpOwes, is_fenced_by, late_debts, report_debts, root_debts}
 use Rattle.hm_tied.proofs.Aborted.{unaborted}
 use Rattle.hm_tied.proofs.Entering.{Changes, changed, same_enlists}
 use Rattle.hm_model.proofs.Running.{awaits_call, run_open, unstepped_open}
@@ -68,7 +68,7 @@ submit_owes nonce request J number_of roster rows legal tied enlists =
     calls = record { reports = λ q. refl; fenced = λ s e. e }
 
     sees : (q : ℕ) (args : Args) → SeesSame J after q args
-    sees q args = record { sheets = refl; last = refl; aborted = refl; rows = refl; place = inl (place_same J after (λ region. refl) (moved_by args)); opening = λ off. ap (λ p. is_state place_is.Opening (told_place p)) (place_same J after (λ region. refl) (moved_by args)) ∙ off; fenced = λ s e. e; live = refl }
+    sees q args = record { last = refl; aborted = refl; rows = refl; place = inl (place_same J after (λ region. refl) (moved_by args)); opening = λ off. ap (λ p. is_state place_is.Opening (told_place p)) (place_same J after (λ region. refl) (moved_by args)) ∙ off; fenced = λ s e. e; live = refl }
 
     lacks : (q : ℕ) → LacksPick J q → LacksPick after q ⊎ (false ≡ true)
     lacks q lack = inl (lacks_after (entry_is.Submit nonce request) J legal q lack (
@@ -139,9 +139,27 @@ abort_ties pid J number_of roster legal tied =
       | inl own ↦ absurd (unaborted pid J legal (subst (LacksPick J) own lack))
       | inr differs ↦ inl (lacks_after (entry_is.Abort pid) J legal q lack (
         lack.2,
-        record { sheets = refl; last = refl; aborted = cond-false (q == pid.0) true (is_aborted J q) (ne_eqb q pid.0 differs); rows = refl; place = inl (place_same J after (λ region. refl) (let x = lack.0 in moved_by x.args)); opening = λ off. ap (λ p. is_state place_is.Opening (told_place p)) (place_same J after (λ region. refl) (let x = lack.0 in moved_by x.args)) ∙ off; fenced = λ s e. e; live = refl },
+        record { last = refl; aborted = cond-false (q == pid.0) true (is_aborted J q) (ne_eqb q pid.0 differs); rows = refl; place = inl (place_same J after (λ region. refl) (let x = lack.0 in moved_by x.args)); opening = λ off. ap (λ p. is_state place_is.Opening (told_place p)) (place_same J after (λ region. refl) (let x = lack.0 in moved_by x.args)) ∙ off; fenced = λ s e. e; live = refl },
       ))
     ]
+
+pub adopt_ties : AdoptTies
+adopt_ties sheets J number_of roster legal tied =
+    changed J after legal number_of roster roster.claimed roster.rows no_debts tied
+    (mild (entry_is.Adopt sheets) J legal (λ q. refl) (λ q. refl) (λ q. refl) (λ q calm. calm) (λ q. false) false roster.claimed (λ q go. inl (before q go)) (λ q go. inl (before q go)) lacks)
+    (same_enlists J after number_of roster tied (λ q. refl))
+  where
+    after : Past
+    after = entry_is.Adopt sheets ∷ J
+
+    before : (q : ℕ) → CanGo after q → CanGo J q
+    before = going_same (entry_is.Adopt sheets) J (λ q. refl) (record { reports = λ q. refl; fenced = λ s e. e }) (λ q x. refl) (λ q x. refl)
+
+    lacks : (q : ℕ) → LacksPick J q → LacksPick after q ⊎ (false ≡ true)
+    lacks q lack = inl (lacks_after (entry_is.Adopt sheets) J legal q lack (
+      lack.2,
+      record { last = refl; aborted = refl; rows = refl; place = inl (place_same J after (λ region. refl) (let x = lack.0 in moved_by x.args)); opening = λ off. ap (λ p. is_state place_is.Opening (told_place p)) (place_same J after (λ region. refl) (let x = lack.0 in moved_by x.args)) ∙ off; fenced = λ s e. e; live = refl },
+    ))
 
 -- a report
 module _ (call : Pid) (told : Told) (J : Past) (legal : IsLegal (entry_is.Report call told ∷ J)) where
@@ -176,7 +194,7 @@ module _ (call : Pid) (told : Told) (J : Past) (legal : IsLegal (entry_is.Report
   lacks : (q : ℕ) → LacksPick J q → LacksPick heard q ⊎ (false ≡ true)
   lacks q lack = inl (lacks_after (entry_is.Report call told) J legal q lack (
     lack.2,
-    record { sheets = refl; last = refl; aborted = refl; rows = refl; place = inl (place_same J heard (λ region. refl) (let x = lack.0 in moved_by x.args)); opening = λ off. ap (λ p. is_state place_is.Opening (told_place p)) (place_same J heard (λ region. refl) (let x = lack.0 in moved_by x.args)) ∙ off; fenced = λ s e. or_right _ _ e; live = refl },
+    record { last = refl; aborted = refl; rows = refl; place = inl (place_same J heard (λ region. refl) (let x = lack.0 in moved_by x.args)); opening = λ off. ap (λ p. is_state place_is.Opening (told_place p)) (place_same J heard (λ region. refl) (let x = lack.0 in moved_by x.args)) ∙ off; fenced = λ s e. or_right _ _ e; live = refl },
   ))
 
   pub heard_changes : (claimed : List ℕ) → Changes J heard claimed claimed (report_debts J heard call.0)

@@ -19,7 +19,7 @@ use Rattle.hm_model.specs.Kinds.{first_row_of, kind_of}
 use Rattle.hm_model.specs.Picks.{has_pick, needs_server}
 use Rattle.hm_model.specs.Places.{place_of}
 use Rattle.hm_model.specs.Procedures.{sheet_at, sheet_of}
-use Rattle.hm_model.specs.Sheets.{next_row, row_in, sheet_for, sheets_of}
+use Rattle.hm_model.specs.Sheets.{next_row, row_in, sheet_for, sheets_by}
 use Rattle.hm_model.specs.TransitActs.{is_open, is_state, may_open_in, told_place}
 use Rattle.hm_model.specs.Tree.{Node, node_of}
 use Rattle.hm_model.specs.Undo.{stack}
@@ -44,26 +44,26 @@ needs sight args None = false
 needs sight args (Some row) = is_picking row.act && (not (sight.aborted && not row.after) && wants sight (region_of args))
 
 -- what the next step of a procedure looks at
-abbrev pub sight_of : Past → ℕ → Args → Sight
-sight_of J p args = record {
-  row = row_in (sheet_for (sheets_of J) (kind_of args)) (row_after (first_row_of args) (last_answer J p));
+abbrev pub sight_of : Past → ℕ → Node → Sight
+sight_of J p node = record {
+  row = next_row J p node;
   aborted = is_aborted J p;
-  rows = rows_read J args;
-  place = place_if J (moved_by args);
-  fenced = sees_fenced J args;
+  rows = rows_read J node.args;
+  place = place_if J (moved_by node.args);
+  fenced = sees_fenced J node.args;
 }
 
-needs_is : (J : Past) (q : ℕ) (x : Node) → node_of J q ≡ Some x → undoes J q x ≡ false → needs_server J q x ≡ (let sight = sight_of J q x.args in needs sight x.args sight.row)
+needs_is : (J : Past) (q : ℕ) (x : Node) → node_of J q ≡ Some x → undoes J q x ≡ false → needs_server J q x ≡ (let sight = sight_of J q x in needs sight x.args sight.row)
 needs_is J q x is none =
     ap (λ b. (let it = turn_input J b (stack J q) (step_input J q x None) in picks_by (sheet_at J it) it)) none
     ∙ ap (λ o. picks_at (row_in o (row_of J q x)) (step_input J q x None)) (ap (λ o. elim o as (λ n. Option Sheet) [ None ↦ None | Some node ↦ sheet_of J q node ]) is)
-    ∙ by (row_in (sheet_for (sheets_of J) (kind_of x.args)) (row_of J q x))
+    ∙ by (next_row J q x)
   where
-    look : (o : Option Region) → wants_server o (step_input J q x None) ≡ wants (sight_of J q x.args) o
+    look : (o : Option Region) → wants_server o (step_input J q x None) ≡ wants (sight_of J q x) o
     look None = refl
     look (Some region) = refl
 
-    by : (o : Option Row) → picks_at o (step_input J q x None) ≡ needs (sight_of J q x.args) x.args o
+    by : (o : Option Row) → picks_at o (step_input J q x None) ≡ needs (sight_of J q x) x.args o
     by None = refl
     by (Some row) = ap (λ b. is_picking row.act && (not (is_aborted J q && not row.after) && b)) (look (region_of x.args))
 
@@ -73,9 +73,9 @@ lacking_row J q x is none lacks =
     let parts = or_parts (not (needs_server J q x)) (has_live J) lacks in
     by (next_row J q x) (sym (needs_is J q x is none) ∙ not-false (needs_server J q x) parts.0)
   where
-    by : (o : Option Row) → needs (sight_of J q x.args) x.args o ≡ true → (row : Row) × (o ≡ Some row) × (is_picking row.act ≡ true)
+    by : (o : Option Row) → needs (sight_of J q x) x.args o ≡ true → (row : Row) × (o ≡ Some row) × (is_picking row.act ≡ true)
     by None h = absurd (false≢true h)
-    by (Some row) h = (let sight = sight_of J q x.args in (row, refl, (and_parts (is_picking row.act) (not (sight.aborted && not row.after) && wants sight (region_of x.args)) h).0))
+    by (Some row) h = (let sight = sight_of J q x in (row, refl, (and_parts (is_picking row.act) (not (sight.aborted && not row.after) && wants sight (region_of x.args)) h).0))
 
 -- where its region isn't open now that wasn't before, it needs one still
 needs_more : (one other : Sight) (args : Args) → other.row ≡ one.row → other.aborted ≡ one.aborted → other.rows ≡ one.rows → (is_open (told_place other.place) other.fenced ≡ true → is_open (told_place one.place) one.fenced ≡ true) → needs one args one.row ≡ true → needs other args other.row ≡ true
@@ -109,7 +109,6 @@ fenced_still J after more (Some s) h = more s h
 
 -- what it looks at is the same, but for fences and a region that isn't open
 pub record SeesSame (J after : Past) (q : ℕ) (args : Args) : Type 0 where
-  pub sheets : sheets_of after ≡ sheets_of J
   pub last : last_answer after q ≡ last_answer J q
   pub aborted : is_aborted after q ≡ is_aborted J q
   pub rows : rows_read after args ≡ rows_read J args
@@ -118,17 +117,17 @@ pub record SeesSame (J after : Past) (q : ℕ) (args : Args) : Type 0 where
   pub fenced : (s : Server) → is_fenced J s ≡ true → is_fenced after s ≡ true
   pub live : has_live after ≡ has_live J
 
-pub lacks_on : (J after : Past) (q : ℕ) (x : Node) → node_of J q ≡ Some x → node_of after q ≡ Some x → undoes J q x ≡ false → undoes after q x ≡ false → SeesSame J after q x.args → has_pick J q x ≡ false → has_pick after q x ≡ false
-lacks_on J after q x is is_after none none_after same lacks =
+pub lacks_on : (J after : Past) (q : ℕ) (x : Node) → node_of J q ≡ Some x → node_of after q ≡ Some x → sheets_by after x.root ≡ sheets_by J x.root → undoes J q x ≡ false → undoes after q x ≡ false → SeesSame J after q x.args → has_pick J q x ≡ false → has_pick after q x ≡ false
+lacks_on J after q x is is_after sheets none none_after same lacks =
     let parts = or_parts (not (needs_server J q x)) (has_live J) lacks in
     let on : needs_server after q x ≡ true =
     needs_is after q x is_after none_after
-    ∙ needs_more (sight_of J q x.args) (sight_of after q x.args) x.args row same.aborted same.rows (shut same.place)
+    ∙ needs_more (sight_of J q x) (sight_of after q x) x.args row same.aborted same.rows (shut same.place)
     (sym (needs_is J q x is none) ∙ not-false (needs_server J q x) parts.0) in
     ap (λ b. not b || has_live after) on ∙ same.live ∙ parts.1
   where
-    row : (let sight = sight_of after q x.args in sight.row) ≡ (let sight = sight_of J q x.args in sight.row)
-    row = ap (λ s. row_in (sheet_for s (kind_of x.args)) (row_after (first_row_of x.args) (last_answer after q))) same.sheets ∙ ap (λ l. row_in (sheet_for (sheets_of J) (kind_of x.args)) (row_after (first_row_of x.args) l)) same.last
+    row : (let sight = sight_of after q x in sight.row) ≡ (let sight = sight_of J q x in sight.row)
+    row = ap (λ s. row_in (sheet_for s (kind_of x.args)) (row_after (first_row_of x.args) (last_answer after q))) sheets ∙ ap (λ l. row_in (sheet_for (sheets_by J x.root) (kind_of x.args)) (row_after (first_row_of x.args) l)) same.last
 
     fence : place_if after (moved_by x.args) ≡ place_if J (moved_by x.args) → sees_fenced J x.args ≡ true → sees_fenced after x.args ≡ true
     fence place h = elim (or_cases (fenced_if J (server_at (place_if J (moved_by x.args)))) (fenced_if J (called_by x.args)) h) [

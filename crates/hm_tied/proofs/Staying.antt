@@ -17,7 +17,7 @@ use Rattle.hm_model.specs.Whereabouts.{called_by}
 use Rattle.hm_model.proofs.Apart.{others_stay}
 use Rattle.hm_model.proofs.Forest.{forest_all, rooted_all, top_is, top_is_own}
 use Rattle.hm_model.proofs.Grown.{nodes_stay}
-use Rattle.hm_model.proofs.Trees.{grown_all, is_there}
+use Rattle.hm_model.proofs.Trees.{grown_all, is_there, sheets_stay}
 use Rattle.hm_tied.specs.Tied.{CanGo, IsCalm, LacksPick}
 use Rattle.hm_model.proofs.Running.{top_or_below}
 use Rattle.hm_tied.proofs.Picking.{SeesSame, fenced_still, lacks_on}
@@ -80,7 +80,7 @@ module _ (entry : Entry) (J : Past) (legal : IsLegal (entry ∷ J)) (q : ℕ) (x
 pub lacks_after : (entry : Entry) (J : Past) → IsLegal (entry ∷ J) → (q : ℕ) (lacks : LacksPick J q) → (let x = lacks.0 in (undoes (entry ∷ J) q x ≡ false) × SeesSame J (entry ∷ J) q x.args) → LacksPick (entry ∷ J) q
 lacks_after entry J legal q lacks sees =
     let there = nodes_stay entry J legal q lacks.0 lacks.1 in
-    (lacks.0, there, sees.0, lacks_on J (entry ∷ J) q lacks.0 lacks.1 there lacks.2 sees.0 sees.1 lacks.3, (let same = sees.1 in same.opening lacks.4))
+    (lacks.0, there, sees.0, lacks_on J (entry ∷ J) q lacks.0 lacks.1 there (sheets_stay entry J legal q lacks.0 lacks.1) lacks.2 sees.0 sees.1 lacks.3, (let same = sees.1 in same.opening lacks.4))
 
 -- an entry that leaves procedures and phases as they are, and calls
 pub going_same : (entry : Entry) (J : Past) → ((q : ℕ) → node_of (entry ∷ J) q ≡ node_of J q) → SameCalls J (entry ∷ J) → ((q : ℕ) (x : Node) → phase (entry ∷ J) q x ≡ phase J q x) → ((q : ℕ) (x : Node) → undoes (entry ∷ J) q x ≡ undoes J q x) → (q : ℕ) → CanGo (entry ∷ J) q → CanGo J q

@@ -108,7 +108,6 @@ module _ (pid : Pid) (pick : Option Server) (out : StepOut) (J : Past) (legal : 
       let x = lack.0 in
       let stays = place_stays pid pick out J legal x.args lack.4 (or_parts (not (needs_server J q x)) (has_live J) lack.3).1 in
       record {
-        sheets = refl;
         last = not_stepped pid pick out J q differs;
         aborted = refl;
         rows = rows_same J out.edits x.args editless;

@@ -110,7 +110,6 @@ module _ (pid : Pid) (row : ℕ) (out : StepOut) (J : Past) (legal : IsLegal (en
 
   sees : (q : ℕ) (args : Args) → has_edits out.edits ≡ false → SeesSame J after q args
   sees q args editless = record {
-    sheets = refl;
     last = refl;
     aborted = refl;
     rows = rows_same J out.edits args editless;

@@ -1,5 +1,5 @@
 -- What a tied state tells, and how it begins, goes on and is done.
-use Rattle.std.proofs.Common.{List, None, Option, Some, [], ap, arith, cond, false, inl, inr, not, refl, subst, sym, true, ℕ, ◌&&◌, ◌+◌, ◌<◌, ◌==◌, ◌∙◌, ◌∷◌, ◌≡◌, ◌≢◌, ◌≤◌, ◌⊎◌}
+use Rattle.std.proofs.Common.{List, None, Option, Some, [], ap, arith, cond, false, inl, inr, not, refl, subst, sym, true, ℕ, ◌&&◌, ◌+◌, ◌==◌, ◌∙◌, ◌∷◌, ◌≡◌, ◌≢◌, ◌≤◌, ◌⊎◌}
 use Rattle.std.proofs.lemmas.Bool.{and_parts, cases_eq, cases_lt, false≢true, not-true, or_cases, true≢false}
 use Rattle.std.proofs.lemmas.Option.{none-some, same_Some}
 use Rattle.hm_names.specs.Server.{Server}
@@ -7,6 +7,7 @@ use Rattle.hm_data.specs.Numbers.{told_number}
 use Rattle.hm_data.specs.declared.args.Args.{Args}
 use Rattle.hm_data.specs.declared.args.Args.TheVariants as args_are
 use Rattle.hm_data.specs.declared.call.Told.TheVariants as told_is
+use Rattle.hm_data.specs.declared.entry.Entry.{Entry}
 use Rattle.hm_data.specs.declared.entry.Entry.TheVariants as entry_is
 use Rattle.hm_locks.specs.Book.{IsFree, Row, above_in, new_row, row_of}
 use Rattle.hm_locks.proofs.Ties.{free_is_free}
@@ -22,7 +23,8 @@ use Rattle.hm_model.specs.Whereabouts.{called_by}
 use Rattle.hm_model.proofs.CameUp.{named_came}
 use Rattle.hm_model.proofs.Grown.{grown_all, made_up_to}
 use Rattle.hm_model.proofs.NameTies.{same_server-is}
-use Rattle.hm_model.proofs.Trees.{some_of}
+use Rattle.hm_model.specs.Rules.{IsLegal}
+use Rattle.hm_model.proofs.Trees.{down_rooted, grown_all as grown_of, node_same, some_of, submit_rooted, undo_rooted}
 use Rattle.hm_sched.specs.Queues.{StandsIn}
 use Rattle.hm_sched.specs.declared.queue.Queue.{Queue}
 use Rattle.hm_sched.specs.declared.queue.Queue.TheVariants.{Held, Servers, Suspended, Tables, Waits}
@@ -189,16 +191,25 @@ fences_one call told J p on = by (called_in (node_of J p)) refl on
 none_enlisted : (J : Past) (number_of : Option Server → ℕ) (roster : Roster) → IsTied J number_of roster → (p : ℕ) → node_of J p ≡ None → row_of roster.rows p ≡ None
 none_enlisted J number_of roster tied p none = (same_enlists J J number_of roster tied (λ q. refl)).made p none ∙ ap (row_made p) none
 
+-- an entry makes none with a number of those before
+none_after : (entry : Entry) (J : Past) → IsLegal (entry ∷ J) → (p : ℕ) → node_of J p ≡ None → p ≤ made J → node_of (entry ∷ J) p ≡ None
+none_after (entry_is.Start sheets) J legal p none le = none
+none_after (entry_is.Submit nonce request) J legal p none le = (submit_rooted nonce request J (grown_of J legal.0)).old p le ∙ none
+none_after (entry_is.Step pid pick out) J legal p none le = node_same pid pick out J p le ∙ none
+none_after (entry_is.Undo pid row out) J legal p none le = (undo_rooted pid row out J (grown_of J legal.0)).old p le ∙ none
+none_after (entry_is.Report call told) J legal p none le = none
+none_after (entry_is.Up server) J legal p none le = none
+none_after (entry_is.Down server) J legal p none le = (down_rooted server J (grown_of J legal.0)).old p le ∙ none
+none_after (entry_is.Abort pid) J legal p none le = none
+none_after (entry_is.Adopt sheets) J legal p none le = none
+none_after (entry_is.Base part) J legal p none le = refl
+
 pub enlisting_begins : EnlistingBegins
-enlisting_begins J after number_of roster legal legal_after tied = record {
+enlisting_begins entry J number_of roster legal tied = record {
   kept = λ p some. refl;
-  made = λ p none lt. none_enlisted J number_of roster tied p none ∙ sym (by p none (cases_eq p 0) lt);
+  made = λ p none lt. none_enlisted J number_of roster tied p none ∙ sym (ap (row_made p) (none_after entry J legal p none (omega (arith, lt))));
   rest = λ p none le. none_enlisted J number_of roster tied p none;
 }
-  where
-    by : (p : ℕ) → node_of J p ≡ None → (p ≡ 0) ⊎ (p ≢ 0) → p < made J + 1 → row_made p (node_of after p) ≡ None
-    by p none (inl zero) lt = ap (row_made p) (ap (node_of after) zero ∙ (grown_all after legal_after).none)
-    by p none (inr some) lt = (let there = (grown_all J legal).there p (omega (arith, some)) (omega (arith, lt)) in absurd (none-some there.0 (sym none ∙ there.1)))
 
 pub enlisting_goes_on : EnlistingGoesOn
 enlisting_goes_on J after old rows new n node parent below fresh is above changed = record {

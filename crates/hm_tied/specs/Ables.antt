@@ -19,6 +19,8 @@ IsNotBy before (entry_is.Report call told) p = Unit {0}
 IsNotBy before (entry_is.Up server) p = Unit {0}
 IsNotBy before (entry_is.Down server) p = Unit {0}
 IsNotBy before (entry_is.Abort pid) p = Unit {0}
+IsNotBy before (entry_is.Adopt sheets) p = Unit {0}
+IsNotBy before (entry_is.Base part) p = Unit {0}
 
 -- by no entry but its own step, or what undoes a step of its tree where it is the root, does who can go on cease to
 abbrev pub AblesStay : Type 0

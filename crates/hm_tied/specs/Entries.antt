@@ -7,6 +7,7 @@ use Rattle.hm_data.specs.declared.call.Told.{Told}
 use Rattle.hm_data.specs.declared.catalog.Edit.{Edit}
 use Rattle.hm_data.specs.declared.entry.Entry.TheVariants as entry_is
 use Rattle.hm_data.specs.declared.request.Request.{Request}
+use Rattle.hm_data.specs.declared.sheet.Sheet.{Sheet}
 use Rattle.hm_data.specs.declared.step.StepOut.{StepOut}
 use Rattle.hm_locks.specs.Book.{Row, row_of}
 use Rattle.hm_model.specs.Inputs.{fenced_if}
@@ -123,3 +124,9 @@ abbrev pub AbortTies : Type 0
 AbortTies =
     (pid : Pid) (J : Past) (number_of : Option Server → ℕ) (roster : Roster)
     → IsLegal (entry_is.Abort pid ∷ J) → IsTied J number_of roster → IsTied (entry_is.Abort pid ∷ J) number_of roster
+
+-- so do new sheets: whoever was made runs by the sheets of its root
+abbrev pub AdoptTies : Type 0
+AdoptTies =
+    (sheets : List Sheet) (J : Past) (number_of : Option Server → ℕ) (roster : Roster)
+    → IsLegal (entry_is.Adopt sheets ∷ J) → IsTied J number_of roster → IsTied (entry_is.Adopt sheets ∷ J) number_of roster

@@ -4,6 +4,7 @@ use Rattle.hm_names.specs.Server.{Server}
 use Rattle.hm_names.specs.declared.pid.Pid.{Pid}
 use Rattle.hm_data.specs.declared.args.Args.TheVariants as args_are
 use Rattle.hm_data.specs.declared.call.Told.{Told}
+use Rattle.hm_data.specs.declared.entry.Entry.{Entry}
 use Rattle.hm_data.specs.declared.entry.Entry.TheVariants as entry_is
 use Rattle.hm_locks.specs.Book.{AreChanged, IsEnlisted, IsFree, NoneClash, Row, above_child, above_in, new_row, row_of}
 use Rattle.hm_locks.specs.Laws.{IsBookOf}
@@ -92,8 +93,8 @@ pub record EnlistsBelow (before after : Past) (old new : List Row) (n : ℕ) : T
 -- they are enlisted one after another
 abbrev pub EnlistingBegins : Type 0
 EnlistingBegins =
-    (J after : Past) (number_of : Option Server → ℕ) (roster : Roster) → IsLegal J → IsLegal after → IsTied J number_of roster
-    → EnlistsBelow J after roster.rows roster.rows (made J + 1)
+    (entry : Entry) (J : Past) (number_of : Option Server → ℕ) (roster : Roster) → IsLegal (entry ∷ J) → IsTied J number_of roster
+    → EnlistsBelow J (entry ∷ J) roster.rows roster.rows (made J + 1)
 
 abbrev pub EnlistingGoesOn : Type 0
 EnlistingGoesOn =

@@ -1,7 +1,7 @@
 //! The laws.
 ghost use Rattle.hm_tied.specs.Ables.{AblesStay, ClaimedStayAble};
 ghost use Rattle.hm_tied.specs.Calls.{ClaimTies, EndOwes, GiveBackTies, GiveUpOwes, JoinOwes, KeepOnOwes, NextOwes, OverIsLess, OwedIsLess, ReadyAreAvailable, SlackIsLess, WakeAllOwes, WakeHeldOwes, WakeOwes};
-ghost use Rattle.hm_tied.specs.Entries.{AbortTies, DownOwes, ReportOwes, StepOwes, SubmitOwes, UndoOwes, UpOwes};
+ghost use Rattle.hm_tied.specs.Entries.{AbortTies, AdoptTies, DownOwes, ReportOwes, StepOwes, SubmitOwes, UndoOwes, UpOwes};
 ghost use Rattle.hm_tied.specs.Paid.{FencePays, OnePays, OwedIsTold, ReportPays};
 ghost use Rattle.hm_tied.specs.Uses.{AncestorsAreTold, DebtsMayRise, EnlistingBegins, EnlistingEnds, EnlistingGoesOn, FencesOne, FreeTies, KnownAreMade, NoneClashTies, NumbersTie, OpeningOwes, ReadyAreEnlisted, RoomTies};
 
@@ -86,6 +86,11 @@ pub fn servers_owe()
 /// After an abort nothing is left to do: whoever is aborted is before the point, where no server is needed.
 pub fn aborts_tie()
     ensures { AbortTies }
+{}
+
+/// Nor after new sheets: whoever was made runs by the sheets of its root.
+pub fn adopts_tie()
+    ensures { AdoptTies }
 {}
 
 /// What a tied lock book tells of the journal.

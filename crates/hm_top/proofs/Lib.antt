@@ -5,6 +5,7 @@ pub mod Sessions
 pub mod Lines
 pub mod Openings
 pub mod Full
+pub mod Entire
 pub mod Outcomes
 pub mod Complete
 pub mod Scripts

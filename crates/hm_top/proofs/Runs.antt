@@ -110,7 +110,7 @@ module _ {D Setting : Type 0} (d : Disk.Ghosts D Setting) (takes : List Entry 鈫
       rose_late (d.faults disk) (d.faults was.opened.disk) (d.faults new) first_called.used.fault (leaves.since.failed halted_is) in
       let more = 2 * (length (whole at) - length old) in
       let called : IsCalled d more was.opened.disk new = subst (位 n. IsCalled d (2 * (length (whole at) - n)) was.opened.disk new) opens.3 leaves.since.called in
-      left_of takes commands limits out (disk_use d disk new) hands marks old at (位 told. (opens.4 told).0) leaves.legal leaves.stored (stops_leave d own limits disk was at new opens grown leaves.since.leaves)
+      left_of takes commands limits out (disk_use d disk new) hands marks old at (位 told. (opens.4 told).0) leaves.legal leaves.plain leaves.stored (stops_leave d own limits disk was at new opens grown leaves.since.leaves)
       (used_then d more disk was.opened.disk new first_called.used called, 位 told place. called_on d 1 more (1 + more) disk was.opened.disk new (omega arith) (first_called.once told place) called)
       (位 told clean. called_on d 0 more more disk was.opened.disk new (omega arith) (first_called.clean told clean) called) rose (subst (位 journal. Ran hands journal (journal_at at)) begins ran)
 

@@ -7,7 +7,7 @@ ghost use Rattle.hm_log.specs.Format.{IsClean, Reads};
 ghost use Rattle.hm_log.specs.Opening.{IsInPlace, IsMaking, IsUsed};
 ghost use Rattle.hm_data.specs.declared.entry.Entry.{Entry as EntryValue};
 ghost use Rattle.hm_model.specs.Journal.{back};
-ghost use Rattle.hm_model.specs.Rules.{AreSheets};
+ghost use Rattle.hm_model.specs.Base.{AreSheets};
 ghost use Rattle.hm_model.specs.Sheets.{sheets_of as begun_with};
 ghost use Rattle.hm_journal.specs.Stored.{IsJournal, frames_of, opened, IsOnDisk, Spares, SameFrames, IsOpening};
 ghost use Rattle.hm_journal.specs.Verdict.{Refuses, IsUnjudged};

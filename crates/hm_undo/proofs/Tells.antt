@@ -82,14 +82,10 @@ undos_pop alive before pid row out old new tells with_it root on =
     ]
 
 pub others_leave : OthersLeave
-others_leave alive before (entry_is.Start sheets) stacks other tells = tells
-others_leave alive before (entry_is.Submit nonce request) stacks other tells = tells
 others_leave alive before (entry_is.Step pid pick out) stacks other tells = absurd (false≢true other)
 others_leave alive before (entry_is.Undo pid row out) stacks other tells = absurd (false≢true other)
-others_leave alive before (entry_is.Report call told) stacks other tells = tells
-others_leave alive before (entry_is.Up server) stacks other tells = tells
-others_leave alive before (entry_is.Down server) stacks other tells = tells
-others_leave alive before (entry_is.Abort pid) stacks other tells = tells
+others_leave alive before (entry_is.Base part) stacks other tells = absurd (false≢true other)
+others_leave alive before entry stacks other tells = tells
 
 not_true : (b : Bool) → not b ≡ true → b ≡ false
 not_true true e = cc

@@ -64,7 +64,7 @@ UndosPop =
     → AreWith old (root_pid before pid) (drop 1 (steps_of old (root_pid before pid))) new
     → Tells alive (entry_is.Undo pid row out ∷ before) new
 
--- neither steps nor undos
+-- neither steps, undos nor parts of a base
 abbrev pub is_other : Entry → Bool
 is_other (entry_is.Start sheets) = true
 is_other (entry_is.Submit nonce request) = true
@@ -74,6 +74,8 @@ is_other (entry_is.Report call told) = true
 is_other (entry_is.Up server) = true
 is_other (entry_is.Down server) = true
 is_other (entry_is.Abort pid) = true
+is_other (entry_is.Adopt sheets) = true
+is_other (entry_is.Base part) = false
 
 -- every other entry changes nothing
 abbrev pub OthersLeave : Type 0

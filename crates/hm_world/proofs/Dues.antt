@@ -45,7 +45,7 @@ due_before entry J o call legal due =
       | inl old ↦ (
           let node = node_called J legal.0 call.id.0 call.verb old in
           let unsettled = or_parts (is_reported (entry ∷ J) call.id.0) (ended (entry ∷ J) call.id.0) due.1 in
-          inl (was old, or_from (is_reported J call.id.0) (ended J call.id.0) (reported_back entry J call.id.0 unsettled.0) (open_before entry J legal call.id.0 node.0 node.1 unsettled.1), due.2)
+          inl (was old, or_from (is_reported J call.id.0) (ended J call.id.0) (reported_back entry J legal call.id.0 unsettled.0) (open_before entry J legal call.id.0 node.0 node.1 unsettled.1), due.2)
           )
     ]
   where

@@ -1,18 +1,21 @@
 -- What the laws of worlds want is kept.
-use Rattle.std.proofs.Common.{◌≡◌, ◌≢◌, ℕ, zero, suc, List, ◌+◌, ◌≤◌, ◌∷◌, drop, length, None, Option, Some, refl, sym, ◌∙◌, inl, inr, arith}
+use Rattle.std.proofs.Common.{◌≡◌, ◌≢◌, ℕ, zero, suc, List, ◌+◌, ◌≤◌, ◌∷◌, drop, length, None, Option, Some, ap, refl, sym, ◌∙◌, inl, inr, arith}
 use Rattle.std.specs.Option.{option_map}
 use Rattle.std.proofs.lemmas.Option.{none-some}
 use Rattle.hm_data.specs.declared.entry.Entry.{Entry}
 use Rattle.hm_hall.specs.Recording.{Recording}
 use Rattle.hm_hall.specs.declared.fault.Halt.{Halt}
+use Rattle.hm_hall.specs.declared.fault.Halt.TheVariants as halt_is
 use Rattle.hm_model.specs.Holding.{NoneClash}
 use Rattle.hm_model.specs.Journal.{Past, back}
 use Rattle.hm_model.specs.Locks.{IsIn}
+use Rattle.hm_model.specs.Plain.{ArePlain, IsPlain}
 use Rattle.hm_model.specs.Tree.{node_of}
 use Rattle.hm_tied.specs.Tied.{CanGo}
 use Rattle.hm_fleet.specs.Fleet.{FleetView, outside_of}
 use Rattle.hm_world_model.specs.Outside.{Outside}
 use Rattle.hm_world_model.specs.Safe.{IsKept, Safe}
+use Rattle.hm_world_model.specs.World as model
 use Rattle.hm_world_model.specs.World.{with_tail}
 use Rattle.hm_world.specs.Scene.{halted_by, scene_with, world_of}
 use Rattle.hm_world.specs.Sound.{IsSound}
@@ -22,9 +25,9 @@ goes_there : (J : Past) (p : ℕ) → CanGo J p → node_of J p ≢ None
 goes_there J p (inl (node, is, ready)) none = none-some node (sym none ∙ is)
 goes_there J p (inr (node, is, undoes)) none = none-some node (sym none ∙ is)
 
-going_not : (halt : Option Halt) → option_map halted_by halt ≡ None → halt ≡ None
-going_not None none = refl
-going_not (Some why) none = absurd (none-some _ (sym none))
+-- what the world knows no fault of the log halted, none did
+no_fault : (halt : Option Halt) → option_map halted_by halt ≢ Some model.LogFault → halt ≢ Some halt_is.LogFault
+no_fault halt going fault = going (ap (option_map halted_by) fault)
 
 -- each part of a journal with its tail that is no shorter than the journal is safe
 tails_safe : (tail : Option Entry) (past : Past) (o : Outside) → Safe past o → ((entry : Entry) → tail ≡ Some entry → Safe (entry ∷ past) o) → (n : ℕ) → n + length past ≤ length (with_tail tail past) → Safe (drop n (with_tail tail past)) o
@@ -34,10 +37,15 @@ tails_safe (Some entry) past o safe tailed zero le = tailed entry refl
 tails_safe (Some entry) past o safe tailed (suc zero) le = safe
 tails_safe (Some entry) past o safe tailed (suc (suc n)) le = absurd (omega (arith, le))
 
+-- a journal is plain with its tail
+pub plain_whole : (tail : Option Entry) (past : Past) → ArePlain past → ((entry : Entry) → tail ≡ Some entry → IsPlain entry) → ArePlain (with_tail tail past)
+plain_whole None past plain tailed = plain
+plain_whole (Some entry) past plain tailed = (plain, tailed entry refl)
+
 pub kept_of : (kept : Recording) (claimed : List ℕ) (fleet : FleetView) (numbers : List ℕ) → IsSound kept fleet numbers → NoneClash (back kept.entries) claimed → ((p : ℕ) → IsIn p claimed → CanGo (back kept.entries) p) → IsKept (world_of (scene_with kept claimed fleet))
 kept_of kept claimed fleet numbers sound apart able = record {
   within = omega arith;
-  tailless = λ going. sound.safe.tailless (going_not kept.halted going);
+  tailless = λ going. sound.safe.tailless (no_fault kept.halted going);
   wire_is = sound.sent.wire_is;
   waiting_is = sound.sent.waiting_is;
   apart = record { once = tt; among = λ p none. absurd none; there = λ p there. goes_there (back kept.entries) p (able p there); none_clash = apart };

@@ -7,6 +7,7 @@ use Rattle.std.specs.List.{list_any}
 use Rattle.hm_names.specs.Server.{Server}
 use Rattle.hm_names.specs.declared.pid.Pid.{Pid}
 use Rattle.hm_data.specs.declared.call.Told.{Told}
+use Rattle.hm_data.specs.declared.entry.Entry.TheVariants as entry_is
 use Rattle.hm_data.specs.declared.record.Record.{Record}
 use Rattle.hm_judge.proofs.Found.{there_of}
 use Rattle.hm_model.specs.Storages.{Storage, empty_storage, fence_in, lay_in}
@@ -14,6 +15,7 @@ use Rattle.hm_model.specs.Answers.{report_of}
 use Rattle.hm_model.specs.Fleet.{came_up, is_fenced, same_server, servers_of}
 use Rattle.hm_model.specs.Journal.{Past}
 use Rattle.hm_model.specs.Layouts.{laid_by, laid_if, layout_called}
+use Rattle.hm_model.specs.Plain.{ArePlain}
 use Rattle.hm_model.specs.Records.{record_of}
 use Rattle.hm_model.specs.Reports.{verb_of}
 use Rattle.hm_model.specs.Rules.{IsLegal}
@@ -24,7 +26,7 @@ use Rattle.hm_model.proofs.CameUp.{fenced_came}
 use Rattle.hm_model.proofs.Trees.{grown_all}
 use Rattle.hm_model.specs.declared.standing.Standing.{Standing}
 use Rattle.hm_server.specs.Actors.{IsStorage}
-use Rattle.hm_world_model.specs.Layouts.{LayoutsTell, laid_below, laid_told}
+use Rattle.hm_world_model.specs.Layouts.{LayoutsTell, based_layout, laid_below, laid_told}
 use Rattle.hm_world_model.specs.World.{shown_storage}
 use Rattle.hm_world_model.proofs.Facts.{cases_server}
 use Rattle.hm_world_model.proofs.Layouts.{none_if}
@@ -81,8 +83,16 @@ fences_next J server standing rest old new before is = subst (IsFencedBut J rest
     by false each = (before.0, λ s. ap (λ b. b || old.fenced s) (sym (off (same_server server s) (fenced_among rest s))) ∙ each s)
     by true each = (ap (fence_in server) before.0, λ s. moved (same_server server s) (fenced_among rest s) (old.fenced s) ∙ each s)
 
-pub fences_last : (J : Past) (storage : Storage) → IsFencedBut J [] storage → storage ≡ shown_below J 0
-fences_last J storage all = all.0 ∙ ap with_fences (fun_ext all.1)
+-- a plain journal begins with no layout
+none_based : (J : Past) → ArePlain J → (root : ℕ) → based_layout J root ≡ false
+none_based [] plain root = refl
+none_based (entry_is.Base part ∷ J) plain root = absurd plain.1
+none_based (entry ∷ J) plain root = none_based J plain.0 root
+
+pub fences_last : (J : Past) → ArePlain J → (storage : Storage) → IsFencedBut J [] storage → storage ≡ shown_below J 0
+fences_last J plain storage all =
+    all.0 ∙ ap with_fences (fun_ext all.1)
+    ∙ ap (λ (l : Pid → Bool). let s : Storage = record { answer = λ id. None; fenced = is_fenced J; laid = l; refusals = 0 } in s) (fun_ext (λ (root : Pid). sym (none_based J plain root.0)))
 
 -- the report of one more procedure says nothing of a layout
 pub layout_kept : (J : Past) (n : ℕ) (storage : Storage) → ((root : ℕ) (b : Bool) → laid_if (layout_called (verb_of J n)) (laid_told (report_of J n)) root b ≡ b) → storage ≡ shown_below J n → storage ≡ shown_below J (n + 1)

@@ -2,8 +2,10 @@
 ghost use Rattle.std.specs.Prelude.{◌≡◌, length};
 ghost use Rattle.hm_fleet.specs.Fleet.{holds_if};
 ghost use Rattle.hm_hall.specs.Recording.{entries_of};
+ghost use Rattle.hm_model.specs.Plain.{ArePlain};
 ghost use Rattle.hm_world.specs.Scene.{scene_of, world_of};
 ghost use Rattle.hm_world_model.specs.Safe.{IsKept};
+ghost use Rattle.hm_world_model.specs.World.{whole};
 
 use crate::numbers::Numbers;
 use hm_exec::Exec;
@@ -56,11 +58,14 @@ impl<R: Recorder> World<R> {
     }
 
     /// What the laws of worlds want is kept, so that they speak of each world: no region is held by two servers that run and aren't
-    /// fenced, nor are two whose ranges overlap, whatever part of the journal a stop leaves. A law that does nothing.
+    /// fenced, nor are two whose ranges overlap, whatever part of the journal a stop leaves. And the journal is plain, with the entry
+    /// whose recording failed. A law that does nothing.
     pub fn keeps(&self)
-        ensures { IsKept (world_of (scene_of R.kept self.now)) }
+        ensures kept { IsKept (world_of (scene_of R.kept self.now)) }
+        ensures plain { ArePlain (whole (world_of (scene_of R.kept self.now))) }
     {
         self.exec.claims_stand();
+        let _plain = self.exec.state().entries();
     }
 
     /// Whether a server runs and holds a region.

@@ -30,6 +30,7 @@ use Rattle.hm_single.proofs.All.{calls_find}
 use Rattle.hm_world_model.specs.Outside.{Outside}
 use Rattle.hm_world_model.specs.Runs.{IsMade, IsTrueReport}
 use Rattle.hm_world_model.specs.Safe.{CallsTo, HasServed, HeldBy, IsLast, Made, Runs, Safe}
+use Rattle.hm_world_model.proofs.Based.{LeavesBase, leaves_base}
 use Rattle.hm_world_model.proofs.Facts.{Touch, call_now, calls_back, calls_now, closes, fences_verb, fit_now, last_made, node_called, one_server, opens, peer_same, same, same_verb, touch, verb_made, verb_now, verb_was}
 
 -- what stays after an entry
@@ -44,11 +45,11 @@ module _ (entry : Entry) (J : Past) (legal : IsLegal (entry ∷ J)) (o : Outside
   }
 
   -- what depends on the calls' reports, fences and last ones alone
-  pub safe_behind : ((p : ℕ) (told : Told) → report_of (entry ∷ J) p ≡ Some told → Made (entry ∷ J) o p told)
+  pub safe_behind : LeavesBase entry J → ((p : ℕ) (told : Told) → report_of (entry ∷ J) p ≡ Some told → Made (entry ∷ J) o p told)
       → ((p : ℕ) (r : Region) (s : Server) (a : Actor) → CallsTo (entry ∷ J) p r s → Runs (entry ∷ J) o s a → last_call (entry ∷ J) r ≢ Some p → HasServed a r p)
       → ((r : Region) (s : Server) (a : Actor) → Runs (entry ∷ J) o s a → holds a r ≡ true → HeldBy (entry ∷ J) a r s)
       → ((s : Server) → is_fenced (entry ∷ J) s ≡ true → o.storage.fenced s ≡ true) → Safe (entry ∷ J) o
-  safe_behind recorded done held fences = record {
+  safe_behind leaves recorded done held fences = record {
     legal = legal;
     calls = record {
       sent_is = λ call h. call_now entry J legal call (safe.calls.sent_is call h);
@@ -58,8 +59,10 @@ module _ (entry : Entry) (J : Past) (legal : IsLegal (entry ∷ J)) (o : Outside
     };
     servers = record {
       named = safe.servers.named;
+      opened_is = safe.servers.opened_is;
       served_is = λ s a r last run h. let k = safe.servers.served_is s a r last run h in (calls_now entry J legal last.id.0 r s k.0, fit_now entry J legal last.id.0 k.0.0 last.told k.0.1 k.1);
       done = done;
+      unbased = λ whole r s a run is. safe.servers.unbased leaves.0 r s a run (sym (leaves.1 r) ∙ is);
       held = held;
     };
     fences_are = fences;
@@ -72,9 +75,9 @@ module _ (entry : Entry) (J : Past) (legal : IsLegal (entry ∷ J)) (o : Outside
   held_now r lasts s a h = (h.0, h.1, h.2, elim h.3 [ inl own ↦ inl (last_now r lasts h.0.id.0 (verb_is.AssignRegion r) s own) | inr q ↦ inr (q.0, q.1, last_now r lasts q.0 (verb_is.CloseRegion r) s q.2) ])
 
   -- an entry that records no call and no report
-  pub safe_calm : ((p : ℕ) → verb_of (entry ∷ J) p ≡ verb_of J p) → ((p : ℕ) → report_of (entry ∷ J) p ≡ report_of J p) → ((r : Region) → last_call (entry ∷ J) r ≡ last_call J r)
+  pub safe_calm : LeavesBase entry J → ((p : ℕ) → verb_of (entry ∷ J) p ≡ verb_of J p) → ((p : ℕ) → report_of (entry ∷ J) p ≡ report_of J p) → ((r : Region) → last_call (entry ∷ J) r ≡ last_call J r)
       → ((s : Server) → is_fenced (entry ∷ J) s ≡ is_fenced J s) → Safe (entry ∷ J) o
-  safe_calm verbs reports lasts fences = safe_behind
+  safe_calm leaves verbs reports lasts fences = safe_behind leaves
       (λ p told h. made_now p told (safe.calls.recorded p told (sym (reports p) ∙ h)))
       (λ p r s a to run other_last. safe.servers.done p r s a (calls_back entry J legal p to.0 r s (sym (verbs p) ∙ to.1) to) (run.0, sym (fences s) ∙ run.1) (λ e. other_last (lasts r ∙ e)))
       (λ r s a run h. held_now r (lasts r) s a (safe.servers.held r s a (run.0, sym (fences s) ∙ run.1) h))
@@ -109,7 +112,7 @@ module _ (call : Pid) (told : Told) (J : Past) (legal : IsLegal (entry_is.Report
   ]
 
   pub safe_report : Safe (entry_is.Report call told ∷ J) o
-  safe_report = safe_behind (entry_is.Report call told) J legal o safe
+  safe_report = safe_behind (entry_is.Report call told) J legal o safe (leaves_base (entry_is.Report call told) J legal o true_report)
       (λ p t h. made_now (entry_is.Report call told) J legal o safe p t (report_recorded p t h))
       (λ p r s a to run other_last. safe.servers.done p r s a (calls_back (entry_is.Report call told) J legal p to.0 r s to.1 to) (run.0, unfenced s run.1) other_last)
       (λ r s a run h. held_now (entry_is.Report call told) J legal o safe r refl s a (safe.servers.held r s a (run.0, unfenced s run.1) h))
@@ -145,14 +148,14 @@ module _ (J : Past) (o : Outside) (safe : Safe J o) where
       closed_opened e = cc
 
   -- nobody holds a region whose last call is void
-  pub void_held : (r : Region) (s : Server) (a : Actor) → Runs J o s a → IsVoid J (last_call J r) → HeldBy J a r s → ⊥
+  pub void_held : (r : Region) (s : Server) (a : Actor) → Runs J o s a → IsVoid J r (last_call J r) → HeldBy J a r s → ⊥
   void_held r s a run void h = elim h.3 [
     | inl own ↦
-        let v = void_told h.0.id.0 s a run own.2 (subst (IsVoid J) own.0 void) in
+        let v = void_told h.0.id.0 s a run own.2 (subst (IsVoid J r) own.0 void) in
         let k = told_served h.0.id.0 r s a v.0 v.1 (verb_is.AssignRegion r, own.1, refl, own.2) run.0 in
         not_both v.0 v.2 k.0 (same_Some k.0 h.0 (sym k.1 ∙ h.1)) k.2
     | inr q ↦
-        let v = void_told q.0 s a run q.2.2 (subst (IsVoid J) q.2.0 void) in
+        let v = void_told q.0 s a run q.2.2 (subst (IsVoid J r) q.2.0 void) in
         let k = told_served q.0 r s a v.0 v.1 (verb_is.CloseRegion r, q.2.1, refl, q.2.2) run.0 in
         not_yet q.0 q.1 v.0 k.0 (same_Some k.0 h.0 (sym k.1 ∙ h.1)) k.2
   ]
@@ -173,11 +176,16 @@ module _ (pid : Pid) (pick : Option Server) (out : StepOut) (J : Past) (legal : 
   found : (node : Node) × (node_of J pid.0 ≡ Some node) × Finds J pid.0 node out.call
   found = calls_find pid pick out J legal
 
-  finds_open : (r : Region) → out.call ≡ Some (verb_is.AssignRegion r) → IsVoid J (last_call J r)
+  finds_open : (r : Region) → out.call ≡ Some (verb_is.AssignRegion r) → IsVoid J r (last_call J r)
   finds_open r is = (subst (Finds J pid.0 found.0) is found.2).2
 
-  finds_close : (r : Region) → out.call ≡ Some (verb_is.CloseRegion r) → IsLater pid.0 (last_call J r) × (t : Server) × (found.0.args ≡ args_are.CloseCall r t) × IsOpenedBy J (last_call J r) t
+  finds_close : (r : Region) → out.call ≡ Some (verb_is.CloseRegion r) → IsLater pid.0 (last_call J r) × (t : Server) × (found.0.args ≡ args_are.CloseCall r t) × IsOpenedBy J r (last_call J r) t
   finds_close r is = let f = subst (Finds J pid.0 found.0) is found.2 in (f.1, f.2, f.3, f.4)
+
+  -- where a region has a call, its last call opened it
+  opened_by : (r : Region) (last : Option ℕ) (t : Server) (p : ℕ) → IsOpenedBy J r last t → last ≡ Some p → (q : ℕ) × (last ≡ Some q) × (peer_of J q ≡ Some (peer_is.Server t)) × (report_of J q ≡ Some told_is.Opened)
+  opened_by r last t p (inl call) e = call
+  opened_by r last t p (inr none) e = absurd (none-some p (sym none.0 ∙ e))
 
   silent_before : (verb : Verb) → out.call ≡ Some verb → verb_of J pid.0 ≡ None
   silent_before verb is = by verb (subst (Finds J pid.0 found.0) is found.2)
@@ -195,11 +203,12 @@ module _ (pid : Pid) (pick : Option Server) (out : StepOut) (J : Past) (legal : 
     where
       by_touch : last_call J r ≡ Some p → Touch pid.0 out.call r (last_call (entry ∷ J) r) (last_call J r) → HasServed a r p
       by_touch e (same k) = absurd (other_last (k ∙ e))
-      by_touch e (opens v k) = let t = void_told J o safe p s a run to.3 (subst (IsVoid J) e (finds_open r v)) in reported_served J o safe p r s a t.0 t.1 to run.0
+      by_touch e (opens v k) = let t = void_told J o safe p s a run to.3 (subst (IsVoid J r) e (finds_open r v)) in reported_served J o safe p r s a t.0 t.1 to run.0
       by_touch e (closes v k) =
           let f = finds_close r v in
-          let own : f.3.0 ≡ p = same_Some f.3.0 p (sym f.3.1 ∙ e) in
-          reported_served J o safe p r s a told_is.Opened (ap (report_of J) (sym own) ∙ f.3.3) to run.0
+          let call = opened_by r (last_call J r) f.1 p f.3 e in
+          let own : call.0 ≡ p = same_Some call.0 p (sym call.1 ∙ e) in
+          reported_served J o safe p r s a told_is.Opened (ap (report_of J) (sym own) ∙ call.3) to run.0
 
       by : (l : Option ℕ) → last_call J r ≡ l → HasServed a r p
       by None e = safe.servers.done p r s a to run (λ is. none-some p (sym e ∙ is))
@@ -233,24 +242,28 @@ module _ (pid : Pid) (pick : Option Server) (out : StepOut) (J : Past) (legal : 
       by (opens v e) held = absurd (void_held J o safe r s a run (finds_open r v) held)
       by (closes v e) held = (let f = finds_close r v in elim held.3 [
         | inl own ↦
-            let one : f.3.0 ≡ held.0.id.0 = same_Some f.3.0 held.0.id.0 (sym f.3.1 ∙ own.0) in
-            let there : f.1 ≡ s = one_server (peer_of J held.0.id.0) f.1 s (ap (peer_of J) (sym one) ∙ f.3.2) own.2 in
+            let call = opened_by r (last_call J r) f.1 held.0.id.0 f.3 own.0 in
+            let one : call.0 ≡ held.0.id.0 = same_Some call.0 held.0.id.0 (sym call.1 ∙ own.0) in
+            let there : f.1 ≡ s = one_server (peer_of J held.0.id.0) f.1 s (ap (peer_of J) (sym one) ∙ call.2) own.2 in
             (held.0, held.1, held.2, inr (pid.0, subst (IsLater pid.0) own.0 f.0, close_last r s v (f.2 ∙ ap (args_are.CloseCall r) there)))
         | inr q ↦
-            let one : f.3.0 ≡ q.0 = same_Some f.3.0 q.0 (sym f.3.1 ∙ q.2.0) in
-            absurd (not_closed q.0 q.2.1 (ap (report_of J) (sym one) ∙ f.3.3))
+            let call = opened_by r (last_call J r) f.1 q.0 f.3 q.2.0 in
+            let one : call.0 ≡ q.0 = same_Some call.0 q.0 (sym call.1 ∙ q.2.0) in
+            absurd (not_closed q.0 q.2.1 (ap (report_of J) (sym one) ∙ call.3))
       ])
 
   pub safe_step : Safe (entry ∷ J) o
-  safe_step = safe_behind entry J legal o safe (λ p told h. made_now entry J legal o safe p told (safe.calls.recorded p told h)) done_now held_step safe.fences_are
+  safe_step = safe_behind entry J legal o safe (leaves_base (entry_is.Step pid pick out) J legal o tt) (λ p told h. made_now entry J legal o safe p told (safe.calls.recorded p told h)) done_now held_step safe.fences_are
 
 -- an entry that may come next, a report only where it was made
 pub safe_append : (entry : Entry) (J : Past) → IsLegal (entry ∷ J) → (o : Outside) → Safe J o → IsTrueReport o entry → Safe (entry ∷ J) o
-safe_append (entry_is.Start sheets) J legal o safe true_report = safe_calm (entry_is.Start sheets) J legal o safe (λ p. refl) (λ p. refl) (λ r. refl) (λ s. refl)
-safe_append (entry_is.Submit nonce request) J legal o safe true_report = safe_calm (entry_is.Submit nonce request) J legal o safe (λ p. refl) (λ p. refl) (λ r. refl) (λ s. refl)
+safe_append (entry_is.Start sheets) J legal o safe true_report = safe_calm (entry_is.Start sheets) J legal o safe (leaves_base (entry_is.Start sheets) J legal o tt) (λ p. refl) (λ p. refl) (λ r. refl) (λ s. refl)
+safe_append (entry_is.Submit nonce request) J legal o safe true_report = safe_calm (entry_is.Submit nonce request) J legal o safe (leaves_base (entry_is.Submit nonce request) J legal o tt) (λ p. refl) (λ p. refl) (λ r. refl) (λ s. refl)
 safe_append (entry_is.Step pid pick out) J legal o safe true_report = safe_step pid pick out J legal o safe
-safe_append (entry_is.Undo pid row out) J legal o safe true_report = safe_calm (entry_is.Undo pid row out) J legal o safe (λ p. refl) (λ p. refl) (λ r. refl) (λ s. refl)
+safe_append (entry_is.Undo pid row out) J legal o safe true_report = safe_calm (entry_is.Undo pid row out) J legal o safe (leaves_base (entry_is.Undo pid row out) J legal o tt) (λ p. refl) (λ p. refl) (λ r. refl) (λ s. refl)
 safe_append (entry_is.Report call told) J legal o safe true_report = safe_report call told J legal o safe true_report
-safe_append (entry_is.Up server) J legal o safe true_report = safe_calm (entry_is.Up server) J legal o safe (λ p. refl) (λ p. refl) (λ r. refl) (λ s. refl)
-safe_append (entry_is.Down server) J legal o safe true_report = safe_calm (entry_is.Down server) J legal o safe (λ p. refl) (λ p. refl) (λ r. refl) (λ s. refl)
-safe_append (entry_is.Abort pid) J legal o safe true_report = safe_calm (entry_is.Abort pid) J legal o safe (λ p. refl) (λ p. refl) (λ r. refl) (λ s. refl)
+safe_append (entry_is.Up server) J legal o safe true_report = safe_calm (entry_is.Up server) J legal o safe (leaves_base (entry_is.Up server) J legal o tt) (λ p. refl) (λ p. refl) (λ r. refl) (λ s. refl)
+safe_append (entry_is.Down server) J legal o safe true_report = safe_calm (entry_is.Down server) J legal o safe (leaves_base (entry_is.Down server) J legal o tt) (λ p. refl) (λ p. refl) (λ r. refl) (λ s. refl)
+safe_append (entry_is.Abort pid) J legal o safe true_report = safe_calm (entry_is.Abort pid) J legal o safe (leaves_base (entry_is.Abort pid) J legal o tt) (λ p. refl) (λ p. refl) (λ r. refl) (λ s. refl)
+safe_append (entry_is.Adopt sheets) J legal o safe true_report = safe_calm (entry_is.Adopt sheets) J legal o safe (leaves_base (entry_is.Adopt sheets) J legal o tt) (λ p. refl) (λ p. refl) (λ r. refl) (λ s. refl)
+safe_append (entry_is.Base part) J legal o safe true_report = absurd true_report

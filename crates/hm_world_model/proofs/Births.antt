@@ -37,7 +37,7 @@ use Rattle.hm_model.specs.NamespaceActs.{has_table, version_of}
 use Rattle.hm_model.specs.Outs.{checked, edits_rows, ends_with, given, spawns}
 use Rattle.hm_model.specs.Pieces.{Batch, adding, batches, by_64, dropping, numbers_from, ranges_between, transits, with_batch}
 use Rattle.hm_model.specs.RegionActs.{close_parents, close_regions, cut_of, merge_cause, open_new, open_regions, regions_for}
-use Rattle.hm_model.specs.Requests.{is_pair, wrong_in}
+use Rattle.hm_model.specs.Requests.{wrong_in}
 use Rattle.hm_model.specs.RowsSaid.{Rows, all_among, in_state, in_version, regions_among}
 use Rattle.hm_model.specs.Tree.{args_in}
 use Rattle.hm_model.specs.Undoing.{closed_by}
@@ -47,6 +47,7 @@ use Rattle.hm_model.specs.declared.lock.Ask.{Ask}
 use Rattle.hm_model.specs.declared.lock.Resource.TheVariants as resource_is
 use Rattle.hm_model.proofs.ExactRows.{is_listed}
 use Rattle.hm_model.proofs.KeyTests.{same_table-is}
+use Rattle.hm_model.proofs.Siblings.{merge_is, one_table}
 use Rattle.hm_model.proofs.PlainActs.{is_plain}
 use Rattle.hm_kinds.proofs.LockForms.{IsRight}
 use Rattle.hm_world_model.proofs.Facts.{in_both}
@@ -282,21 +283,6 @@ merge_has one more first region among = inr (inr (in_left (exclusive (resource_i
 merge_new : (one : Region) (more : List Region) (first : ℕ) → IsIn (exclusive (resource_is.Region (record { table = one.table; id = first }))) (merge_asks (one ∷ more) first)
 merge_new one more first = inr (inr (in_right _ (map (λ r. exclusive (resource_is.Region r)) (in_name_order (one ∷ more))) _ (inl refl)))
 
--- regions that can be merged are of one table
-pub pair_table : (one : Region) (more : List Region) → is_pair (one ∷ more) ≡ true → (region : Region) → IsIn region (one ∷ more) → one.table ≡ region.table
-pair_table one [] h region among = absurd (false≢true h)
-pair_table one (other ∷ []) h region (inl same) = ap (λ (r : Region). r.table) (sym same)
-pair_table one (other ∷ []) h region (inr (inl same)) = same_table-is one.table other.table (and_parts (same_table one.table other.table) _ h).0 ∙ ap (λ (r : Region). r.table) (sym same)
-pair_table one (other ∷ []) h region (inr (inr never)) = absurd never
-pair_table one (other ∷ third ∷ more) h region among = absurd (false≢true h)
-
-pub sound_pair : (regions : List Region) → wrong_in (request_is.MergeRegions regions) ≡ None → is_pair regions ≡ true
-sound_pair regions h = by (is_pair regions) h
-  where
-    by : (b : Bool) → cond {A = Option ℕ} b None (Some 4) ≡ None → b ≡ true
-    by true k = refl
-    by false k = absurd (none-some 4 (sym k))
-
 pub each_of : (P : Region → Type 0) (list : List Region) → ((region : Region) → IsIn region list → P region) → AllOf P list
 each_of P [] each = tt
 each_of P (region ∷ more) each = (each region (inl refl), each_of P more (λ r among. each r (inr among)))
@@ -306,7 +292,7 @@ parents_bears (args_are.Root (request_is.MergeRegions []) first) sound h next = 
 parents_bears (args_are.Root (request_is.MergeRegions (one ∷ more)) first) sound h next =
     let up : Args = args_are.Root (request_is.MergeRegions (one ∷ more)) first in
     bears_moving up next goal_is.Unassign (one ∷ more)
-    (each_of (MayMove up) (one ∷ more) (λ region among. merge_over one more first region (pair_table one more (sound_pair (one ∷ more) sound) region among) (merge_has one more first region among)))
+    (each_of (MayMove up) (one ∷ more) (λ region among. merge_over one more first region (one_table one more (merge_is (one ∷ more) sound).siblings region among) (merge_has one more first region among)))
 parents_bears args sound h next = absurd (false≢true h)
 
 merged_bears : (args : Args) → is_listed (kind_of args) act_is.OpenMerged ≡ true → (next : ℕ) → Bears args (open_new 1 next args)

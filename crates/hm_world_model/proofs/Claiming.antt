@@ -85,6 +85,8 @@ work_free past claim taken (entry_is.Report call told) among work = tt
 work_free past claim taken (entry_is.Up server) among work = tt
 work_free past claim taken (entry_is.Down server) among work = tt
 work_free past claim taken (entry_is.Abort pid) among work = tt
+work_free past claim taken (entry_is.Adopt sheets) among work = tt
+work_free past claim taken (entry_is.Base part) among work = tt
 
 module _ (w : World) (apart : IsApart w.past w.taken (claimed_pids w)) (legal : IsLegal w.past) where
   -- an entry of nobody

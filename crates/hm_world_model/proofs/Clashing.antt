@@ -13,8 +13,9 @@ use Rattle.hm_model.specs.Whereabouts.{moved_by}
 use Rattle.hm_model.specs.declared.lock.Ask.{Ask}
 use Rattle.hm_model.specs.declared.lock.Resource.{Resource}
 use Rattle.hm_model.specs.declared.lock.Resource.TheVariants as resource_is
+use Rattle.hm_model.proofs.Siblings.{merge_is, one_table}
 use Rattle.hm_kinds.proofs.LockForms.{IsRight}
-use Rattle.hm_world_model.proofs.Births.{AllOf, Over, each_of, ordered_all, pair_table, sound_pair}
+use Rattle.hm_world_model.proofs.Births.{AllOf, Over, each_of, ordered_all}
 
 -- how a procedure takes part in locks
 pub data Locker (args : Args) : Type 0 where
@@ -96,7 +97,7 @@ region_table (args_are.Root (request_is.MergeRegions (one ∷ more)) first) soun
       (
         tt,
         of_regions one.table (in_name_order (one ∷ more)) (region_alone one.table first ∷ [])
-            (ordered_all (λ r. one.table ≡ r.table) (one ∷ more) (each_of (λ r. one.table ≡ r.table) (one ∷ more) (pair_table one more (sound_pair (one ∷ more) sound)))) (refl, tt),
+            (ordered_all (λ r. one.table ≡ r.table) (one ∷ more) (each_of (λ r. one.table ≡ r.table) (one ∷ more) (one_table one more (merge_is (one ∷ more) sound).siblings))) (refl, tt),
       ),
     ) b among region e
 region_table (args_are.Root (request_is.Move own to) first) sound b among region e = moved_table own b among region e

@@ -2,7 +2,6 @@
 use Rattle.hm_world_model.specs.Kept.{EntriesKeep, OutsideKeeps}
 use Rattle.hm_world_model.proofs.Appending.{safe_append}
 use Rattle.hm_world_model.proofs.From.{safe_arm, safe_die, safe_send, safe_start}
-use Rattle.hm_world_model.proofs.Known.{uncalled}
 use Rattle.hm_world_model.proofs.Storing.{safe_deliver}
 
 pub entries_keep : EntriesKeep
@@ -11,7 +10,7 @@ entries_keep J o safe entry allowed true_report = safe_append entry J (safe.lega
 pub outside_keeps : OutsideKeeps
 outside_keeps J o safe = (
   (λ call is. (safe_send J o call safe is, safe_deliver J o safe call is)),
-  (λ server new. safe_start J o server safe (uncalled J safe.legal server new)),
+  (λ server new. safe_start J o server safe new),
   (λ server. safe_die J o server safe),
   (λ peer count. safe_arm J o peer count safe),
 )

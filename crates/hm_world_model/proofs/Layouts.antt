@@ -27,6 +27,7 @@ use Rattle.hm_model.specs.Answers.{is_stopped, last_answer, report_of, row_of}
 use Rattle.hm_model.specs.Evaluation.{turn_answer}
 use Rattle.hm_model.specs.Inputs.{input, step_input, turn_input, undo_input, undoes}
 use Rattle.hm_model.specs.Journal.{Past}
+use Rattle.hm_data.specs.declared.part.Part.{Part}
 use Rattle.hm_model.specs.Kinds.{kind_of}
 use Rattle.hm_model.specs.Layouts.{is_laid, laid_by, laid_if, layout_called}
 use Rattle.hm_model.specs.Lists.{exact_rows, fixed}
@@ -35,7 +36,7 @@ use Rattle.hm_model.specs.Phase.{all_stopped, cause, ended, ended_node, in_tree,
 use Rattle.hm_model.specs.Pieces.{Batch, batches}
 use Rattle.hm_model.specs.Reports.{fits_verb, verb_of}
 use Rattle.hm_model.specs.Rules.{IsLegal}
-use Rattle.hm_model.specs.Sheets.{sheet_for, sheets_of}
+use Rattle.hm_model.specs.Sheets.{sheet_for, sheets_by}
 use Rattle.hm_model.specs.Tree.{Node, args_in, is_top, made, node_of, root_in, root_node, root_of, submitted}
 use Rattle.hm_model.specs.Undo.{Undoable, is_empty, stack}
 use Rattle.hm_model.specs.Undoing.{closed_by, undo_followers}
@@ -51,7 +52,7 @@ use Rattle.hm_model.proofs.Said.{said_by}
 use Rattle.hm_model.proofs.StepDoes.{Does, bears_by, calls, crash, exact_row, lined, moves, part_of, row_by}
 use Rattle.hm_model.proofs.Trees.{Grown, IsRooted, all_below_at, at_top, does_of, down_rooted, grown_all, is_there, le_or_lt, new_child, node_same, old_or_new, other_answer, some_of, step_of, submit_rooted, undo_rooted}
 use Rattle.hm_kinds.proofs.Kids.{AllMade, IsChildOf, MadeBy, kids_act, made_at}
-use Rattle.hm_world_model.specs.Layouts.{LayoutsTell, laid_below, laid_told}
+use Rattle.hm_world_model.specs.Layouts.{LayoutsTell, based_layout, laid_below, laid_told}
 
 -- a root failed, and none of its descendants goes on
 abbrev IsFallen : Past → ℕ → Type 0
@@ -284,7 +285,7 @@ module _ (pid : Pid) (row : ℕ) (out : StepOut) (J : Past) (legal : IsLegal (en
       let answer = legal.1.1.1.0 in
       let node = answer.0 in
       let seen = input J R node None in
-      let said = said_by (sheet_for (sheets_of J) seen.kind) seen out answer.2 in
+      let said = said_by (sheet_for (sheets_by J node.root) seen.kind) seen out answer.2 in
       let same : node ≡ latest.0 = same_Some node latest.0 (sym answer.1 ∙ latest.1) in
       let root : (let r = seen.root in r.0) ≡ R = ap (λ (p : Pid). p.0) (root_seen J (undoes J R node) (stack J R) (step_input J R node None)) ∙ at_top J grown R node answer.1 (ap (λ (n : Node). is_top n.above) same ∙ (and_parts (is_top latest.0.above) _ latest.2).0) in
       subst (λ r. AllMade (Follows r) out.followers) root (subst (λ (o : StepOut). AllMade (Follows (let r = seen.root in r.0)) o.followers) (sym said.4) (turn_follows said.2 seen seen.turn))
@@ -347,6 +348,8 @@ laying_all (entry_is.Down server ∷ J) legal =
       | inr differs ↦ absurd (none-some x (sym (grown.numbered p lt) ∙ sym (cond-false (p == made J + 1) (Some (root_node p (args_are.Crash server) 1)) (node_of J p) (ne_eqb p (made J + 1) differs)) ∙ is))
     ])
 laying_all (entry_is.Abort pid ∷ J) legal = laying_all J legal.0
+laying_all (entry_is.Adopt sheets ∷ J) legal = laying_all J legal.0
+laying_all (entry_is.Base part ∷ J) legal = ((λ q x root is. absurd (none-some x is)), (λ s y root is. absurd (none-some y is)), (λ q s x y root swept is. absurd (none-some x is)))
 
 -- where a layout is swept, a call to make it has ended, and has a lower number
 swept_late : (J : Past) → IsLegal J → (q s : ℕ) (root swept : Pid) → verb_of J q ≡ Some (verb_is.Layout root) → verb_of J s ≡ Some (verb_is.Sweep swept) → root.0 ≡ swept.0 → (ended J q ≡ true) × (q < s)
@@ -397,9 +400,9 @@ about_or_not (Some own) (Some there) root = elim (cases_eq own root) [
 ]
 
 -- reports that say the same
-same_below : (J after : Past) (root : ℕ) → ((p : ℕ) (b : Bool) → laid_if (layout_called (verb_of after p)) (laid_told (report_of after p)) root b ≡ laid_if (layout_called (verb_of J p)) (laid_told (report_of J p)) root b) → (n : ℕ) → laid_below after n root ≡ laid_below J n root
-same_below J after root each zero = refl
-same_below J after root each (suc n) = each n (laid_below after n root) ∙ ap (laid_if (layout_called (verb_of J n)) (laid_told (report_of J n)) root) (same_below J after root each n)
+same_below : (J after : Past) (root : ℕ) → based_layout after root ≡ based_layout J root → ((p : ℕ) (b : Bool) → laid_if (layout_called (verb_of after p)) (laid_told (report_of after p)) root b ≡ laid_if (layout_called (verb_of J p)) (laid_told (report_of J p)) root b) → (n : ℕ) → laid_below after n root ≡ laid_below J n root
+same_below J after root base each zero = base
+same_below J after root base each (suc n) = each n (laid_below after n root) ∙ ap (laid_if (layout_called (verb_of J n)) (laid_told (report_of J n)) root) (same_below J after root base each n)
 
 -- a report about a layout decides, where none of a later call says otherwise
 decided_below : (J : Past) (root s : ℕ) (there : Bool) → layout_called (verb_of J s) ≡ Some root → laid_told (report_of J s) ≡ Some there
@@ -416,6 +419,11 @@ decided_below J root s there about is all (suc n) lt = elim (cases_eq n s) [
 nothing_below : (n root : ℕ) → laid_below [] n root ≡ false
 nothing_below zero root = refl
 nothing_below (suc n) root = nothing_below n root
+
+-- after a base no report tells of a layout
+based_below : (part : Part) (J : Past) (n root : ℕ) → laid_below (entry_is.Base part ∷ J) n root ≡ is_laid (entry_is.Base part ∷ J) root
+based_below part J zero root = refl
+based_below part J (suc n) root = based_below part J n root
 
 -- a report of a call that has none
 module _ (call : Pid) (told : Told) (J : Past) (legal : IsLegal (entry_is.Report call told ∷ J)) (root : ℕ) where
@@ -458,7 +466,7 @@ module _ (call : Pid) (told : Told) (J : Past) (legal : IsLegal (entry_is.Report
         let le = is_there J (grown_all J legal.0) call.0 x.0 x.1 in
         decided_below K root call.0 decides.0 decides.1 (ap laid_told report_now ∙ decides.2) (later_same decides.0 decides.1 decides.2) n (omega (arith, le, lt))
         ∙ sym (told_if (layout_called (verb_of J call.0)) (laid_by told) root decides.0 (is_laid J root) decides.1 decides.2)
-    | inr quiet ↦ same_below J K root (λ p b. elim (cases_eq p call.0) [
+    | inr quiet ↦ same_below J K root refl (λ p b. elim (cases_eq p call.0) [
       | inl same ↦ ap (λ k. laid_if (layout_called (verb_of J k)) (laid_told (report_of K k)) root b) same ∙ ap (λ o. laid_if (layout_called (verb_of J call.0)) (laid_told o) root b) report_now ∙ quiet b
           ∙ sym (none_if (layout_called (verb_of J call.0)) root b) ∙ ap (λ o. laid_if (layout_called (verb_of J call.0)) (laid_told o) root b) (sym legal.1.1.0.1) ∙ ap (λ k. laid_if (layout_called (verb_of J k)) (laid_told (report_of J k)) root b) (sym same)
       | inr differs ↦ ap (λ o. laid_if (layout_called (verb_of J p)) (laid_told o) root b) (report_was p differs)
@@ -478,14 +486,16 @@ step_same pid pick out J legal root p b = by (report_of J p) refl
 
 tells : (J : Past) → IsLegal J → (root n : ℕ) → made J < n → laid_below J n root ≡ is_laid J root
 tells [] legal root n lt = nothing_below n root
-tells (entry_is.Start sheets ∷ J) legal root n lt = same_below J (entry_is.Start sheets ∷ J) root (λ p b. refl) n ∙ tells J legal.0 root n lt
-tells (entry_is.Submit nonce request ∷ J) legal root n lt = same_below J (entry_is.Submit nonce request ∷ J) root (λ p b. refl) n ∙ tells J legal.0 root n (omega (arith, lt))
-tells (entry_is.Step pid pick out ∷ J) legal root n lt = same_below J (entry_is.Step pid pick out ∷ J) root (step_same pid pick out J legal root) n ∙ tells J legal.0 root n (omega (arith, lt))
-tells (entry_is.Undo pid row out ∷ J) legal root n lt = same_below J (entry_is.Undo pid row out ∷ J) root (λ p b. refl) n ∙ tells J legal.0 root n (omega (arith, lt))
+tells (entry_is.Start sheets ∷ J) legal root n lt = same_below J (entry_is.Start sheets ∷ J) root refl (λ p b. refl) n ∙ tells J legal.0 root n lt
+tells (entry_is.Submit nonce request ∷ J) legal root n lt = same_below J (entry_is.Submit nonce request ∷ J) root refl (λ p b. refl) n ∙ tells J legal.0 root n (omega (arith, lt))
+tells (entry_is.Step pid pick out ∷ J) legal root n lt = same_below J (entry_is.Step pid pick out ∷ J) root refl (step_same pid pick out J legal root) n ∙ tells J legal.0 root n (omega (arith, lt))
+tells (entry_is.Undo pid row out ∷ J) legal root n lt = same_below J (entry_is.Undo pid row out ∷ J) root refl (λ p b. refl) n ∙ tells J legal.0 root n (omega (arith, lt))
 tells (entry_is.Report call told ∷ J) legal root n lt = report_tells call told J legal root n lt (tells J legal.0 root n lt)
-tells (entry_is.Up server ∷ J) legal root n lt = same_below J (entry_is.Up server ∷ J) root (λ p b. refl) n ∙ tells J legal.0 root n lt
-tells (entry_is.Down server ∷ J) legal root n lt = same_below J (entry_is.Down server ∷ J) root (λ p b. refl) n ∙ tells J legal.0 root n (omega (arith, lt))
-tells (entry_is.Abort pid ∷ J) legal root n lt = same_below J (entry_is.Abort pid ∷ J) root (λ p b. refl) n ∙ tells J legal.0 root n lt
+tells (entry_is.Up server ∷ J) legal root n lt = same_below J (entry_is.Up server ∷ J) root refl (λ p b. refl) n ∙ tells J legal.0 root n lt
+tells (entry_is.Down server ∷ J) legal root n lt = same_below J (entry_is.Down server ∷ J) root refl (λ p b. refl) n ∙ tells J legal.0 root n (omega (arith, lt))
+tells (entry_is.Abort pid ∷ J) legal root n lt = same_below J (entry_is.Abort pid ∷ J) root refl (λ p b. refl) n ∙ tells J legal.0 root n lt
+tells (entry_is.Adopt sheets ∷ J) legal root n lt = same_below J (entry_is.Adopt sheets ∷ J) root refl (λ p b. refl) n ∙ tells J legal.0 root n lt
+tells (entry_is.Base part ∷ J) legal root n lt = based_below part J n root
 
 pub layouts_tell : LayoutsTell
 layouts_tell J legal root = tells J legal root (made J + 1) (omega arith)

@@ -22,4 +22,8 @@ pub mod Clashing
 pub mod Going
 pub mod Resting
 pub mod Idle
+mod Based
+mod Held
+mod Findings
+mod Pairs
 pub mod Layouts

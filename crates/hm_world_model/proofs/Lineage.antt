@@ -1,5 +1,5 @@
 -- What every legal journal keeps of who bore whom, who awaits an answer, and what crashes have done first.
-use Rattle.std.proofs.Common.{◌≡◌, ◌≢◌, ℕ, zero, suc, ◌+◌, ◌-◌, ◌<◌, ◌≤◌, List, [], ◌∷◌, ◌==◌, ◌&&◌, not, Bool, true, false, cond, slice_get, option_map, Option, Some, None, is_some, refl, ap, sym, ◌∙◌, subst, inl, inr, arith}
+use Rattle.std.proofs.Common.{◌≡◌, ◌≢◌, ℕ, zero, suc, ◌+◌, ◌-◌, ◌<◌, ◌≤◌, List, [], ◌∷◌, ◌==◌, ◌&&◌, ◌||◌, ◌⊎◌, not, Bool, true, false, cond, slice_get, option_map, Option, Some, None, is_some, refl, ap, sym, ◌∙◌, subst, inl, inr, arith}
 use Rattle.std.specs.Option.{option_or}
 use Rattle.std.proofs.lemmas.Bool.{and_right, cases_Bool, cases_eq, cond-false, cond-true, eq-eqb, eqb-true, false≢true, or_parts, true≢false}
 use Rattle.std.proofs.lemmas.Option.{none-some, same_Some}
@@ -33,7 +33,12 @@ use Rattle.hm_model.specs.Acts.{act_answer}
 use Rattle.hm_model.specs.Answers.{done_with, failing, is_stop, is_stopped, last_answer, report_of, row_after, row_of}
 use Rattle.hm_model.specs.CrashActs.{fence, reassign_all}
 use Rattle.hm_model.specs.Evaluation.{is_cut_off, row_answer}
-use Rattle.hm_model.specs.Fleet.{came_up, is_live, same_server}
+use Rattle.hm_model.specs.Fleet.{came_up, is_fenced, is_live, same_server}
+use Rattle.hm_data.specs.declared.part.Part.{Part}
+use Rattle.hm_data.specs.declared.part.Part.TheVariants as part_is
+use Rattle.hm_model.proofs.CameUp.{fenced_stays}
+use Rattle.hm_model.proofs.Parted.{no_node}
+use Rattle.hm_world_model.proofs.Servers.{up_before}
 use Rattle.hm_model.specs.Inputs.{fenced_if, step_input}
 use Rattle.hm_model.specs.Journal.{Past}
 use Rattle.hm_model.specs.Kinds.{first_row_of, kind_of}
@@ -203,16 +208,16 @@ pub record Lineage (J : Past) : Type 0 where
       → (f : ℕ) × (call : Node) × (node_of J f ≡ Some call) × (call.args ≡ args_are.FenceCall s) × (call.above ≢ [])
   pub told : (f : ℕ) (node : Node) (s : Server) → node_of J f ≡ Some node → node.args ≡ args_are.FenceCall s → is_stopped (last_answer J f) ≡ true → report_of J f ≢ None
 
-lineage_nothing : Lineage []
-lineage_nothing = record {
-  born = λ p node up u rest is. absurd (none-some node is);
-  sound = λ p node is. absurd (none-some node is);
-  below = λ p node is. absurd (none-some node is);
-  awaits = λ p n is. absurd (none-some (answer_is.Await n) is);
-  done = λ p node is. absurd (none-some node is);
-  begun = λ r some. absurd (some refl);
-  fences = λ c node s is. absurd (none-some node is);
-  told = λ f node s is. absurd (none-some node is);
+lineage_nothing : (J : Past) → ((p : ℕ) → node_of J p ≡ None) → ((p : ℕ) → last_answer J p ≡ None) → ((r : ℕ) → cause J r ≡ None) → Lineage J
+lineage_nothing J nobody silent clean = record {
+  born = λ p node up u rest is. absurd (none-some node (sym (nobody p) ∙ is));
+  sound = λ p node is. absurd (none-some node (sym (nobody p) ∙ is));
+  below = λ p node is. absurd (none-some node (sym (nobody p) ∙ is));
+  awaits = λ p n is. absurd (none-some (answer_is.Await n) (sym (silent p) ∙ is));
+  done = λ p node is. absurd (none-some node (sym (nobody p) ∙ is));
+  begun = λ r some. absurd (some (clean r));
+  fences = λ c node s is. absurd (none-some node (sym (nobody c) ∙ is));
+  told = λ f node s is. absurd (none-some node (sym (nobody f) ∙ is));
 }
 
 -- entries that make roots
@@ -469,7 +474,7 @@ undo_sound pid row out J legal p lt node is = by (slice_get (args_in out.followe
         (followers_sound u.undo u.args u.root args (slice_in (args_in (undo_followers u.undo u.args u.root)) (p - made J - 1) args (ap (λ (o : StepOut). slice_get (args_in o.followers) (p - made J - 1)) (sym u.out_is) ∙ e)))
 
 pub lineage_all : (J : Past) → IsLegal J → Lineage J
-lineage_all [] legal = lineage_nothing
+lineage_all [] legal = lineage_nothing [] (λ p. refl) (λ p. refl) (λ r. refl)
 lineage_all (entry_is.Start sheets ∷ J) legal = let l = lineage_all J legal.0 in record { born = l.born; sound = l.sound; below = l.below; awaits = l.awaits; done = l.done; begun = l.begun; fences = l.fences; told = l.told }
 lineage_all (entry_is.Submit nonce request ∷ J) legal = let g = grown_all J legal.0 in lineage_rooted J (entry_is.Submit nonce request ∷ J) (submit_rooted nonce request J g) g (lineage_all J legal.0) (λ r. refl) (submit_sound nonce request J legal)
 lineage_all (entry_is.Step pid pick out ∷ J) legal = lineage_step pid pick out J legal (lineage_all J legal.0)
@@ -484,15 +489,38 @@ lineage_all (entry_is.Report call told ∷ J) legal =
 lineage_all (entry_is.Up server ∷ J) legal = let l = lineage_all J legal.0 in record { born = l.born; sound = l.sound; below = l.below; awaits = l.awaits; done = l.done; begun = l.begun; fences = l.fences; told = l.told }
 lineage_all (entry_is.Down server ∷ J) legal = let g = grown_all J legal.0 in lineage_rooted J (entry_is.Down server ∷ J) (down_rooted server J g) g (lineage_all J legal.0) (λ r. refl) (down_sound server J legal)
 lineage_all (entry_is.Abort pid ∷ J) legal = let l = lineage_all J legal.0 in record { born = l.born; sound = l.sound; below = l.below; awaits = l.awaits; done = l.done; begun = l.begun; fences = l.fences; told = l.told }
+lineage_all (entry_is.Adopt sheets ∷ J) legal = let l = lineage_all J legal.0 in record { born = l.born; sound = l.sound; below = l.below; awaits = l.awaits; done = l.done; begun = l.begun; fences = l.fences; told = l.told }
+lineage_all (entry_is.Base part ∷ J) legal = lineage_nothing (entry_is.Base part ∷ J) (λ p. refl) (λ p. refl) (λ r. refl)
 
--- who came up and isn't live went down, which made a crash
+-- who came up and isn't live went down, which made a crash, or is fenced by the base
 abbrev pub HasCrash : Past → Server → Type 0
 HasCrash J s = (c : ℕ) × (node_of J c ≡ Some (root_node c (args_are.Crash s) 1))
 
-crash_on : (entry : Entry) (J : Past) → IsLegal (entry ∷ J) → (s : Server) → HasCrash J s → HasCrash (entry ∷ J) s
-crash_on entry J legal s c = (c.0, nodes_stay entry J legal c.0 (root_node c.0 (args_are.Crash s) 1) c.1)
+abbrev WentDown : Past → Server → Type 0
+WentDown J s = HasCrash J s ⊎ (is_fenced J s ≡ true)
 
-pub crashed : (J : Past) → IsLegal J → (s : Server) → came_up J s ≡ true → is_live J s ≡ false → HasCrash J s
+crash_on : (entry : Entry) (J : Past) → IsLegal (entry ∷ J) → (s : Server) → WentDown J s → WentDown (entry ∷ J) s
+crash_on entry J legal s (inl c) = inl (c.0, nodes_stay entry J legal c.0 (root_node c.0 (args_are.Crash s) 1) c.1)
+crash_on entry J legal s (inr fenced) = inr (fenced_stays entry J s fenced)
+
+-- in a base whoever isn't live is fenced
+part_down : (part : Part) (J : Past) → (s : Server) → (came_up J s ≡ true → is_live J s ≡ false → is_fenced J s ≡ true) → came_up (entry_is.Base part ∷ J) s ≡ true → is_live (entry_is.Base part ∷ J) s ≡ false → is_fenced (entry_is.Base part ∷ J) s ≡ true
+part_down (part_is.Head entries last parts sheets) J s old up down = old up down
+part_down (part_is.Namespace ns) J s old up down = old up down
+part_down (part_is.Table table drawn own) J s old up down = old up down
+part_down (part_is.Region region range status parents place) J s old up down = old up down
+part_down (part_is.Root pid nonce args cause) J s old up down = old up down
+part_down (part_is.Layout pid) J s old up down = old up down
+part_down (part_is.Server other fenced) J s old up down =
+    let parts = or_parts (same_server s other && not fenced) (is_live J s) down in
+    by (same_server s other) refl fenced parts.0 parts.1
+  where
+    by : (b : Bool) → same_server s other ≡ b → (f : Bool) → (same_server s other && not f) ≡ false → is_live J s ≡ false → ((same_server s other && f) || is_fenced J s) ≡ true
+    by false e f own dead = rw e (old (up_before J other s e up) dead)
+    by true e true own dead = rw e refl
+    by true e false own dead = absurd (true≢false (sym (ap (λ b. b && true) e) ∙ own))
+
+pub crashed : (J : Past) → IsLegal J → (s : Server) → came_up J s ≡ true → is_live J s ≡ false → WentDown J s
 crashed [] legal s up down = absurd (false≢true up)
 crashed (entry_is.Start sheets ∷ J) legal s up down = crash_on (entry_is.Start sheets) J legal s (crashed J legal.0 s up down)
 crashed (entry_is.Submit nonce request ∷ J) legal s up down = crash_on (entry_is.Submit nonce request) J legal s (crashed J legal.0 s up down)
@@ -506,7 +534,13 @@ crashed (entry_is.Up other ∷ J) legal s up down =
 crashed (entry_is.Down other ∷ J) legal s up down = elim (cases_Bool (same_server s other)) [
   | inl same ↦
       let one : s ≡ other = same_server-is s other same in
-      (made J + 1, down_new other J (made J + 1) refl ∙ ap (λ x. Some (root_node (made J + 1) (args_are.Crash x) 1)) (sym one))
+      inl (made J + 1, down_new other J (made J + 1) refl ∙ ap (λ x. Some (root_node (made J + 1) (args_are.Crash x) 1)) (sym one))
   | inr differs ↦ crash_on (entry_is.Down other) J legal s (crashed J legal.0 s up (sym (ap (λ b. not b && is_live J s) differs) ∙ down))
 ]
 crashed (entry_is.Abort pid ∷ J) legal s up down = crash_on (entry_is.Abort pid) J legal s (crashed J legal.0 s up down)
+crashed (entry_is.Adopt sheets ∷ J) legal s up down = crash_on (entry_is.Adopt sheets) J legal s (crashed J legal.0 s up down)
+crashed (entry_is.Base part ∷ J) legal s up down = inr (part_down part J s (λ before dead. by (crashed J legal.0 s before dead)) up down)
+  where
+    by : WentDown J s → is_fenced J s ≡ true
+    by (inl c) = absurd (none-some (root_node c.0 (args_are.Crash s) 1) (sym (no_node part J legal.1.0 c.0) ∙ c.1))
+    by (inr fenced) = fenced

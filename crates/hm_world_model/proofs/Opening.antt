@@ -89,6 +89,8 @@ reported_fence (entry_is.Report call now ∷ J) legal p told s h v = elim (cases
 reported_fence (entry_is.Up server ∷ J) legal p told s h v = reported_fence J legal.0 p told s h (verb_before (entry_is.Up server) J legal p told s v h)
 reported_fence (entry_is.Down server ∷ J) legal p told s h v = reported_fence J legal.0 p told s h (verb_before (entry_is.Down server) J legal p told s v h)
 reported_fence (entry_is.Abort pid ∷ J) legal p told s h v = reported_fence J legal.0 p told s h (verb_before (entry_is.Abort pid) J legal p told s v h)
+reported_fence (entry_is.Adopt sheets ∷ J) legal p told s h v = reported_fence J legal.0 p told s h (verb_before (entry_is.Adopt sheets) J legal p told s v h)
+reported_fence (entry_is.Base part ∷ J) legal p told s h v = absurd (none-some told h)
 
 safe_opened : (J : Past) → IsLegal J → Safe J (nobody (shown_storage J))
 safe_opened J legal = record {
@@ -108,7 +110,9 @@ safe_opened J legal = record {
   servers = record {
     named = λ s a run. absurd (none-some a run);
     served_is = λ s a r last run. absurd (none-some a run);
+    opened_is = λ s a r last run. absurd (none-some a run);
     done = λ p r s a to run. absurd (none-some a run.0);
+    unbased = λ whole r s a run. absurd (none-some a run);
     held = λ r s a run. absurd (none-some a run.0);
   };
   fences_are = λ s h. h;

@@ -1,7 +1,7 @@
 -- The points, from what is kept.
 use Rattle.std.proofs.Common.{◌≡◌, ℕ, ◌-◌, ◌≤◌, length, true, false, Option, Some, None, refl, ap, sym, ◌∙◌, subst, inl, inr, arith}
 use Rattle.std.proofs.lemmas.Bool.{and_from, cases_Bool, and_parts}
-use Rattle.std.proofs.lemmas.Option.{same_Some}
+use Rattle.std.proofs.lemmas.Option.{none-some, same_Some}
 use Rattle.hm_names.specs.Region.{Region}
 use Rattle.hm_names.specs.Server.{Server}
 use Rattle.hm_names.specs.declared.range.KeyRange.{KeyRange}
@@ -48,28 +48,29 @@ use Rattle.hm_world_model.proofs.Tails.{newer_of, safe_past}
 module _ (J : Past) (o : Outside) (safe : Safe J o) where
   -- the last call of a region that may be held is this server's, and isn't void
   last_of : (r : Region) (s : Server) (a : Actor) → Runs J o s a → MayHold J a r s
-      → ((p : ℕ) × (last_call J r ≡ Some p) × (peer_of J p ≡ Some (peer_is.Server s))) × (IsVoid J (last_call J r) → ⊥)
+      → ((p : ℕ) × (last_call J r ≡ Some p) × (peer_of J p ≡ Some (peer_is.Server s))) × (IsVoid J r (last_call J r) → ⊥)
   last_of r s a run (inl held) = let h = safe.servers.held r s a run held in (last_server J o safe a r s h, λ void. void_held J o safe r s a run void h)
   last_of r s a run (inr call) =
       let to : CallsTo J call.0 r s = (verb_is.AssignRegion r, call.1, refl, call.2) in
       let l = unserved_last J o safe call.0 r s a to run call.3 in
-      ((call.0, l, call.2), λ void. let t = void_told J o safe call.0 s a run call.2 (subst (IsVoid J) l void) in call.3 (reported_served J o safe call.0 r s a t.0 t.1 to run.0))
+      ((call.0, l, call.2), λ void. let t = void_told J o safe call.0 s a run call.2 (subst (IsVoid J r) l void) in call.3 (reported_served J o safe call.0 r s a t.0 t.1 to run.0))
 
   -- a region whose last call isn't void has its place at that call's server
-  module _ (r : Region) (s : Server) (last : (p : ℕ) × (last_call J r ≡ Some p) × (peer_of J p ≡ Some (peer_is.Server s))) (alive : IsVoid J (last_call J r) → ⊥) where
+  module _ (r : Region) (s : Server) (last : (p : ℕ) × (last_call J r ≡ Some p) × (peer_of J p ≡ Some (peer_is.Server s))) (alive : IsVoid J r (last_call J r) → ⊥) where
     abbrev Here : Place → Type 0
     Here place = is_at s place ≡ true
 
     here_at : (state : RegionState) (t : Server) → is_placed (at_place state t) ≡ true → t ≡ s → Here (at_place state t)
     here_at state t placed e = and_from (is_placed (at_place state t)) (same_server s t) placed (subst (λ x. same_server s x ≡ true) (sym e) (same_server-refl s))
 
-    opened_at : (t : Server) → IsOpenedBy J (last_call J r) t → t ≡ s
-    opened_at t h = one_server (peer_of J last.0) t s (ap (peer_of J) (same_Some last.0 h.0 (sym last.1 ∙ h.1)) ∙ h.2) last.2
+    opened_at : (t : Server) → IsOpenedBy J r (last_call J r) t → t ≡ s
+    opened_at t (inl h) = one_server (peer_of J last.0) t s (ap (peer_of J) (same_Some last.0 h.0 (sym last.1 ∙ h.1)) ∙ h.2) last.2
+    opened_at t (inr none) = absurd (none-some last.0 (sym none.0 ∙ last.1))
 
     called_at : (q : ℕ) (t : Server) → (last_call J r ≡ Some q) × (peer_of J q ≡ Some (peer_is.Server t)) → t ≡ s
     called_at q t h = one_server (peer_of J last.0) t s (ap (peer_of J) (same_Some last.0 q (sym last.1 ∙ h.0)) ∙ h.1) last.2
 
-    rest_here : (state : RegionState) (server : Option Server) → AtRest J (last_call J r) state server → Here (record { state = state; server = server })
+    rest_here : (state : RegionState) (server : Option Server) → AtRest J r (last_call J r) state server → Here (record { state = state; server = server })
     rest_here place_is.Offline server h = absurd (alive h)
     rest_here place_is.Opening server h = absurd h
     rest_here place_is.Opened server h = subst (λ x. Here (record { state = place_is.Opened; server = x })) (sym h.1) (here_at place_is.Opened h.0 refl (opened_at h.0 h.2))
@@ -78,7 +79,7 @@ module _ (J : Past) (o : Outside) (safe : Safe J o) where
     rest_here place_is.FailedOpen server h = absurd (alive h)
     rest_here place_is.AbnormallyClosed server h = absurd (alive h)
 
-    opening_server : (q : ℕ) (t : Server) (answer : Option Answer) → Calls J q t (last_call J r) (IsVoid J (last_call J r)) answer → t ≡ s
+    opening_server : (q : ℕ) (t : Server) (answer : Option Answer) → Calls J q t (last_call J r) (IsVoid J r (last_call J r)) answer → t ≡ s
     opening_server q t None h = absurd (alive h.0)
     opening_server q t (Some (answer_is.More n)) h = absurd h
     opening_server q t (Some (answer_is.Wait n)) h = absurd h
@@ -88,7 +89,7 @@ module _ (J : Past) (o : Outside) (safe : Safe J o) where
     opening_server q t (Some (answer_is.Fail cause)) h = absurd h
     opening_server q t (Some answer_is.Undone) h = absurd h
 
-    closing_server : (q : ℕ) (t : Server) (answer : Option Answer) → Calls J q t (last_call J r) (IsOpenedBy J (last_call J r) t) answer → t ≡ s
+    closing_server : (q : ℕ) (t : Server) (answer : Option Answer) → Calls J q t (last_call J r) (IsOpenedBy J r (last_call J r) t) answer → t ≡ s
     closing_server q t None h = opened_at t h.0
     closing_server q t (Some (answer_is.More n)) h = absurd h
     closing_server q t (Some (answer_is.Wait n)) h = absurd h
@@ -120,8 +121,8 @@ module _ (J : Past) (o : Outside) (safe : Safe J o) where
   placed_at r s a run may = let l = last_of r s a run may in place_here r s l.0 l.1
 
   -- a report that leaves a region closed makes its call void
-  shut_void : (r : Region) (p : ℕ) → last_call J r ≡ Some p → IsShut J p → IsVoid J (last_call J r)
-  shut_void r p last shut = subst (IsVoid J) (sym last) (elim shut [ inl failed ↦ inl failed | inr closed ↦ inr (inl closed) ])
+  shut_void : (r : Region) (p : ℕ) → last_call J r ≡ Some p → IsShut J p → IsVoid J r (last_call J r)
+  shut_void r p last shut = subst (IsVoid J r) (sym last) (elim shut [ inl failed ↦ inl failed | inr closed ↦ inr (inl closed) ])
 
   closed_at : (r : Region) (p : ℕ) → last_call J r ≡ Some p → IsShut J p → (s : Server) (a : Actor) → Runs J o s a → holds a r ≡ false
   closed_at r p last shut s a run = elim (cases_Bool (holds a r)) [

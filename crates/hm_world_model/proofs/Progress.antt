@@ -109,6 +109,8 @@ ids (entry_is.Report call told ∷ J) legal p r verb called about = ids J legal.
 ids (entry_is.Up server ∷ J) legal p r verb called about = ids J legal.0 p r verb called about
 ids (entry_is.Down server ∷ J) legal p r verb called about = ids J legal.0 p r verb called about
 ids (entry_is.Abort pid ∷ J) legal p r verb called about = ids J legal.0 p r verb called about
+ids (entry_is.Adopt sheets ∷ J) legal p r verb called about = ids J legal.0 p r verb called about
+ids (entry_is.Base part ∷ J) legal p r verb called about = absurd (none-some verb called)
 
 -- who calls a region server has a parent, and has ended where its last step ended it
 module _ (J : Past) (legal : IsLegal J) (p : ℕ) (r : Region) (s : Server) (to : CallsTo J p r s) where

@@ -1,5 +1,6 @@
 -- What an entry adds to what is left to carry, and that something can be carried where anything is left.
 use Rattle.std.proofs.Common.{◌≡◌, ◌≢◌, ℕ, zero, suc, ◌+◌, ◌-◌, ◌*◌, ◌<◌, ◌≤◌, List, [], ◌∷◌, length, drop, not, ◌==◌, ◌&&◌, is_some, Bool, true, false, cond, Option, Some, None, refl, ap, sym, ◌∙◌, subst, inl, inr, ◌⊎◌, arith}
+use Rattle.std.proofs.lemmas.Option.{none-some}
 use Rattle.std.proofs.lemmas.Bool.{and_from, and_parts, cases_Bool, cases_eq, false≢true, not-true, not_from_false, or_from, or_parts, true≢false}
 use Rattle.hm_data.specs.declared.call.Call.{Call}
 use Rattle.hm_data.specs.declared.call.ReportMsg.{ReportMsg}
@@ -8,7 +9,12 @@ use Rattle.hm_data.specs.declared.entry.Entry.{Entry}
 use Rattle.hm_data.specs.declared.entry.Entry.TheVariants as entry_is
 use Rattle.hm_model.specs.Answers.{report_of}
 use Rattle.hm_model.specs.Counts.{count_below, one_if}
+use Rattle.hm_model.specs.Base.{IsBegun, PartFits}
 use Rattle.hm_model.specs.Journal.{Past}
+use Rattle.hm_data.specs.declared.part.Part.{Part}
+use Rattle.hm_data.specs.declared.part.Part.TheVariants as part_is
+use Rattle.hm_model.specs.Parts.{part_made}
+use Rattle.hm_model.proofs.Parted.{by_parts}
 use Rattle.hm_model.specs.Locks.{IsIn}
 use Rattle.hm_model.specs.Phase.{ended}
 use Rattle.hm_model.specs.Reports.{call_if, call_of, is_reported, is_settled, peer_if, peer_in, peer_of, verb_of}
@@ -21,7 +27,7 @@ use Rattle.hm_world_model.specs.Measure.{CanCarry, CarryingIsPossible, CarryingS
 use Rattle.hm_world_model.specs.Outside.{Outside, runs}
 use Rattle.hm_world_model.specs.Runs.{GoesOn, May, MayEnter, MayHear}
 use Rattle.hm_world_model.specs.Safe.{IsKept}
-use Rattle.hm_world_model.specs.World.{World, durable_part}
+use Rattle.hm_world_model.specs.World.{LogFault, World, durable_part}
 use Rattle.hm_model.proofs.Taken.{open_before}
 use Rattle.hm_world_model.proofs.Facts.{node_called, peer_same, verb_was}
 use Rattle.hm_world_model.proofs.Measure.{deliver_nearer, hear_nearer, ignore_nearer, send_nearer}
@@ -77,6 +83,8 @@ stepper (entry_is.Report call told) = 0
 stepper (entry_is.Up server) = 0
 stepper (entry_is.Down server) = 0
 stepper (entry_is.Abort pid) = 0
+stepper (entry_is.Adopt sheets) = 0
+stepper (entry_is.Base part) = 0
 
 -- a call that is recorded was, or is recorded now
 pub new_call : (e : Entry) (J : Past) (q : ℕ) (verb : Verb) → verb_of (e ∷ J) q ≡ Some verb → (verb_of J q ≡ Some verb) ⊎ ((calls_made e ≡ 1) × (q ≡ stepper e))
@@ -88,6 +96,8 @@ new_call (entry_is.Report call told) J q verb is = inl is
 new_call (entry_is.Up server) J q verb is = inl is
 new_call (entry_is.Down server) J q verb is = inl is
 new_call (entry_is.Abort pid) J q verb is = inl is
+new_call (entry_is.Adopt sheets) J q verb is = inl is
+new_call (entry_is.Base part) J q verb is = absurd (none-some verb is)
 
 one_or_none : (b : Bool) → (one_if b ≡ 0) ⊎ (one_if b ≡ 1)
 one_or_none true = inr refl
@@ -102,32 +112,47 @@ calls_at_most (entry_is.Report call told) = inl refl
 calls_at_most (entry_is.Up server) = inl refl
 calls_at_most (entry_is.Down server) = inl refl
 calls_at_most (entry_is.Abort pid) = inl refl
+calls_at_most (entry_is.Adopt sheets) = inl refl
+calls_at_most (entry_is.Base part) = inl refl
 
 -- what has no report had none
-pub reported_back : (e : Entry) (J : Past) (q : ℕ) → is_reported (e ∷ J) q ≡ false → is_reported J q ≡ false
-reported_back (entry_is.Start sheets) J q h = h
-reported_back (entry_is.Submit nonce request) J q h = h
-reported_back (entry_is.Step pid pick out) J q h = h
-reported_back (entry_is.Undo pid row out) J q h = h
-reported_back (entry_is.Report call told) J q h = by (q == call.0) h
+pub reported_back : (e : Entry) (J : Past) → IsLegal (e ∷ J) → (q : ℕ) → is_reported (e ∷ J) q ≡ false → is_reported J q ≡ false
+reported_back (entry_is.Start sheets) J legal q h = h
+reported_back (entry_is.Submit nonce request) J legal q h = h
+reported_back (entry_is.Step pid pick out) J legal q h = h
+reported_back (entry_is.Undo pid row out) J legal q h = h
+reported_back (entry_is.Report call told) J legal q h = by (q == call.0) h
   where
     by : (b : Bool) → is_some (cond b (Some told) (report_of J q)) ≡ false → is_reported J q ≡ false
     by true k = absurd (true≢false k)
     by false k = k
-reported_back (entry_is.Up server) J q h = h
-reported_back (entry_is.Down server) J q h = h
-reported_back (entry_is.Abort pid) J q h = h
+reported_back (entry_is.Up server) J legal q h = h
+reported_back (entry_is.Down server) J legal q h = h
+reported_back (entry_is.Abort pid) J legal q h = h
+reported_back (entry_is.Adopt sheets) J legal q h = h
+reported_back (entry_is.Base part) J legal q h = by_parts (λ j. is_reported j q ≡ false) refl (λ own older. refl) part J legal.1.0
 
 -- more is made
-made_grows : (e : Entry) (J : Past) → made J ≤ made (e ∷ J)
-made_grows (entry_is.Start sheets) J = omega arith
-made_grows (entry_is.Submit nonce request) J = omega arith
-made_grows (entry_is.Step pid pick out) J = omega arith
-made_grows (entry_is.Undo pid row out) J = omega arith
-made_grows (entry_is.Report call told) J = omega arith
-made_grows (entry_is.Up server) J = omega arith
-made_grows (entry_is.Down server) J = omega arith
-made_grows (entry_is.Abort pid) J = omega arith
+made_grows : (e : Entry) (J : Past) → IsLegal (e ∷ J) → made J ≤ made (e ∷ J)
+made_grows (entry_is.Start sheets) J legal = omega arith
+made_grows (entry_is.Submit nonce request) J legal = omega arith
+made_grows (entry_is.Step pid pick out) J legal = omega arith
+made_grows (entry_is.Undo pid row out) J legal = omega arith
+made_grows (entry_is.Report call told) J legal = omega arith
+made_grows (entry_is.Up server) J legal = omega arith
+made_grows (entry_is.Down server) J legal = omega arith
+made_grows (entry_is.Abort pid) J legal = omega arith
+made_grows (entry_is.Adopt sheets) J legal = omega arith
+made_grows (entry_is.Base part) J legal = by part legal.1.0
+  where
+    by : (part : Part) → PartFits part J → made J ≤ part_made part (made J)
+    by (part_is.Head entries last parts sheets) fits = subst (λ j. made j ≤ last.0) (sym fits.0) (omega arith)
+    by (part_is.Namespace ns) fits = omega arith
+    by (part_is.Table table drawn own) fits = omega arith
+    by (part_is.Region region range status parents place) fits = omega arith
+    by (part_is.Server server fenced) fits = omega arith
+    by (part_is.Root pid nonce args cause) fits = omega arith
+    by (part_is.Layout pid) fits = omega arith
 
 -- who is called of a call that is to be sent
 called_if : (o : Outside) (n : Option Node) (v : Option Verb) → runs_if o (peer_if n v) ≡ true → (node : Node) × (n ≡ Some node) × (verb : Verb) × (v ≡ Some verb)
@@ -157,7 +182,7 @@ module _ (w : World) (kept : IsKept w) (entry : Entry) (may : MayEnter w entry) 
       let node = node_called w.past legal q verb is in
       and_from (runs_if w.outside (peer_of w.past q)) (not (is_settled w.past q) && not (travels w q)) (ap (runs_if w.outside) (sym (peer_same entry w.past next q verb is)) ∙ parts.0)
       (and_from (not (is_settled w.past q)) (not (travels w q))
-      (not_from_false (is_settled w.past q) (or_from (is_reported w.past q) (ended w.past q) (reported_back entry w.past q unsettled.0) (open_before entry w.past next q node.0 node.1 unsettled.1))) more.1)
+      (not_from_false (is_settled w.past q) (or_from (is_reported w.past q) (ended w.past q) (reported_back entry w.past next q unsettled.0) (open_before entry w.past next q node.0 node.1 unsettled.1))) more.1)
 
   sent_or_new : (q : ℕ) → is_to_send (with_entry w entry) q ≡ true → (is_to_send w q ≡ true) ⊎ ((calls_made entry ≡ 1) × (q ≡ stepper entry))
   sent_or_new q h =
@@ -166,7 +191,7 @@ module _ (w : World) (kept : IsKept w) (entry : Entry) (may : MayEnter w entry) 
 
   wide_count : count_below (is_to_send w) (made (entry ∷ w.past) + 1) ≡ count_below (is_to_send w) (made w.past + 1)
   wide_count =
-      let grows = made_grows entry w.past in
+      let grows = made_grows entry w.past next in
       let more : made (entry ∷ w.past) + 1 ≡ (made (entry ∷ w.past) - made w.past) + (made w.past + 1) = omega (arith, grows) in
       ap (count_below (is_to_send w)) more ∙ count_wide (is_to_send w) (made w.past + 1) (made (entry ∷ w.past) - made w.past) unmade_off
 
@@ -191,6 +216,20 @@ module _ (w : World) (kept : IsKept w) (entry : Entry) (may : MayEnter w entry) 
 pub carrying_stays : CarryingStays
 carrying_stays w kept = ((λ k. refl), (λ claim. refl), (λ claim. refl), (λ claim entry may. entry_raises w kept entry may.2), entry_raises w kept)
 
+-- where a call is recorded the journal has begun
+begun_by_call : (J : Past) (p : ℕ) → verb_of J p ≢ None → IsBegun J
+begun_by_call [] p some = absurd (some refl)
+begun_by_call (entry_is.Start sheets ∷ J) p some = tt
+begun_by_call (entry_is.Submit nonce request ∷ J) p some = tt
+begun_by_call (entry_is.Step pid pick out ∷ J) p some = tt
+begun_by_call (entry_is.Undo pid row out ∷ J) p some = tt
+begun_by_call (entry_is.Report call told ∷ J) p some = tt
+begun_by_call (entry_is.Up server ∷ J) p some = tt
+begun_by_call (entry_is.Down server ∷ J) p some = tt
+begun_by_call (entry_is.Abort pid ∷ J) p some = tt
+begun_by_call (entry_is.Adopt sheets ∷ J) p some = tt
+begun_by_call (entry_is.Base part ∷ J) p some = absurd (some refl)
+
 -- something can be carried
 module _ (w : World) (kept : IsKept w) (going : GoesOn w) where
   ignorable : (report : ReportMsg) → is_settled w.past report.call.0 ≡ true → MayHear w report → ⊥
@@ -203,7 +242,7 @@ module _ (w : World) (kept : IsKept w) (going : GoesOn w) where
     | inl settled ↦ (let may : May w (Travels (Ignore report)) = (going, (rest, e), ignorable report settled) in inr (inr (inl (report, (may, ignore_nearer w kept report may settled)))))
     | inr unsettled ↦ (
         let h = reports_heard w kept report (kept.waiting_is report (subst (IsIn report) (sym e) (inl refl))) unsettled in
-        let may : May w (Travels (Hear report)) = (((going, ((λ none. h.0.0 (ap (λ J. verb_of J report.call.0) none)), (h.0, (h.1, tt)))), h.2), (rest, e)) in
+        let may : May w (Travels (Hear report)) = (((going, (begun_by_call w.past report.call.0 h.0.0, (h.0, (h.1, tt)))), h.2), (rest, e)) in
         inr (inl (report, (may, hear_nearer w kept report may)))
         )
   ]
@@ -212,7 +251,7 @@ module _ (w : World) (kept : IsKept w) (going : GoesOn w) where
   full = happens w (Works (Flush (length w.past)))
 
   may_flush : May w (Works (Flush (length w.past)))
-  may_flush = (going, kept.within, omega arith)
+  may_flush = (λ fault. none-some LogFault (sym going ∙ fault), kept.within, omega arith)
 
   all_durable : durable_part full ≡ w.past
   all_durable = let none : length w.past - length w.past ≡ 0 = omega arith in ap (λ n. drop n w.past) none

@@ -1,5 +1,5 @@
 -- The range of a region is that of its row, where it has one.
-use Rattle.std.proofs.Common.{◌≡◌, ◌≢◌, List, [], ◌∷◌, ◌&&◌, true, false, cond, Option, Some, is_some, refl, ap, sym, ◌∙◌, subst, inl, inr}
+use Rattle.std.proofs.Common.{◌≡◌, ◌≢◌, if◌then◌else◌, Bool, List, [], ◌∷◌, ◌&&◌, true, false, cond, Option, Some, is_some, refl, ap, sym, ◌∙◌, subst, inl, inr}
 use Rattle.std.proofs.lemmas.Bool.{and_left, and_parts, cond-false, cond-true, or_cases, true≢false}
 use Rattle.std.proofs.lemmas.Option.{none-some}
 use Rattle.hm_names.specs.Ranges.{overlaps}
@@ -12,7 +12,11 @@ use Rattle.hm_data.specs.declared.catalog.Edit.{Edit}
 use Rattle.hm_data.specs.declared.entry.Entry.TheVariants as entry_is
 use Rattle.hm_model.specs.Catalog.{cat, edited}
 use Rattle.hm_model.specs.Journal.{Past}
+use Rattle.hm_data.specs.declared.catalog.CatRow.TheVariants as row_is
 use Rattle.hm_model.specs.Keys.{same_key, same_region, same_table}
+use Rattle.hm_data.specs.declared.part.Part.{Part}
+use Rattle.hm_data.specs.declared.part.Part.TheVariants as part_is
+use Rattle.hm_model.specs.Parts.{part_range, part_row}
 use Rattle.hm_model.specs.Ranges.{IsLiveWith, NoneOverlap}
 use Rattle.hm_model.specs.RowsSaid.{range_in}
 use Rattle.hm_model.specs.Single.{overlap_if, range_of, ranged, ranged_by, touches}
@@ -51,6 +55,21 @@ row_gives (entry_is.Report call told ∷ J) r x h = row_gives J r x h
 row_gives (entry_is.Up server ∷ J) r x h = row_gives J r x h
 row_gives (entry_is.Down server ∷ J) r x h = row_gives J r x h
 row_gives (entry_is.Abort pid ∷ J) r x h = row_gives J r x h
+row_gives (entry_is.Adopt sheets ∷ J) r x h = row_gives J r x h
+row_gives (entry_is.Base part ∷ J) r x h = part_gives part (cat J (key_is.Region r)) (range_of J r) (row_gives J r) x h
+  where
+    part_gives : (part : Part) (row : Option CatRow) (range : Option KeyRange) → Gives row range → Gives (part_row part (key_is.Region r) row) (part_range part r range)
+    part_gives (part_is.Head entries last parts sheets) row range gives = λ x is. absurd (none-some x is)
+    part_gives (part_is.Namespace ns) row range gives = gives
+    part_gives (part_is.Table table drawn own) row range gives = gives
+    part_gives (part_is.Server server fenced) row range gives = gives
+    part_gives (part_is.Root pid nonce args cause) row range gives = gives
+    part_gives (part_is.Layout pid) row range gives = gives
+    part_gives (part_is.Region own given status parents place) row range gives = by (same_region r own)
+      where
+        by : (b : Bool) → Gives (if b then Some (row_is.Region given status parents) else row) (if b then Some given else range)
+        by true = λ x own_is. own_is
+        by false = gives
 
 -- live regions that touch are one, where those of each table don't overlap
 pub live_apart : (J : Past) → ((table : TableName) → NoneOverlap (cat J) table) → (a b : Region) → ((range : KeyRange) × IsLiveWith (cat J) a range) → ((range : KeyRange) × IsLiveWith (cat J) b range) → touches J a b ≡ true → a ≡ b

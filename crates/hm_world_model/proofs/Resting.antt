@@ -137,7 +137,7 @@ module _ (J : Past) (legal : IsLegal J) (live : has_live J ≡ true) (settled : 
 
   -- a server that went down is fenced
   down_fenced : (s : Server) → came_up J s ≡ true → is_live J s ≡ false → is_fenced J s ≡ true
-  down_fenced s up down = (let c = crashed J legal s up down in by c.0 c.1 (last_answer J c.0) refl)
+  down_fenced s up down = elim (crashed J legal s up down) [ inl c ↦ by c.0 c.1 (last_answer J c.0) refl | inr fenced ↦ fenced ]
     where
       none_waits : (o : Option Answer) → o ≡ None → IsWaiting o → ⊥
       none_waits None e h = h

@@ -1,13 +1,14 @@
 -- Which servers came up.
-use Rattle.std.proofs.Common.{◌≡◌, List, [], ◌∷◌, ◌&&◌, ◌||◌, not, nat_lt, nat_eq, true, false, ap, sym, ◌∙◌, inl, inr, arith}
+use Rattle.std.proofs.Common.{◌≡◌, List, Option, Some, None, Bool, [], ◌∷◌, ◌&&◌, ◌||◌, not, nat_lt, nat_eq, true, false, ap, sym, ◌∙◌, inl, inr, arith}
 use Rattle.std.specs.List.{list_any}
 use Rattle.std.proofs.lemmas.Bool.{and_from, and_parts, false_from_ne_true, false≢true, or_cases, or_left, or_right, true≢false}
 use Rattle.std.proofs.lemmas.Bool.Decides.{nat_tests}
 use Rattle.hm_names.specs.Server.{Server}
 use Rattle.hm_data.specs.declared.entry.Entry.{Entry}
 use Rattle.hm_data.specs.declared.entry.Entry.TheVariants as entry_is
-use Rattle.hm_model.specs.Fleet.{came_up, has_newer, same_address, same_server, servers_of}
+use Rattle.hm_model.specs.Fleet.{came_up, has_newer, same_address, same_server, servers_of, with_server}
 use Rattle.hm_model.specs.Journal.{Past}
+use Rattle.hm_model.specs.Parts.{part_server}
 use Rattle.hm_model.proofs.CameUp.{any_with, came_on}
 use Rattle.hm_model.proofs.NameTies.{same_server-is}
 
@@ -21,6 +22,12 @@ up_stays (entry_is.Report call told) J s h = h
 up_stays (entry_is.Up other) J s h = came_on J other s h
 up_stays (entry_is.Down other) J s h = h
 up_stays (entry_is.Abort pid) J s h = h
+up_stays (entry_is.Adopt sheets) J s h = h
+up_stays (entry_is.Base part) J s h = by (part_server part)
+  where
+    by : (o : Option (Server × Bool)) → list_any (λ x. same_server s x) (elim o as (λ k. List Server) [ None ↦ servers_of J | Some both ↦ with_server both.0 (servers_of J) ]) ≡ true
+    by None = h
+    by (Some both) = came_on J both.0 s h
 
 -- who came up, and isn't the one that comes up now, did before
 pub up_before : (J : Past) (other s : Server) → same_server s other ≡ false → came_up (entry_is.Up other ∷ J) s ≡ true → came_up J s ≡ true

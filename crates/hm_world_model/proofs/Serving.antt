@@ -17,12 +17,14 @@ use Rattle.hm_data.specs.declared.call.Told.TheVariants as told_is
 use Rattle.hm_data.specs.declared.call.Verb.{Verb}
 use Rattle.hm_data.specs.declared.call.Verb.TheVariants as verb_is
 use Rattle.hm_model.specs.Actors.{Actor, Served, Service, age, behind, closing, holds, holds_if, once_more, opening, reported, serve, serve_by, serve_verb}
+use Rattle.hm_model.specs.Base.{HasNoHalfBase}
 use Rattle.hm_model.specs.Fleet.{is_fenced}
 use Rattle.hm_model.specs.Journal.{Past}
 use Rattle.hm_model.specs.Keys.{same_region}
 use Rattle.hm_model.specs.Locks.{IsIn}
 use Rattle.hm_model.specs.Reports.{fits_verb, last_call, peer_of, region_called, verb_of}
 use Rattle.hm_model.specs.Rules.{FitsCall}
+use Rattle.hm_model.specs.Single.{IsBasedAt}
 use Rattle.hm_world_model.specs.Outside.{Outside, answer_of_actor, behind_call, set_actor, with_report}
 use Rattle.hm_world_model.specs.Safe.{CallsTo, HasServed, HeldBy, Made, Runs, Safe, ToldBy}
 use Rattle.hm_world_model.proofs.Facts.{cases_region, in_pushed, one_server, same_verb, who_runs}
@@ -62,7 +64,8 @@ new_is (Some last) id h = ranked id.0 last.id.0 Greater (sym h)
 -- a server serves a new call
 module _ (J : Past) (o : Outside) (safe : Safe J o) (r : Region) (s : Server) (id : Pid) (a : Actor) (is : o.actors s ≡ Some a) (calls : CallsTo J id.0 r s) (service : Service)
     (new : IsNew (a.last r) id.0) (fit : FitsCall J id.0 service.told)
-    (opens : is_fenced J s ≡ false → service.holds ≡ true → (service.told ≡ told_is.Opened) × (verb_of J id.0 ≡ Some (verb_is.AssignRegion r))) where
+    (opens : is_fenced J s ≡ false → service.holds ≡ true → (service.told ≡ told_is.Opened) × (verb_of J id.0 ≡ Some (verb_is.AssignRegion r)))
+    (keeps : service.told ≡ told_is.Opened → service.holds ≡ true) where
   abbrev b : Actor
   b = behind a id r service
 
@@ -166,6 +169,18 @@ module _ (J : Past) (o : Outside) (safe : Safe J o) (r : Region) (s : Server) (i
     | inr other ↦ safe.servers.served_is t c q last other.1 h
   ]
 
+  opened_b : (q : Region) (last : Served) → b.last q ≡ Some last → last.told ≡ told_is.Opened → last.holds ≡ true
+  opened_b q last h = elim (cases_region r q) [
+    | inl same ↦ subst (λ (x : Served). x.told ≡ told_is.Opened → x.holds ≡ true) (same_Some now last (sym (here_at q same.1) ∙ h)) keeps
+    | inr differs ↦ safe.servers.opened_is s a q last is (sym (last_there q differs.0) ∙ h)
+  ]
+
+  opened_changed : (t : Server) (c : Actor) (q : Region) (last : Served) → changed.actors t ≡ Some c → c.last q ≡ Some last → last.told ≡ told_is.Opened → last.holds ≡ true
+  opened_changed t c q last run h = elim (who t c run) [
+    | inl same ↦ opened_b q last (ap (λ (x : Actor). x.last q) same.1 ∙ h)
+    | inr other ↦ safe.servers.opened_is t c q last other.1 h
+  ]
+
   named_changed : (t : Server) (c : Actor) → changed.actors t ≡ Some c → c.name ≡ t
   named_changed t c run = elim (who t c run) [
     | inl same ↦ ap (λ (x : Actor). x.name) (sym same.1) ∙ safe.servers.named s a is ∙ same.0
@@ -189,6 +204,12 @@ module _ (J : Past) (o : Outside) (safe : Safe J o) (r : Region) (s : Server) (i
         (k.0, last_there q differs.0 ∙ k.1, k.2, k.3)
   ]
 
+  unbased_changed : HasNoHalfBase J → (q : Region) (t : Server) (c : Actor) → changed.actors t ≡ Some c → IsBasedAt J q t → ⊥
+  unbased_changed whole q t c run base = elim (who t c run) [
+    | inl same ↦ safe.servers.unbased whole q t a (ran t same.0) base
+    | inr other ↦ safe.servers.unbased whole q t c other.1 base
+  ]
+
   held_changed : (q : Region) (t : Server) (c : Actor) → Runs J changed t c → holds c q ≡ true → HeldBy J c q t
   held_changed q t c run h = elim (who t c run.0) [
     | inl same ↦
@@ -209,7 +230,9 @@ module _ (J : Past) (o : Outside) (safe : Safe J o) (r : Region) (s : Server) (i
     servers = record {
       named = named_changed;
       served_is = served_changed;
+      opened_is = opened_changed;
       done = done_changed;
+      unbased = unbased_changed;
       held = held_changed;
     };
     fences_are = safe.fences_are;
@@ -259,14 +282,15 @@ module _ (J : Past) (o : Outside) (safe : Safe J o) (r : Region) (s : Server) (i
       (stored_old J o safe actors storage o.sent reports from_same (λ t k. k))
 
   module _ (service : Service) (fit : FitsCall J id.0 service.told)
-      (opens : IsNew (a.last r) id.0 → is_fenced J s ≡ false → service.holds ≡ true → (service.told ≡ told_is.Opened) × (verb_of J id.0 ≡ Some (verb_is.AssignRegion r))) where
+      (opens : IsNew (a.last r) id.0 → is_fenced J s ≡ false → service.holds ≡ true → (service.told ≡ told_is.Opened) × (verb_of J id.0 ≡ Some (verb_is.AssignRegion r)))
+      (keeps : service.told ≡ told_is.Opened → service.holds ≡ true) where
     abbrev served_so : Ordering → Outside
     served_so order = answering (serve_by order a id r service).0 (serve_by order a id r service).1
 
     pub safe_by : (order : Ordering) → age (a.last r) id ≡ order → Safe J (served_so order)
     safe_by Less h = safe_silent
     safe_by Equal h = safe_once_more (a.last r) refl h
-    safe_by Greater h = (let new = new_is (a.last r) id h in safe_changed J o safe r s id a is calls service new fit (opens new))
+    safe_by Greater h = (let new = new_is (a.last r) id h in safe_changed J o safe r s id a is calls service new fit (opens new) keeps)
 
 -- the answers of a new call
 module _ (J : Past) (o : Outside) (safe : Safe J o) (r : Region) (s : Server) (id : Pid) (a : Actor) (is : o.actors s ≡ Some a) where
@@ -288,15 +312,21 @@ module _ (J : Past) (o : Outside) (safe : Safe J o) (r : Region) (s : Server) (i
       open_close : verb_is.AssignRegion r ≡ verb_is.CloseRegion r → ⊥
       open_close e = cc
 
+  refused : told_is.FailedOpen ≡ told_is.Opened → ⊥
+  refused e = cc
+
+  shut : told_is.Closed ≡ told_is.Opened → ⊥
+  shut e = cc
+
   safe_open : CallsTo J id.0 r s → verb_of J id.0 ≡ Some (verb_is.AssignRegion r) → (n : Bool) → nat_lt 0 a.refusals ≡ n
       → (service : Service) → service ≡ cond n (record { told = told_is.FailedOpen; holds = holds a r; refusals = a.refusals - 1 }) (record { told = told_is.Opened; holds = true; refusals = a.refusals })
       → Safe J (record o { actors = set_actor o.actors s (Some (serve_by (age (a.last r) id) a id r service).0); reports = with_report o.reports (serve_by (age (a.last r) id) a id r service).1 })
   safe_open calls verb true e service is_so =
       safe_by J o safe r s id a is calls service (subst (FitsCall J id.0) (ap (λ (x : Service). x.told) (sym is_so)) (fit_by (verb_is.AssignRegion r) verb told_is.FailedOpen refl))
-      (λ new free h. absurd (not_held verb calls new free (ap (λ (x : Service). x.holds) (sym is_so) ∙ h))) (age (a.last r) id) refl
+      (λ new free h. absurd (not_held verb calls new free (ap (λ (x : Service). x.holds) (sym is_so) ∙ h))) (λ told. absurd (refused (ap (λ (x : Service). x.told) (sym is_so) ∙ told))) (age (a.last r) id) refl
   safe_open calls verb false e service is_so =
       safe_by J o safe r s id a is calls service (subst (FitsCall J id.0) (ap (λ (x : Service). x.told) (sym is_so)) (fit_by (verb_is.AssignRegion r) verb told_is.Opened refl))
-      (λ new free h. (ap (λ (x : Service). x.told) is_so, verb)) (age (a.last r) id) refl
+      (λ new free h. (ap (λ (x : Service). x.told) is_so, verb)) (λ told. ap (λ (x : Service). x.holds) is_so) (age (a.last r) id) refl
 
   pub safe_served : (verb : Verb) → verb_of J id.0 ≡ Some verb → peer_of J id.0 ≡ Some (peer_is.Server s) → region_called verb ≡ Some r
       → Safe J (record o { actors = set_actor o.actors s (Some (serve_verb a id verb).0); reports = with_report o.reports (serve_verb a id verb).1 })
@@ -309,7 +339,7 @@ module _ (J : Past) (o : Outside) (safe : Safe J o) (r : Region) (s : Server) (i
       let e : q ≡ r = same_Some q r about in
       subst (λ x. Safe J (record o { actors = set_actor o.actors s (Some (serve_verb a id (verb_is.CloseRegion x)).0); reports = with_report o.reports (serve_verb a id (verb_is.CloseRegion x)).1 })) (sym e)
       (let own : verb_of J id.0 ≡ Some (verb_is.CloseRegion r) = called ∙ ap (λ x. Some (verb_is.CloseRegion x)) e in
-      safe_by J o safe r s id a is (verb_is.CloseRegion r, own, refl, peer) (closing a) (fit_by (verb_is.CloseRegion r) own told_is.Closed refl) (λ new free h. absurd (false≢true h)) (age (a.last r) id) refl)
+      safe_by J o safe r s id a is (verb_is.CloseRegion r, own, refl, peer) (closing a) (fit_by (verb_is.CloseRegion r) own told_is.Closed refl) (λ new free h. absurd (false≢true h)) (λ told. absurd (shut told)) (age (a.last r) id) refl)
   safe_served (verb_is.Fence t) called peer about = absurd (none-some r about)
   safe_served (verb_is.Layout root) called peer about = absurd (none-some r about)
   safe_served (verb_is.Sweep root) called peer about = absurd (none-some r about)

@@ -1,5 +1,5 @@
 -- Every event keeps what is kept, for each length of the journal that a stop may leave.
-use Rattle.std.proofs.Common.{◌≡◌, ℕ, zero, suc, ◌+◌, ◌-◌, ◌≤◌, List, [], ◌∷◌, ◌++◌, length, drop, length-drop, true, false, Option, Some, None, refl, sym, ◌∙◌, subst, inl, inr, arith}
+use Rattle.std.proofs.Common.{◌≡◌, ◌≢◌, ℕ, zero, suc, ◌+◌, ◌-◌, ◌≤◌, List, [], ◌∷◌, ◌++◌, length, drop, length-drop, true, false, Option, Some, None, refl, ap, sym, ◌∙◌, subst, inl, inr, arith}
 use Rattle.std.proofs.lemmas.Bool.{false_from_ne_true, true≢false}
 use Rattle.std.proofs.lemmas.Option.{none-some}
 use Rattle.hm_names.specs.Server.{Server}
@@ -14,18 +14,17 @@ use Rattle.hm_model.specs.Journal.{Past}
 use Rattle.hm_model.specs.Locks.{IsIn}
 use Rattle.hm_model.specs.Reports.{call_of}
 use Rattle.hm_model.specs.Rules.{Allowed, IsLegal}
-use Rattle.hm_world_model.specs.Events.{Abort, Arm, Claim, Commit, Deliver, DeliverAgain, Die, Ends, Event, Expire, Fault, Flush, Full, GiveUp, Hear, HearAgain, Ignore, Lives, Lose, Repeat, Send, Start, Stop, Submit, Travels, Works, happens, with_older_down}
+use Rattle.hm_world_model.specs.Events.{Abort, Adopt, Arm, Claim, Commit, Deliver, DeliverAgain, Die, Ends, Event, Expire, Fault, Flush, Full, GiveUp, Hear, HearAgain, Ignore, Lives, Lose, Repeat, SendOld, DeliverOld, Miss, Send, Start, Stop, Submit, Travels, Works, happens, with_older_down}
 use Rattle.hm_world_model.specs.Outside.{Outside, answer_by, deliver_by, delivered, report_to, started, with_report, with_sent, armed}
-use Rattle.hm_world_model.specs.Runs.{GoesOn, IsTrueReport, IsWork, May, MayEnter, MayStart}
+use Rattle.hm_world_model.specs.Runs.{CanWrite, GoesOn, IsTrueReport, IsWork, May, MayEnter, MayStart}
 use Rattle.hm_world_model.specs.Safe.{IsKept, Safe}
-use Rattle.hm_world_model.specs.World.{Claimed, Halt, LogFault, JournalFull, World, claimed_pids, first, whole, with_tail}
+use Rattle.hm_world_model.specs.World.{Claimed, LogFault, World, claimed_pids, first, whole, with_tail}
 use Rattle.hm_world_model.specs.Claims.{IsApart}
 use Rattle.hm_world_model.proofs.Apart.{apart_on, apart_opened}
 use Rattle.hm_world_model.proofs.Appending.{safe_append}
 use Rattle.hm_world_model.proofs.Claiming.{apart_claim, apart_commit, apart_give_up, apart_plain}
 use Rattle.hm_world_model.proofs.Facts.{call_now, in_both, in_pushed, pushed_new, pushed_old}
 use Rattle.hm_world_model.proofs.From.{safe_arm, safe_die, safe_send, safe_start}
-use Rattle.hm_world_model.proofs.Known.{uncalled}
 use Rattle.hm_world_model.proofs.Servers.{not_up, up_stays}
 use Rattle.hm_world_model.proofs.Storing.{safe_deliver}
 
@@ -38,7 +37,7 @@ drop_nothing : (n : ℕ) → drop {A = Entry} n [] ≡ []
 drop_nothing zero = refl
 drop_nothing (suc n) = refl
 
-drop_again : (m n : ℕ) (past : Past) → drop m (drop n past) ≡ drop (n + m) past
+pub drop_again : (m n : ℕ) (past : Past) → drop m (drop n past) ≡ drop (n + m) past
 drop_again m zero past = let e : 0 + m ≡ m = omega arith in rw e refl
 drop_again m (suc n) [] = let e : suc n + m ≡ suc (n + m) = omega arith in rw e (drop_nothing m)
 drop_again m (suc n) (x ∷ past) = let e : suc n + m ≡ suc (n + m) = omega arith in rw e (drop_again m n past)
@@ -63,7 +62,7 @@ pushed entry past d o all safe zero h = safe
 pushed entry past d o all safe (suc n) h = all n (omega (arith, h))
 
 -- what a shorter journal recorded stays
-calls_grow : (past : Past) → IsLegal past → (n : ℕ) (call : Call) → call_of (drop n past) call.id.0 ≡ Some call → call_of past call.id.0 ≡ Some call
+pub calls_grow : (past : Past) → IsLegal past → (n : ℕ) (call : Call) → call_of (drop n past) call.id.0 ≡ Some call → call_of past call.id.0 ≡ Some call
 calls_grow past legal zero call h = h
 calls_grow [] legal (suc n) call h = h
 calls_grow (e ∷ past) legal (suc n) call h = call_now e past legal call (calls_grow past legal.0 n call h)
@@ -93,10 +92,10 @@ module _ (past : Past) (d : ℕ) (o : Outside) (within : d ≤ length past) (all
   begins : (s : Server) → Allowed past (entry_is.Up s) → AllTails None (entry_is.Up s ∷ past) d (started o s)
   begins s follows zero h =
       safe_append (entry_is.Up s) past (safe_here.legal, follows) (started o s)
-      (safe_start past o s safe_here (uncalled past safe_here.legal s (never_up past s follows))) tt
+      (safe_start past o s safe_here (never_up past s follows)) tt
   begins s follows (suc n) h =
       let safe = all n (omega (arith, h)) in
-      safe_start (drop n past) o s safe (uncalled (drop n past) safe.legal s (not_up_before past n s (never_up past s follows)))
+      safe_start (drop n past) o s safe (not_up_before past n s (never_up past s follows))
 
 -- what is durable is in each longer journal
 sent_tail : (past : Past) (d : ℕ) (o : Outside) → AllTails None past d o → (call : Call) → call_of (first d past) call.id.0 ≡ Some call → (n : ℕ) → n + d ≤ length past → call_of (drop n past) call.id.0 ≡ Some call
@@ -104,6 +103,14 @@ sent_tail past d o all call is n h = calls_grow (drop n past) (all n h).legal (l
   where
     same_place : n + (length past - d - n) ≡ length past - d
     same_place = omega (arith, h)
+
+-- what is durable is a front of the journal with its tail
+pub durable_whole : (tail : Option Entry) (past : Past) (d : ℕ) → d ≤ length past → first d past ≡ first d (with_tail tail past)
+durable_whole None past d within = refl
+durable_whole (Some entry) past d within = ap (λ n. drop n (entry ∷ past)) (sym longer_by)
+  where
+    longer_by : length (entry ∷ past) - d ≡ suc (length past - d)
+    longer_by = omega (arith, within)
 
 -- the work of a claim is no report
 work_true : (past : Past) (claim : Claimed) (o : Outside) (entry : Entry) → IsWork past claim entry → IsTrueReport o entry
@@ -115,6 +122,8 @@ work_true past claim o (entry_is.Report call told) work = absurd work
 work_true past claim o (entry_is.Up server) work = tt
 work_true past claim o (entry_is.Down server) work = tt
 work_true past claim o (entry_is.Abort pid) work = tt
+work_true past claim o (entry_is.Adopt sheets) work = tt
+work_true past claim o (entry_is.Base part) work = absurd work
 
 delivered_reports : (o : Outside) (call : Call) (peer : Peer) → (deliver_by o call peer).reports ≡ with_report o.reports (answer_by o call peer)
 delivered_reports o call (peer_is.Server s) = refl
@@ -139,11 +148,17 @@ module _ (w : World) (kept : IsKept w) where
   abbrev d : ℕ
   d = w.durable
 
+  can_write : GoesOn w → CanWrite w
+  can_write going fault = none-some LogFault (sym going ∙ fault)
+
+  writing_tails : CanWrite w → AllTails None w.past d w.outside
+  writing_tails can = subst (λ t. AllTails t w.past d w.outside) (kept.tailless can) kept.tails
+
   calm_tails : GoesOn w → AllTails None w.past d w.outside
-  calm_tails going = subst (λ t. AllTails t w.past d w.outside) (kept.tailless going) kept.tails
+  calm_tails going = writing_tails (can_write going)
 
   with_tails : (past : Past) (o : Outside) → GoesOn w → AllTails None past d o → AllTails w.tail past d o
-  with_tails past o going all = subst (λ t. AllTails t past d o) (sym (kept.tailless going)) all
+  with_tails past o going all = subst (λ t. AllTails t past d o) (sym (kept.tailless (can_write going))) all
 
   entered : (entry : Entry) → MayEnter w entry → IsTrueReport w.outside entry → AllTails w.tail (entry ∷ w.past) d w.outside
   entered entry may true_report = with_tails (entry ∷ w.past) w.outside may.0 (recorded w.past d w.outside kept.within (calm_tails may.0) entry may.1 true_report)
@@ -198,9 +213,6 @@ module _ (w : World) (kept : IsKept w) where
 one_longer : (entry : Entry) (past : Past) (d : ℕ) → d ≤ length past → d ≤ length (entry ∷ past)
 one_longer entry past d h = omega (arith, h)
 
-halted_not : (h : Halt) → Some h ≡ None → ⊥
-halted_not h e = none-some h (sym e)
-
 pub event_keeps : (w : World) (event : Event) → IsKept w → May w event → IsKept (happens w event)
 event_keeps w (Works (Submit nonce request)) k may = record { within = one_longer (entry_is.Submit nonce request) w.past w.durable k.within; tailless = k.tailless; wire_is = k.wire_is; waiting_is = k.waiting_is; apart = apart_plain w k.apart (legal_here w k) (entry_is.Submit nonce request) (legal_next w k (entry_is.Submit nonce request) may) tt; tails = entered w k (entry_is.Submit nonce request) may tt }
 event_keeps w (Works (Claim claim)) k may = record { within = k.within; tailless = k.tailless; wire_is = k.wire_is; waiting_is = k.waiting_is; apart = apart_claim w k.apart (legal_here w k) claim may; tails = k.tails }
@@ -241,6 +253,23 @@ event_keeps w (Travels (Hear report)) k may = record {
 }
 event_keeps w (Travels (Ignore report)) k may = record { within = k.within; tailless = k.tailless; wire_is = k.wire_is; waiting_is = λ r h. k.waiting_is r (in_dropped r w.waiting h); apart = k.apart; tails = k.tails }
 event_keeps w (Travels (HearAgain report)) k may = record { within = one_longer (entry_is.Report report.call report.told) w.past w.durable k.within; tailless = k.tailless; wire_is = k.wire_is; waiting_is = k.waiting_is; apart = apart_plain w k.apart (legal_here w k) (entry_is.Report report.call report.told) (legal_next w k (entry_is.Report report.call report.told) may.0.0) tt; tails = heard w k report may.0.0 may.1 }
+event_keeps w (Travels (SendOld call)) k may = record {
+  within = k.within;
+  tailless = k.tailless;
+  wire_is = λ c h. elim (in_pushed c call w.wire h) [ inl e ↦ subst (λ x. IsIn x (w.outside.sent ++ call ∷ [])) (sym e) (pushed_new call w.outside.sent) | inr old ↦ pushed_old c call w.outside.sent (k.wire_is c old) ];
+  waiting_is = k.waiting_is;
+  apart = k.apart;
+  tails = λ n h. safe_send (drop n (whole w)) w.outside call (k.tails n h) (sent_tail (whole w) w.durable w.outside k.tails call (subst (λ p. call_of p call.id.0 ≡ Some call) (durable_whole w.tail w.past w.durable k.within) may.0) n h);
+}
+event_keeps w (Travels (DeliverOld call)) k may = record {
+  within = k.within;
+  tailless = k.tailless;
+  wire_is = λ c h. deliver_wire w k call c (in_dropped c w.wire h);
+  waiting_is = deliver_waiting w k call;
+  apart = k.apart;
+  tails = deliver_tails w k call (k.wire_is call (in_first call w.wire may.0 may.1));
+}
+event_keeps w (Travels (Miss report)) k may = record { within = k.within; tailless = k.tailless; wire_is = k.wire_is; waiting_is = λ r h. k.waiting_is r (in_dropped r w.waiting h); apart = k.apart; tails = k.tails }
 event_keeps w (Travels Lose) k may = record { within = k.within; tailless = k.tailless; wire_is = λ c h. absurd h; waiting_is = λ r h. absurd h; apart = k.apart; tails = k.tails }
 event_keeps w (Travels Repeat) k may = record {
   within = k.within;
@@ -256,7 +285,7 @@ event_keeps w (Lives (Start server older)) k may = record { within = up_within o
     up_within None = one_longer (entry_is.Up server) w.past w.durable k.within
     up_within (Some o) = one_longer (entry_is.Up server) (entry_is.Down o ∷ w.past) w.durable (one_longer (entry_is.Down o) w.past w.durable k.within)
 
-    tailless_of : (x : Option Server) → (happens w (Lives (Start server x))).halted ≡ None → (happens w (Lives (Start server x))).tail ≡ None
+    tailless_of : (x : Option Server) → (happens w (Lives (Start server x))).halted ≢ Some LogFault → (happens w (Lives (Start server x))).tail ≡ None
     tailless_of None = k.tailless
     tailless_of (Some o) = k.tailless
 
@@ -280,6 +309,7 @@ event_keeps w (Lives (Start server older)) k may = record { within = up_within o
 event_keeps w (Lives (Die server)) k may = record { within = k.within; tailless = k.tailless; wire_is = k.wire_is; waiting_is = k.waiting_is; apart = k.apart; tails = λ n h. safe_die (drop n (whole w)) w.outside server (k.tails n h) }
 event_keeps w (Works (Expire server)) k may = record { within = one_longer (entry_is.Down server) w.past w.durable k.within; tailless = k.tailless; wire_is = k.wire_is; waiting_is = k.waiting_is; apart = apart_plain w k.apart (legal_here w k) (entry_is.Down server) (legal_next w k (entry_is.Down server) may) tt; tails = entered w k (entry_is.Down server) may tt }
 event_keeps w (Works (Abort pid)) k may = record { within = one_longer (entry_is.Abort pid) w.past w.durable k.within; tailless = k.tailless; wire_is = k.wire_is; waiting_is = k.waiting_is; apart = apart_plain w k.apart (legal_here w k) (entry_is.Abort pid) (legal_next w k (entry_is.Abort pid) may) tt; tails = entered w k (entry_is.Abort pid) may tt }
+event_keeps w (Works (Adopt sheets)) k may = record { within = one_longer (entry_is.Adopt sheets) w.past w.durable k.within; tailless = k.tailless; wire_is = k.wire_is; waiting_is = k.waiting_is; apart = apart_plain w k.apart (legal_here w k) (entry_is.Adopt sheets) (legal_next w k (entry_is.Adopt sheets) may) tt; tails = entered w k (entry_is.Adopt sheets) may tt }
 event_keeps w (Lives (Arm peer count)) k may = record { within = k.within; tailless = k.tailless; wire_is = armed_wire peer; waiting_is = armed_waiting peer; apart = k.apart; tails = λ n h. safe_arm (drop n (whole w)) w.outside peer count (k.tails n h) }
   where
     armed_wire : (p : Peer) (c : Call) → IsIn c w.wire → IsIn c (armed w.outside p count).sent
@@ -289,14 +319,14 @@ event_keeps w (Lives (Arm peer count)) k may = record { within = k.within; taill
     armed_waiting : (p : Peer) (r : ReportMsg) → IsIn r w.waiting → IsIn r (armed w.outside p count).reports
     armed_waiting (peer_is.Server s) r h = k.waiting_is r h
     armed_waiting peer_is.Storage r h = k.waiting_is r h
-event_keeps w (Ends (Fault None)) k may = record { within = k.within; tailless = λ e. absurd (halted_not LogFault e); wire_is = k.wire_is; apart = k.apart; waiting_is = k.waiting_is; tails = calm_tails w k may }
+event_keeps w (Ends (Fault None)) k may = record { within = k.within; tailless = λ e. absurd (e refl); wire_is = k.wire_is; apart = k.apart; waiting_is = k.waiting_is; tails = writing_tails w k may }
 event_keeps w (Ends (Fault (Some entry))) k may = record {
   within = k.within;
-  tailless = λ e. absurd (halted_not LogFault e);
+  tailless = λ e. absurd (e refl);
   wire_is = k.wire_is;
   waiting_is = k.waiting_is;
   apart = k.apart;
   tails = recorded w.past w.durable w.outside k.within (calm_tails w k may.0.0) entry may.0.1 may.1;
 }
-event_keeps w (Ends Full) k may = record { within = k.within; tailless = λ e. absurd (halted_not JournalFull e); wire_is = k.wire_is; waiting_is = k.waiting_is; apart = k.apart; tails = k.tails }
+event_keeps w (Ends Full) k may = record { within = k.within; tailless = λ e. k.tailless (can_write w k may); wire_is = k.wire_is; waiting_is = k.waiting_is; apart = k.apart; tails = k.tails }
 event_keeps w (Ends (Stop n)) k may = record { within = stop_within w k n may.1; tailless = λ e. refl; wire_is = k.wire_is; waiting_is = k.waiting_is; apart = apart_stopped w k n may.0 may.1; tails = stop_tails w k n may.0 may.1 }

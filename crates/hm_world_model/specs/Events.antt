@@ -10,6 +10,7 @@ use Rattle.hm_data.specs.declared.call.ReportMsg.{ReportMsg}
 use Rattle.hm_data.specs.declared.entry.Entry.{Entry}
 use Rattle.hm_data.specs.declared.entry.Entry.TheVariants as entry_is
 use Rattle.hm_data.specs.declared.request.Request.{Request}
+use Rattle.hm_data.specs.declared.sheet.Sheet.{Sheet}
 use Rattle.hm_model.specs.Answers.{last_answer}
 use Rattle.hm_world_model.specs.Outside.{armed, delivered, died, report_to, started, with_report, with_sent}
 use Rattle.hm_world_model.specs.World.{Claimed, LogFault, JournalFull, World, first, whole}
@@ -23,6 +24,7 @@ pub data Work : Type 0 where
   Flush : (k : ℕ) → Work  -- the first k entries are durable
   Expire : (server : Server) → Work
   Abort : (pid : Pid) → Work
+  Adopt : (sheets : List Sheet) → Work
 
 -- what becomes of calls and reports
 pub data Travel : Type 0 where
@@ -34,6 +36,9 @@ pub data Travel : Type 0 where
   HearAgain : (report : ReportMsg) → Travel  -- any that was ever made
   Lose : Travel
   Repeat : Travel
+  SendOld : (call : Call) → Travel  -- by a master that was deposed
+  DeliverOld : (call : Call) → Travel  -- for it
+  Miss : (report : ReportMsg) → Travel  -- the oldest that waits, which a master that was deposed hears in this one's place
 
 -- what becomes of the servers and the storage
 pub data Life : Type 0 where
@@ -95,6 +100,7 @@ worked w (GiveUp claim) =
 worked w (Flush k) = record w { durable = k }
 worked w (Expire server) = with_entry w (entry_is.Down server)
 worked w (Abort pid) = with_entry w (entry_is.Abort pid)
+worked w (Adopt sheets) = with_entry w (entry_is.Adopt sheets)
 
 -- the world after what becomes of calls and reports
 abbrev pub travelled : World → Travel → World
@@ -104,6 +110,9 @@ travelled w (DeliverAgain call) = with_delivered w call
 travelled w (Hear report) = record (with_heard w report) { waiting = drop 1 w.waiting }
 travelled w (Ignore report) = record w { waiting = drop 1 w.waiting }
 travelled w (HearAgain report) = with_heard w report
+travelled w (SendOld call) = record w { wire = w.wire ++ call ∷ []; outside = with_sent w.outside call }
+travelled w (DeliverOld call) = record (with_delivered w call) { wire = drop 1 w.wire }
+travelled w (Miss report) = record w { waiting = drop 1 w.waiting }
 travelled w Lose = record w { wire = []; waiting = [] }
 travelled w Repeat = record w { wire = w.wire ++ w.outside.sent; waiting = w.waiting ++ w.outside.reports }
 

@@ -12,4 +12,7 @@ pub mod Fleets
 pub mod Progress
 pub mod Measure
 pub mod Rest
+pub mod Held
+pub mod Findings
+pub mod Pairs
 pub mod Layouts

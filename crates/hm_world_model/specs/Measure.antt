@@ -56,6 +56,8 @@ calls_made (entry_is.Report call told) = 0
 calls_made (entry_is.Up server) = 0
 calls_made (entry_is.Down server) = 0
 calls_made (entry_is.Abort pid) = 0
+calls_made (entry_is.Adopt sheets) = 0
+calls_made (entry_is.Base part) = 0
 
 -- who is claimed and what is durable change nothing of it, and an entry, that of a commit too, adds no more than three for the
 -- call that it records

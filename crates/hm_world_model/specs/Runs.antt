@@ -1,5 +1,5 @@
 -- When an event may come, and runs of them.
-use Rattle.std.specs.Prelude.{◌≡◌, ◌≤◌, List, [], ◌∷◌, length, Option, Some, None, true}
+use Rattle.std.specs.Prelude.{◌≡◌, ◌≢◌, ◌≤◌, List, [], ◌∷◌, length, Option, Some, None, true}
 use Rattle.hm_names.specs.Server.{Server}
 use Rattle.hm_names.specs.declared.pid.Pid.{Pid}
 use Rattle.hm_data.specs.declared.call.ReportMsg.{ReportMsg}
@@ -16,14 +16,18 @@ use Rattle.hm_model.specs.Reports.{call_of, peer_of}
 use Rattle.hm_model.specs.Rest.{IsAvailable}
 use Rattle.hm_model.specs.Rules.{Allowed}
 use Rattle.hm_model.specs.Tree.{root_of}
-use Rattle.hm_world_model.specs.Events.{End, Event, Life, Travel, Work, Works, Travels, Lives, Ends, Submit, Claim, Commit, GiveUp, Flush, Expire, Abort, Send, Deliver, DeliverAgain, Hear, Ignore, HearAgain, Lose, Repeat, Start, Die, Arm, Fault, Full, Stop, happens}
+use Rattle.hm_world_model.specs.Events.{End, Event, Life, Travel, Work, Works, Travels, Lives, Ends, Submit, Claim, Commit, GiveUp, Flush, Expire, Abort, Adopt, Send, Deliver, DeliverAgain, Hear, Ignore, HearAgain, Lose, Repeat, SendOld, DeliverOld, Miss, Start, Die, Arm, Fault, Full, Stop, happens}
 use Rattle.hm_world_model.specs.Outside.{Outside, runs}
-use Rattle.hm_world_model.specs.World.{Claimed, World, claimed_pids, durable_part, whole}
+use Rattle.hm_world_model.specs.World.{Claimed, LogFault, World, claimed_pids, durable_part, whole}
 use Rattle.hm_data.specs.declared.call.Call.{Call}
 
 -- the master isn't halted
 abbrev pub GoesOn : World → Type 0
 GoesOn w = w.halted ≡ None
+
+-- what is recorded may be written: no fault of the log halted the master; one whose journal is full still writes
+abbrev pub CanWrite : World → Type 0
+CanWrite w = w.halted ≢ Some LogFault
 
 -- an entry may be recorded next
 abbrev pub MayEnter : World → Entry → Type 0
@@ -39,6 +43,8 @@ IsWork past claim (entry_is.Report call told) = ⊥
 IsWork past claim (entry_is.Up server) = ⊥
 IsWork past claim (entry_is.Down server) = ⊥
 IsWork past claim (entry_is.Abort pid) = ⊥
+IsWork past claim (entry_is.Adopt sheets) = ⊥
+IsWork past claim (entry_is.Base part) = ⊥
 
 -- a report of whom was called may be recorded next
 abbrev pub MayHear : World → ReportMsg → Type 0
@@ -49,7 +55,7 @@ MayHear w report =
 abbrev pub IsMade : Outside → Pid → Told → Type 0
 IsMade o call told = (report : ReportMsg) × IsIn report o.reports × (report.call ≡ call) × (report.told ≡ told)
 
--- a report is recorded only where it was ever made
+-- a report is recorded only where it was ever made, and no part of a base
 abbrev pub IsTrueReport : Outside → Entry → Type 0
 IsTrueReport o (entry_is.Start sheets) = Unit {0}
 IsTrueReport o (entry_is.Submit nonce request) = Unit {0}
@@ -59,10 +65,12 @@ IsTrueReport o (entry_is.Report call told) = IsMade o call told
 IsTrueReport o (entry_is.Up server) = Unit {0}
 IsTrueReport o (entry_is.Down server) = Unit {0}
 IsTrueReport o (entry_is.Abort pid) = Unit {0}
+IsTrueReport o (entry_is.Adopt sheets) = Unit {0}
+IsTrueReport o (entry_is.Base part) = ⊥
 
 -- what a fault may leave after the journal: nothing, or an entry that may be recorded next, a report only where it was made
 abbrev pub MayLeave : World → Option Entry → Type 0
-MayLeave w None = GoesOn w
+MayLeave w None = CanWrite w
 MayLeave w (Some entry) = MayEnter w entry × IsTrueReport w.outside entry
 
 -- a server may come up, and before it an older one of its host and port that is live goes down
@@ -80,9 +88,10 @@ MayWork w (Claim claim) =
     × PicksRight w.past claim.pid claim.pick
 MayWork w (Commit claim entry) = IsIn claim w.claimed × IsWork w.past claim entry × MayEnter w entry
 MayWork w (GiveUp claim) = IsIn claim w.claimed
-MayWork w (Flush k) = GoesOn w × (w.durable ≤ k) × (k ≤ length w.past)
+MayWork w (Flush k) = CanWrite w × (w.durable ≤ k) × (k ≤ length w.past)
 MayWork w (Expire server) = MayEnter w (entry_is.Down server)
 MayWork w (Abort pid) = MayEnter w (entry_is.Abort pid)
+MayWork w (Adopt sheets) = MayEnter w (entry_is.Adopt sheets)
 
 -- calls and reports may travel so
 abbrev pub MayTravel : World → Travel → Type 0
@@ -93,6 +102,9 @@ MayTravel w (DeliverAgain call) = GoesOn w × IsIn call w.outside.sent
 MayTravel w (Hear report) = MayHear w report × ((rest : List ReportMsg) × (w.waiting ≡ report ∷ rest))
 MayTravel w (Ignore report) = GoesOn w × ((rest : List ReportMsg) × (w.waiting ≡ report ∷ rest)) × (MayHear w report → ⊥)
 MayTravel w (HearAgain report) = MayHear w report × IsIn report w.outside.reports
+MayTravel w (SendOld call) = (call_of (durable_part w) call.id.0 ≡ Some call) × (runs w.outside call.peer ≡ true)
+MayTravel w (DeliverOld call) = (rest : List Call) × (w.wire ≡ call ∷ rest)
+MayTravel w (Miss report) = (rest : List ReportMsg) × (w.waiting ≡ report ∷ rest)
 MayTravel w Lose = Unit {0}
 MayTravel w Repeat = GoesOn w
 

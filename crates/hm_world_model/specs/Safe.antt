@@ -12,14 +12,16 @@ use Rattle.hm_data.specs.declared.call.Verb.{Verb}
 use Rattle.hm_data.specs.declared.call.Verb.TheVariants as verb_is
 use Rattle.hm_model.specs.Actors.{Actor, Served, holds}
 use Rattle.hm_model.specs.Answers.{report_of}
+use Rattle.hm_model.specs.Base.{HasNoHalfBase}
 use Rattle.hm_model.specs.Fleet.{is_fenced}
 use Rattle.hm_model.specs.Journal.{Past}
 use Rattle.hm_model.specs.Locks.{IsIn}
 use Rattle.hm_model.specs.Reports.{call_of, fits_verb, last_call, peer_of, region_called, verb_of}
 use Rattle.hm_model.specs.Rules.{FitsCall, IsLegal}
+use Rattle.hm_model.specs.Single.{IsBasedAt}
 use Rattle.hm_world_model.specs.Claims.{IsApart}
 use Rattle.hm_world_model.specs.Outside.{Outside}
-use Rattle.hm_world_model.specs.World.{World, claimed_pids, whole}
+use Rattle.hm_world_model.specs.World.{LogFault, World, claimed_pids, whole}
 
 -- a procedure called the server about the region
 abbrev pub CallsTo : Past → ℕ → Region → Server → Type 0
@@ -71,15 +73,20 @@ pub record CallsSafe (J : Past) (o : Outside) : Type 0 where
   pub stored : (id : Pid) (told : Told) → o.storage.answer id ≡ Some told
       → Made J o id.0 told × (peer_of J id.0 ≡ Some peer_is.Storage)
 
--- what servers keep: what one served it was called for here, and its answer fits; of each region it served all calls but the
--- last, or is fenced, and holds it by its last call alone
+-- what servers keep: what one served it was called for here, and its answer fits; what it opened last it holds; of each region it
+-- served all calls but the last, or is fenced, and holds it by its last call alone; and none runs at which a whole base has a
+-- region open
 pub record ServersSafe (J : Past) (o : Outside) : Type 0 where
   pub named : (server : Server) (actor : Actor) → o.actors server ≡ Some actor → actor.name ≡ server
   pub served_is : (server : Server) (actor : Actor) (region : Region) (last : Served)
       → o.actors server ≡ Some actor → actor.last region ≡ Some last
       → CallsTo J last.id.0 region server × FitsCall J last.id.0 last.told
+  pub opened_is : (server : Server) (actor : Actor) (region : Region) (last : Served)
+      → o.actors server ≡ Some actor → actor.last region ≡ Some last → last.told ≡ told_is.Opened → last.holds ≡ true
   pub done : (p : ℕ) (region : Region) (server : Server) (actor : Actor)
       → CallsTo J p region server → Runs J o server actor → last_call J region ≢ Some p → HasServed actor region p
+  pub unbased : HasNoHalfBase J → (region : Region) (server : Server) (actor : Actor)
+      → o.actors server ≡ Some actor → IsBasedAt J region server → ⊥
   pub held : (region : Region) (server : Server) (actor : Actor)
       → Runs J o server actor → holds actor region ≡ true → HeldBy J actor region server
 
@@ -90,11 +97,11 @@ pub record Safe (J : Past) (o : Outside) : Type 0 where
   pub servers : ServersSafe J o
   pub fences_are : (server : Server) → is_fenced J server ≡ true → o.storage.fenced server ≡ true
 
--- a world keeps it for each length of its journal, with the tail, that a stop may leave. Only a halted one has a tail; what
--- is on the wire was sent, and what waits was reported; no two that hold conflict.
+-- a world keeps it for each length of its journal, with the tail, that a stop may leave. Only one whose log failed has a tail;
+-- what is on the wire was sent, and what waits was reported; no two that hold conflict.
 pub record IsKept (w : World) : Type 0 where
   pub within : w.durable ≤ length w.past
-  pub tailless : w.halted ≡ None → w.tail ≡ None
+  pub tailless : w.halted ≢ Some LogFault → w.tail ≡ None
   pub wire_is : (call : Call) → IsIn call w.wire → IsIn call w.outside.sent
   pub waiting_is : (report : ReportMsg) → IsIn report w.waiting → IsIn report w.outside.reports
   pub apart : IsApart w.past w.taken (claimed_pids w)

@@ -1,9 +1,12 @@
 //! The laws.
 ghost use Rattle.hm_world_model.specs.Claimed.{ClaimedOnce, NeverClash};
 ghost use Rattle.hm_world_model.specs.Fleets.{FitsTheFirst, ResumedIsKept, ResumedIsStopped};
+ghost use Rattle.hm_world_model.specs.Findings.{FewCome};
+ghost use Rattle.hm_world_model.specs.Held.{OpenedAreHeld};
 ghost use Rattle.hm_world_model.specs.Kept.{EntriesKeep, EventsKeep, OpenedIsKept, OutsideKeeps};
 ghost use Rattle.hm_world_model.specs.Layouts.{LayoutsTell};
 ghost use Rattle.hm_world_model.specs.Measure.{CarryingGoesOn, CarryingIsPossible, CarryingStays};
+ghost use Rattle.hm_world_model.specs.Pairs.{PairsKeep, PairsNeverTwice, TakenOver};
 ghost use Rattle.hm_world_model.specs.Progress.{EarlierHaveEnded, OpenIsAnswered, ReportsAreHeard};
 ghost use Rattle.hm_world_model.specs.Points.{HeldAreLive, PointsHold};
 ghost use Rattle.hm_world_model.specs.Rest.{IdleIsEnded, StillIsEnded};
@@ -24,6 +27,25 @@ pub fn entries_keep()
 /// So does each event outside.
 pub fn outside_keeps()
     ensures { OutsideKeeps }
+{}
+
+/// A region that is open at a server which runs is held there.
+pub fn opened_are_held()
+    ensures { OpenedAreHeld }
+{}
+
+/// Where the servers fit the journal no live regions overlap, what is open at a running server is held there, and what is held is
+/// placed there, once, and live: of the findings only holes and regions of servers that died may come.
+pub fn few_findings_come()
+    ensures { FewCome }
+{}
+
+/// Where another master opened the log of one that was deposed, the deposed one sends calls again that are recorded, has calls
+/// delivered and takes reports, which leaves what is kept; so whatever both do nothing is held twice.
+pub fn pairs_keep()
+    ensures opened { TakenOver }
+    ensures kept { PairsKeep }
+    ensures never { PairsNeverTwice }
 {}
 
 /// Double service never happens: after every list of events no region is held by two running servers that aren't fenced, nor

@@ -7,6 +7,7 @@
 mod laws;
 
 pub use laws::{
-    calls_are_answered, carrying_goes_on, claims_are_apart, entries_keep, fleets_fit, held_by_one,
-    layouts_tell, never_twice, outside_keeps, points_hold, rest_is_the_end, worlds_are_kept,
+    calls_are_answered, carrying_goes_on, claims_are_apart, entries_keep, few_findings_come,
+    fleets_fit, held_by_one, layouts_tell, never_twice, opened_are_held, outside_keeps, pairs_keep,
+    points_hold, rest_is_the_end, worlds_are_kept,
 };

@@ -1,7 +1,7 @@
 use Rattle.std.proofs.lemmas.List.Sorted.{All-permutation, IsPermutation-reverse}
 use Rattle.hm_entry.specs.Fits.{EntryFits}
 use Rattle.hm_model.specs.Journal.{back}
-use Rattle.hm_frames.proofs.Recorded.{abort_recorded, down_recorded, report_recorded, start_recorded, step_recorded, submit_recorded, undo_recorded, up_recorded}
+use Rattle.hm_frames.proofs.Recorded.{abort_recorded, adopt_recorded, base_recorded, down_recorded, report_recorded, start_recorded, step_recorded, submit_recorded, undo_recorded, up_recorded}
 use Rattle.hm_frames.proofs.laws.entries_fit_frames.Goals as goal
 
 pub returns-clause-start : goal.returns-clause-start
@@ -29,3 +29,9 @@ returns-clause-down c = down_recorded
 
 pub returns-clause-abort : goal.returns-clause-abort
 returns-clause-abort c = abort_recorded
+
+pub returns-clause-base : goal.returns-clause-base
+returns-clause-base c = λ journal part allowed fits. base_recorded (back journal) part allowed fits
+
+pub returns-clause-adopt : goal.returns-clause-adopt
+returns-clause-adopt c = λ journal sheets allowed. adopt_recorded (back journal) sheets allowed

@@ -20,5 +20,5 @@ loop-number-preserved c =
     let added = c.in_ok-read_next.ensures.added in
     record {
       so_far = spells_more c.args.frames.now c.loop-number.number front more added.0 before.so_far added.1 added.2;
-      begun = λ sheets begun. begun_more sheets front more added.0 (before.begun sheets begun) added.2 added.3;
+      begun = λ sheets begun. begun_more sheets front more added.0 (before.begun sheets begun) added.2 added.3 added.4;
     }

@@ -2,15 +2,19 @@ use Rattle.std.proofs.Common.{List, [], ◌∷◌, refl, sym, subst}
 use Rattle.std.proofs.lemmas.Bool.{false≢true}
 use Rattle.hm_data.specs.declared.entry.Entry.{Entry}
 use Rattle.hm_data.specs.declared.sheet.Sheet.{Sheet}
-use Rattle.hm_model.specs.Rules.{AreSheets}
+use Rattle.hm_model.specs.Base.{AreSheets}
 use Rattle.hm_journal.specs.Verdict.{IsFirstIllegal}
 use Rattle.hm_journal.specs.Judged.{IsBegun}
 use Rattle.hm_journal.specs.Stored.{SameSheets}
-use Rattle.hm_journal.proofs.Judging.{begun_start, no_start, wrong_start}
+use Rattle.hm_journal.proofs.Judging.{begun_start, illegal_first, wrong_start}
 use Rattle.hm_journal.proofs.reading.state_with.Goals as goal
 
 pub returns-in_default : goal.returns-in_default
-returns-in_default c = record { state = tt; begun = tt; why = λ more. no_start c.args.sheets.now c.args.first.now more c.in_default.not-Start }
+returns-in_default c = record {
+  state = tt;
+  begun = tt;
+  why = λ more. illegal_first c.args.sheets.now c.args.first.now more c.first_rule.result c.first_rule.ensures;
+}
 
 pub returns-then-not-are_sheets-clause-why : goal.returns-then-not-are_sheets-clause-why
 returns-then-not-are_sheets-clause-why c more =

@@ -12,7 +12,7 @@ returns-then-not-undoes-clause-runs c =
     let J : Past = c.args.records.now.past in
     let pick = option_copied c.args.pick in
     let tells = subst (λ (past : Past). IsTrue c.undoes.result ↔ MayUndo past c.args.pid.0) c.procedures.ensures.past c.undoes.ensures in
-    can_run J c.find.ensures.legal c.procedures_name_regions.ensures c.args.pid.0 pick c.in_ok-at.at
+    can_run J c.find.ensures.legal c.find.ensures.plain c.procedures_name_regions.ensures c.args.pid.0 pick c.in_ok-at.at
     (sees_step J c.args.pid c.in-Some.found.now pick c.in_ok-at.at c.undoes.result (sym (ap option_copied c.in-Some.is) ∙ c.find.ensures.found) c.if-not-undoes.true tells c.in_ok-at.ensures)
 
 pub returns-clause-runs : goal.returns-clause-runs
@@ -21,7 +21,7 @@ returns-clause-runs c =
     let pick = option_copied c.args.pick in
     let tells = subst (λ (past : Past). IsTrue c.undoes.result ↔ MayUndo past c.args.pid.0) c.procedures.ensures.past c.undoes.ensures in
     let latest = c.in_ok-latest.latest in
-    can_run J c.find.ensures.legal c.procedures_name_regions.ensures c.args.pid.0 pick c.undoing.result
+    can_run J c.find.ensures.legal c.find.ensures.plain c.procedures_name_regions.ensures c.args.pid.0 pick c.undoing.result
     (sees_undo J c.args.pid c.in-Some.found.now pick c.undoing.result latest (sym (ap option_copied c.in-Some.is) ∙ c.find.ensures.found) (tells.0 c.if-not-undoes.false)
     (subst (λ r. IfOk r (IsLatestOf J c.args.pid.0)) c.in_ok-latest.ensures.0 c.latest_of.ensures)
     (c.undoing.ensures ∙ ap (λ at. turned_to at latest) (c.in_ok-latest.ensures.1 ∙ c.in_ok-at.ensures)))

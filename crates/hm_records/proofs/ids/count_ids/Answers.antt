@@ -18,4 +18,4 @@ returns-clause-drawn c =
     (ap (λ n. n + c.in-Some.count) c.drawn_in-before.ensures) c.set.ensures.pairs
 
 pub returns-in_default-clause-drawn : goal.returns-in_default-clause-drawn
-returns-in_default-clause-drawn c = drawn_none c.args.past.now.past c.args.entry.now (sym c.requires.ids ∙ c.in_default.is) c.args.drawn.now.pairs c.requires.drawn
+returns-in_default-clause-drawn c = drawn_none c.args.past.now.past c.args.entry.now c.requires.plain (sym c.requires.ids ∙ c.in_default.is) c.args.drawn.now.pairs c.requires.drawn

@@ -64,4 +64,4 @@ returns-in-Undo-clause-tells c =
 pub returns-in_default-entry-clause-tells : goal.returns-in_default-entry-clause-tells
 returns-in_default-entry-clause-tells c =
     let J : Past = c.args.past.now.past in
-    unpushed (is_open J) J c.args.stack.now.stacks c.requires.tells c.stacks_tell.ensures.others c.stacks_tell.ensures.entries c.args.entry.now (sym c.requires.step ∙ c.in_default.is) c.in_default-entry.not-Undo
+    unpushed (is_open J) J c.args.stack.now.stacks c.requires.tells c.stacks_tell.ensures.others c.stacks_tell.ensures.entries c.args.entry.now c.requires.legal (sym c.requires.step ∙ c.in_default.is) c.in_default-entry.not-Undo

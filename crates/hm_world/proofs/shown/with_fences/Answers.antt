@@ -4,7 +4,7 @@ use Rattle.hm_model.specs.Journal.{back}
 use Rattle.hm_model.specs.declared.standing.Standing.{Standing}
 use Rattle.hm_server.specs.Actors.{storage_of}
 use Rattle.hm_world.specs.Shown.{IsFencedBut}
-use Rattle.hm_world.proofs.Storages.{fences_first, fences_next}
+use Rattle.hm_world.proofs.Storages.{fences_first, fences_last, fences_next}
 use Rattle.hm_world.proofs.shown.with_fences.Goals as goal
 
 pub loop-server-init : goal.loop-server-init
@@ -23,3 +23,9 @@ loop-server-preserved c =
       fences = fences_next J c.in-Some.field-0.now.0 c.in-Some.field-0.now.1 c.next.new.self (storage_of c.loop-server.storage) (storage_of c.show_fence.new.storage)
           (subst (λ (rows : List (Server × Standing)). IsFencedBut J rows (storage_of c.loop-server.storage)) c.in-Some.ensures.steps c.loop-server.invariant.fences) c.in_ok-show_fence.ensures;
     }
+
+pub returns : goal.returns
+returns c =
+    let J = back c.args.state.now.entries in
+    fences_last J c.entries-legal.ensures.plain (storage_of c.loop-server.storage)
+    (subst (λ (rows : List (Server × Standing)). IsFencedBut J rows (storage_of c.loop-server.storage)) c.in-None.ensures.steps.0 c.loop-server.invariant.fences)

@@ -1,9 +1,17 @@
-use Rattle.std.proofs.Common.{subst}
+use Rattle.std.proofs.Common.{subst, sym}
+use Rattle.hm_model.specs.Journal.{back}
+use Rattle.hm_model.specs.Plain.{ArePlain}
 use Rattle.hm_world.specs.Scene.{WorldView, past_in, world_of}
 use Rattle.hm_world_model.specs.Twice.{Twice}
+use Rattle.hm_commands.specs.Scenes.{whole}
 use Rattle.hm_commands.specs.View.{scene_in}
+use Rattle.hm_commands.proofs.Clusters.{whole_back}
 use Rattle.hm_commands.proofs.cluster.Cluster.keeps.Goals as goal
 
 pub returns-clause-once : goal.returns-clause-once
 returns-clause-once g c =
-    subst (λ (w : WorldView _). Twice (past_in (scene_in w)) (let at = scene_in w in at.outside) → ⊥) c.self.view_is (c.never_twice.ensures.kept (world_of (scene_in c.self.inside.world)) c.keeps.ensures)
+    subst (λ (w : WorldView _). Twice (past_in (scene_in w)) (let at = scene_in w in at.outside) → ⊥) c.self.view_is (c.never_twice.ensures.kept (world_of (scene_in c.self.inside.world)) c.keeps.ensures.kept)
+
+pub returns-clause-plain : goal.returns-clause-plain
+returns-clause-plain g c =
+    subst (λ (w : WorldView _). ArePlain (back (whole (scene_in w)))) c.self.view_is (subst ArePlain (sym (whole_back (scene_in c.self.inside.world))) c.keeps.ensures.plain)

@@ -3,7 +3,7 @@ use Rattle.hm_data.specs.declared.entry.Entry.{Entry}
 use Rattle.hm_model.specs.Journal.{Past}
 use Rattle.hm_model.specs.Rules.{IsLegal}
 use Rattle.hm_undo.specs.Laws.{Tells}
-use Rattle.hm_model.specs.Tree.{made}
+use Rattle.hm_procedures.specs.Kept.{args_made}
 use Rattle.hm_records.specs.Book.{AreRows, asks_in, asks_of}
 use Rattle.hm_records.specs.Parts.{size_of}
 use Rattle.hm_records.specs.Records.{AreForgotten, AreRecords, Beside, RecordsView, is_open}
@@ -38,7 +38,7 @@ invariant_of-self c =
       servers_are = c.set_servers.ensures.servers;
       nonces_are = c.add_nonce.ensures.nonces;
       drawn_are = c.count_ids.ensures.drawn;
-      sheets_are = c.self.invariant.sheets_are ∙ sym (sheets_stay entry J legal c.self.invariant.begun);
+      sheets_are = c.self.invariant.sheets_are ∙ sym (sheets_stay entry J legal c.requires.plain c.self.invariant.begun);
       book_is = subst (λ (l : Past). AreRows l c.release_ended.new.book.rows) after (c.release_ended.ensures.rows J after c.tree_of-tree.ensures c.enlist_made.ensures.rows);
     })
 
@@ -57,7 +57,7 @@ returns-clause-spare c =
     let servers : f.servers.spare ≤ c.set_servers.new.servers.spare + size = omega (arith, c.set_servers.ensures.spare) in
     let nonces : f.nonces.spare ≤ c.add_nonce.new.nonces.spare + size = omega (arith, c.add_nonce.ensures.spare) in
     let drawn : f.drawn.spare ≤ c.count_ids.new.drawn.spare + size = omega (arith, c.count_ids.ensures.spare) in
-    let drafts : length (let parts = c.args.parts in let drafts = parts.drafts in let list = drafts.list in list.items) ≡ made (entry ∷ []) = ap length c.requires.parts.drafts ∙ drafts_count J entry in
+    let drafts : length (let parts = c.args.parts in let drafts = parts.drafts in let list = drafts.list in list.items) ≡ length (args_made [] entry) = ap length c.requires.parts.drafts ∙ drafts_count J entry in
     let asks : asks_in (let parts = c.args.parts in let drafts = parts.drafts in let list = drafts.list in list.items) ≡ asks_of entry = ap asks_in c.requires.parts.drafts ∙ asks_same entry J c.requires.legal.0 in
     let book : f.book.spare ≤ c.release_ended.new.book.spare + size = omega (arith, c.enlist_made.ensures.spare, c.release_ended.ensures.spare.0, drafts) in
     let more : f.book.spare_asks ≤ c.release_ended.new.book.spare_asks + size = omega (arith, c.enlist_made.ensures.asks, c.release_ended.ensures.spare.1, asks) in

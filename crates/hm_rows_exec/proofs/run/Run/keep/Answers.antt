@@ -9,8 +9,8 @@ use Rattle.hm_model.specs.Sheets.{sheets_of}
 use Rattle.hm_rows_exec.specs.Outs.{AreOut, IsOut, RunView, at_exec}
 use Rattle.hm_rows_exec.proofs.run.Run.keep.Goals as goal
 
-pub invariant_of-self-2 : goal.invariant_of-self-2
-invariant_of-self-2 c =
+pub invariant_of-self : goal.invariant_of-self
+invariant_of-self c =
     let exec = c.self.inside.exec in
     let out = c.in_ok-out.out in
     let claimed = subst (λ (v : RunView). IsIn (let pid = c.args.taken.pid in pid.0) (let e = v.exec in e.claimed)) (sym c.self.view_is) c.requires.claimed in

@@ -8,7 +8,7 @@ invariant_of-self c =
 
 pub put_back-requires : goal.put_back-requires
 put_back-requires c =
-    let left = some_left c.self.inside.outs.items c.take_out.new.outs.items c.take_out.result (c.in-Some.pid, c.in-Some.was, c.in-Some.field-0-2) c.in-Some.is c.take_out.ensures in
+    let left = some_left c.self.inside.outs.items c.take_out.new.outs.items c.take_out.result (c.in-Some.pid, c.in-Some.was, c.in-Some.out) c.in-Some.is c.take_out.ensures in
     (left.0 (at_exec c.self.inside.exec) c.self.invariant).0.0
 
 pub invariant_of-self-2 : goal.invariant_of-self-2
@@ -16,5 +16,5 @@ invariant_of-self-2 c =
     let old = at_exec c.self.inside.exec in
     let new = at_exec c.put_back.new.self in
     let outs = c.take_out.new.outs.items in
-    let left = some_left c.self.inside.outs.items outs c.take_out.result (c.in-Some.pid, c.in-Some.was, c.in-Some.field-0-2) c.in-Some.is c.take_out.ensures in
+    let left = some_left c.self.inside.outs.items outs c.take_out.result (c.in-Some.pid, c.in-Some.was, c.in-Some.out) c.in-Some.is c.take_out.ensures in
     put_back_stays old new (record { pid = c.in-Some.pid; was = c.in-Some.was }) outs c.put_back.ensures.back left.1 (left.0 old c.self.invariant).1

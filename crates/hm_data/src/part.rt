@@ -1,0 +1,207 @@
+ghost use Rattle.std.specs.Prelude.{◌≡◌, IfOk};
+ghost use Rattle.hm_data.specs.declared.part.Part.TheVariants as part_is;
+
+use crate::answer::Cause;
+use crate::args::Args;
+use crate::catalog::{Status, TableState};
+use crate::place::Place;
+use crate::sheet::Sheet;
+use hm_names::{Copied, KeyRange, List, Nonce, Ns, Pid, RegionName, Same, ServerName, TableName};
+use std::alloc::{AllocError, Global};
+
+/// A part of what a journal with nothing unfinished came to.
+#[derive(Drop)]
+pub enum Part {
+    /// How many entries were recorded, the last procedure's number, how many parts follow, and the sheets in force.
+    Head {
+        entries: u64,
+        last: Pid,
+        parts: u64,
+        sheets: List<Sheet>,
+    },
+    Namespace {
+        ns: Ns,
+    },
+    /// How many region ids were drawn for the table, and its row, where it has one.
+    Table {
+        table: TableName,
+        drawn: u64,
+        row: Option<(TableState, u64)>,
+    },
+    Region {
+        region: RegionName,
+        range: KeyRange,
+        status: Status,
+        parents: List<u64>,
+        place: Place,
+    },
+    /// A server that is live, or is fenced.
+    Server {
+        server: ServerName,
+        fenced: bool,
+    },
+    /// A root that ended well, or failed for this cause.
+    Root {
+        pid: Pid,
+        nonce: Nonce,
+        args: Args,
+        cause: Option<Cause>,
+    },
+    /// The layout of this root is there.
+    Layout {
+        pid: Pid,
+    },
+}
+
+// A region's part like this one.
+fn region_copied(
+    region: &RegionName,
+    range: &KeyRange,
+    status: Status,
+    parents: &List<u64>,
+    place: &Place,
+    alloc: Global,
+) -> Result<Part, AllocError>
+    ensures { IfOk result (λ p. p ≡ part_is.Region region.now range.now status parents.now place.now) }
+{
+    Ok(Part::Region {
+        region: region.copy(alloc)?,
+        range: range.copy(alloc)?,
+        status,
+        parents: parents.copy(alloc)?,
+        place: place.copy(alloc)?,
+    })
+}
+
+impl Copied for Part {
+    fn copy(&self, alloc: Global) -> Result<Part, AllocError> {
+        match self {
+            Part::Head {
+                entries,
+                last,
+                parts,
+                sheets,
+            } => Ok(Part::Head {
+                entries: *entries,
+                last: *last,
+                parts: *parts,
+                sheets: sheets.copy(alloc)?,
+            }),
+            Part::Namespace { ns } => Ok(Part::Namespace {
+                ns: ns.copy(alloc)?,
+            }),
+            Part::Table { table, drawn, row } => Ok(Part::Table {
+                table: table.copy(alloc)?,
+                drawn: *drawn,
+                row: *row,
+            }),
+            Part::Region {
+                region,
+                range,
+                status,
+                parents,
+                place,
+            } => region_copied(region, range, *status, parents, place, alloc),
+            Part::Server { server, fenced } => Ok(Part::Server {
+                server: server.copy(alloc)?,
+                fenced: *fenced,
+            }),
+            Part::Root {
+                pid,
+                nonce,
+                args,
+                cause,
+            } => Ok(Part::Root {
+                pid: *pid,
+                nonce: *nonce,
+                args: args.copy(alloc)?,
+                cause: *cause,
+            }),
+            Part::Layout { pid } => Ok(Part::Layout { pid: *pid }),
+        }
+    }
+}
+
+impl Same for Part {
+    fn same(&self, other: &Part) -> bool {
+        match self {
+            Part::Head {
+                entries,
+                last,
+                parts,
+                sheets,
+            } => match other {
+                Part::Head {
+                    entries: other_entries,
+                    last: other_last,
+                    parts: other_parts,
+                    sheets: other_sheets,
+                } => entries == other_entries
+                    && last.same(other_last)
+                    && parts == other_parts
+                    && sheets.same(other_sheets),
+                _ => false,
+            },
+            Part::Namespace { ns } => match other {
+                Part::Namespace { ns: other_ns } => ns.same(other_ns),
+                _ => false,
+            },
+            Part::Table { table, drawn, row } => match other {
+                Part::Table {
+                    table: other_table,
+                    drawn: other_drawn,
+                    row: other_row,
+                } => table.same(other_table) && drawn == other_drawn && row.same(other_row),
+                _ => false,
+            },
+            Part::Region {
+                region,
+                range,
+                status,
+                parents,
+                place,
+            } => match other {
+                Part::Region {
+                    region: other_region,
+                    range: other_range,
+                    status: other_status,
+                    parents: other_parents,
+                    place: other_place,
+                } => region.same(other_region)
+                    && range.same(other_range)
+                    && status.same(other_status)
+                    && parents.same(other_parents)
+                    && place.same(other_place),
+                _ => false,
+            },
+            Part::Server { server, fenced } => match other {
+                Part::Server {
+                    server: other_server,
+                    fenced: other_fenced,
+                } => server.same(other_server) && fenced == other_fenced,
+                _ => false,
+            },
+            Part::Root {
+                pid,
+                nonce,
+                args,
+                cause,
+            } => match other {
+                Part::Root {
+                    pid: other_pid,
+                    nonce: other_nonce,
+                    args: other_args,
+                    cause: other_cause,
+                } => pid.same(other_pid)
+                    && nonce.same(other_nonce)
+                    && args.same(other_args)
+                    && cause.same(other_cause),
+                _ => false,
+            },
+            Part::Layout { pid } => match other {
+                Part::Layout { pid: other_pid } => pid.same(other_pid),
+                _ => false,
+            },
+        }
+    }
+}

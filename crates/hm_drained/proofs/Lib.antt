@@ -1,0 +1,4 @@
+mod States
+mod Coming
+mod Leaving
+mod Empty
