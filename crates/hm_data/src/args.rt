@@ -1,3 +1,7 @@
+ghost use Rattle.std.specs.Prelude.{◌≡◌, IfOk};
+ghost use Rattle.hm_data.specs.declared.args.Args.TheVariants as args_is;
+
+use crate::pair::copy_two;
 use crate::place::Goal;
 use crate::request::Request;
 use hm_names::{Copied, List, Pid, RegionName, RowKey, Same, ServerName, TableName};
@@ -49,45 +53,107 @@ pub enum Args {
     },
 }
 
+fn copy_root(request: &Request, first: u64, alloc: Global) -> Result<Args, AllocError>
+    ensures { IfOk result (λ it. it ≡ args_is.Root request.now first) }
+{
+    Ok(Args::Root {
+        request: request.copy(alloc)?,
+        first,
+    })
+}
+
+fn copy_transit(
+    region: &RegionName,
+    goal: Goal,
+    to: &Option<ServerName>,
+    alloc: Global,
+) -> Result<Args, AllocError>
+    ensures { IfOk result (λ it. it ≡ args_is.Transit region.now goal to.now) }
+{
+    let (region, to) = copy_two(region, to, alloc)?;
+    Ok(Args::Transit { region, goal, to })
+}
+
+fn copy_crash(server: &ServerName, alloc: Global) -> Result<Args, AllocError>
+    ensures { IfOk result (λ it. it ≡ args_is.Crash server.now) }
+{
+    Ok(Args::Crash {
+        server: server.copy(alloc)?,
+    })
+}
+
+fn copy_add_regions(
+    table: &TableName,
+    first: u64,
+    bounds: &List<RowKey>,
+    alloc: Global,
+) -> Result<Args, AllocError>
+    ensures { IfOk result (λ it. it ≡ args_is.AddRegions table.now first bounds.now) }
+{
+    let (table, bounds) = copy_two(table, bounds, alloc)?;
+    Ok(Args::AddRegions {
+        table,
+        first,
+        bounds,
+    })
+}
+
+fn copy_drop_regions(
+    table: &TableName,
+    ids: &List<u64>,
+    alloc: Global,
+) -> Result<Args, AllocError>
+    ensures { IfOk result (λ it. it ≡ args_is.DropRegions table.now ids.now) }
+{
+    let (table, ids) = copy_two(table, ids, alloc)?;
+    Ok(Args::DropRegions { table, ids })
+}
+
+fn copy_assign_call(
+    region: &RegionName,
+    server: &ServerName,
+    alloc: Global,
+) -> Result<Args, AllocError>
+    ensures { IfOk result (λ it. it ≡ args_is.AssignCall region.now server.now) }
+{
+    let (region, server) = copy_two(region, server, alloc)?;
+    Ok(Args::AssignCall { region, server })
+}
+
+fn copy_close_call(
+    region: &RegionName,
+    server: &ServerName,
+    alloc: Global,
+) -> Result<Args, AllocError>
+    ensures { IfOk result (λ it. it ≡ args_is.CloseCall region.now server.now) }
+{
+    let (region, server) = copy_two(region, server, alloc)?;
+    Ok(Args::CloseCall { region, server })
+}
+
+fn copy_fence_call(server: &ServerName, alloc: Global) -> Result<Args, AllocError>
+    ensures { IfOk result (λ it. it ≡ args_is.FenceCall server.now) }
+{
+    Ok(Args::FenceCall {
+        server: server.copy(alloc)?,
+    })
+}
+
 impl Copied for Args {
     fn copy(&self, alloc: Global) -> Result<Args, AllocError> {
         match self {
-            Args::Root { request, first } => Ok(Args::Root {
-                request: request.copy(alloc)?,
-                first: *first,
-            }),
-            Args::Transit { region, goal, to } => Ok(Args::Transit {
-                region: region.copy(alloc)?,
-                goal: *goal,
-                to: to.copy(alloc)?,
-            }),
-            Args::Crash { server } => Ok(Args::Crash {
-                server: server.copy(alloc)?,
-            }),
+            Args::Root { request, first } => copy_root(request, *first, alloc),
+            Args::Transit { region, goal, to } => copy_transit(region, *goal, to, alloc),
+            Args::Crash { server } => copy_crash(server, alloc),
             Args::AddRegions {
                 table,
                 first,
                 bounds,
-            } => Ok(Args::AddRegions {
-                table: table.copy(alloc)?,
-                first: *first,
-                bounds: bounds.copy(alloc)?,
-            }),
-            Args::DropRegions { table, ids } => Ok(Args::DropRegions {
-                table: table.copy(alloc)?,
-                ids: ids.copy(alloc)?,
-            }),
-            Args::AssignCall { region, server } => Ok(Args::AssignCall {
-                region: region.copy(alloc)?,
-                server: server.copy(alloc)?,
-            }),
-            Args::CloseCall { region, server } => Ok(Args::CloseCall {
-                region: region.copy(alloc)?,
-                server: server.copy(alloc)?,
-            }),
-            Args::FenceCall { server } => Ok(Args::FenceCall {
-                server: server.copy(alloc)?,
-            }),
+            } => copy_add_regions(table, *first, bounds, alloc),
+            Args::DropRegions { table, ids } => copy_drop_regions(table, ids, alloc),
+            Args::AssignCall { region, server } => copy_assign_call(region, server, alloc),
+            Args::CloseCall { region, server } => copy_close_call(region, server, alloc),
+            Args::FenceCall { server } => copy_fence_call(server, alloc),
             Args::LayoutCall { root } => Ok(Args::LayoutCall { root: *root }),
             Args::SweepLayout { root } => Ok(Args::SweepLayout { root: *root }),
         }
@@ -184,11 +250,11 @@ pub enum Child {
 impl Copied for Child {
     fn copy(&self, alloc: Global) -> Result<Child, AllocError> {
         match self {
-            Child::Transits { table, ids, goal } => Ok(Child::Transits {
-                table: table.copy(alloc)?,
-                ids: ids.copy(alloc)?,
-                goal: *goal,
-            }),
+            Child::Transits { table, ids, goal } => {
+                let goal = *goal;
+                let (table, ids) = copy_two(table, ids, alloc)?;
+                Ok(Child::Transits { table, ids, goal })
+            }
             Child::One(args) => Ok(Child::One(args.copy(alloc)?)),
         }
     }

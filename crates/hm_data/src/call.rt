@@ -1,5 +1,6 @@
 ghost use Rattle.std.specs.Prelude.{◌≡◌, IfSome, Some};
 
+use crate::pair::copy_two;
 use hm_names::{Copied, Pid, RegionName, Same, ServerName};
 use std::alloc::{AllocError, Global};
 
@@ -64,7 +65,10 @@ pub enum Peer {
 impl Copied for Peer {
     fn copy(&self, alloc: Global) -> Result<Peer, AllocError> {
         match self {
-            Peer::Server(server) => Ok(Peer::Server(server.copy(alloc)?)),
+            Peer::Server(server) => match server.copy(alloc) {
+                Ok(server) => Ok(Peer::Server(server)),
+                Err(error) => Err(error),
+            },
             Peer::Storage => Ok(Peer::Storage),
         }
     }
@@ -150,10 +154,11 @@ pub struct Call {
 
 impl Copied for Call {
     fn copy(&self, alloc: Global) -> Result<Call, AllocError> {
+        let (peer, verb) = copy_two(&self.peer, &self.verb, alloc)?;
         Ok(Call {
             id: self.id,
-            peer: self.peer.copy(alloc)?,
-            verb: self.verb.copy(alloc)?,
+            peer,
+            verb,
         })
     }
 }

@@ -1,5 +1,6 @@
 ghost use Rattle.std.specs.Prelude.{◌≡◌, IfSome, Some};
 
+use crate::pair::{copy_three, copy_two};
 use hm_hints::Hinted;
 use hm_names::{Copied, KeyRange, List, Ns, RegionName, Same, TableName, front_hint};
 use std::alloc::{AllocError, Global};
@@ -180,11 +181,15 @@ impl Copied for CatRow {
                 range,
                 status,
                 parents,
-            } => Ok(CatRow::Region {
-                range: range.copy(alloc)?,
-                status: *status,
-                parents: parents.copy(alloc)?,
-            }),
+            } => {
+                let status = *status;
+                let (range, parents) = copy_two(range, parents, alloc)?;
+                Ok(CatRow::Region {
+                    range,
+                    status,
+                    parents,
+                })
+            }
         }
     }
 }
@@ -228,11 +233,8 @@ pub struct Edit {
 
 impl Copied for Edit {
     fn copy(&self, alloc: Global) -> Result<Edit, AllocError> {
-        Ok(Edit {
-            key: self.key.copy(alloc)?,
-            before: self.before.copy(alloc)?,
-            after: self.after.copy(alloc)?,
-        })
+        let (key, before, after) = copy_three(&self.key, &self.before, &self.after, alloc)?;
+        Ok(Edit { key, before, after })
     }
 }
 

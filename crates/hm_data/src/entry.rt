@@ -1,4 +1,5 @@
 use crate::call::Told;
+use crate::pair::copy_two;
 use crate::part::Part;
 use crate::request::Request;
 use crate::sheet::Sheet;
@@ -60,11 +61,11 @@ impl Copied for Entry {
                 nonce: *nonce,
                 request: request.copy(alloc)?,
             }),
-            Entry::Step { pid, pick, out } => Ok(Entry::Step {
-                pid: *pid,
-                pick: pick.copy(alloc)?,
-                out: out.copy(alloc)?,
-            }),
+            Entry::Step { pid, pick, out } => {
+                let pid = *pid;
+                let (pick, out) = copy_two(pick, out, alloc)?;
+                Ok(Entry::Step { pid, pick, out })
+            }
             Entry::Undo { pid, row, out } => Ok(Entry::Undo {
                 pid: *pid,
                 row: *row,

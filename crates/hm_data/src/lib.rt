@@ -8,6 +8,7 @@ mod call;
 mod catalog;
 mod entry;
 pub mod laws;
+mod pair;
 mod part;
 mod place;
 mod record;

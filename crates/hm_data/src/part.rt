@@ -4,6 +4,7 @@ ghost use Rattle.hm_data.specs.declared.part.Part.TheVariants as part_is;
 use crate::answer::Cause;
 use crate::args::Args;
 use crate::catalog::{Status, TableState};
+use crate::pair::copy_two;
 use crate::place::Place;
 use crate::sheet::Sheet;
 use hm_names::{Copied, KeyRange, List, Nonce, Ns, Pid, RegionName, Same, ServerName, TableName};
@@ -64,12 +65,14 @@ fn region_copied(
 ) -> Result<Part, AllocError>
     ensures { IfOk result (λ p. p ≡ part_is.Region region.now range.now status parents.now place.now) }
 {
+    let (parents, place) = copy_two(parents, place, alloc)?;
+    let (region, range) = copy_two(region, range, alloc)?;
     Ok(Part::Region {
-        region: region.copy(alloc)?,
-        range: range.copy(alloc)?,
+        region,
+        range,
         status,
-        parents: parents.copy(alloc)?,
-        place: place.copy(alloc)?,
+        parents,
+        place,
     })
 }
 

@@ -1,3 +1,4 @@
+use crate::pair::copy_two;
 use hm_names::{Copied, List, Ns, RegionName, RowKey, Same, ServerName, TableName};
 use std::alloc::{AllocError, Global};
 
@@ -51,10 +52,10 @@ impl Copied for Request {
             Request::DropNamespace { ns } => Ok(Request::DropNamespace {
                 ns: ns.copy(alloc)?,
             }),
-            Request::CreateTable { table, keys } => Ok(Request::CreateTable {
-                table: table.copy(alloc)?,
-                keys: keys.copy(alloc)?,
-            }),
+            Request::CreateTable { table, keys } => {
+                let (table, keys) = copy_two(table, keys, alloc)?;
+                Ok(Request::CreateTable { table, keys })
+            }
             Request::DeleteTable { table } => Ok(Request::DeleteTable {
                 table: table.copy(alloc)?,
             }),
@@ -68,17 +69,17 @@ impl Copied for Request {
                 table: table.copy(alloc)?,
                 version: *version,
             }),
-            Request::SplitRegion { region, key } => Ok(Request::SplitRegion {
-                region: region.copy(alloc)?,
-                key: key.copy(alloc)?,
-            }),
+            Request::SplitRegion { region, key } => {
+                let (region, key) = copy_two(region, key, alloc)?;
+                Ok(Request::SplitRegion { region, key })
+            }
             Request::MergeRegions { regions } => Ok(Request::MergeRegions {
                 regions: regions.copy(alloc)?,
             }),
-            Request::Move { region, to } => Ok(Request::Move {
-                region: region.copy(alloc)?,
-                to: to.copy(alloc)?,
-            }),
+            Request::Move { region, to } => {
+                let (region, to) = copy_two(region, to, alloc)?;
+                Ok(Request::Move { region, to })
+            }
         }
     }
 }

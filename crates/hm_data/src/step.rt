@@ -4,6 +4,7 @@ use crate::answer::Answer;
 use crate::args::{Args, Child};
 use crate::call::{Told, Verb};
 use crate::catalog::{CatKey, CatRow, Edit};
+use crate::pair::{copy_three, copy_two};
 use crate::place::Place;
 use hm_names::{Copied, List, Pid, RegionName, Same, ServerName};
 use std::alloc::{AllocError, Global};
@@ -22,13 +23,16 @@ pub struct StepOut {
 
 impl Copied for StepOut {
     fn copy(&self, alloc: Global) -> Result<StepOut, AllocError> {
+        let lists = copy_three(&self.edits, &self.children, &self.followers, alloc)?;
+        let (call, place) = copy_two(&self.call, &self.place, alloc)?;
+        let (edits, children, followers) = lists;
         Ok(StepOut {
             answer: self.answer,
-            edits: self.edits.copy(alloc)?,
-            children: self.children.copy(alloc)?,
-            call: self.call.copy(alloc)?,
-            place: self.place.copy(alloc)?,
-            followers: self.followers.copy(alloc)?,
+            edits,
+            children,
+            call,
+            place,
+            followers,
         })
     }
 }
@@ -111,22 +115,24 @@ impl StepIn {
         ensures { IfOk result
             (λ x. (x.0 ≡ self.now.rows) × (x.1 ≡ self.now.ends) × (x.2 ≡ self.now.on_server)) }
     {
-        Ok((
-            self.rows.copy(alloc)?,
-            self.ends.copy(alloc)?,
-            self.on_server.copy(alloc)?,
-        ))
+        copy_three(&self.rows, &self.ends, &self.on_server, alloc)
     }
 
     fn copy_parts(&self, alloc: Global) -> Result<Parts, AllocError>
         ensures { IfOk result
             (λ x. (x.0 ≡ self.now.place) × (x.1 ≡ self.now.pick) × (x.2 ≡ self.now.turn)) }
     {
-        Ok((
-            self.place.copy(alloc)?,
-            self.pick.copy(alloc)?,
-            self.turn.copy(alloc)?,
-        ))
+        copy_three(&self.place, &self.pick, &self.turn, alloc)
+    }
+
+    fn copy_owned(&self, alloc: Global) -> Result<(Args, Lists, Parts), AllocError>
+        ensures args { IfOk result (λ x. x.0 ≡ self.now.args) }
+        ensures lists { IfOk result (λ x. (x.1.0 ≡ self.now.rows) × (x.1.1 ≡ self.now.ends) × (x.1.2 ≡ self.now.on_server)) }
+        ensures parts { IfOk result (λ x. (x.2.0 ≡ self.now.place) × (x.2.1 ≡ self.now.pick) × (x.2.2 ≡ self.now.turn)) }
+    {
+        let lists = self.copy_lists(alloc)?;
+        let parts = self.copy_parts(alloc)?;
+        Ok((self.args.copy(alloc)?, lists, parts))
     }
 
     fn same_procedure(&self, other: &StepIn) -> bool
@@ -169,9 +175,9 @@ impl StepIn {
 
 impl Copied for StepIn {
     fn copy(&self, alloc: Global) -> Result<StepIn, AllocError> {
-        let (rows, ends, on_server) = self.copy_lists(alloc)?;
-        let (place, pick, turn) = self.copy_parts(alloc)?;
-        let args = self.args.copy(alloc)?;
+        let (args, lists, parts) = self.copy_owned(alloc)?;
+        let (rows, ends, on_server) = lists;
+        let (place, pick, turn) = parts;
         Ok(StepIn {
             pid: self.pid,
             root: self.root,
