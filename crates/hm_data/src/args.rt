@@ -98,11 +98,7 @@ fn copy_add_regions(
     })
 }
 
-fn copy_drop_regions(
-    table: &TableName,
-    ids: &List<u64>,
-    alloc: Global,
-) -> Result<Args, AllocError>
+fn copy_drop_regions(table: &TableName, ids: &List<u64>, alloc: Global) -> Result<Args, AllocError>
     ensures { IfOk result (λ it. it ≡ args_is.DropRegions table.now ids.now) }
 {
     let (table, ids) = copy_two(table, ids, alloc)?;

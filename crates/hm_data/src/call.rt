@@ -65,10 +65,7 @@ pub enum Peer {
 impl Copied for Peer {
     fn copy(&self, alloc: Global) -> Result<Peer, AllocError> {
         match self {
-            Peer::Server(server) => match server.copy(alloc) {
-                Ok(server) => Ok(Peer::Server(server)),
-                Err(error) => Err(error),
-            },
+            Peer::Server(server) => Ok(Peer::Server(server.copy(alloc)?)),
             Peer::Storage => Ok(Peer::Storage),
         }
     }

@@ -1,3 +1,6 @@
+ghost use Rattle.std.specs.Prelude.{◌≡◌, IfOk};
+ghost use Rattle.hm_data.specs.declared.entry.Entry.TheVariants as entry_is;
+
 use crate::call::Told;
 use crate::pair::copy_two;
 use crate::part::Part;
@@ -51,43 +54,93 @@ pub enum Entry {
     },
 }
 
+fn copy_start(sheets: &List<Sheet>, alloc: Global) -> Result<Entry, AllocError>
+    ensures { IfOk result (λ it. it ≡ entry_is.Start sheets.now) }
+{
+    Ok(Entry::Start {
+        sheets: sheets.copy(alloc)?,
+    })
+}
+
+fn copy_submit(nonce: Nonce, request: &Request, alloc: Global) -> Result<Entry, AllocError>
+    ensures { IfOk result (λ it. it ≡ entry_is.Submit nonce request.now) }
+{
+    Ok(Entry::Submit {
+        nonce,
+        request: request.copy(alloc)?,
+    })
+}
+
+fn copy_step(
+    pid: Pid,
+    pick: &Option<ServerName>,
+    out: &StepOut,
+    alloc: Global,
+) -> Result<Entry, AllocError>
+    ensures { IfOk result (λ it. it ≡ entry_is.Step pid pick.now out.now) }
+{
+    let (pick, out) = copy_two(pick, out, alloc)?;
+    Ok(Entry::Step { pid, pick, out })
+}
+
+fn copy_undo(pid: Pid, row: u8, out: &StepOut, alloc: Global) -> Result<Entry, AllocError>
+    ensures { IfOk result (λ it. it ≡ entry_is.Undo pid row out.now) }
+{
+    Ok(Entry::Undo {
+        pid,
+        row,
+        out: out.copy(alloc)?,
+    })
+}
+
+fn copy_up(server: &ServerName, alloc: Global) -> Result<Entry, AllocError>
+    ensures { IfOk result (λ it. it ≡ entry_is.Up server.now) }
+{
+    Ok(Entry::Up {
+        server: server.copy(alloc)?,
+    })
+}
+
+fn copy_down(server: &ServerName, alloc: Global) -> Result<Entry, AllocError>
+    ensures { IfOk result (λ it. it ≡ entry_is.Down server.now) }
+{
+    Ok(Entry::Down {
+        server: server.copy(alloc)?,
+    })
+}
+
+fn copy_base(part: &Part, alloc: Global) -> Result<Entry, AllocError>
+    ensures { IfOk result (λ it. it ≡ entry_is.Base part.now) }
+{
+    Ok(Entry::Base {
+        part: part.copy(alloc)?,
+    })
+}
+
+fn copy_adopt(sheets: &List<Sheet>, alloc: Global) -> Result<Entry, AllocError>
+    ensures { IfOk result (λ it. it ≡ entry_is.Adopt sheets.now) }
+{
+    Ok(Entry::Adopt {
+        sheets: sheets.copy(alloc)?,
+    })
+}
+
 impl Copied for Entry {
     fn copy(&self, alloc: Global) -> Result<Entry, AllocError> {
         match self {
-            Entry::Start { sheets } => Ok(Entry::Start {
-                sheets: sheets.copy(alloc)?,
-            }),
-            Entry::Submit { nonce, request } => Ok(Entry::Submit {
-                nonce: *nonce,
-                request: request.copy(alloc)?,
-            }),
-            Entry::Step { pid, pick, out } => {
-                let pid = *pid;
-                let (pick, out) = copy_two(pick, out, alloc)?;
-                Ok(Entry::Step { pid, pick, out })
-            }
-            Entry::Undo { pid, row, out } => Ok(Entry::Undo {
-                pid: *pid,
-                row: *row,
-                out: out.copy(alloc)?,
-            }),
+            Entry::Start { sheets } => copy_start(sheets, alloc),
+            Entry::Submit { nonce, request } => copy_submit(*nonce, request, alloc),
+            Entry::Step { pid, pick, out } => copy_step(*pid, pick, out, alloc),
+            Entry::Undo { pid, row, out } => copy_undo(*pid, *row, out, alloc),
             Entry::Report { call, told } => Ok(Entry::Report {
                 call: *call,
                 told: *told,
             }),
-            Entry::Up { server } => Ok(Entry::Up {
-                server: server.copy(alloc)?,
-            }),
-            Entry::Down { server } => Ok(Entry::Down {
-                server: server.copy(alloc)?,
-            }),
+            Entry::Up { server } => copy_up(server, alloc),
+            Entry::Down { server } => copy_down(server, alloc),
             Entry::Abort { pid } => Ok(Entry::Abort { pid: *pid }),
-            Entry::Base { part } => Ok(Entry::Base {
-                part: part.copy(alloc)?,
-            }),
-            Entry::Adopt { sheets } => Ok(Entry::Adopt {
-                sheets: sheets.copy(alloc)?,
-            }),
+            Entry::Base { part } => copy_base(part, alloc),
+            Entry::Adopt { sheets } => copy_adopt(sheets, alloc),
         }
     }
 }

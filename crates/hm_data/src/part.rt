@@ -54,8 +54,47 @@ pub enum Part {
     },
 }
 
-// A region's part like this one.
-fn region_copied(
+fn copy_head(
+    entries: u64,
+    last: Pid,
+    parts: u64,
+    sheets: &List<Sheet>,
+    alloc: Global,
+) -> Result<Part, AllocError>
+    ensures { IfOk result (λ it. it ≡ part_is.Head entries last parts sheets.now) }
+{
+    Ok(Part::Head {
+        entries,
+        last,
+        parts,
+        sheets: sheets.copy(alloc)?,
+    })
+}
+
+fn copy_namespace(ns: &Ns, alloc: Global) -> Result<Part, AllocError>
+    ensures { IfOk result (λ it. it ≡ part_is.Namespace ns.now) }
+{
+    Ok(Part::Namespace {
+        ns: ns.copy(alloc)?,
+    })
+}
+
+fn copy_table(
+    table: &TableName,
+    drawn: u64,
+    row: Option<(TableState, u64)>,
+    alloc: Global,
+) -> Result<Part, AllocError>
+    ensures { IfOk result (λ it. it ≡ part_is.Table table.now drawn row) }
+{
+    Ok(Part::Table {
+        table: table.copy(alloc)?,
+        drawn,
+        row,
+    })
+}
+
+fn copy_region(
     region: &RegionName,
     range: &KeyRange,
     status: Status,
@@ -63,16 +102,43 @@ fn region_copied(
     place: &Place,
     alloc: Global,
 ) -> Result<Part, AllocError>
-    ensures { IfOk result (λ p. p ≡ part_is.Region region.now range.now status parents.now place.now) }
+    ensures { IfOk result (λ it. it ≡ part_is.Region region.now range.now status parents.now place.now) }
 {
+    let bounds = copy_two(region, range, alloc)?;
     let (parents, place) = copy_two(parents, place, alloc)?;
-    let (region, range) = copy_two(region, range, alloc)?;
+    let (region, range) = bounds;
     Ok(Part::Region {
         region,
         range,
         status,
         parents,
         place,
+    })
+}
+
+fn copy_server(server: &ServerName, fenced: bool, alloc: Global) -> Result<Part, AllocError>
+    ensures { IfOk result (λ it. it ≡ part_is.Server server.now fenced) }
+{
+    Ok(Part::Server {
+        server: server.copy(alloc)?,
+        fenced,
+    })
+}
+
+fn copy_root(
+    pid: Pid,
+    nonce: Nonce,
+    args: &Args,
+    cause: Option<Cause>,
+    alloc: Global,
+) -> Result<Part, AllocError>
+    ensures { IfOk result (λ it. it ≡ part_is.Root pid nonce args.now cause) }
+{
+    Ok(Part::Root {
+        pid,
+        nonce,
+        args: args.copy(alloc)?,
+        cause,
     })
 }
 
@@ -84,42 +150,23 @@ impl Copied for Part {
                 last,
                 parts,
                 sheets,
-            } => Ok(Part::Head {
-                entries: *entries,
-                last: *last,
-                parts: *parts,
-                sheets: sheets.copy(alloc)?,
-            }),
-            Part::Namespace { ns } => Ok(Part::Namespace {
-                ns: ns.copy(alloc)?,
-            }),
-            Part::Table { table, drawn, row } => Ok(Part::Table {
-                table: table.copy(alloc)?,
-                drawn: *drawn,
-                row: *row,
-            }),
+            } => copy_head(*entries, *last, *parts, sheets, alloc),
+            Part::Namespace { ns } => copy_namespace(ns, alloc),
+            Part::Table { table, drawn, row } => copy_table(table, *drawn, *row, alloc),
             Part::Region {
                 region,
                 range,
                 status,
                 parents,
                 place,
-            } => region_copied(region, range, *status, parents, place, alloc),
-            Part::Server { server, fenced } => Ok(Part::Server {
-                server: server.copy(alloc)?,
-                fenced: *fenced,
-            }),
+            } => copy_region(region, range, *status, parents, place, alloc),
+            Part::Server { server, fenced } => copy_server(server, *fenced, alloc),
             Part::Root {
                 pid,
                 nonce,
                 args,
                 cause,
-            } => Ok(Part::Root {
-                pid: *pid,
-                nonce: *nonce,
-                args: args.copy(alloc)?,
-                cause: *cause,
-            }),
+            } => copy_root(*pid, *nonce, args, *cause, alloc),
             Part::Layout { pid } => Ok(Part::Layout { pid: *pid }),
         }
     }

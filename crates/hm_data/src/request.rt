@@ -1,3 +1,6 @@
+ghost use Rattle.std.specs.Prelude.{◌≡◌, IfOk};
+ghost use Rattle.hm_data.specs.declared.request.Request.TheVariants as request_is;
+
 use crate::pair::copy_two;
 use hm_names::{Copied, List, Ns, RegionName, RowKey, Same, ServerName, TableName};
 use std::alloc::{AllocError, Global};
@@ -43,43 +46,109 @@ pub enum Request {
     },
 }
 
+fn copy_create_namespace(ns: &Ns, alloc: Global) -> Result<Request, AllocError>
+    ensures { IfOk result (λ it. it ≡ request_is.CreateNamespace ns.now) }
+{
+    Ok(Request::CreateNamespace {
+        ns: ns.copy(alloc)?,
+    })
+}
+
+fn copy_drop_namespace(ns: &Ns, alloc: Global) -> Result<Request, AllocError>
+    ensures { IfOk result (λ it. it ≡ request_is.DropNamespace ns.now) }
+{
+    Ok(Request::DropNamespace {
+        ns: ns.copy(alloc)?,
+    })
+}
+
+fn copy_create_table(
+    table: &TableName,
+    keys: &List<RowKey>,
+    alloc: Global,
+) -> Result<Request, AllocError>
+    ensures { IfOk result (λ it. it ≡ request_is.CreateTable table.now keys.now) }
+{
+    let (table, keys) = copy_two(table, keys, alloc)?;
+    Ok(Request::CreateTable { table, keys })
+}
+
+fn copy_delete_table(table: &TableName, alloc: Global) -> Result<Request, AllocError>
+    ensures { IfOk result (λ it. it ≡ request_is.DeleteTable table.now) }
+{
+    Ok(Request::DeleteTable {
+        table: table.copy(alloc)?,
+    })
+}
+
+fn copy_enable_table(table: &TableName, alloc: Global) -> Result<Request, AllocError>
+    ensures { IfOk result (λ it. it ≡ request_is.EnableTable table.now) }
+{
+    Ok(Request::EnableTable {
+        table: table.copy(alloc)?,
+    })
+}
+
+fn copy_disable_table(table: &TableName, alloc: Global) -> Result<Request, AllocError>
+    ensures { IfOk result (λ it. it ≡ request_is.DisableTable table.now) }
+{
+    Ok(Request::DisableTable {
+        table: table.copy(alloc)?,
+    })
+}
+
+fn copy_modify_table(table: &TableName, version: u64, alloc: Global) -> Result<Request, AllocError>
+    ensures { IfOk result (λ it. it ≡ request_is.ModifyTable table.now version) }
+{
+    Ok(Request::ModifyTable {
+        table: table.copy(alloc)?,
+        version,
+    })
+}
+
+fn copy_split_region(
+    region: &RegionName,
+    key: &RowKey,
+    alloc: Global,
+) -> Result<Request, AllocError>
+    ensures { IfOk result (λ it. it ≡ request_is.SplitRegion region.now key.now) }
+{
+    let (region, key) = copy_two(region, key, alloc)?;
+    Ok(Request::SplitRegion { region, key })
+}
+
+fn copy_merge_regions(regions: &List<RegionName>, alloc: Global) -> Result<Request, AllocError>
+    ensures { IfOk result (λ it. it ≡ request_is.MergeRegions regions.now) }
+{
+    Ok(Request::MergeRegions {
+        regions: regions.copy(alloc)?,
+    })
+}
+
+fn copy_move(
+    region: &RegionName,
+    to: &Option<ServerName>,
+    alloc: Global,
+) -> Result<Request, AllocError>
+    ensures { IfOk result (λ it. it ≡ request_is.Move region.now to.now) }
+{
+    let (region, to) = copy_two(region, to, alloc)?;
+    Ok(Request::Move { region, to })
+}
+
 impl Copied for Request {
     fn copy(&self, alloc: Global) -> Result<Request, AllocError> {
         match self {
-            Request::CreateNamespace { ns } => Ok(Request::CreateNamespace {
-                ns: ns.copy(alloc)?,
-            }),
-            Request::DropNamespace { ns } => Ok(Request::DropNamespace {
-                ns: ns.copy(alloc)?,
-            }),
-            Request::CreateTable { table, keys } => {
-                let (table, keys) = copy_two(table, keys, alloc)?;
-                Ok(Request::CreateTable { table, keys })
-            }
-            Request::DeleteTable { table } => Ok(Request::DeleteTable {
-                table: table.copy(alloc)?,
-            }),
-            Request::EnableTable { table } => Ok(Request::EnableTable {
-                table: table.copy(alloc)?,
-            }),
-            Request::DisableTable { table } => Ok(Request::DisableTable {
-                table: table.copy(alloc)?,
-            }),
-            Request::ModifyTable { table, version } => Ok(Request::ModifyTable {
-                table: table.copy(alloc)?,
-                version: *version,
-            }),
-            Request::SplitRegion { region, key } => {
-                let (region, key) = copy_two(region, key, alloc)?;
-                Ok(Request::SplitRegion { region, key })
-            }
-            Request::MergeRegions { regions } => Ok(Request::MergeRegions {
-                regions: regions.copy(alloc)?,
-            }),
-            Request::Move { region, to } => {
-                let (region, to) = copy_two(region, to, alloc)?;
-                Ok(Request::Move { region, to })
-            }
+            Request::CreateNamespace { ns } => copy_create_namespace(ns, alloc),
+            Request::DropNamespace { ns } => copy_drop_namespace(ns, alloc),
+            Request::CreateTable { table, keys } => copy_create_table(table, keys, alloc),
+            Request::DeleteTable { table } => copy_delete_table(table, alloc),
+            Request::EnableTable { table } => copy_enable_table(table, alloc),
+            Request::DisableTable { table } => copy_disable_table(table, alloc),
+            Request::ModifyTable { table, version } => copy_modify_table(table, *version, alloc),
+            Request::SplitRegion { region, key } => copy_split_region(region, key, alloc),
+            Request::MergeRegions { regions } => copy_merge_regions(regions, alloc),
+            Request::Move { region, to } => copy_move(region, to, alloc),
         }
     }
 }
