@@ -73,3 +73,5 @@ pub mod Actors
 pub mod Findings
 pub mod Storages
 pub mod Layouts
+pub mod Image
+pub mod Rebase
