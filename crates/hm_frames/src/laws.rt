@@ -18,7 +18,8 @@ ghost use Rattle.hm_model.specs.Rules.{Allowed, IsLegal};
 ghost use Rattle.hm_model.specs.Base.{AreSheets};
 ghost use Rattle.hm_hall.specs.Recording.{CanBeRecorded};
 
-/// Each entry that may stand after a journal can be recorded: its spelling fits a frame.
+/// Each entry that may stand after a journal can be recorded: its spelling fits a frame. Of a request and of a part it has to be known that
+/// they fit, since the rules bound neither names nor keys.
 pub fn entries_fit_frames()
     ensures start { (sheets : List Sheet) → AreSheets sheets → CanBeRecorded (entry_is.Start sheets) }
     ensures submit { (nonce : Nonce) (request : Request) → MaySubmit request → RequestFits request →

@@ -1,7 +1,6 @@
 -- What is inconsistent between a journal and the servers that run: the findings.
 use Rattle.std.specs.Prelude.{◌≡◌, ◌≢◌, ℕ, List, Option, Some, None, Bool, true, false, ◌&&◌, ◌||◌, ◌⊎◌}
-use Rattle.std.specs.declared.cmp.Ordering.{Ordering}
-use Rattle.std.specs.declared.cmp.Ordering.TheVariants.{Less, Equal}
+use Rattle.std.specs.declared.cmp.Ordering.TheVariants.{Less}
 use Rattle.hm_names.specs.Order.{bytes_cmp, region_cmp, server_cmp}
 use Rattle.hm_names.specs.Ranges.{overlaps, holds as range_holds}
 use Rattle.hm_names.specs.Region.{Region}
@@ -17,7 +16,6 @@ use Rattle.hm_model.specs.Catalog.{cat}
 use Rattle.hm_model.specs.Fleet.{is_fenced, is_live}
 use Rattle.hm_model.specs.Journal.{Past}
 use Rattle.hm_model.specs.Keys.{same_region, same_table}
-use Rattle.hm_model.specs.Locks.{IsIn}
 use Rattle.hm_model.specs.Places.{is_at, place_of}
 use Rattle.hm_model.specs.Ranges.{IsLiveWith}
 use Rattle.hm_model.specs.RowsSaid.{range_in}

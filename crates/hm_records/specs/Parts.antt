@@ -1,5 +1,5 @@
 -- What is kept of an entry, and how much room it needs.
-use Rattle.std.specs.Prelude.{◌≡◌, ℕ, ◌+◌, ◌==◌, List, [], ◌∷◌, length, max, Option, Some, None, if◌then◌else◌}
+use Rattle.std.specs.Prelude.{◌≡◌, ℕ, ◌+◌, ◌==◌, List, [], length, max, Option, Some, None, if◌then◌else◌}
 use Rattle.hm_names.specs.Server.{Server}
 use Rattle.hm_names.specs.declared.nonce.Nonce.{Nonce}
 use Rattle.hm_names.specs.declared.table.TableName.{TableName}
