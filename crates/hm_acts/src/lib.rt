@@ -11,6 +11,7 @@ mod namespaces;
 mod order;
 mod outs;
 mod pieces;
+mod ranges;
 mod regions;
 mod row;
 mod sorts;

@@ -244,12 +244,8 @@ pub(crate) fn has_table(ns: &Ns, rows: &[(CatKey, CatRow)]) -> bool
     false
 }
 
-/// A copy of the row of a key among rows.
-pub(crate) fn row_copy(
-    alloc: Global,
-    rows: &Rows<'_>,
-    key: &CatKey,
-) -> Result<Option<CatRow>, AllocError>
+// A copy of the row of a key among rows.
+fn row_copy(alloc: Global, rows: &Rows<'_>, key: &CatKey) -> Result<Option<CatRow>, AllocError>
     ensures { IfOk result (λ row. row ≡ row_of rows.now key.now) }
 {
     match rows.at(key) {
@@ -267,25 +263,50 @@ pub(crate) fn set_row(
 ) -> Result<Edit, AllocError>
     ensures { IfOk result (λ edit. edit ≡ set_to (row_of rows.now) key after) }
 {
-    let before = row_copy(alloc, rows, &key)?;
-    Ok(Edit { key, before, after })
-}
-
-fn in_state(row: CatRow, state: TableState) -> CatRow
-    ensures { result ≡ put_in state row }
-{
-    match row {
-        CatRow::Table { state: _, version } => CatRow::Table { state, version },
-        other => other,
+    match row_copy(alloc, rows, &key) {
+        Ok(before) => Ok(Edit { key, before, after }),
+        Err(refused) => {
+            drop(key);
+            drop(after);
+            Err(refused)
+        }
     }
 }
 
-fn in_version(row: CatRow, version: u64) -> CatRow
-    ensures { result ≡ versioned version row }
+/// The row of the key as it is, as an edit that is still to change it.
+pub(crate) fn kept_row(alloc: Global, rows: &Rows<'_>, key: CatKey) -> Result<Edit, AllocError>
+    ensures { IfOk result (λ edit. edit ≡ set_to (row_of rows.now) key (row_of rows.now key)) }
 {
-    match row {
-        CatRow::Table { state, version: _ } => CatRow::Table { state, version },
-        other => other,
+    match row_copy(alloc, rows, &key) {
+        Ok(row) => set_row(alloc, rows, key, row),
+        Err(refused) => {
+            drop(key);
+            Err(refused)
+        }
+    }
+}
+
+fn put_state(row: &mut CatRow, state: TableState)
+    ensures { row.new ≡ put_in state row.old }
+{
+    if let CatRow::Table {
+        state: before,
+        version: _,
+    } = row
+    {
+        *before = state;
+    }
+}
+
+fn put_version(row: &mut CatRow, version: u64)
+    ensures { row.new ≡ versioned version row.old }
+{
+    if let CatRow::Table {
+        state: _,
+        version: before,
+    } = row
+    {
+        *before = version;
     }
 }
 
@@ -299,11 +320,11 @@ pub(crate) fn set_state(
     ensures { IfOk result (λ edit. edit ≡ changed (row_of rows.now) (key_is.Table table.now) (put_in state)) }
 {
     let key = table_key(alloc, table)?;
-    let after = match row_copy(alloc, rows, &key)? {
-        None => None,
-        Some(row) => Some(in_state(row, state)),
-    };
-    set_row(alloc, rows, key, after)
+    let mut edit = kept_row(alloc, rows, key)?;
+    if let Some(row) = &mut edit.after {
+        put_state(row, state);
+    }
+    Ok(edit)
 }
 
 /// A table given a version, in its state.
@@ -316,9 +337,9 @@ pub(crate) fn set_version(
     ensures { IfOk result (λ edit. edit ≡ changed (row_of rows.now) (key_is.Table table.now) (versioned version)) }
 {
     let key = table_key(alloc, table)?;
-    let after = match row_copy(alloc, rows, &key)? {
-        None => None,
-        Some(row) => Some(in_version(row, version)),
-    };
-    set_row(alloc, rows, key, after)
+    let mut edit = kept_row(alloc, rows, key)?;
+    if let Some(row) = &mut edit.after {
+        put_version(row, version);
+    }
+    Ok(edit)
 }

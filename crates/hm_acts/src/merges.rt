@@ -4,7 +4,7 @@ ghost use Rattle.std.specs.List.{AllByRecursion, list_any};
 ghost use Rattle.std.specs.Str.{bytes_eq};
 ghost use Rattle.hm_data.specs.declared.catalog.CatKey.TheVariants as key_is;
 ghost use Rattle.hm_model.specs.Catalog.{row_at as row_of};
-ghost use Rattle.hm_model.specs.Changes.{mark_merged as marks, add_merged as adds_merged, merge_edits as merging};
+ghost use Rattle.hm_model.specs.Changes.{mark_merged as marks, merged_of, add_merged as adds_merged, merge_edits as merging};
 ghost use Rattle.hm_model.specs.Checks.{regions_live as all_live, rows_of, parts_of as parts_in, by_start as started, is_chain as chained, are_adjacent as adjacent, hull as hull_of};
 ghost use Rattle.hm_model.specs.Evaluation.{named_ids};
 ghost use Rattle.hm_model.specs.Kinds.{table_of_first};
@@ -14,13 +14,14 @@ ghost use Rattle.hm_model.specs.RowsSaid.{status_in as status_in_row, is_live_st
 use crate::checks::{is_live, status_in, table_enabled};
 use crate::lookup::{Rows, table_row};
 use crate::order::in_name_order;
-use crate::outs::{checked, edits_rows};
-use crate::regions::key_of_region;
-use crate::splits::{add_region, mark, range_in};
+use crate::outs::{checked, edits_rows, push_edit};
+use crate::ranges::range_of_keys;
+use crate::regions::add_region;
+use crate::splits::{mark, range_in};
 use crate::undo::{closed_by, closed_by_request};
 use hm_data::{Args, CatKey, CatRow, Cause, Edit, Status, StepOut};
 use hm_model::Merged;
-use hm_names::{Copied, KeyRange, RegionName};
+use hm_names::{Copied, KeyRange, RegionName, TableName};
 use std::alloc::{AllocError, Global};
 
 // The status of a region among rows.
@@ -177,10 +178,7 @@ fn hull(alloc: Global, first: &KeyRange, parts: &[Merged]) -> Result<KeyRange, A
     for part in parts {
         end = &part.range.end;
     }
-    Ok(KeyRange {
-        start: first.start.copy(alloc)?,
-        end: end.copy(alloc)?,
-    })
+    range_of_keys(alloc, &first.start, end)
 }
 
 fn ids_of(alloc: Global, parts: &[Merged]) -> Result<Vec<u64>, AllocError>
@@ -191,6 +189,26 @@ fn ids_of(alloc: Global, parts: &[Merged]) -> Result<Vec<u64>, AllocError>
         ids.push(part.id)?;
     }
     Ok(ids)
+}
+
+// Adds the region that these parts become.
+fn push_parts(
+    alloc: Global,
+    rows: &Rows<'_>,
+    table: &TableName,
+    first: u64,
+    parts: &[Merged],
+    edits: &mut Vec<Edit>,
+) -> Result<(), AllocError>
+    requires { 1 ≤ first }
+    ensures { OnOk result (edits.new.items ≡ edits.old.items ++ merged_of (row_of rows.now) table.now first parts.now) }
+{
+    let [part, rest @ ..] = parts else {
+        return Ok(());
+    };
+    let range = hull(alloc, &part.range, rest)?;
+    let ids = ids_of(alloc, parts)?;
+    push_edit(edits, add_region(alloc, rows, table, first, range, ids)?)
 }
 
 // Adds the region that others become.
@@ -208,13 +226,7 @@ fn push_merged(
         return Ok(());
     };
     let parts = parts_by_start(alloc, rows, regions)?;
-    if let [part, rest @ ..] = parts.as_slice() {
-        let key = key_of_region(alloc, &region.table, first)?;
-        let range = hull(alloc, &part.range, rest)?;
-        let ids = ids_of(alloc, &parts)?;
-        edits.push(add_region(alloc, rows, key, range, ids)?)?;
-    }
-    Ok(())
+    push_parts(alloc, rows, &region.table, first, &parts, edits)
 }
 
 // Regions marked as merged.
@@ -227,7 +239,7 @@ fn mark_merged(
 {
     let mut edits = Vec::new(alloc);
     for region in regions {
-        edits.push(mark(alloc, rows, region, Status::Merged)?)?;
+        push_edit(&mut edits, mark(alloc, rows, region, Status::Merged)?)?;
     }
     Ok(edits)
 }

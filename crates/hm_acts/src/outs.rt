@@ -1,5 +1,5 @@
 // The forms of what a step answers.
-ghost use Rattle.std.specs.Prelude.{◌≡◌, IfOk, [], ◌∷◌};
+ghost use Rattle.std.specs.Prelude.{◌≡◌, ◌++◌, IfOk, OnOk, [], ◌∷◌};
 ghost use Rattle.hm_data.specs.declared.args.Child.TheVariants as child_is;
 ghost use Rattle.hm_model.specs.Outs.{gives as given, fails as failing, on_to as leads_to, ends_with as ended, checked as checking, edits_rows as editing, spawns as spawning, calls as calling, places as placing, goes_on as going_on};
 
@@ -71,12 +71,20 @@ pub(crate) fn edits_rows(alloc: Global, next: u8, edits: Vec<Edit>) -> StepOut
     gives(alloc, on_to(next), edits)
 }
 
+/// Appends an edit.
+pub(crate) fn push_edit(edits: &mut Vec<Edit>, edit: Edit) -> Result<(), AllocError>
+    ensures { OnOk result (edits.new.items ≡ edits.old.items ++ edit ∷ []) }
+{
+    edits.push(edit)?;
+    Ok(())
+}
+
 /// One edit, and on to the next row or the end.
 pub(crate) fn edits_row(alloc: Global, next: u8, edit: Edit) -> Result<StepOut, AllocError>
     ensures { IfOk result (λ out. out ≡ editing next (edit ∷ [])) }
 {
     let mut edits = Vec::new(alloc);
-    edits.push(edit)?;
+    push_edit(&mut edits, edit)?;
     Ok(edits_rows(alloc, next, edits))
 }
 
@@ -97,12 +105,20 @@ pub(crate) fn spawns(alloc: Global, next: u8, children: Vec<Child>) -> StepOut
     }
 }
 
+/// One procedure, as the one child.
+pub(crate) fn one_child(alloc: Global, args: Args) -> Result<Vec<Child>, AllocError>
+    ensures { IfOk result (λ v. v.items ≡ child_is.One args ∷ []) }
+{
+    let mut children = Vec::new(alloc);
+    children.push(Child::One(args))?;
+    Ok(children)
+}
+
 /// One child, for whose end is waited.
 pub(crate) fn spawns_one(alloc: Global, next: u8, args: Args) -> Result<StepOut, AllocError>
     ensures { IfOk result (λ out. out ≡ spawning next (child_is.One args ∷ [])) }
 {
-    let mut children = Vec::new(alloc);
-    children.push(Child::One(args))?;
+    let children = one_child(alloc, args)?;
     Ok(spawns(alloc, next, children))
 }
 

@@ -103,14 +103,23 @@ pub(crate) fn transits_from(
     Ok(children)
 }
 
+// A procedure that removes the regions with these ids.
+fn drops_ids(alloc: Global, table: &TableName, ids: Vec<u64>) -> Result<Child, AllocError>
+    ensures { IfOk result (λ child. child ≡ child_is.One (args_are.DropRegions table.now ids.items)) }
+{
+    let table = table.copy(alloc)?;
+    Ok(Child::One(Args::DropRegions {
+        table,
+        ids: List::of(ids),
+    }))
+}
+
 // A procedure that removes regions.
 fn drop_piece(alloc: Global, table: &TableName, ids: &[u64]) -> Result<Child, AllocError>
     ensures { IfOk result (λ child. child ≡ child_is.One (args_are.DropRegions table.now ids.now)) }
 {
-    Ok(Child::One(Args::DropRegions {
-        table: table.copy(alloc)?,
-        ids: List::of(Vec::from_slice(alloc, ids)?),
-    }))
+    let ids = Vec::from_slice(alloc, ids)?;
+    drops_ids(alloc, table, ids)
 }
 
 /// Procedures that remove regions, 64 each, the last the rest.
@@ -143,6 +152,24 @@ pub(crate) fn key_copies(alloc: Global, keys: &[RowKey]) -> Result<Vec<RowKey>, 
     Ok(copied)
 }
 
+// A procedure that adds the regions between the bounds that it is given.
+fn adds_between(
+    alloc: Global,
+    table: &TableName,
+    first: u64,
+    bounds: Vec<RowKey>,
+) -> Result<Child, AllocError>
+    ensures { IfOk result
+        (λ child. child ≡ child_is.One (args_are.AddRegions table.now first bounds.items)) }
+{
+    let table = table.copy(alloc)?;
+    Ok(Child::One(Args::AddRegions {
+        table,
+        first,
+        bounds: List::of(bounds),
+    }))
+}
+
 // A procedure that adds the regions between bounds.
 fn add_piece(
     alloc: Global,
@@ -153,11 +180,8 @@ fn add_piece(
     ensures { IfOk result
         (λ child. child ≡ child_is.One (args_are.AddRegions table.now first bounds.now)) }
 {
-    Ok(Child::One(Args::AddRegions {
-        table: table.copy(alloc)?,
-        first,
-        bounds: List::of(key_copies(alloc, bounds)?),
-    }))
+    let bounds = key_copies(alloc, bounds)?;
+    adds_between(alloc, table, first, bounds)
 }
 
 /// Procedures that add the regions between bounds, 64 each, the last the rest.

@@ -1,9 +1,9 @@
 // The acts on the regions of tables.
-ghost use Rattle.std.specs.Prelude.{◌≡◌, ◌≤◌, ◌<◌, ◌^◌, ◌++◌, List as PlainList, [], ◌∷◌, IfOk, IfSome, length, option_copied};
+ghost use Rattle.std.specs.Prelude.{◌≡◌, ◌≤◌, ◌<◌, ◌^◌, ◌++◌, List as PlainList, [], ◌∷◌, IfOk, IfSome, Some, length, option_copied};
 ghost use Rattle.std.specs.List.{AllByRecursion, cons_option};
 ghost use Rattle.std.specs.Option.{option_map};
 ghost use Rattle.hm_names.specs.Region.{Region};
-ghost use Rattle.hm_model.specs.Catalog.{row_at as row_of};
+ghost use Rattle.hm_model.specs.Catalog.{row_at as row_of, set_to};
 ghost use Rattle.hm_model.specs.Changes.{live_row as live_of, region_key, add_ranges as adds_ranges, remove_regions as removes};
 ghost use Rattle.hm_model.specs.Evaluation.{named_ids};
 ghost use Rattle.hm_model.specs.Pieces.{ranges_between as between, transits as transits_of};
@@ -15,22 +15,22 @@ ghost use Rattle.hm_acts.specs.Runs.{row_counts};
 use crate::checks::{is_live, status_in};
 use crate::lookup::{Rows, same_table, set_row};
 use crate::order::ids_of as ids_in;
-use crate::outs::{edits_rows, goes_on, spawns};
+use crate::outs::{edits_rows, goes_on, push_edit, spawns};
 use crate::pieces::{adding, dropping, key_copies, transits, transits_from};
+use crate::ranges::range_of_keys;
 use crate::views::{first_id_of, ids_of, table_of};
 use hm_data::{Args, CatKey, CatRow, Child, Edit, Goal, Request, Status, StepOut};
-use hm_names::{Copied, KeyRange, List, NameFault, RegionName, RowKey, TableName};
+use hm_names::{Copied, KeyRange, List, RegionName, RowKey, TableName};
 use std::alloc::{AllocError, Global};
 
 // The key that stands for the open end.
 fn open_end(alloc: Global) -> Result<RowKey, AllocError>
     ensures { IfOk result (λ key. key ≡ []) }
 {
-    match RowKey::of(alloc, &[]) {
-        Ok(key) => Ok(key),
-        Err(NameFault::Memory) => Err(AllocError),
-        Err(_) => unreachable!(),
-    }
+    let Ok(key) = RowKey::of(alloc, &[]) else {
+        return Err(AllocError);
+    };
+    Ok(key)
 }
 
 // The bounds of a table's regions that is split at keys.
@@ -236,8 +236,8 @@ pub(crate) fn open_new(
     Ok(spawns(alloc, next, children))
 }
 
-/// A live region as a row.
-pub(crate) fn live_row(range: KeyRange, parents: Vec<u64>) -> CatRow
+// A live region as a row.
+fn live_row(range: KeyRange, parents: Vec<u64>) -> CatRow
     ensures { result ≡ live_of range parents.items }
 {
     CatRow::Region {
@@ -247,8 +247,8 @@ pub(crate) fn live_row(range: KeyRange, parents: Vec<u64>) -> CatRow
     }
 }
 
-/// The key of the region of a table with an id.
-pub(crate) fn key_of_region(alloc: Global, table: &TableName, id: u64) -> Result<CatKey, AllocError>
+// The key of the region of a table with an id.
+fn key_of_region(alloc: Global, table: &TableName, id: u64) -> Result<CatKey, AllocError>
     requires { 1 ≤ id }
     ensures { IfOk result (λ key. key ≡ region_key table.now id) }
 {
@@ -264,14 +264,43 @@ fn ranges_between(alloc: Global, bounds: &[RowKey]) -> Result<Vec<KeyRange>, All
     if let [first, rest @ ..] = bounds {
         let mut before = first;
         for bound in rest {
-            ranges.push(KeyRange {
-                start: before.copy(alloc)?,
-                end: bound.copy(alloc)?,
-            })?;
+            ranges.push(range_of_keys(alloc, before, bound)?)?;
             before = bound;
         }
     }
     Ok(ranges)
+}
+
+/// A live region with these parents is added to a table, with an id.
+pub(crate) fn add_region(
+    alloc: Global,
+    rows: &Rows<'_>,
+    table: &TableName,
+    id: u64,
+    range: KeyRange,
+    parents: Vec<u64>,
+) -> Result<Edit, AllocError>
+    requires { 1 ≤ id }
+    ensures { IfOk result
+        (λ edit. edit ≡ set_to (row_of rows.now) (region_key table.now id) (Some (live_of range parents.items))) }
+{
+    let key = key_of_region(alloc, table, id)?;
+    set_row(alloc, rows, key, Some(live_row(range, parents)))
+}
+
+// A live region of this range is added, with an id, without parents.
+fn add_range(
+    alloc: Global,
+    rows: &Rows<'_>,
+    table: &TableName,
+    id: u64,
+    range: &KeyRange,
+) -> Result<Edit, AllocError>
+    requires { 1 ≤ id }
+    ensures { IfOk result (λ edit. edit ≡ set_to (row_of rows.now) (region_key table.now id) (Some (live_of range.now []))) }
+{
+    let range = range.copy(alloc)?;
+    add_region(alloc, rows, table, id, range, Vec::new(alloc))
 }
 
 // Live regions of these ranges are added, with consecutive ids from the first.
@@ -289,9 +318,7 @@ fn add_ranges(
     let mut edits = Vec::new(alloc);
     let mut id = first;
     for range in ranges {
-        let key = key_of_region(alloc, table, id)?;
-        let row = live_row(range.copy(alloc)?, Vec::new(alloc));
-        edits.push(set_row(alloc, rows, key, Some(row))?)?;
+        push_edit(&mut edits, add_range(alloc, rows, table, id, range)?)?;
         id += 1;
     }
     Ok(edits)
@@ -332,7 +359,7 @@ fn remove_regions(
     let mut edits = Vec::new(alloc);
     for id in ids {
         let key = key_of_region(alloc, table, *id)?;
-        edits.push(set_row(alloc, rows, key, None)?)?;
+        push_edit(&mut edits, set_row(alloc, rows, key, None)?)?;
     }
     Ok(edits)
 }

@@ -1,7 +1,9 @@
 // The acts of splits, and those that merges have too.
-ghost use Rattle.std.specs.Prelude.{◌≡◌, ◌≤◌, ◌<◌, ◌^◌, [], ◌∷◌, IfOk, Some, option_copied};
+ghost use Rattle.std.specs.Prelude.{◌≡◌, ◌≤◌, ◌<◌, ◌^◌, ◌+◌, ◌++◌, [], ◌∷◌, IfOk, OnOk, Some, option_copied};
 ghost use Rattle.std.specs.List.{AllByRecursion};
 ghost use Rattle.hm_data.specs.declared.catalog.CatKey.TheVariants as key_is;
+ghost use Rattle.hm_data.specs.declared.catalog.Status.TheVariants as status_is;
+ghost use Rattle.hm_names.specs.Ranges.{lower_part, upper_part};
 ghost use Rattle.hm_model.specs.Catalog.{row_at as row_of, set_to};
 ghost use Rattle.hm_model.specs.Changes.{changed, region_key as key_with, live_row as live_of, split_range as splits, split_edits as splitting};
 ghost use Rattle.hm_model.specs.Checks.{can_split as may_split, key_inside as is_inside};
@@ -11,14 +13,15 @@ ghost use Rattle.hm_model.specs.RowsSaid.{in_status as put_in, range_in as range
 ghost use Rattle.hm_model.specs.Views.{first_id_of as first_id};
 
 use crate::checks::region_ready;
-use crate::lookup::{Rows, region_key, region_row, row_copy, set_row, table_row};
-use crate::outs::{checked, edits_rows, ends_with, goes_on, spawns};
+use crate::lookup::{Rows, kept_row, region_key, region_row, table_row};
+use crate::outs::{checked, edits_rows, ends_with, goes_on, push_edit, spawns};
 use crate::pieces::transits;
-use crate::regions::{key_of_region, live_row};
+use crate::ranges::range_of_keys;
+use crate::regions::add_region;
 use crate::undo::closed_by;
 use crate::views::{cut_of, region_of};
 use hm_data::{Args, CatKey, CatRow, Cause, Edit, Goal, Request, Status, StepOut, Told};
-use hm_names::{Copied, KeyRange, RegionName, RowKey};
+use hm_names::{KeyRange, RegionName, RowKey};
 use std::alloc::{AllocError, Global};
 
 /// The range of a region, by its row.
@@ -96,20 +99,16 @@ pub(crate) fn finish(alloc: Global) -> StepOut
     ends_with(alloc, Told::Nothing)
 }
 
-fn in_status(row: CatRow, status: Status) -> CatRow
-    ensures { result ≡ put_in status row }
+fn put_status(row: &mut CatRow, status: Status)
+    ensures { row.new ≡ put_in status row.old }
 {
-    match row {
-        CatRow::Region {
-            range,
-            status: _,
-            parents,
-        } => CatRow::Region {
-            range,
-            status,
-            parents,
-        },
-        other => other,
+    if let CatRow::Region {
+        range: _,
+        status: before,
+        parents: _,
+    } = row
+    {
+        *before = status;
     }
 }
 
@@ -124,24 +123,11 @@ pub(crate) fn mark(
         (λ edit. edit ≡ changed (row_of rows.now) (key_is.Region region.now) (put_in status)) }
 {
     let key = region_key(alloc, region)?;
-    let after = match row_copy(alloc, rows, &key)? {
-        None => None,
-        Some(row) => Some(in_status(row, status)),
-    };
-    set_row(alloc, rows, key, after)
-}
-
-/// A live region that came from others.
-pub(crate) fn add_region(
-    alloc: Global,
-    rows: &Rows<'_>,
-    key: CatKey,
-    range: KeyRange,
-    parents: Vec<u64>,
-) -> Result<Edit, AllocError>
-    ensures { IfOk result (λ edit. edit ≡ set_to (row_of rows.now) key (Some (live_of range parents.items))) }
-{
-    set_row(alloc, rows, key, Some(live_row(range, parents)))
+    let mut edit = kept_row(alloc, rows, key)?;
+    if let Some(row) = &mut edit.after {
+        put_status(row, status);
+    }
+    Ok(edit)
 }
 
 fn one_id(alloc: Global, id: u64) -> Result<Vec<u64>, AllocError>
@@ -150,16 +136,6 @@ fn one_id(alloc: Global, id: u64) -> Result<Vec<u64>, AllocError>
     let mut ids = Vec::new(alloc);
     ids.push(id)?;
     Ok(ids)
-}
-
-// The range from a start to an end.
-fn range_of_keys(alloc: Global, start: &RowKey, end: &RowKey) -> Result<KeyRange, AllocError>
-    ensures { IfOk result (λ range. range ≡ record { start = start.now; end = end.now }) }
-{
-    Ok(KeyRange {
-        start: start.copy(alloc)?,
-        end: end.copy(alloc)?,
-    })
 }
 
 // A daughter of a region is added.
@@ -173,23 +149,59 @@ fn add_daughter(
     requires { 1 ≤ id }
     ensures { IfOk result (λ edit. edit ≡ set_to (row_of rows.now) (key_with region.now.table id) (Some (live_of range (region.now.id ∷ [])))) }
 {
-    let key = key_of_region(alloc, &region.table, id)?;
     let parents = one_id(alloc, region.id)?;
-    add_region(alloc, rows, key, range, parents)
+    add_region(alloc, rows, &region.table, id, range, parents)
 }
 
-fn three_edits(
+// A daughter of a region is added to edits.
+fn push_daughter(
     alloc: Global,
-    first: Edit,
-    second: Edit,
-    third: Edit,
-) -> Result<Vec<Edit>, AllocError>
-    ensures { IfOk result (λ v. v.items ≡ first ∷ second ∷ third ∷ []) }
+    rows: &Rows<'_>,
+    region: &RegionName,
+    id: u64,
+    range: KeyRange,
+    edits: &mut Vec<Edit>,
+) -> Result<(), AllocError>
+    requires { 1 ≤ id }
+    ensures { OnOk result
+        (edits.new.items ≡ edits.old.items ++ set_to (row_of rows.now) (key_with region.now.table id) (Some (live_of range (region.now.id ∷ []))) ∷ []) }
+{
+    let edit = add_daughter(alloc, rows, region, id, range)?;
+    push_edit(edits, edit)
+}
+
+// The daughters of a region of this range that is split at a key are added to edits.
+fn push_daughters(
+    alloc: Global,
+    rows: &Rows<'_>,
+    region: &RegionName,
+    key: &RowKey,
+    first: u64,
+    range: &KeyRange,
+    edits: &mut Vec<Edit>,
+) -> Result<(), AllocError>
+    requires drawn { 1 ≤ first }
+    requires low { first < 2 ^ 32 }
+    ensures { OnOk result
+        (edits.new.items
+        ≡ edits.old.items
+        ++ set_to (row_of rows.now) (key_with region.now.table first) (Some (live_of (lower_part range.now key.now) (region.now.id ∷ [])))
+        ∷ set_to (row_of rows.now) (key_with region.now.table (first + 1)) (Some (live_of (upper_part range.now key.now) (region.now.id ∷ [])))
+        ∷ []) }
+{
+    let below = range_of_keys(alloc, &range.start, key)?;
+    push_daughter(alloc, rows, region, first, below, edits)?;
+    let from = range_of_keys(alloc, key, &range.end)?;
+    push_daughter(alloc, rows, region, first + 1, from, edits)
+}
+
+// A region that is split is marked.
+fn mark_split(alloc: Global, rows: &Rows<'_>, region: &RegionName) -> Result<Vec<Edit>, AllocError>
+    ensures { IfOk result
+        (λ v. v.items ≡ changed (row_of rows.now) (key_is.Region region.now) (put_in status_is.Split) ∷ []) }
 {
     let mut edits = Vec::new(alloc);
-    edits.push(first)?;
-    edits.push(second)?;
-    edits.push(third)?;
+    push_edit(&mut edits, mark(alloc, rows, region, Status::Split)?)?;
     Ok(edits)
 }
 
@@ -206,12 +218,9 @@ fn split_range(
     requires low { first < 2 ^ 32 }
     ensures { IfOk result (λ v. v.items ≡ splits (row_of rows.now) region.now key.now first (Some range.now)) }
 {
-    let below = range_of_keys(alloc, &range.start, key)?;
-    let from = range_of_keys(alloc, key, &range.end)?;
-    let marked = mark(alloc, rows, region, Status::Split)?;
-    let low = add_daughter(alloc, rows, region, first, below)?;
-    let high = add_daughter(alloc, rows, region, first + 1, from)?;
-    three_edits(alloc, marked, low, high)
+    let mut edits = mark_split(alloc, rows, region)?;
+    push_daughters(alloc, rows, region, key, first, range, &mut edits)?;
+    Ok(edits)
 }
 
 // A region is split at a key, with the first id that was drawn.

@@ -1,12 +1,16 @@
 // The acts of transits.
-ghost use Rattle.std.specs.Prelude.{◌≡◌, IfOk, option_copied};
+ghost use Rattle.std.specs.Prelude.{◌≡◌, [], ◌∷◌, IfOk, None, Some, option_copied};
+ghost use Rattle.hm_data.specs.declared.answer.Answer.TheVariants as answer_is;
+ghost use Rattle.hm_data.specs.declared.args.Args.TheVariants as args_are;
+ghost use Rattle.hm_data.specs.declared.args.Child.TheVariants as child_is;
+ghost use Rattle.hm_data.specs.declared.place.RegionState.TheVariants as state_is;
 ghost use Rattle.hm_model.specs.Evaluation.{wants_server as wanting};
 ghost use Rattle.hm_model.specs.TransitActs.{told_place as place_told, is_state as in_state, is_placed as placed, may_open as may, may_open_in as may_in, is_open as opened, lost_if as lost, nowhere as nowhere_in, candidate as candidate_is, get_assign_candidate as get_candidate, open_there as opens, is_told as told_by, opened_or_not as opened_if, confirm_opened as confirms, behind_close as behind, close_at as closes_at, close_or_go as closes_or_goes, close_there as closes, closed_or_lost as closed_if, confirm_closed as confirms_closed, check_move as checks};
 ghost use Rattle.hm_model.specs.Views.{region_of as region_in};
 
 use crate::checks::{is_in_state, is_live, region_ready, status_in, table_state_in};
 use crate::lookup::{region_row, table_row};
-use crate::outs::{checked, ends_with, goes_on, places, spawns_one};
+use crate::outs::{checked, ends_with, goes_on, one_child, places, spawns_one};
 use crate::views::{goal_in, region_of};
 use hm_data::{
     Answer, Args, CatKey, CatRow, Child, Goal, Place, RegionState, StepIn, StepOut, TableState,
@@ -187,21 +191,30 @@ fn behind_close(goal: Goal, told: Told) -> Answer
     }
 }
 
-fn close_at(
+// The procedure that closes a region at a server, as the one child.
+fn one_close(
     alloc: Global,
-    next: u8,
-    region: &RegionName,
-    server: ServerName,
-) -> Result<StepOut, AllocError>
-    ensures { IfOk result (λ out. out ≡ closes_at next region.now server) }
+    region: RegionName,
+    server: &ServerName,
+) -> Result<Vec<Child>, AllocError>
+    ensures { IfOk result (λ v. v.items ≡ child_is.One (args_are.CloseCall region server.now) ∷ []) }
 {
-    let call = Args::CloseCall {
-        region: region.copy(alloc)?,
-        server: server.copy(alloc)?,
-    };
-    let mut children = Vec::new(alloc);
-    children.push(Child::One(call))?;
-    Ok(StepOut {
+    let server = server.copy(alloc)?;
+    one_child(alloc, Args::CloseCall { region, server })
+}
+
+// A region that is closing, for whose close is waited.
+fn closing(alloc: Global, next: u8, children: Vec<Child>, server: ServerName) -> StepOut
+    ensures { result ≡ record {
+      answer = answer_is.Wait next;
+      edits = [];
+      children = children.items;
+      call = None;
+      place = Some (record { state = state_is.Closing; server = Some server });
+      followers = [];
+    } }
+{
+    StepOut {
         answer: Answer::Wait(next),
         edits: List::of(Vec::new(alloc)),
         children: List::of(children),
@@ -211,7 +224,20 @@ fn close_at(
             server: Some(server),
         }),
         followers: List::of(Vec::new(alloc)),
-    })
+    }
+}
+
+fn close_at(
+    alloc: Global,
+    next: u8,
+    region: &RegionName,
+    server: ServerName,
+) -> Result<StepOut, AllocError>
+    ensures { IfOk result (λ out. out ≡ closes_at next region.now server) }
+{
+    let region = region.copy(alloc)?;
+    let children = one_close(alloc, region, &server)?;
+    Ok(closing(alloc, next, children, server))
 }
 
 // A region is closed where it is open; where its server is lost, so is it.

@@ -1,7 +1,8 @@
 // What undoing a step answers.
-ghost use Rattle.std.specs.Prelude.{◌≡◌, IfOk};
+ghost use Rattle.std.specs.Prelude.{◌≡◌, [], ◌∷◌, IfOk};
 ghost use Rattle.hm_model.specs.Undoing.{turned as turned_edit, turned_round as round, undo_edits as edits_of, closed_by as closed, closed_by_request as closed_request, undo_followers as followers_of, undo_out as undone};
 
+use crate::outs::{one_child, push_edit};
 use crate::pieces::transits;
 use hm_data::{Answer, Args, Back, Child, Edit, Goal, Request, StepIn, StepOut};
 use hm_names::{Copied, List, Pid, RegionName};
@@ -10,10 +11,11 @@ use std::alloc::{AllocError, Global};
 fn turned(alloc: Global, edit: &Edit) -> Result<Edit, AllocError>
     ensures { IfOk result (λ x. x ≡ turned_edit edit.now) }
 {
+    let Edit { key, before, after } = edit.copy(alloc)?;
     Ok(Edit {
-        key: edit.key.copy(alloc)?,
-        before: edit.after.copy(alloc)?,
-        after: edit.before.copy(alloc)?,
+        key,
+        before: after,
+        after: before,
     })
 }
 
@@ -23,7 +25,7 @@ fn turned_round(alloc: Global, edits: &[Edit]) -> Result<Vec<Edit>, AllocError>
 {
     let mut turned_edits = Vec::new(alloc);
     for edit in edits {
-        turned_edits.push(turned(alloc, edit)?)?;
+        push_edit(&mut turned_edits, turned(alloc, edit)?)?;
     }
     turned_edits.reverse();
     Ok(turned_edits)
@@ -38,6 +40,15 @@ fn undo_edits(alloc: Global, undo: Back, edits: &[Edit]) -> Result<Vec<Edit>, Al
     }
 }
 
+// A copy of a region, as the one of a list.
+fn one_region(alloc: Global, region: &RegionName) -> Result<Vec<RegionName>, AllocError>
+    ensures { IfOk result (λ v. v.items ≡ region.now ∷ []) }
+{
+    let mut regions = Vec::new(alloc);
+    regions.push(region.copy(alloc)?)?;
+    Ok(regions)
+}
+
 /// The regions that a request closes to change them.
 pub(crate) fn closed_by_request(
     alloc: Global,
@@ -46,11 +57,7 @@ pub(crate) fn closed_by_request(
     ensures { IfOk result (λ v. v.items ≡ closed_request request.now) }
 {
     match request {
-        Request::SplitRegion { region, key: _ } => {
-            let mut regions = Vec::new(alloc);
-            regions.push(region.copy(alloc)?)?;
-            Ok(regions)
-        }
+        Request::SplitRegion { region, key: _ } => one_region(alloc, region),
         Request::MergeRegions { regions } => Ok(regions.copy(alloc)?.into_vec()),
         _ => Ok(Vec::new(alloc)),
     }
@@ -76,11 +83,7 @@ fn undo_followers(
     ensures { IfOk result (λ v. v.items ≡ followers_of undo args.now root) }
 {
     match undo {
-        Back::Sweep => {
-            let mut children = Vec::new(alloc);
-            children.push(Child::One(Args::SweepLayout { root }))?;
-            Ok(children)
-        }
+        Back::Sweep => one_child(alloc, Args::SweepLayout { root }),
         Back::Reopen => transits(alloc, Goal::Assign, &closed_by(alloc, args)?),
         _ => Ok(Vec::new(alloc)),
     }
