@@ -1,4 +1,6 @@
-ghost use Rattle.hm_entry.specs.Reading.{Gives, cat_key_of, cat_key_at, cat_row_of, cat_row_at, edit_at};
+ghost use Rattle.hm_data.specs.declared.catalog.CatRow.TheVariants as row_is;
+ghost use Rattle.hm_entry.specs.Reading.{Gives, of_two, list_at, option_at, u64_at, range_at, table_state_at, status_at};
+ghost use Rattle.hm_entry.specs.Reading.{cat_key_of, cat_key_at, cat_row_of, cat_row_at, edit_at};
 
 use crate::codes::{status, table_state};
 use crate::fault::EntryFault;
@@ -6,6 +8,7 @@ use crate::fields::{byte, u64};
 use crate::get::{Get, list, option};
 use crate::names::{ns, range, region, table};
 use hm_data::{CatKey, CatRow, Edit};
+use hm_names::KeyRange;
 use hm_wire::Reader;
 use std::alloc::Global;
 
@@ -31,6 +34,29 @@ fn key(alloc: Global, r: &mut Reader) -> Result<CatKey, EntryFault>
     key_behind(alloc, place, kind, r)
 }
 
+// The fields of a table's row.
+fn table_row(r: &mut Reader) -> Result<CatRow, EntryFault>
+    ensures { Gives result (of_two row_is.Table table_state_at u64_at r.old) r.new }
+{
+    Ok(CatRow::Table {
+        state: table_state(r)?,
+        version: u64(r)?,
+    })
+}
+
+// The fields of a region's row behind its range.
+fn region_row(alloc: Global, range: KeyRange, r: &mut Reader) -> Result<CatRow, EntryFault>
+    ensures { Gives result (of_two (row_is.Region range) status_at (list_at u64_at) r.old) r.new }
+{
+    let status = status(r)?;
+    let parents = list(alloc, r)?;
+    Ok(CatRow::Region {
+        range,
+        status,
+        parents,
+    })
+}
+
 // A row of this kind, which stood at the place.
 #[tactic(auto, unfolding(crate::specs::Reading::cat_row_of))]
 fn row_behind(alloc: Global, place: u64, kind: u8, r: &mut Reader) -> Result<CatRow, EntryFault>
@@ -38,15 +64,11 @@ fn row_behind(alloc: Global, place: u64, kind: u8, r: &mut Reader) -> Result<Cat
 {
     match kind {
         0 => Ok(CatRow::Ns),
-        1 => Ok(CatRow::Table {
-            state: table_state(r)?,
-            version: u64(r)?,
-        }),
-        2 => Ok(CatRow::Region {
-            range: range(alloc, r)?,
-            status: status(r)?,
-            parents: list(alloc, r)?,
-        }),
+        1 => table_row(r),
+        2 => {
+            let range = range(alloc, r)?;
+            region_row(alloc, range, r)
+        }
         _ => Err(EntryFault::Field(place)),
     }
 }
@@ -62,14 +84,21 @@ impl Get for CatRow {
     }
 }
 
+// The rows of an edit behind its key.
+fn edit_behind(alloc: Global, key: CatKey, r: &mut Reader) -> Result<Edit, EntryFault>
+    ensures { Gives result (of_two (λ before after. record { key = key; before = before; after = after }) (option_at cat_row_at) (option_at cat_row_at) r.old) r.new }
+{
+    let before = option(alloc, r)?;
+    let after = option(alloc, r)?;
+    Ok(Edit { key, before, after })
+}
+
 impl Get for Edit {
     ghost read = { edit_at };
 
     #[tactic(auto, unfolding(crate::specs::Reading::edit_at))]
     fn get(alloc: Global, r: &mut Reader) -> Result<Edit, EntryFault> {
         let key = key(alloc, r)?;
-        let before = option(alloc, r)?;
-        let after = option(alloc, r)?;
-        Ok(Edit { key, before, after })
+        edit_behind(alloc, key, r)
     }
 }

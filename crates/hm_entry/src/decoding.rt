@@ -1,9 +1,11 @@
 ghost use Rattle.std.specs.Prelude.{◌≡◌, IfOk, MatchResult};
 ghost use Rattle.hm_data.specs.declared.entry.Entry.{Entry};
+ghost use Rattle.hm_data.specs.declared.entry.Entry.TheVariants as entry_is;
 ghost use Rattle.hm_entry.specs.declared.fault.EntryFault.TheVariants.{Memory};
 ghost use Rattle.hm_entry.specs.Fits.{EntryFits};
 ghost use Rattle.hm_entry.specs.Spelling.{entry as spelling};
-ghost use Rattle.hm_entry.specs.Reading.{Gives, GivesAll, entry_of, entry_at, all_of};
+ghost use Rattle.hm_entry.specs.Reading.{Gives, GivesAll, of_two, of_three, option_at, byte_at, pid_at, nonce_at, server_at, told_at};
+ghost use Rattle.hm_entry.specs.Reading.{request_at, out_at, entry_of, entry_at, all_of};
 
 use crate::codes::told;
 use crate::fault::EntryFault;
@@ -17,6 +19,48 @@ use hm_data::Entry;
 use hm_wire::Reader;
 use std::alloc::Global;
 
+// The fields of a request that came in.
+fn submitted(alloc: Global, r: &mut Reader) -> Result<Entry, EntryFault>
+    ensures { Gives result (of_two entry_is.Submit nonce_at request_at r.old) r.new }
+{
+    Ok(Entry::Submit {
+        nonce: nonce(r)?,
+        request: request(alloc, r)?,
+    })
+}
+
+// The fields of a step.
+fn step(alloc: Global, r: &mut Reader) -> Result<Entry, EntryFault>
+    ensures { Gives result (of_three entry_is.Step pid_at (option_at server_at) out_at r.old) r.new }
+{
+    Ok(Entry::Step {
+        pid: pid(r)?,
+        pick: option(alloc, r)?,
+        out: out(alloc, r)?,
+    })
+}
+
+// The fields of a step that was undone.
+fn undone(alloc: Global, r: &mut Reader) -> Result<Entry, EntryFault>
+    ensures { Gives result (of_three entry_is.Undo pid_at byte_at out_at r.old) r.new }
+{
+    Ok(Entry::Undo {
+        pid: pid(r)?,
+        row: byte(r)?,
+        out: out(alloc, r)?,
+    })
+}
+
+// The fields of an answer to a call.
+fn reported(r: &mut Reader) -> Result<Entry, EntryFault>
+    ensures { Gives result (of_two entry_is.Report pid_at told_at r.old) r.new }
+{
+    Ok(Entry::Report {
+        call: pid(r)?,
+        told: told(r)?,
+    })
+}
+
 // An entry of this kind, which stood at the place.
 #[tactic(auto, unfolding(crate::specs::Reading::entry_of))]
 fn entry_behind(alloc: Global, place: u64, kind: u8, r: &mut Reader) -> Result<Entry, EntryFault>
@@ -26,24 +70,10 @@ fn entry_behind(alloc: Global, place: u64, kind: u8, r: &mut Reader) -> Result<E
         0 => Ok(Entry::Start {
             sheets: list(alloc, r)?,
         }),
-        1 => Ok(Entry::Submit {
-            nonce: nonce(r)?,
-            request: request(alloc, r)?,
-        }),
-        2 => Ok(Entry::Step {
-            pid: pid(r)?,
-            pick: option(alloc, r)?,
-            out: out(alloc, r)?,
-        }),
-        3 => Ok(Entry::Undo {
-            pid: pid(r)?,
-            row: byte(r)?,
-            out: out(alloc, r)?,
-        }),
-        4 => Ok(Entry::Report {
-            call: pid(r)?,
-            told: told(r)?,
-        }),
+        1 => submitted(alloc, r),
+        2 => step(alloc, r),
+        3 => undone(alloc, r),
+        4 => reported(r),
         5 => Ok(Entry::Up {
             server: server(alloc, r)?,
         }),

@@ -15,6 +15,7 @@ mod parts;
 mod put;
 mod put_catalog;
 mod put_entry;
+mod put_fields;
 mod put_part;
 mod put_steps;
 mod requests;

@@ -6,9 +6,9 @@ ghost use Rattle.hm_names.specs.Nonces.{IsNonce};
 ghost use Rattle.hm_names.specs.Regions.{IsRegion};
 ghost use Rattle.hm_names.specs.Servers.{IsServer};
 ghost use Rattle.hm_names.specs.Tables.{IsTable};
-ghost use Rattle.hm_entry.specs.Fits.{AllFit, KeyFits, IsNumber, PidFits, RangeFits};
+ghost use Rattle.hm_entry.specs.Fits.{AllFit, KeyFits, IsByte, IsNumber, PidFits, RangeFits};
 ghost use Rattle.hm_entry.specs.Sizes.{number_some, text_some, region_some};
-ghost use Rattle.hm_entry.specs.Spelling.{table as table_text, region as region_text, server as server_text, option as option_text, list as list_text, nonce as nonce_text, range as range_text, pid as pid_text, flag, number};
+ghost use Rattle.hm_entry.specs.Spelling.{table as table_text, region as region_text, server as server_text, option as option_text, list as list_text, nonce as nonce_text, range as range_text, pid as pid_text, flag, byte, number};
 ghost use Rattle.hm_wire.specs.Room.{HasRoom, Puts};
 ghost use Rattle.hm_wire.specs.Wire.{text};
 
@@ -46,6 +46,22 @@ fn text_length(bytes: &[u8]) -> u64
     ensures { result ≡ min (length (text bytes.now)) (2 ^ 64 - 1) }
 {
     (bytes.len() as u64).saturating_add(2)
+}
+
+impl Put for u8 {
+    ghost spell = { byte };
+
+    ghost fits = { IsByte };
+
+    ghost spelled = { λ _. Unit {0} };
+
+    fn length(&self) -> u64 {
+        1
+    }
+
+    fn put(&self, out: &mut Vec<u8>) {
+        put_byte(out, *self);
+    }
 }
 
 impl Put for u64 {

@@ -3,6 +3,7 @@ ghost use Rattle.hm_entry.specs.Sizes.{edit_some};
 ghost use Rattle.hm_entry.specs.Spelling.{key as key_text, catalog_row, edit as edit_text};
 
 use crate::put::{Item, Put};
+use crate::put_fields::{length_of_one, put_one, put_three, put_two};
 use hm_data::{CatKey, CatRow, Edit};
 use hm_wire::put_byte;
 
@@ -16,27 +17,18 @@ impl Put for CatKey {
     #[tactic(auto, unfolding(crate::specs::Spelling::key))]
     fn length(&self) -> u64 {
         match self {
-            CatKey::Ns(ns) => ns.length().saturating_add(1),
-            CatKey::Table(table) => table.length().saturating_add(1),
-            CatKey::Region(region) => region.length().saturating_add(1),
+            CatKey::Ns(ns) => length_of_one(ns),
+            CatKey::Table(table) => length_of_one(table),
+            CatKey::Region(region) => length_of_one(region),
         }
     }
 
     #[tactic(auto, unfolding(crate::specs::Spelling::key))]
     fn put(&self, out: &mut Vec<u8>) {
         match self {
-            CatKey::Ns(ns) => {
-                put_byte(out, 0);
-                ns.put(out);
-            }
-            CatKey::Table(table) => {
-                put_byte(out, 1);
-                table.put(out);
-            }
-            CatKey::Region(region) => {
-                put_byte(out, 2);
-                region.put(out);
-            }
+            CatKey::Ns(ns) => put_one(0, ns, out),
+            CatKey::Table(table) => put_one(1, table, out),
+            CatKey::Region(region) => put_one(2, region, out),
         }
     }
 }
@@ -64,21 +56,12 @@ impl Put for CatRow {
     fn put(&self, out: &mut Vec<u8>) {
         match self {
             CatRow::Ns => put_byte(out, 0),
-            CatRow::Table { state, version } => {
-                put_byte(out, 1);
-                put_byte(out, state.number());
-                version.put(out);
-            }
+            CatRow::Table { state, version } => put_two(1, &state.number(), version, out),
             CatRow::Region {
                 range,
                 status,
                 parents,
-            } => {
-                put_byte(out, 2);
-                range.put(out);
-                put_byte(out, status.number());
-                parents.put(out);
-            }
+            } => put_three(2, range, &status.number(), parents, out),
         }
     }
 }

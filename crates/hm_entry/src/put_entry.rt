@@ -3,6 +3,9 @@ ghost use Rattle.hm_entry.specs.Sizes.{row_some, sheet_some};
 ghost use Rattle.hm_entry.specs.Spelling.{row as row_text, sheet as sheet_text, request as request_text, entry as entry_text};
 
 use crate::put::{Item, Put};
+use crate::put_fields::{
+    length_of_one, length_of_three, length_of_two, put_one, put_three, put_two,
+};
 use hm_data::{Entry, Request, Row, Sheet};
 use hm_wire::put_byte;
 
@@ -20,10 +23,13 @@ impl Put for Row {
 
     #[tactic(auto, unfolding(crate::specs::Spelling::row))]
     fn put(&self, out: &mut Vec<u8>) {
-        put_byte(out, self.act.number());
-        put_byte(out, self.next);
-        self.after.put(out);
-        put_byte(out, self.undo.number());
+        put_three(
+            self.act.number(),
+            &self.next,
+            &self.after,
+            &self.undo.number(),
+            out,
+        );
     }
 }
 
@@ -64,76 +70,31 @@ impl Put for Request {
     #[tactic(auto, unfolding(crate::specs::Spelling::request))]
     fn length(&self) -> u64 {
         match self {
-            Request::CreateNamespace { ns } | Request::DropNamespace { ns } => {
-                ns.length().saturating_add(1)
-            }
-            Request::CreateTable { table, keys } => table
-                .length()
-                .saturating_add(keys.length())
-                .saturating_add(1),
+            Request::CreateNamespace { ns } | Request::DropNamespace { ns } => length_of_one(ns),
+            Request::CreateTable { table, keys } => length_of_two(table, keys),
             Request::DeleteTable { table }
             | Request::EnableTable { table }
-            | Request::DisableTable { table } => table.length().saturating_add(1),
-            Request::ModifyTable { table, .. } => table.length().saturating_add(9),
-            Request::SplitRegion { region, key } => region
-                .length()
-                .saturating_add(key.length())
-                .saturating_add(1),
-            Request::MergeRegions { regions } => regions.length().saturating_add(1),
-            Request::Move { region, to } => region
-                .length()
-                .saturating_add(to.length())
-                .saturating_add(1),
+            | Request::DisableTable { table } => length_of_one(table),
+            Request::ModifyTable { table, version } => length_of_two(table, version),
+            Request::SplitRegion { region, key } => length_of_two(region, key),
+            Request::MergeRegions { regions } => length_of_one(regions),
+            Request::Move { region, to } => length_of_two(region, to),
         }
     }
 
     #[tactic(auto, unfolding(crate::specs::Spelling::request))]
     fn put(&self, out: &mut Vec<u8>) {
         match self {
-            Request::CreateNamespace { ns } => {
-                put_byte(out, 1);
-                ns.put(out);
-            }
-            Request::DropNamespace { ns } => {
-                put_byte(out, 2);
-                ns.put(out);
-            }
-            Request::CreateTable { table, keys } => {
-                put_byte(out, 3);
-                table.put(out);
-                keys.put(out);
-            }
-            Request::DeleteTable { table } => {
-                put_byte(out, 4);
-                table.put(out);
-            }
-            Request::EnableTable { table } => {
-                put_byte(out, 5);
-                table.put(out);
-            }
-            Request::DisableTable { table } => {
-                put_byte(out, 6);
-                table.put(out);
-            }
-            Request::ModifyTable { table, version } => {
-                put_byte(out, 7);
-                table.put(out);
-                version.put(out);
-            }
-            Request::SplitRegion { region, key } => {
-                put_byte(out, 8);
-                region.put(out);
-                key.put(out);
-            }
-            Request::MergeRegions { regions } => {
-                put_byte(out, 9);
-                regions.put(out);
-            }
-            Request::Move { region, to } => {
-                put_byte(out, 10);
-                region.put(out);
-                to.put(out);
-            }
+            Request::CreateNamespace { ns } => put_one(1, ns, out),
+            Request::DropNamespace { ns } => put_one(2, ns, out),
+            Request::CreateTable { table, keys } => put_two(3, table, keys, out),
+            Request::DeleteTable { table } => put_one(4, table, out),
+            Request::EnableTable { table } => put_one(5, table, out),
+            Request::DisableTable { table } => put_one(6, table, out),
+            Request::ModifyTable { table, version } => put_two(7, table, version, out),
+            Request::SplitRegion { region, key } => put_two(8, region, key, out),
+            Request::MergeRegions { regions } => put_one(9, regions, out),
+            Request::Move { region, to } => put_two(10, region, to, out),
         }
     }
 }
@@ -148,80 +109,38 @@ impl Put for Entry {
     #[tactic(auto, unfolding(crate::specs::Spelling::entry))]
     fn length(&self) -> u64 {
         match self {
-            Entry::Start { sheets } => sheets.length().saturating_add(1),
-            Entry::Submit { nonce, request } => nonce
-                .length()
-                .saturating_add(request.length())
-                .saturating_add(1),
-            Entry::Step { pick, out, .. } => {
-                pick.length().saturating_add(out.length()).saturating_add(9)
-            }
-            Entry::Undo { out, .. } => out.length().saturating_add(10),
+            Entry::Start { sheets } | Entry::Adopt { sheets } => length_of_one(sheets),
+            Entry::Submit { nonce, request } => length_of_two(nonce, request),
+            Entry::Step { pid, pick, out } => length_of_three(pid, pick, out),
+            Entry::Undo { pid, row, out } => length_of_three(pid, row, out),
             Entry::Report { .. } => 10,
-            Entry::Up { server } | Entry::Down { server } => server.length().saturating_add(1),
+            Entry::Up { server } | Entry::Down { server } => length_of_one(server),
             Entry::Abort { .. } => 9,
-            Entry::Base { part } => part.length().saturating_add(1),
-            Entry::Adopt { sheets } => sheets.length().saturating_add(1),
+            Entry::Base { part } => length_of_one(part),
         }
     }
 
     #[tactic(auto, unfolding(crate::specs::Spelling::entry))]
     fn put(&self, out: &mut Vec<u8>) {
         match self {
-            Entry::Start { sheets } => {
-                put_byte(out, 0);
-                sheets.put(out);
-            }
-            Entry::Submit { nonce, request } => {
-                put_byte(out, 1);
-                nonce.put(out);
-                request.put(out);
-            }
+            Entry::Start { sheets } => put_one(0, sheets, out),
+            Entry::Submit { nonce, request } => put_two(1, nonce, request, out),
             Entry::Step {
                 pid,
                 pick,
                 out: step,
-            } => {
-                put_byte(out, 2);
-                pid.put(out);
-                pick.put(out);
-                step.put(out);
-            }
+            } => put_three(2, pid, pick, step, out),
             Entry::Undo {
                 pid,
                 row,
                 out: step,
-            } => {
-                put_byte(out, 3);
-                pid.put(out);
-                put_byte(out, *row);
-                step.put(out);
-            }
-            Entry::Report { call, told } => {
-                put_byte(out, 4);
-                call.put(out);
-                put_byte(out, told.number());
-            }
-            Entry::Up { server } => {
-                put_byte(out, 5);
-                server.put(out);
-            }
-            Entry::Down { server } => {
-                put_byte(out, 6);
-                server.put(out);
-            }
-            Entry::Abort { pid } => {
-                put_byte(out, 7);
-                pid.put(out);
-            }
-            Entry::Base { part } => {
-                put_byte(out, 8);
-                part.put(out);
-            }
-            Entry::Adopt { sheets } => {
-                put_byte(out, 9);
-                sheets.put(out);
-            }
+            } => put_three(3, pid, row, step, out),
+            Entry::Report { call, told } => put_two(4, call, &told.number(), out),
+            Entry::Up { server } => put_one(5, server, out),
+            Entry::Down { server } => put_one(6, server, out),
+            Entry::Abort { pid } => put_one(7, pid, out),
+            Entry::Base { part } => put_one(8, part, out),
+            Entry::Adopt { sheets } => put_one(9, sheets, out),
         }
     }
 }

@@ -1,10 +1,13 @@
 ghost use Rattle.std.specs.Prelude.{◌≡◌, ◌-◌, ◌^◌, ◌≤◌, length, min};
+ghost use Rattle.hm_data.specs.declared.part.Part.TheVariants as part_is;
 ghost use Rattle.hm_entry.specs.Fits.{PartFits, RootArgsFit, TableRowFits};
 ghost use Rattle.hm_entry.specs.Spelling.{cause_byte, part as part_text, root_args, table_row};
 ghost use Rattle.hm_wire.specs.Room.{HasRoom, Puts};
 
 use crate::put::Put;
-use hm_data::{Args, Cause, Part, TableState};
+use crate::put_fields::{length_of_one, length_of_three, put_one, put_three, put_two};
+use hm_data::{Args, Cause, Part, Sheet, TableState};
+use hm_names::{List, Pid};
 use hm_wire::put_byte;
 
 impl Put for (TableState, u64) {
@@ -77,10 +80,7 @@ fn put_root_args(args: &Args, out: &mut Vec<u8>)
             first.put(out);
         }
         Args::Transit { region, goal, to } => {
-            put_byte(out, 255);
-            region.put(out);
-            put_byte(out, goal.number());
-            to.put(out);
+            put_three(255, region, &goal.number(), to, out);
         }
         Args::Crash { .. }
         | Args::AddRegions { .. }
@@ -91,6 +91,21 @@ fn put_root_args(args: &Args, out: &mut Vec<u8>)
         | Args::LayoutCall { .. }
         | Args::SweepLayout { .. } => args.put(out),
     }
+}
+
+// Appends a head.
+#[tactic(auto, unfolding(crate::specs::Spelling::part))]
+fn put_head(entries: &u64, last: &Pid, parts: &u64, sheets: &List<Sheet>, out: &mut Vec<u8>)
+    requires short { length (part_text (part_is.Head entries.now last.now parts.now sheets.now)) ≤ 65536 }
+    requires room { HasRoom out.old (length (part_text (part_is.Head entries.now last.now parts.now sheets.now))) }
+    ensures put { Puts out.old (part_text (part_is.Head entries.now last.now parts.now sheets.now)) out.new }
+    ensures fits { PartFits (part_is.Head entries.now last.now parts.now sheets.now) }
+{
+    put_byte(out, 0);
+    entries.put(out);
+    last.put(out);
+    parts.put(out);
+    sheets.put(out);
 }
 
 impl Put for Part {
@@ -104,11 +119,8 @@ impl Put for Part {
     fn length(&self) -> u64 {
         match self {
             Part::Head { sheets, .. } => sheets.length().saturating_add(25),
-            Part::Namespace { ns } => ns.length().saturating_add(1),
-            Part::Table { table, row, .. } => table
-                .length()
-                .saturating_add(row.length())
-                .saturating_add(9),
+            Part::Namespace { ns } => length_of_one(ns),
+            Part::Table { table, drawn, row } => length_of_three(table, drawn, row),
             Part::Region {
                 region,
                 range,
@@ -144,23 +156,9 @@ impl Put for Part {
                 last,
                 parts,
                 sheets,
-            } => {
-                put_byte(out, 0);
-                entries.put(out);
-                last.put(out);
-                parts.put(out);
-                sheets.put(out);
-            }
-            Part::Namespace { ns } => {
-                put_byte(out, 1);
-                ns.put(out);
-            }
-            Part::Table { table, drawn, row } => {
-                put_byte(out, 2);
-                table.put(out);
-                drawn.put(out);
-                row.put(out);
-            }
+            } => put_head(entries, last, parts, sheets, out),
+            Part::Namespace { ns } => put_one(1, ns, out),
+            Part::Table { table, drawn, row } => put_three(2, table, drawn, row, out),
             Part::Region {
                 region,
                 range,
@@ -168,34 +166,21 @@ impl Put for Part {
                 parents,
                 place,
             } => {
-                put_byte(out, 3);
-                region.put(out);
-                range.put(out);
-                put_byte(out, status.number());
-                parents.put(out);
-                place.put(out);
+                put_two(3, region, range, out);
+                put_two(status.number(), parents, place, out);
             }
-            Part::Server { server, fenced } => {
-                put_byte(out, 4);
-                server.put(out);
-                fenced.put(out);
-            }
+            Part::Server { server, fenced } => put_two(4, server, fenced, out),
             Part::Root {
                 pid,
                 nonce,
                 args,
                 cause,
             } => {
-                put_byte(out, 5);
-                pid.put(out);
-                nonce.put(out);
+                put_two(5, pid, nonce, out);
                 put_root_args(args, out);
                 cause.put(out);
             }
-            Part::Layout { pid } => {
-                put_byte(out, 6);
-                pid.put(out);
-            }
+            Part::Layout { pid } => put_one(6, pid, out),
         }
     }
 }

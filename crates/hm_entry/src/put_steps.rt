@@ -1,8 +1,13 @@
-ghost use Rattle.hm_entry.specs.Fits.{AnswerFits, ArgsFit, ChildFits, VerbFits, PlaceFits, OutFits, IsSpelled, ChildIsSpelled, OutIsSpelled};
+ghost use Rattle.std.specs.Prelude.{◌≡◌, ◌-◌, ◌^◌, ◌≤◌, ◌++◌, length, min, IfSome, All};
+ghost use Rattle.hm_entry.specs.Fits.{AllFit, AnswerFits, ArgsFit, ChildFits, VerbFits, PlaceFits, OutFits, IsSpelled, ChildIsSpelled, OutIsSpelled};
 ghost use Rattle.hm_entry.specs.Sizes.{child_some};
-ghost use Rattle.hm_entry.specs.Spelling.{answer as answer_text, args as args_text, child as child_text, verb as verb_text, place as place_text, out as out_text};
+ghost use Rattle.hm_entry.specs.Spelling.{answer as answer_text, args as args_text, child as child_text, verb as verb_text, place as place_text, option as option_text, list as list_text, out as out_text};
+ghost use Rattle.hm_wire.specs.Room.{HasRoom, Puts};
 
 use crate::put::{Item, Put};
+use crate::put_fields::{
+    length_of_one, length_of_three, length_of_two, put_one, put_three, put_two,
+};
 use hm_data::{Answer, Args, Child, Place, StepOut, Verb};
 use hm_wire::put_byte;
 
@@ -21,26 +26,11 @@ impl Put for Answer {
     #[tactic(auto, unfolding(crate::specs::Spelling::answer))]
     fn put(&self, out: &mut Vec<u8>) {
         match self {
-            Answer::More(row) => {
-                put_byte(out, 0);
-                put_byte(out, *row);
-            }
-            Answer::Wait(row) => {
-                put_byte(out, 1);
-                put_byte(out, *row);
-            }
-            Answer::Await(row) => {
-                put_byte(out, 2);
-                put_byte(out, *row);
-            }
-            Answer::Done(told) => {
-                put_byte(out, 3);
-                put_byte(out, told.number());
-            }
-            Answer::Fail(cause) => {
-                put_byte(out, 4);
-                put_byte(out, cause.number());
-            }
+            Answer::More(row) => put_one(0, row, out),
+            Answer::Wait(row) => put_one(1, row, out),
+            Answer::Await(row) => put_one(2, row, out),
+            Answer::Done(told) => put_one(3, &told.number(), out),
+            Answer::Fail(cause) => put_one(4, &cause.number(), out),
             Answer::Undone => {
                 put_byte(out, 5);
                 put_byte(out, 0);
@@ -61,21 +51,16 @@ impl Put for Args {
     fn length(&self) -> u64 {
         match self {
             Args::Root { .. } | Args::Transit { .. } => 0,
-            Args::Crash { server } | Args::FenceCall { server } => {
-                server.length().saturating_add(1)
+            Args::Crash { server } | Args::FenceCall { server } => length_of_one(server),
+            Args::AddRegions {
+                table,
+                first,
+                bounds,
+            } => length_of_three(table, first, bounds),
+            Args::DropRegions { table, ids } => length_of_two(table, ids),
+            Args::AssignCall { region, server } | Args::CloseCall { region, server } => {
+                length_of_two(region, server)
             }
-            Args::AddRegions { table, bounds, .. } => table
-                .length()
-                .saturating_add(bounds.length())
-                .saturating_add(9),
-            Args::DropRegions { table, ids } => table
-                .length()
-                .saturating_add(ids.length())
-                .saturating_add(1),
-            Args::AssignCall { region, server } | Args::CloseCall { region, server } => region
-                .length()
-                .saturating_add(server.length())
-                .saturating_add(1),
             Args::LayoutCall { .. } | Args::SweepLayout { .. } => 9,
         }
     }
@@ -84,47 +69,18 @@ impl Put for Args {
     fn put(&self, out: &mut Vec<u8>) {
         match self {
             Args::Root { .. } | Args::Transit { .. } => unreachable!(),
-            Args::Crash { server } => {
-                put_byte(out, 11);
-                server.put(out);
-            }
+            Args::Crash { server } => put_one(11, server, out),
             Args::AddRegions {
                 table,
                 first,
                 bounds,
-            } => {
-                put_byte(out, 20);
-                table.put(out);
-                first.put(out);
-                bounds.put(out);
-            }
-            Args::DropRegions { table, ids } => {
-                put_byte(out, 21);
-                table.put(out);
-                ids.put(out);
-            }
-            Args::AssignCall { region, server } => {
-                put_byte(out, 23);
-                region.put(out);
-                server.put(out);
-            }
-            Args::CloseCall { region, server } => {
-                put_byte(out, 24);
-                region.put(out);
-                server.put(out);
-            }
-            Args::FenceCall { server } => {
-                put_byte(out, 25);
-                server.put(out);
-            }
-            Args::LayoutCall { root } => {
-                put_byte(out, 26);
-                root.put(out);
-            }
-            Args::SweepLayout { root } => {
-                put_byte(out, 27);
-                root.put(out);
-            }
+            } => put_three(20, table, first, bounds, out),
+            Args::DropRegions { table, ids } => put_two(21, table, ids, out),
+            Args::AssignCall { region, server } => put_two(23, region, server, out),
+            Args::CloseCall { region, server } => put_two(24, region, server, out),
+            Args::FenceCall { server } => put_one(25, server, out),
+            Args::LayoutCall { root } => put_one(26, root, out),
+            Args::SweepLayout { root } => put_one(27, root, out),
         }
     }
 }
@@ -150,12 +106,7 @@ impl Put for Child {
     #[tactic(auto, unfolding(crate::specs::Spelling::child))]
     fn put(&self, out: &mut Vec<u8>) {
         match self {
-            Child::Transits { table, ids, goal } => {
-                put_byte(out, 0);
-                table.put(out);
-                ids.put(out);
-                put_byte(out, goal.number());
-            }
+            Child::Transits { table, ids, goal } => put_three(0, table, ids, &goal.number(), out),
             Child::One(args) => args.put(out),
         }
     }
@@ -175,10 +126,8 @@ impl Put for Verb {
     #[tactic(auto, unfolding(crate::specs::Spelling::verb))]
     fn length(&self) -> u64 {
         match self {
-            Verb::AssignRegion(region) | Verb::CloseRegion(region) => {
-                region.length().saturating_add(1)
-            }
-            Verb::Fence(server) => server.length().saturating_add(1),
+            Verb::AssignRegion(region) | Verb::CloseRegion(region) => length_of_one(region),
+            Verb::Fence(server) => length_of_one(server),
             Verb::Layout(_) | Verb::Sweep(_) => 9,
         }
     }
@@ -186,26 +135,11 @@ impl Put for Verb {
     #[tactic(auto, unfolding(crate::specs::Spelling::verb))]
     fn put(&self, out: &mut Vec<u8>) {
         match self {
-            Verb::AssignRegion(region) => {
-                put_byte(out, 0);
-                region.put(out);
-            }
-            Verb::CloseRegion(region) => {
-                put_byte(out, 1);
-                region.put(out);
-            }
-            Verb::Fence(server) => {
-                put_byte(out, 2);
-                server.put(out);
-            }
-            Verb::Layout(root) => {
-                put_byte(out, 3);
-                root.put(out);
-            }
-            Verb::Sweep(root) => {
-                put_byte(out, 4);
-                root.put(out);
-            }
+            Verb::AssignRegion(region) => put_one(0, region, out),
+            Verb::CloseRegion(region) => put_one(1, region, out),
+            Verb::Fence(server) => put_one(2, server, out),
+            Verb::Layout(root) => put_one(3, root, out),
+            Verb::Sweep(root) => put_one(4, root, out),
         }
     }
 }
@@ -229,6 +163,29 @@ impl Put for Place {
     }
 }
 
+// How long the spelling of what a step asks for is, and of what follows it.
+fn asks_length(step: &StepOut) -> u64
+    ensures { result ≡ min (length (option_text verb_text step.now.call ++ (option_text place_text step.now.place ++ list_text child_text step.now.followers))) (2 ^ 64 - 1) }
+{
+    step.call
+        .length()
+        .saturating_add(step.place.length())
+        .saturating_add(step.followers.length())
+}
+
+// Appends what a step asks for, and what follows it.
+fn put_asks(step: &StepOut, out: &mut Vec<u8>)
+    requires spelled { All ChildIsSpelled step.now.followers }
+    requires short { length (option_text verb_text step.now.call ++ (option_text place_text step.now.place ++ list_text child_text step.now.followers)) ≤ 65536 }
+    requires room { HasRoom out.old (length (option_text verb_text step.now.call ++ (option_text place_text step.now.place ++ list_text child_text step.now.followers))) }
+    ensures put { Puts out.old (option_text verb_text step.now.call ++ (option_text place_text step.now.place ++ list_text child_text step.now.followers)) out.new }
+    ensures fits { IfSome step.now.call VerbFits × IfSome step.now.place PlaceFits × AllFit ChildFits step.now.followers }
+{
+    step.call.put(out);
+    step.place.put(out);
+    step.followers.put(out);
+}
+
 impl Put for StepOut {
     ghost spell = { out_text };
 
@@ -242,9 +199,7 @@ impl Put for StepOut {
             .length()
             .saturating_add(self.edits.length())
             .saturating_add(self.children.length())
-            .saturating_add(self.call.length())
-            .saturating_add(self.place.length())
-            .saturating_add(self.followers.length())
+            .saturating_add(asks_length(self))
     }
 
     #[tactic(auto, unfolding(crate::specs::Spelling::out))]
@@ -252,8 +207,6 @@ impl Put for StepOut {
         self.answer.put(out);
         self.edits.put(out);
         self.children.put(out);
-        self.call.put(out);
-        self.place.put(out);
-        self.followers.put(out);
+        put_asks(self, out);
     }
 }
