@@ -1,7 +1,9 @@
 //! What the run answers.
-ghost use Rattle.std.specs.Prelude.{◌≡◌};
+ghost use Rattle.std.specs.Prelude.{◌≡◌, ◌++◌, codes};
+ghost use Rattle.std.specs.Fmt.{decimal};
 ghost use Rattle.std.specs.List.{flat_map};
-ghost use Rattle.hm_commands.specs.Answer.{answer_text, refusal_detail, refusal_number, refusal_word};
+ghost use Rattle.hm_names.specs.Servers.{server_text};
+ghost use Rattle.hm_commands.specs.Answer.{answer_text, expired_text, halt_text, refusal_detail, refusal_number, refusal_text, refusal_word, up_text};
 ghost use Rattle.hm_commands.specs.Pieces.{piece_text};
 
 use crate::piece::{NONE, Piece};
@@ -193,255 +195,192 @@ impl Answer {
     pub fn pieces(&self) -> [Piece<'_>; 7]
         ensures { flat_map piece_text result ≡ answer_text self.now }
     {
-        let end = Text("\n");
         match self {
-            Answer::Opened(at) => [Text("opened at "), Number(*at), end, NONE, NONE, NONE, NONE],
-            Answer::Pid(pid) => [Text("pid "), Number(*pid), end, NONE, NONE, NONE, NONE],
-            Answer::Repeated(pid) => {
-                [
-                    Text("pid "),
-                    Number(*pid),
-                    Text(" repeated\n"),
-                    NONE,
-                    NONE,
-                    NONE,
-                    NONE,
-                ]
-            }
-            Answer::Refused(why) => match why.number() {
-                Some(number) => [
-                    Text("refused "),
-                    Text(why.word()),
-                    Text(why.detail()),
-                    Number(number),
-                    end,
-                    NONE,
-                    NONE,
-                ],
-                None => [
-                    Text("refused "),
-                    Text(why.word()),
-                    Text(why.detail()),
-                    end,
-                    NONE,
-                    NONE,
-                    NONE,
-                ],
-            },
-            Answer::Aborting(pid) => [Text("aborting "), Number(*pid), end, NONE, NONE, NONE, NONE],
-            Answer::AbortingAlready(pid) => {
-                [
-                    Text("aborting "),
-                    Number(*pid),
-                    Text(" repeated\n"),
-                    NONE,
-                    NONE,
-                    NONE,
-                    NONE,
-                ]
-            }
-            Answer::Up(server) => [Text("up "), Server(server), end, NONE, NONE, NONE, NONE],
-            Answer::UpInPlaceOf { older, pid, server } => {
-                [
-                    Text("expired "),
-                    Server(older),
-                    Text(" pid "),
-                    Number(*pid),
-                    Text("\nup "),
-                    Server(server),
-                    end,
-                ]
-            }
-            Answer::Expired { server, pid } => {
-                [
-                    Text("expired "),
-                    Server(server),
-                    Text(" pid "),
-                    Number(*pid),
-                    end,
-                    NONE,
-                    NONE,
-                ]
-            }
-            Answer::Dead(server) => [Text("dead "), Server(server), end, NONE, NONE, NONE, NONE],
+            Answer::Opened(at) => numbered("opened at ", at, "\n"),
+            Answer::Pid(pid) => numbered("pid ", pid, "\n"),
+            Answer::Repeated(pid) => numbered("pid ", pid, " repeated\n"),
+            Answer::Refused(why) => refused(why),
+            Answer::Aborting(pid) => numbered("aborting ", pid, "\n"),
+            Answer::AbortingAlready(pid) => numbered("aborting ", pid, " repeated\n"),
+            Answer::Up(server) => of_server("up ", server),
+            Answer::UpInPlaceOf { older, pid, server } => in_place_of(older, *pid, server),
+            Answer::Expired { server, pid } => expired(server, *pid),
+            Answer::Dead(server) => of_server("dead ", server),
             Answer::Armed => [Text("armed\n"), NONE, NONE, NONE, NONE, NONE, NONE],
-            Answer::Stepped(tasks, at) => {
-                [
-                    Text("stepped "),
-                    Number(*tasks),
-                    Text(" at "),
-                    Number(*at),
-                    end,
-                    NONE,
-                    NONE,
-                ]
-            }
-            Answer::Settled(at) => [
-                Text("settled at "),
-                Number(*at),
-                end,
-                NONE,
-                NONE,
-                NONE,
-                NONE,
-            ],
-            Answer::Waiting(at, roots) => {
-                [
-                    Text("waiting at "),
-                    Number(*at),
-                    Text(": "),
-                    Number(*roots),
-                    end,
-                    NONE,
-                    NONE,
-                ]
-            }
-            Answer::Lost(count) => [Text("lost "), Number(*count), end, NONE, NONE, NONE, NONE],
-            Answer::Resent(count) => {
-                [
-                    Text("repeated "),
-                    Number(*count),
-                    end,
-                    NONE,
-                    NONE,
-                    NONE,
-                    NONE,
-                ]
-            }
-            Answer::Table(table) => [Bytes(table.as_slice()), NONE, NONE, NONE, NONE, NONE, NONE],
-            Answer::Balanced(lines) => [
-                Bytes(lines.as_slice()),
-                NONE,
-                NONE,
-                NONE,
-                NONE,
-                NONE,
-                NONE,
-            ],
-            Answer::Halted(Halt::LogFault) => {
-                [
-                    Text("halted LogFault\n"),
-                    NONE,
-                    NONE,
-                    NONE,
-                    NONE,
-                    NONE,
-                    NONE,
-                ]
-            }
-            Answer::Halted(Halt::JournalFull(bytes)) => {
-                [
-                    Text("halted JournalFull "),
-                    Number(*bytes),
-                    end,
-                    NONE,
-                    NONE,
-                    NONE,
-                    NONE,
-                ]
-            }
-            Answer::Rolled(at) => [Text("rolled at "), Number(*at), end, NONE, NONE, NONE, NONE],
-            Answer::Adopted(kind) => {
-                [
-                    Text("adopted "),
-                    Number(u64::from(*kind)),
-                    end,
-                    NONE,
-                    NONE,
-                    NONE,
-                    NONE,
-                ]
-            }
-            Answer::Reopened(at) => [
-                Text("reopened at "),
-                Number(*at),
-                end,
-                NONE,
-                NONE,
-                NONE,
-                NONE,
-            ],
-            Answer::Followed(at) => [
-                Text("followed at "),
-                Number(*at),
-                end,
-                NONE,
-                NONE,
-                NONE,
-                NONE,
-            ],
-            Answer::Epoch(epoch, at) => {
-                [
-                    Text("epoch "),
-                    Number(*epoch),
-                    Text(" at "),
-                    Number(*at),
-                    end,
-                    NONE,
-                    NONE,
-                ]
-            }
-            Answer::Deposed(epoch) => [
-                Text("deposed "),
-                Number(*epoch),
-                end,
-                NONE,
-                NONE,
-                NONE,
-                NONE,
-            ],
-            Answer::Backoff(ticks) => {
-                [
-                    Text("backoff "),
-                    Number(u64::from(*ticks)),
-                    end,
-                    NONE,
-                    NONE,
-                    NONE,
-                    NONE,
-                ]
-            }
-            Answer::Ticked(at, woken) => {
-                [
-                    Text("tick at "),
-                    Number(*at),
-                    Text(": "),
-                    Number(*woken),
-                    end,
-                    NONE,
-                    NONE,
-                ]
-            }
-            Answer::Group(name, servers) => {
-                [
-                    Text("group "),
-                    Bytes(name.as_bytes()),
-                    Text(" "),
-                    Number(*servers),
-                    end,
-                    NONE,
-                    NONE,
-                ]
-            }
+            Answer::Stepped(tasks, at) => numbered_twice("stepped ", tasks, " at ", at),
+            Answer::Settled(at) => numbered("settled at ", at, "\n"),
+            Answer::Waiting(at, roots) => numbered_twice("waiting at ", at, ": ", roots),
+            Answer::Lost(count) => numbered("lost ", count, "\n"),
+            Answer::Resent(count) => numbered("repeated ", count, "\n"),
+            Answer::Table(lines) | Answer::Balanced(lines) | Answer::Draining(lines) => bytes(
+                lines.as_slice(),
+            ),
+            Answer::Halted(why) => halted(why),
+            Answer::Rolled(at) => numbered("rolled at ", at, "\n"),
+            Answer::Adopted(kind) => numbered_shortly("adopted ", kind),
+            Answer::Reopened(at) => numbered("reopened at ", at, "\n"),
+            Answer::Followed(at) => numbered("followed at ", at, "\n"),
+            Answer::Epoch(epoch, at) => numbered_twice("epoch ", epoch, " at ", at),
+            Answer::Deposed(epoch) => numbered("deposed ", epoch, "\n"),
+            Answer::Backoff(ticks) => numbered_shortly("backoff ", ticks),
+            Answer::Ticked(at, woken) => numbered_twice("tick at ", at, ": ", woken),
+            Answer::Group(name, servers) => of_group(name, *servers),
             Answer::Grouped => [Text("grouped\n"), NONE, NONE, NONE, NONE, NONE, NONE],
-            Answer::Draining(lines) => [
-                Bytes(lines.as_slice()),
-                NONE,
-                NONE,
-                NONE,
-                NONE,
-                NONE,
-                NONE,
-            ],
-            Answer::Undrained(server) => [
-                Text("undrained "),
-                Server(server),
-                end,
-                NONE,
-                NONE,
-                NONE,
-                NONE,
-            ],
+            Answer::Undrained(server) => of_server("undrained ", server),
         }
     }
+}
+
+// A text by itself.
+fn bytes(text: &[u8]) -> [Piece<'_>; 7]
+    ensures { flat_map piece_text result ≡ text.now }
+{
+    [Bytes(text), NONE, NONE, NONE, NONE, NONE, NONE]
+}
+
+// Words with a number between them.
+fn numbered<'a>(word: &'static str, number: &'a u64, end: &'static str) -> [Piece<'a>; 7]
+    ensures { flat_map piece_text result ≡ word.now ++ decimal number.now ++ end.now }
+{
+    [
+        Text(word),
+        Number(*number),
+        Text(end),
+        NONE,
+        NONE,
+        NONE,
+        NONE,
+    ]
+}
+
+// A line of a word and a short number.
+fn numbered_shortly<'a>(word: &'static str, number: &'a u8) -> [Piece<'a>; 7]
+    ensures { flat_map piece_text result ≡ word.now ++ decimal number.now ++ codes "\n" }
+{
+    [
+        Text(word),
+        Number(u64::from(*number)),
+        Text("\n"),
+        NONE,
+        NONE,
+        NONE,
+        NONE,
+    ]
+}
+
+// A line of words with a number behind each.
+fn numbered_twice<'a>(
+    word: &'static str,
+    one: &'a u64,
+    between: &'static str,
+    other: &'a u64,
+) -> [Piece<'a>; 7]
+    ensures { flat_map piece_text result ≡ word.now ++ decimal one.now ++ between.now ++ decimal other.now ++ codes "\n" }
+{
+    [
+        Text(word),
+        Number(*one),
+        Text(between),
+        Number(*other),
+        Text("\n"),
+        NONE,
+        NONE,
+    ]
+}
+
+// A line of a word and a server.
+fn of_server<'a>(word: &'static str, server: &'a ServerName) -> [Piece<'a>; 7]
+    ensures { flat_map piece_text result ≡ word.now ++ server_text server.now ++ codes "\n" }
+{
+    [
+        Text(word),
+        Server(server),
+        Text("\n"),
+        NONE,
+        NONE,
+        NONE,
+        NONE,
+    ]
+}
+
+// A line of a refusal.
+fn refused(why: &Refusal) -> [Piece<'_>; 7]
+    ensures { flat_map piece_text result ≡ codes "refused " ++ refusal_text why.now ++ codes "\n" }
+{
+    let number = match why.number() {
+        Some(number) => Number(number),
+        None => NONE,
+    };
+    [
+        Text("refused "),
+        Text(why.word()),
+        Text(why.detail()),
+        number,
+        Text("\n"),
+        NONE,
+        NONE,
+    ]
+}
+
+// A line of a crash that is recorded.
+fn expired(server: &ServerName, pid: u64) -> [Piece<'_>; 7]
+    ensures { flat_map piece_text result ≡ expired_text server.now pid }
+{
+    [
+        Text("expired "),
+        Server(server),
+        Text(" pid "),
+        Number(pid),
+        Text("\n"),
+        NONE,
+        NONE,
+    ]
+}
+
+// The lines of a server that comes up in place of an older one.
+fn in_place_of<'a>(older: &'a ServerName, pid: u64, server: &'a ServerName) -> [Piece<'a>; 7]
+    ensures { flat_map piece_text result ≡ expired_text older.now pid ++ up_text server.now }
+{
+    [
+        Text("expired "),
+        Server(older),
+        Text(" pid "),
+        Number(pid),
+        Text("\nup "),
+        Server(server),
+        Text("\n"),
+    ]
+}
+
+// A line of what halted the run.
+fn halted(why: &Halt) -> [Piece<'_>; 7]
+    ensures { flat_map piece_text result ≡ codes "halted " ++ halt_text why.now ++ codes "\n" }
+{
+    match why {
+        Halt::LogFault => [
+            Text("halted LogFault\n"),
+            NONE,
+            NONE,
+            NONE,
+            NONE,
+            NONE,
+            NONE,
+        ],
+        Halt::JournalFull(bytes) => numbered("halted JournalFull ", bytes, "\n"),
+    }
+}
+
+// A line of a group and how many servers it has.
+fn of_group(name: &Ns, servers: u64) -> [Piece<'_>; 7]
+    ensures { flat_map piece_text result ≡ codes "group " ++ name.now ++ codes " " ++ decimal servers ++ codes "\n" }
+{
+    [
+        Text("group "),
+        Bytes(name.as_bytes()),
+        Text(" "),
+        Number(servers),
+        Text("\n"),
+        NONE,
+        NONE,
+    ]
 }

@@ -97,6 +97,7 @@ impl<D: Disk> Cluster<D> {
         ensures ran { Ran (hands_use ⟦<dyn Handler as Handler>⟧ hands.old.items hands.new.items) (journal_at (scene_in self.old)) (journal_at (scene_in self.new)) }
     {
         if let Some(why) = self.halted() {
+            drop(command);
             return Ok(Answer::Halted(why));
         }
         match into_request(command) {
