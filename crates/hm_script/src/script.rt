@@ -131,7 +131,13 @@ fn add(commands: &mut Vec<Command>, room: &mut usize, command: Command) -> Resul
         commands.push(command)?;
         return Ok(());
     }
-    *room = make_room(commands, *room)?;
+    match make_room(commands, *room) {
+        Ok(more) => *room = more,
+        Err(error) => {
+            drop(command);
+            return Err(error);
+        }
+    }
     commands.push(command)?;
     Ok(())
 }
