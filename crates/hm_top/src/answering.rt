@@ -50,8 +50,7 @@ pub(crate) fn answer_all<D: Disk, K: Sink>(
         cluster = next;
         cluster.keeps();
         marks.push_reserved(cluster.entries());
-        let said = say(alloc, out, &answer);
-        drop(answer);
+        let said = say(alloc, out, answer);
         if let Err(_) = said {
             return Err((cluster.into_disk(), EarlyEnd::WriteFault));
         }

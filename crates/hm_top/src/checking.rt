@@ -50,7 +50,7 @@ pub(crate) fn check<D: Disk, K: Sink>(
     let Ok(line) = legal(alloc, entries) else {
         return RunStatus::Memory;
     };
-    match say(alloc, out, &line) {
+    match say(alloc, out, line) {
         Ok(()) => RunStatus::Done,
         Err(_) => RunStatus::WriteFault,
     }

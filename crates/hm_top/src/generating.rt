@@ -89,7 +89,7 @@ fn tell<D: Disk, K: Sink>(
     let Ok(line) = line(alloc, seed, count, cluster.entries(), cluster.census()) else {
         return RunStatus::Memory;
     };
-    match say(alloc, out, &line) {
+    match say(alloc, out, line) {
         Ok(()) => RunStatus::Done,
         Err(_) => RunStatus::WriteFault,
     }

@@ -43,8 +43,7 @@ fn put_down<D: Disk, K: Sink>(
         return Err((cluster.into_disk(), EarlyEnd::Halted(why)));
     }
     cluster.keeps();
-    let said = say(alloc, out, &answer);
-    drop(answer);
+    let said = say(alloc, out, answer);
     match said {
         Ok(()) => Ok(cluster),
         Err(_) => Err((cluster.into_disk(), EarlyEnd::WriteFault)),
@@ -89,7 +88,7 @@ pub(crate) fn begin<D: Disk, K: Sink>(
     ensures later { K.faults out.old ≤ K.faults out.new }
     ensures fault { IfErr result (λ e. e.1 ≡ EarlyEnd.WriteFault → Rose (K.faults out.old) (K.faults out.new)) }
 {
-    if let Err(_) = say(alloc, out, &Answer::Opened(cluster.entries())) {
+    if let Err(_) = say(alloc, out, Answer::Opened(cluster.entries())) {
         return Err((cluster.into_disk(), EarlyEnd::WriteFault));
     }
     let mut cluster = cluster;

@@ -83,8 +83,8 @@ pub(crate) fn joined(alloc: Global, pieces: &[Piece<'_>]) -> Result<Vec<u8>, All
     Ok(text)
 }
 
-/// Writes an answer's lines: at once, or piece by piece where there is no memory for their text.
-pub(crate) fn say<K: Sink>(alloc: Global, out: &mut K, answer: &Answer) -> Result<(), Failed>
+// Writes an answer's lines: at once, or piece by piece where there is no memory for their text.
+fn put_answer<K: Sink>(alloc: Global, out: &mut K, answer: &Answer) -> Result<(), Failed>
     ensures all { K.tells → OnOk result (K.got out.new ≡ K.got out.old ++ answer_text answer.now) }
     ensures part { K.tells → OnErr result (IsPartOf (K.got out.old) (K.got out.new) (answer_text answer.now)) }
     ensures cause { HasCause (K.faults out.old) (K.faults out.new) result }
@@ -94,4 +94,15 @@ pub(crate) fn say<K: Sink>(alloc: Global, out: &mut K, answer: &Answer) -> Resul
         Ok(text) => write_all(out, text.as_slice()),
         Err(_) => put_all(out, &pieces),
     }
+}
+
+/// Writes an answer's lines, and lets go of it.
+pub(crate) fn say<K: Sink>(alloc: Global, out: &mut K, answer: Answer) -> Result<(), Failed>
+    ensures all { K.tells → OnOk result (K.got out.new ≡ K.got out.old ++ answer_text answer) }
+    ensures part { K.tells → OnErr result (IsPartOf (K.got out.old) (K.got out.new) (answer_text answer)) }
+    ensures cause { HasCause (K.faults out.old) (K.faults out.new) result }
+{
+    let said = put_answer(alloc, out, &answer);
+    drop(answer);
+    said
 }

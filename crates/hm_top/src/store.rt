@@ -48,6 +48,7 @@ fn release<D: Disk>(state: State, journal: Journal<D>) -> D
     ensures { IsLeftBy D.Disk journal.opened (new_scene journal.kept) result }
 {
     let _legal = state.entries();
+    drop(state);
     journal.into_disk()
 }
 

@@ -32,8 +32,8 @@ returns-in-Ok-say-clause-ends g c =
     checked (sink_use g.K.Sink c.args.out.now c.say.new.out) (disk_use g.D.Disk c.args.disk.now c.check.new.disk) _ c.check.ensures.only_reads c.in-Ok.entries
     (λ told. let found = c.in-Ok.ensures.count told in (found.0, subst (λ l. IsOnDiskByKind l seen found.0) (sym listed) found.1, found.2)) c.in-Ok-legal.line c.in-Ok-legal.ensures c.in-Ok-say.ensures.all
 
-pub returns-clause-ends : goal.returns-clause-ends
-returns-clause-ends g c =
+pub returns-in-Err-say-clause-ends : goal.returns-in-Err-say-clause-ends
+returns-in-Err-say-clause-ends g c =
     let f = λ (r : _). sheets_by (goal.Handler-dyn g) r in
     let listed = used_are f (λ (r : _). whole_of r) c.args.hands.now.items c.requires.agree c.requires.each c.index.result.now c.index.ensures c.as_slice.result.now (c.as_slice.ensures ∙ c.sheets-sheets.ensures) in
     let seen = g.D.Disk.seen c.args.disk.now in

@@ -9,8 +9,8 @@ use Rattle.hm_commands.specs.View.{scene_in}
 use Rattle.hm_top.proofs.Lines.{one_short}
 use Rattle.hm_top.proofs.generating.tell.Goals as goal
 
-pub returns-clause-tells : goal.returns-clause-tells
-returns-clause-tells g c =
+pub returns-in-Err-clause-tells : goal.returns-in-Err-clause-tells
+returns-in-Err-clause-tells g c =
     let out = sink_use g.K.Sink c.args.out.now c.say.new.out in
     let at = scene_in c.args.cluster.now in
     let line = c.in-Ok.line in
