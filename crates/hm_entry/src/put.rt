@@ -296,7 +296,6 @@ fn count_of<T: Item>(items: &[T]) -> u16
     items.len() as u16
 }
 
-#[tactic(auto, using(crate::proofs::Room::pieces))]
 fn put_items<T: Put>(items: &[T], out: &mut Vec<u8>)
     requires spelled { All T.spelled items.now }
     requires short { length (flat_map T.spell items.now) ≤ 65536 }
