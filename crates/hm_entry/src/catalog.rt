@@ -88,9 +88,21 @@ impl Get for CatRow {
 fn edit_behind(alloc: Global, key: CatKey, r: &mut Reader) -> Result<Edit, EntryFault>
     ensures { Gives result (of_two (λ before after. record { key = key; before = before; after = after }) (option_at cat_row_at) (option_at cat_row_at) r.old) r.new }
 {
-    let before = option(alloc, r)?;
-    let after = option(alloc, r)?;
-    Ok(Edit { key, before, after })
+    let before = match option(alloc, r) {
+        Ok(before) => before,
+        Err(fault) => {
+            drop(key);
+            return Err(fault);
+        }
+    };
+    match option(alloc, r) {
+        Ok(after) => Ok(Edit { key, before, after }),
+        Err(fault) => {
+            drop(key);
+            drop(before);
+            Err(fault)
+        }
+    }
 }
 
 impl Get for Edit {
