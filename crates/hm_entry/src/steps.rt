@@ -196,15 +196,21 @@ fn followed(
 ) -> Result<StepOut, EntryFault>
     ensures { Gives result (of_one (λ followers. record { answer = changes.0; edits = changes.1; children = changes.2; call = asks.0; place = asks.1; followers = followers }) (list_at child_at) r.old) r.new }
 {
-    let followers = list(alloc, r)?;
-    Ok(StepOut {
-        answer: changes.0,
-        edits: changes.1,
-        children: changes.2,
-        call: asks.0,
-        place: asks.1,
-        followers,
-    })
+    match list(alloc, r) {
+        Ok(followers) => Ok(StepOut {
+            answer: changes.0,
+            edits: changes.1,
+            children: changes.2,
+            call: asks.0,
+            place: asks.1,
+            followers,
+        }),
+        Err(fault) => {
+            drop(changes);
+            drop(asks);
+            Err(fault)
+        }
+    }
 }
 
 // The fields of what a step does, behind its children.
