@@ -1,5 +1,5 @@
 //! A lock book.
-use crate::numbers::number;
+use crate::numbers::{halves, number};
 use hm_lists::Steps;
 use hm_locks::LockBook;
 use hm_model::{Ask, Resource};
@@ -16,10 +16,16 @@ fn resource(alloc: Global, kind: &str, name: &[u8]) -> Result<Resource, NameFaul
     })
 }
 
+// The kind, the name and the mode of an ask.
+fn words_of(text: &str) -> Result<(&str, &str, &str), NameFault> {
+    let (kind, rest) = halves(text)?;
+    let (name, mode) = halves(rest)?;
+    Ok((kind, name, mode))
+}
+
 // An ask: a resource, and X where it is exclusive.
 fn ask(alloc: Global, text: &str) -> Result<Ask, NameFault> {
-    let (kind, rest) = text.split_once(" ").ok_or(NameFault::Empty)?;
-    let (name, mode) = rest.split_once(" ").ok_or(NameFault::Empty)?;
+    let (kind, name, mode) = words_of(text)?;
     let resource = resource(alloc, kind, name.as_bytes())?;
     let exclusive = mode == "X";
     Ok(Ask {
@@ -38,15 +44,19 @@ fn asks(alloc: Global, text: &str) -> Result<List<Ask>, NameFault> {
     Ok(List::of(asks))
 }
 
+fn put_resource(resource: &Resource, out: &mut String) -> Result<(), AllocError> {
+    match resource {
+        Resource::Ns(ns) => write!(out, "ns {ns}"),
+        Resource::Table(table) => write!(out, "table {table}"),
+        Resource::Region(region) => write!(out, "region {region}"),
+        Resource::Server(server) => write!(out, "server {server}"),
+    }
+}
+
 fn put_asks(asked: &[Ask], out: &mut String) -> Result<(), AllocError> {
     for ask in asked {
-        let mode = if ask.exclusive { "X" } else { "S" };
-        match &ask.resource {
-            Resource::Ns(ns) => write!(out, "ns {ns} {mode};")?,
-            Resource::Table(table) => write!(out, "table {table} {mode};")?,
-            Resource::Region(region) => write!(out, "region {region} {mode};")?,
-            Resource::Server(server) => write!(out, "server {server} {mode};")?,
-        }
+        put_resource(&ask.resource, out)?;
+        out.push_str(if ask.exclusive { " X;" } else { " S;" })?;
     }
     Ok(())
 }
@@ -94,11 +104,21 @@ fn put_draft(
 /// Puts what becomes of a claim: the procedure isn't there, it takes what it asks for, or it stands behind another.
 pub fn put_claim<L: Ledger>(
     book: &mut LockBook,
-    pid: u64,
+    text: &str,
+    steps: &mut Steps<L>,
+    out: &mut String,
+) -> Result<(), NameFault> {
+    let pid = Pid(number(text)?);
+    put_claimed(book, pid, steps, out)?;
+    Ok(())
+}
+
+fn put_claimed<L: Ledger>(
+    book: &mut LockBook,
+    pid: Pid,
     steps: &mut Steps<L>,
     out: &mut String,
 ) -> Result<(), AllocError> {
-    let pid = Pid(pid);
     if !book.lists(pid) {
         return out.push_str("missing");
     }
@@ -131,7 +151,14 @@ fn put_holders(alloc: Global, book: &LockBook, out: &mut String) -> Result<(), A
     Ok(())
 }
 
-// Enlists a procedure: its number, that of its parent or 0, and what it asks for.
+// A procedure's number, that of its parent or 0, and what it asks for.
+fn newcomer(text: &str) -> Result<((u64, u64), &str), NameFault> {
+    let (pid, rest) = halves(text)?;
+    let (parent, asked) = halves(rest)?;
+    Ok(((number(pid)?, number(parent)?), asked))
+}
+
+// Enlists a procedure, or puts its draft.
 fn put_new(
     alloc: Global,
     book: &mut LockBook,
@@ -139,19 +166,26 @@ fn put_new(
     text: &str,
     out: &mut String,
 ) -> Result<(), NameFault> {
-    let (pid, rest) = text.split_once(" ").ok_or(NameFault::Empty)?;
-    let (parent, rest) = rest.split_once(" ").ok_or(NameFault::Empty)?;
-    let pid = Pid(number(pid)?);
-    let parent = match number(parent)? {
-        0 => None,
-        parent => Some(Pid(parent)),
-    };
-    let asked = asks(alloc, rest)?;
+    let ((pid, parent), asked) = newcomer(text)?;
+    let parent = if parent == 0 { None } else { Some(Pid(parent)) };
+    let asked = asks(alloc, asked)?;
     if verb == "enlist" {
-        write!(out, "{}", enlist(alloc, book, (pid, parent), asked)?)?;
+        write!(out, "{}", enlist(alloc, book, (Pid(pid), parent), asked)?)?;
     } else {
-        put_draft(alloc, book, (pid, parent), asked, out)?;
+        put_draft(alloc, book, (Pid(pid), parent), asked, out)?;
     }
+    Ok(())
+}
+
+// Puts whether a procedure is there or holds what it asks for, and lets it go.
+fn put_of(book: &mut LockBook, verb: &str, text: &str, out: &mut String) -> Result<(), NameFault> {
+    let pid = Pid(number(text)?);
+    let told = match verb {
+        "holds" => book.holds(pid),
+        "lists" => book.lists(pid),
+        _ => leave(book, verb, pid),
+    };
+    write!(out, "{told}")?;
     Ok(())
 }
 
@@ -163,10 +197,8 @@ pub fn put_book(
     out: &mut String,
 ) -> Result<(), NameFault> {
     match verb {
-        "enlist" | "draft" => put_new(alloc, book, verb, rest, out)?,
-        "give-up" | "release" => write!(out, "{}", leave(book, verb, Pid(number(rest)?)))?,
-        "holds" => write!(out, "{}", book.holds(Pid(number(rest)?)))?,
-        "lists" => write!(out, "{}", book.lists(Pid(number(rest)?)))?,
+        "enlist" | "draft" => return put_new(alloc, book, verb, rest, out),
+        "give-up" | "release" | "holds" | "lists" => return put_of(book, verb, rest, out),
         "holders" => put_holders(alloc, book, out)?,
         _ => out.push_str("no such line")?,
     }

@@ -4,35 +4,52 @@ use hm_index::Index;
 use hm_names::NameFault;
 use std::alloc::{AllocError, Global};
 
-// So many pairs: the first key and the step from one to the next, the first value and its step. All modulo 2^64.
+// Numbers that begin with one and rise by a step, modulo 2^64.
+#[derive(Clone, Copy)]
+struct Rise {
+    first: u64,
+    step: u64,
+}
+
+impl Rise {
+    fn read(first: &str, step: &str) -> Result<Rise, NameFault> {
+        let first = number(first)?;
+        let step = number(step)?;
+        Ok(Rise { first, step })
+    }
+
+    fn at(&self, i: u64) -> u64 {
+        self.first.wrapping_add(i.wrapping_mul(self.step))
+    }
+}
+
+// So many pairs, by their keys and values.
 #[derive(Clone, Copy)]
 struct Fill {
     count: u64,
-    key: u64,
-    key_step: u64,
-    value: u64,
-    value_step: u64,
+    keys: Rise,
+    values: Rise,
 }
 
 impl Fill {
-    fn read(alloc: Global, text: &str) -> Result<Fill, NameFault> {
-        let words: Vec<&str> = text.split(' ').collect(alloc)?;
-        match words.as_slice() {
+    fn of_words(words: &[&str]) -> Result<Fill, NameFault> {
+        match words {
             [count, key, key_step, value, value_step] => Ok(Fill {
                 count: number(count)?,
-                key: number(key)?,
-                key_step: number(key_step)?,
-                value: number(value)?,
-                value_step: number(value_step)?,
+                keys: Rise::read(key, key_step)?,
+                values: Rise::read(value, value_step)?,
             }),
             _ => Err(NameFault::BadNumber(1)),
         }
     }
 
+    fn read(alloc: Global, text: &str) -> Result<Fill, NameFault> {
+        let words: Vec<&str> = text.split(' ').collect(alloc)?;
+        Fill::of_words(&words)
+    }
+
     fn pair(&self, i: u64) -> (u64, u64) {
-        let key = self.key.wrapping_add(i.wrapping_mul(self.key_step));
-        let value = self.value.wrapping_add(i.wrapping_mul(self.value_step));
-        (key, value)
+        (self.keys.at(i), self.values.at(i))
     }
 }
 

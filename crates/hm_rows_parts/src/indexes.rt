@@ -49,6 +49,22 @@ fn put_walk(index: &Index<u64, u64>, out: &mut String) -> Result<(), AllocError>
     )
 }
 
+// Puts what an index tells of all its pairs.
+fn put_whole(index: &Index<u64, u64>, verb: &str, out: &mut String) -> Result<(), AllocError> {
+    if verb == "walk" {
+        return put_walk(index, out);
+    }
+    write!(out, "{}", index.view().is_empty())
+}
+
+// Puts the pair of a number.
+fn put_numbered(index: &Index<u64, u64>, number: u64, out: &mut String) -> Result<(), AllocError> {
+    match u32::try_from(number) {
+        Ok(number) => write!(out, "{:?}", index.pair(number)),
+        Err(_) => out.push_str("no such number"),
+    }
+}
+
 // Puts what an index tells of a number: the value of a key, the pair of a number, or the pairs from a key on.
 fn put_told(
     index: &Index<u64, u64>,
@@ -58,10 +74,7 @@ fn put_told(
 ) -> Result<(), AllocError> {
     match verb {
         "get" => write!(out, "{:?}", index.get(&number)),
-        "pair" => match u32::try_from(number) {
-            Ok(number) => write!(out, "{:?}", index.pair(number)),
-            Err(_) => out.push_str("no such number"),
-        },
+        "pair" => put_numbered(index, number, out),
         _ => put_from(index, number, out),
     }
 }
@@ -89,11 +102,11 @@ pub fn put_index(
     out: &mut String,
 ) -> Result<(), NameFault> {
     let (verb, rest) = text.split_once(" ").unwrap_or((text, ""));
-    match verb {
-        "empty" => write!(out, "{}", index.view().is_empty())?,
-        "walk" => put_walk(index, out)?,
-        "put" | "change" => put_pair(alloc, index, verb, two_numbers(rest)?, out)?,
-        _ => put_told(index, verb, number(rest)?, out)?,
-    }
+    let put = match verb {
+        "empty" | "walk" => put_whole(index, verb, out),
+        "put" | "change" => put_pair(alloc, index, verb, two_numbers(rest)?, out),
+        _ => put_told(index, verb, number(rest)?, out),
+    };
+    put?;
     Ok(())
 }

@@ -62,6 +62,47 @@ fn small(number: u64) -> Result<u8, NameFault> {
     u8::try_from(number).or(Err(NameFault::BadNumber(2)))
 }
 
+// The list and the node of a line.
+fn place(text: &str) -> Result<(u8, u8), NameFault> {
+    let (list, node) = two_numbers(text)?;
+    Ok((small(list)?, small(node)?))
+}
+
+// Puts what becomes of a node that is put after the last of a list.
+fn put_push<L: Ledger>(
+    alloc: Global,
+    lists: &mut Lists,
+    text: &str,
+    steps: &mut Steps<L>,
+    out: &mut String,
+) -> Result<(), NameFault> {
+    let place = place(text)?;
+    let is_new = push(alloc, lists, place, steps)?;
+    write!(out, "{is_new}")?;
+    Ok(())
+}
+
+// Puts the node or the list that is found.
+fn put_found(found: Option<u32>, out: &mut String) -> Result<(), AllocError> {
+    write!(out, "{found:?}")
+}
+
+// Puts what becomes of a list or a node, or what is told of it.
+fn put_told<L: Ledger>(
+    alloc: Global,
+    lists: &mut Lists,
+    (verb, number): (&str, u8),
+    steps: &mut Steps<L>,
+    out: &mut String,
+) -> Result<(), AllocError> {
+    match verb {
+        "pop" => put_found(pop(alloc, lists, number, steps)?, out),
+        "unlink" => write!(out, "{}", unlink(lists, number, steps)),
+        "nodes" => put_nodes(alloc, lists, number, out),
+        _ => put_found(lists.list_of(u32::from(number)), out),
+    }
+}
+
 /// Puts what lists answer.
 pub fn put_list<L: Ledger>(
     alloc: Global,
@@ -72,17 +113,9 @@ pub fn put_list<L: Ledger>(
 ) -> Result<(), NameFault> {
     let (verb, rest) = text.split_once(" ").unwrap_or((text, ""));
     if verb == "push" {
-        let (list, node) = two_numbers(rest)?;
-        let place = (small(list)?, small(node)?);
-        write!(out, "{}", push(alloc, lists, place, steps)?)?;
-        return Ok(());
+        return put_push(alloc, lists, rest, steps, out);
     }
     let number = small(number(rest)?)?;
-    match verb {
-        "pop" => write!(out, "{:?}", pop(alloc, lists, number, steps)?)?,
-        "unlink" => write!(out, "{}", unlink(lists, number, steps))?,
-        "nodes" => put_nodes(alloc, lists, number, out)?,
-        _ => write!(out, "{:?}", lists.list_of(u32::from(number)))?,
-    }
+    put_told(alloc, lists, (verb, number), steps, out)?;
     Ok(())
 }

@@ -18,10 +18,10 @@ use hm_locks::LockBook;
 use hm_names::NameFault;
 use indexes::put_index;
 use lists::put_list;
-use numbers::number;
 use std::alloc::{AllocError, Global};
 use std::io::{self, BufRead, BufReader};
 use std::marker::Brand;
+use std::mem;
 use std::sync::ledger::{Blank, Ledger};
 
 // What the lines speak of.
@@ -33,10 +33,15 @@ struct World {
     book: LockBook,
 }
 
-fn new_world(alloc: Global) -> Result<World, AllocError> {
-    let index = Index::new(alloc)?;
+fn new_linked(alloc: Global) -> Result<(Lists, LockBook), AllocError> {
     let lists = Lists::new(alloc, 1)?;
     let book = LockBook::new(alloc)?;
+    Ok((lists, book))
+}
+
+fn new_world(alloc: Global) -> Result<World, AllocError> {
+    let index = Index::new(alloc)?;
+    let (lists, book) = new_linked(alloc)?;
     let items = Vec::new(alloc);
     Ok(World {
         index,
@@ -44,6 +49,13 @@ fn new_world(alloc: Global) -> Result<World, AllocError> {
         lists,
         book,
     })
+}
+
+// Forgets all that was before.
+fn renew(alloc: Global, world: &mut World) -> Result<(), NameFault> {
+    let old = mem::replace(world, new_world(alloc)?);
+    drop(old);
+    Ok(())
 }
 
 // Puts what a line is answered.
@@ -56,15 +68,14 @@ fn put_answer<L: Ledger>(
 ) -> Result<(), NameFault> {
     let (word, rest) = line.split_once(" ").unwrap_or((line, ""));
     match word {
-        "anew" => *world = new_world(alloc)?,
-        "index" => put_index(alloc, &mut world.index, rest, out)?,
-        "fill" => put_fill(alloc, &mut world.index, rest, out)?,
-        "put-at" => numbers::put(&mut world.items, rest, out)?,
-        "list" => put_list(alloc, &mut world.lists, rest, steps, out)?,
-        "claim" => put_claim(&mut world.book, number(rest)?, steps, out)?,
-        _ => put_book(alloc, &mut world.book, (word, rest), out)?,
+        "anew" => renew(alloc, world),
+        "index" => put_index(alloc, &mut world.index, rest, out),
+        "fill" => put_fill(alloc, &mut world.index, rest, out),
+        "put-at" => numbers::put(&mut world.items, rest, out),
+        "list" => put_list(alloc, &mut world.lists, rest, steps, out),
+        "claim" => put_claim(&mut world.book, rest, steps, out),
+        _ => put_book(alloc, &mut world.book, (word, rest), out),
     }
-    Ok(())
 }
 
 // Puts what a line is answered, or why a name in it is none.
@@ -75,17 +86,43 @@ fn put_case<L: Ledger>(
     steps: &mut Steps<L>,
     out: &mut String,
 ) -> Result<(), AllocError> {
-    if line.starts_with("#") {
-        return Ok(());
+    out.push_str(": ")?;
+    let before = out.len();
+    if let Err(fault) = put_answer(alloc, world, line, steps, out) {
+        write!(out, "{fault}")?;
     }
-    let mut answer = String::new(alloc);
-    if let Err(fault) = put_answer(alloc, world, line, steps, &mut answer) {
-        write!(answer, "{fault}")?;
+    if out.len() == before {
+        out.push_str("none")?;
     }
-    if answer.is_empty() {
-        answer.push_str("none")?;
+    Ok(())
+}
+
+// Prints a line with what it is answered.
+fn print_case<L: Ledger>(
+    rt: &(impl Input + Print),
+    alloc: Global,
+    world: &mut World,
+    line: &str,
+    steps: &mut Steps<L>,
+) -> io::Result<()> {
+    let mut out = String::new(alloc);
+    if !line.starts_with("#") {
+        put_case(alloc, world, line, steps, &mut out)?;
     }
-    write!(out, ": {answer}")
+    println!(rt; "{line}{out}")
+}
+
+fn print_cases<L: Ledger>(
+    rt: &(impl Input + Print),
+    alloc: Global,
+    world: &mut World,
+    steps: &mut Steps<L>,
+) -> io::Result<()> {
+    for line in BufReader::new(alloc, rt.reader())?.lines(alloc) {
+        let line = line?;
+        print_case(rt, alloc, world, &line, steps)?;
+    }
+    Ok(())
 }
 
 fn run<L: Ledger>(rt: &(impl Input + Print), alloc: Global, blank: Blank) -> io::Result<()>
@@ -95,13 +132,9 @@ fn run<L: Ledger>(rt: &(impl Input + Print), alloc: Global, blank: Blank) -> io:
 {
     let mut steps = Steps::<L>::new(blank);
     let mut world = new_world(alloc)?;
-    for line in BufReader::new(alloc, rt.reader())?.lines(alloc) {
-        let line = line?;
-        let mut out = String::new(alloc);
-        put_case(alloc, &mut world, &line, &mut steps, &mut out)?;
-        println!(rt; "{line}{out}")?;
-    }
-    Ok(())
+    let printed = print_cases(rt, alloc, &mut world, &mut steps);
+    drop(world);
+    printed
 }
 
 fn main(rt: HostRuntime) -> io::Result<()> {

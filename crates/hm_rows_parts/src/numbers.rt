@@ -6,6 +6,11 @@ pub fn number(word: &str) -> Result<u64, NameFault> {
     parse_decimal(word.as_bytes()).ok_or(NameFault::BadNumber(0))
 }
 
+/// The front of a text up to a space, and what follows it.
+pub fn halves(text: &str) -> Result<(&str, &str), NameFault> {
+    text.split_once(" ").ok_or(NameFault::Empty)
+}
+
 /// The two numbers of a text.
 pub fn two_numbers(text: &str) -> Result<(u64, u64), NameFault> {
     let (one, other) = text.split_once(" ").ok_or(NameFault::BadNumber(1))?;
