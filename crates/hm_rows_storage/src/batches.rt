@@ -1,10 +1,11 @@
 //! What no clause says: that there is memory for a batch, and how it is written.
+use crate::logs::open;
+use crate::stops::{choice_of, wanted};
 use hm_batch::Batch;
 use hm_disk::{Choice, MemDisk};
 use hm_log::Log;
 use hm_ports::Failed;
 use std::alloc::{AllocError, Global};
-use std::test::Fail;
 
 // A run of two frames.
 const RUN: &[u64] = &[1, 2];
@@ -15,15 +16,20 @@ const PIECES: &[u64] = &[1, 65_536, 1];
 // No call of a test has this number.
 const NEVER: u64 = 99;
 
+fn add(alloc: Global, batch: &mut Batch, size: u64) -> Result<(), AllocError> {
+    let frame = vec![in alloc; 7; size as usize]?;
+    if !frame.is_empty() && frame.len() <= 65_536 {
+        batch.reserve(frame.len() as u64)?;
+        batch.put(&frame);
+    }
+    Ok(())
+}
+
 // A batch of frames of these sizes.
 fn batch_of(alloc: Global, sizes: &[u64]) -> Result<Batch, AllocError> {
     let mut batch = Batch::new(alloc)?;
     for size in sizes {
-        let frame = vec![in alloc; 7; *size as usize]?;
-        if !frame.is_empty() && frame.len() <= 65_536 {
-            batch.reserve(frame.len() as u64)?;
-            batch.put(&frame);
-        }
+        add(alloc, &mut batch, *size)?;
     }
     Ok(batch)
 }
@@ -36,11 +42,18 @@ fn flush(batch: &mut Batch, log: &mut Log<MemDisk>) -> Result<u64, Failed> {
     batch.flush(log)
 }
 
-// A log on a new disk with room for so many bytes, whose call of this number fails.
+// A new disk with room for so many bytes, whose call of this number fails.
+fn new_disk(alloc: Global, room: u64, fail: u64) -> Result<MemDisk, AllocError> {
+    MemDisk::new(alloc, room, Vec::new(alloc), [fail].to_vec(alloc)?)
+}
+
+// The log on such a disk, if it opens.
 fn new_log(alloc: Global, room: u64, fail: u64) -> Result<Option<Log<MemDisk>>, AllocError> {
-    let disk = MemDisk::new(alloc, room, Vec::new(alloc), [fail].to_vec(alloc)?)?;
-    match Log::open(alloc, disk) {
-        Ok((log, _)) => Ok(Some(log)),
+    match open(alloc, new_disk(alloc, room, fail)?) {
+        Ok((log, frames)) => {
+            drop(frames);
+            Ok(Some(log))
+        }
         Err(_) => Ok(None),
     }
 }
@@ -48,7 +61,10 @@ fn new_log(alloc: Global, room: u64, fail: u64) -> Result<Option<Log<MemDisk>>, 
 // How many calls of the disk the opening of a new log makes.
 fn calls_of_an_opening(alloc: Global) -> Result<u64, AllocError> {
     for fail in 0..16 {
-        if new_log(alloc, 64, fail)?.is_some() {
+        let log = new_log(alloc, 64, fail)?;
+        let is_open = log.is_some();
+        drop(log);
+        if is_open {
             return Ok(fail);
         }
     }
@@ -58,55 +74,74 @@ fn calls_of_an_opening(alloc: Global) -> Result<u64, AllocError> {
 // How many frames a disk holds.
 fn frames_on(alloc: Global, disk: MemDisk) -> Option<u64> {
     let mut disk = disk;
-    Some(Log::scan(alloc, &mut disk).ok()?.count())
+    match Log::scan(alloc, &mut disk) {
+        Ok(frames) => Some(frames.count()),
+        Err(_) => None,
+    }
 }
 
-// Whether a flush succeeds on a new log whose disk fails at this call, and how many frames a stop leaves.
+// Whether a flush succeeds, and how many frames a stop then leaves.
 fn left(
     alloc: Global,
     batch: &mut Batch,
-    fail: u64,
+    log: Log<MemDisk>,
     choice: Choice,
-) -> Result<Option<(bool, u64)>, AllocError> {
+) -> Option<(bool, u64)> {
+    let mut log = log;
+    let is_flushed = flush(batch, &mut log).is_ok();
+    let frames = frames_on(alloc, log.into_disk().stop(choice))?;
+    Some((is_flushed, frames))
+}
+
+// Whether a flush on a new log, whose disk fails at a call of the flush, and a stop leave as many frames as they must.
+fn stops_well(
+    alloc: Global,
+    batch: &mut Batch,
+    (call, synced, open): (u64, u64, u64),
+    choice: Choice,
+) -> Result<bool, AllocError> {
+    let fail = calls_of_an_opening(alloc)?.saturating_add(call);
     let room = batch.bytes().saturating_add(64);
-    let Some(mut log) = new_log(alloc, room, fail)? else {
-        return Ok(None);
+    let Some(log) = new_log(alloc, room, fail)? else {
+        return Ok(false);
     };
-    let answer = flush(batch, &mut log);
-    let frames = frames_on(alloc, log.into_disk().stop(choice));
-    Ok(frames.map(|frames| (answer.is_ok(), frames)))
+    Ok(match left(alloc, batch, log, choice) {
+        Some((is_flushed, frames)) => {
+            is_flushed == (call == NEVER) && frames == wanted(choice, synced, open)
+        }
+        None => false,
+    })
+}
+
+// For each call of a flush of a run that fails, a write, a sync, a write and a sync: how many frames are synced, and how
+// many there are where a gate that isn't synced is open.
+const RUN_STOPS: [(u64, u64, u64); 5] = [(0, 0, 0), (1, 0, 0), (2, 0, 0), (3, 0, 2), (NEVER, 2, 2)];
+
+// Whether a stop at a call leaves none of a run, or all, as it must.
+fn run_stops_well(
+    alloc: Global,
+    stop: (u64, u64, u64),
+    choice: Choice,
+) -> Result<bool, AllocError> {
+    let mut batch = batch_of(alloc, RUN)?;
+    stops_well(alloc, &mut batch, stop, choice)
 }
 
 #[test]
-fn a_stop_leaves_none_of_a_run_or_all(rt: HostRuntime) -> Result<(), Fail> {
-    let first = calls_of_an_opening(rt.alloc())?;
-    // A write, a sync, a write and a sync.
-    for (call, synced, open) in [(0, 0, 0), (1, 0, 0), (2, 0, 0), (3, 0, 2), (NEVER, 2, 2)] {
-        let fail = first.saturating_add(call);
-        for byte in 0..=255 {
-            let want = if byte == b'+' { open } else { synced };
-            let mut batch = batch_of(rt.alloc(), RUN)?;
-            let found = left(rt.alloc(), &mut batch, fail, Choice::Fill(byte))?;
-            assert_eq!(rt;
-                found,
-                Some((call == NEVER, want)),
-                "call {call}, byte {byte}"
-            );
-        }
-        for (choice, want) in [(Choice::AsRead, open), (Choice::Synced, synced)] {
-            let found = left(rt.alloc(), &mut batch_of(rt.alloc(), RUN)?, fail, choice)?;
-            assert_eq!(rt;
-                found,
-                Some((call == NEVER, want)),
-                "call {call}, {choice:?}"
+fn a_stop_leaves_none_of_a_run_or_all(rt: HostRuntime) {
+    for stop in RUN_STOPS {
+        for number in 0..258 {
+            let well = run_stops_well(rt.alloc(), stop, choice_of(number));
+            assert!(rt;
+                matches!(well, Ok(true)),
+                "call {}, choice {number}",
+                stop.0
             );
         }
     }
-    Ok(())
 }
 
-// For each call of a flush of three pieces that fails: how many frames are synced, and how many there are where
-// a gate that isn't synced is open.
+// The same of a flush of three pieces.
 const STOPS: [(u64, u64, u64); 13] = [
     (0, 0, 0),
     (1, 0, 0),
@@ -123,52 +158,50 @@ const STOPS: [(u64, u64, u64); 13] = [
     (NEVER, 3, 3),
 ];
 
-#[test]
-fn a_stop_leaves_the_first_pieces_of_a_batch(rt: HostRuntime) -> Result<(), Fail> {
-    let first = calls_of_an_opening(rt.alloc())?;
-    let choices = [
-        (Choice::Synced, false),
-        (Choice::AsRead, true),
-        (Choice::Fill(b'-'), false),
-    ];
-    for (choice, is_open) in choices {
-        // It is as it was after each flush that fails.
-        let mut batch = batch_of(rt.alloc(), PIECES)?;
-        for (call, synced, open) in STOPS {
-            let want = if is_open { open } else { synced };
-            let found = left(rt.alloc(), &mut batch, first.saturating_add(call), choice)?;
-            assert_eq!(rt;
-                found,
-                Some((call == NEVER, want)),
-                "call {call}, {choice:?}"
-            );
+// The first call at which a stop doesn't leave the pieces that it must. The batch is as it was after each flush that
+// fails, and empty at the end, or that is wrong.
+fn wrong_stop(alloc: Global, choice: Choice) -> Result<Option<u64>, AllocError> {
+    let mut batch = batch_of(alloc, PIECES)?;
+    for stop in STOPS {
+        if !stops_well(alloc, &mut batch, stop, choice)? {
+            return Ok(Some(stop.0));
         }
-        assert_eq!(rt; batch.bytes(), 0);
     }
-    Ok(())
-}
-
-// The answers of a flush of two frames and of one of none, and what the disk then reads.
-fn flushed_twice(
-    alloc: Global,
-) -> Result<Option<(Result<u64, Failed>, Result<u64, Failed>, MemDisk)>, AllocError> {
-    let Some(mut log) = new_log(alloc, 64, NEVER)? else {
-        return Ok(None);
-    };
-    let mut batch = batch_of(alloc, RUN)?;
-    let first = flush(&mut batch, &mut log);
-    let second = flush(&mut batch, &mut log);
-    Ok(Some((first, second, log.into_disk())))
+    let is_empty = batch.bytes() == 0;
+    Ok(if is_empty { None } else { Some(NEVER) })
 }
 
 #[test]
-fn new_reserve_put_and_flush_write_one_run(rt: HostRuntime) -> Result<(), Fail> {
-    assert_eq!(rt; batch_of(rt.alloc(), RUN)?.bytes(), 13);
-    let (first, second, disk) = flushed_twice(rt.alloc())?.ok_or("the new log doesn't open")?;
-    assert_eq!(rt; (first, second), (Ok(2), Ok(2)));
-    assert!(rt;
-        disk.bytes()
+fn a_stop_leaves_the_first_pieces_of_a_batch(rt: HostRuntime) {
+    for choice in [Choice::Synced, Choice::AsRead, Choice::Fill(b'-')] {
+        let wrong = wrong_stop(rt.alloc(), choice);
+        assert!(rt; matches!(wrong, Ok(None)), "{choice:?}, {wrong:?}");
+    }
+}
+
+// Whether a flush of a run of two frames and one of none write that run to a new log.
+fn is_one_run(batch: &mut Batch, log: Log<MemDisk>) -> bool {
+    let mut log = log;
+    let first = flush(batch, &mut log);
+    let second = flush(batch, &mut log);
+    let disk = log.into_disk();
+    let counts = matches!(first, Ok(2)) && matches!(second, Ok(2));
+    counts
+        && disk
+            .bytes()
             .ends_with(b"+\x01\0\0\0\x07+\x02\0\0\0\x07\x07-")
-    );
-    Ok(())
+}
+
+fn writes_one_run(alloc: Global) -> Result<bool, AllocError> {
+    let mut batch = batch_of(alloc, RUN)?;
+    let size = batch.bytes();
+    Ok(match new_log(alloc, 64, NEVER)? {
+        Some(log) => is_one_run(&mut batch, log) && size == 13,
+        None => false,
+    })
+}
+
+#[test]
+fn new_reserve_put_and_flush_write_one_run(rt: HostRuntime) {
+    assert!(rt; matches!(writes_one_run(rt.alloc()), Ok(true)));
 }

@@ -3,6 +3,7 @@ use hm_disk::{Choice, Disk, FileDisk, MemDisk};
 use hm_ports::Failed;
 use std::alloc::{AllocError, Global};
 use std::fs::{File, Files};
+use std::path::PathBuf;
 use std::test::Fail;
 use std::{env, fs, process};
 
@@ -16,13 +17,15 @@ fn disk_of_abcd(alloc: Global) -> Result<MemDisk, AllocError> {
     MemDisk::new(alloc, room, bytes, fails)
 }
 
-// Its bytes after a write at 3 and a stop.
-fn stopped(alloc: Global, choice: Choice) -> Result<Option<MemDisk>, AllocError> {
-    let mut disk = disk_of_abcd(alloc)?;
+// Whether a write at 3 and a stop leave these bytes.
+fn stops_as(disk: MemDisk, choice: Choice, left: &[u8]) -> bool {
+    let mut disk = disk;
     if disk.bytes().len() < 3 || disk.write_at(3, b"XYZ").is_err() {
-        return Ok(None);
+        return false;
     }
-    Ok(Some(disk.stop(choice)))
+    let stopped = disk.stop(choice);
+    may_go_to_a_thread(&stopped);
+    stopped.bytes() == left
 }
 
 #[test]
@@ -33,22 +36,32 @@ fn new_makes_a_disk_that_stops(rt: HostRuntime) -> Result<(), Fail> {
         (Choice::Fill(b'?'), b"abc???".as_slice()),
     ];
     for (choice, left) in cases {
-        let disk = stopped(rt.alloc(), choice)?.ok_or("the write failed")?;
-        may_go_to_a_thread(&disk);
-        assert_eq!(rt; disk.bytes(), left, "{choice:?}");
+        assert!(rt;
+            stops_as(disk_of_abcd(rt.alloc())?, choice, left),
+            "{choice:?}"
+        );
     }
     Ok(())
 }
 
+// Whether the second call fails, and a write that has no room; other calls do as they are told.
+fn fails_as_told(disk: MemDisk) -> bool {
+    let mut disk = disk;
+    let first = disk.size();
+    let second = disk.size();
+    if disk.bytes().len() < 4 {
+        return false;
+    }
+    let long = disk.write_at(4, b"efghi");
+    let fitting = disk.write_at(4, b"efgh");
+    let sizes = matches!(first, Ok(4)) && matches!(second, Err(Failed));
+    let writes = matches!(long, Err(Failed)) && matches!(fitting, Ok(()));
+    sizes && writes && disk.bytes() == b"abcdefgh".as_slice()
+}
+
 #[test]
 fn a_mem_disk_fails_as_told(rt: HostRuntime) -> Result<(), Fail> {
-    let mut disk = disk_of_abcd(rt.alloc())?;
-    assert_eq!(rt; disk.size(), Ok(4));
-    assert_eq!(rt; disk.size(), Err(Failed));
-    assert!(rt; disk.bytes().len() >= 4);
-    assert_eq!(rt; disk.write_at(4, b"efghi"), Err(Failed));
-    assert_eq!(rt; disk.write_at(4, b"efgh"), Ok(()));
-    assert_eq!(rt; disk.bytes(), b"abcdefgh".as_slice());
+    assert!(rt; fails_as_told(disk_of_abcd(rt.alloc())?));
     Ok(())
 }
 
@@ -59,25 +72,30 @@ fn write_abcd(disk: &mut FileDisk) -> Result<(), Failed> {
     disk.sync()
 }
 
-// The size of a file, and three of its bytes.
-fn size_and_middle(disk: &mut FileDisk) -> Result<(u64, [u8; 3]), Failed> {
-    let mut middle = [0; 3];
-    disk.read_at(1, &mut middle)?;
-    Ok((disk.size()?, middle))
+// Whether a file has four bytes, the last three of them these.
+fn ends_with(disk: &mut FileDisk, bytes: &[u8]) -> Result<bool, Failed> {
+    let mut end = [0; 3];
+    disk.read_at(1, &mut end)?;
+    Ok(disk.size()? == 4 && end.as_slice() == bytes)
 }
 
-fn written_and_read<R: Files<File = File>>(rt: &R, path: &str) -> Result<(u64, [u8; 3]), Failed> {
+fn keeps_abcd<R: Files<File = File>>(rt: &R, path: &str) -> Result<bool, Failed> {
     write_abcd(&mut FileDisk::writable(rt, path)?)?;
-    size_and_middle(&mut FileDisk::read_only(rt, path)?)
+    ends_with(&mut FileDisk::read_only(rt, path)?, b"bcd")
+}
+
+// A path for this process in the system's folder for passing files.
+fn own_path(rt: &HostRuntime) -> Result<PathBuf, Fail> {
+    let name = format!(in rt.alloc(); "hm-disk-test-{}", process::id(rt.process()))?;
+    Ok(env::temp_dir(rt)?.join(rt.alloc(), name.as_str())?)
 }
 
 #[test]
 fn a_file_keeps_its_bytes(rt: HostRuntime) -> Result<(), Fail> {
-    let name = format!(in rt.alloc(); "hm-disk-test-{}", process::id(rt.process()))?;
-    let path = env::temp_dir(&rt)?.join(rt.alloc(), name.as_str())?;
+    let path = own_path(&rt)?;
     let path = path.as_path().as_str();
     assert!(rt; FileDisk::read_only(&rt, path).is_err());
-    assert_eq!(rt; written_and_read(&rt, path), Ok((4, *b"bcd")));
+    assert!(rt; matches!(keeps_abcd(&rt, path), Ok(true)));
     fs::remove_file(&rt, path)?;
     Ok(())
 }

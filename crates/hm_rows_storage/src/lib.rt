@@ -11,3 +11,5 @@ mod logs;
 mod moves;
 #[cfg(test)]
 mod ports;
+#[cfg(test)]
+mod stops;

@@ -1,11 +1,11 @@
 //! Logs whose frames are moved or replaced, stopped at each call of the disk.
-ghost use Rattle.std.specs.Prelude.{◌≡◌, ◌≤◌, ◌<◌, false};
+ghost use Rattle.std.specs.Prelude.{◌≡◌, ◌≤◌, false};
 
-use hm_disk::{Choice, MemDisk};
+use crate::logs::{NEW, ONE, are, disk_of, open};
+use crate::stops::choice_of;
+use hm_disk::MemDisk;
 use hm_log::{Cursor, Frames, Log, OpenWhy};
 use std::alloc::{AllocError, Global};
-use std::ops::Range;
-use std::test::Fail;
 
 // A log of version 1 with the one frame 1, 2, 3.
 const FIRST: &[u8] = b"HMASTERJ\x01+\x03\0\0\0\x01\x02\x03-";
@@ -16,14 +16,8 @@ const FIRST_MORE: &[u8] = b"HMASTERJ\x01+\x03\0\0\0\x01\x02\x03-\x01\0";
 // One without frames.
 const FIRST_EMPTY: &[u8] = b"HMASTERJ\x01-";
 
-// The log of the one frame in version 2.
-const ONE: &[u8] = b"HMASTERJ\x02-+\x03\0\0\0\x01\x02\x03-";
-
 // The same, moved: the frame is at byte 20.
 const MOVED: &[u8] = b"HMASTERJ\x02+..........+\x03\0\0\0\x01\x02\x03-\x14\0\0\0\0\0\0\0";
-
-// A new log.
-const NEW: &[u8] = b"HMASTERJ\x02--";
 
 // What is opened, its frames, an image that then replaces them, where it has frames, and what is there at the end.
 const CASES: [(&[u8], &[&[u8]], &[&[u8]], &[u8]); 9] = [
@@ -57,44 +51,11 @@ const CASES: [(&[u8], &[&[u8]], &[&[u8]], &[u8]); 9] = [
 // More than any of these runs has.
 const CALLS: u64 = 48;
 
-// What a stop leaves: each value of the bytes that aren't synced, all that was written, and none of it.
-fn choice_of(number: u16) -> Choice {
-    match u8::try_from(number) {
-        Ok(byte) => Choice::Fill(byte),
-        Err(_) if number == 256 => Choice::AsRead,
-        Err(_) => Choice::Synced,
-    }
-}
-
-// The choices to try: the last three, where no written byte waits for a sync.
-fn choices(one: MemDisk, other: MemDisk) -> Range<u16> {
-    let is_torn = one.stop(Choice::Fill(0)).bytes() != other.stop(Choice::Fill(1)).bytes();
-    if is_torn { 0..258 } else { 255..258 }
-}
-
-// A disk whose call of this number fails.
-fn disk_of(alloc: Global, bytes: &[u8], fail: u64) -> Result<MemDisk, AllocError> {
-    let bytes = bytes.to_vec(alloc)?;
-    if bytes.len() > 128 {
-        return Err(AllocError);
-    }
-    MemDisk::new(alloc, 128, bytes, [fail].to_vec(alloc)?)
-}
-
 // The frames of a disk with these bytes, or why it is no log.
 fn frames_on(alloc: Global, bytes: &[u8]) -> Result<Frames, OpenWhy> {
-    let disk = disk_of(alloc, bytes, CALLS)?;
-    let (_, frames) = Log::open(alloc, disk).map_err(|refused| refused.1)?;
+    let (log, frames) = open(alloc, disk_of(alloc, bytes, &[])?)?;
+    drop(log);
     Ok(frames)
-}
-
-// Whether these frames have these bytes.
-fn are(frames: &Frames, want: &[&[u8]]) -> bool {
-    let mut same = frames.count() == want.len() as u64;
-    for (number, frame) in want.iter().enumerate() {
-        same = same && (number as u64) < frames.count() && frames.frame(number as u64) == *frame;
-    }
-    same
 }
 
 fn frames_of(alloc: Global, image: &[&[u8]]) -> Result<Frames, AllocError> {
@@ -124,16 +85,38 @@ fn run(
     image: &Frames,
     fail: u64,
 ) -> Result<(bool, MemDisk), AllocError> {
-    let disk = disk_of(alloc, bytes, fail)?;
-    match Log::open(alloc, disk) {
-        Ok((log, _frames)) => Ok(replaced(log, image)),
-        Err((disk, _why)) => Ok((true, disk)),
+    match Log::open(alloc, disk_of(alloc, bytes, &[fail])?) {
+        Ok((log, frames)) => {
+            drop(frames);
+            Ok(replaced(log, image))
+        }
+        Err((disk, _)) => Ok((true, disk)),
     }
 }
 
+// What a stop leaves of the disk after them.
+fn left(
+    alloc: Global,
+    bytes: &[u8],
+    image: &Frames,
+    fail: u64,
+    number: u16,
+) -> Result<MemDisk, AllocError> {
+    let (_, disk) = run(alloc, bytes, image, fail)?;
+    Ok(disk.stop(choice_of(number)))
+}
+
+// The first choice to try: only the last three are, where no written byte waits for a sync.
+fn first_choice(alloc: Global, bytes: &[u8], image: &Frames, fail: u64) -> Result<u16, AllocError> {
+    let one = left(alloc, bytes, image, fail, 0)?;
+    let other = left(alloc, bytes, image, fail, 1)?;
+    let is_torn = one.bytes() != other.bytes();
+    Ok(if is_torn { 0 } else { 255 })
+}
+
 // Whether what a stop leaves is right: the old frames, the image's, or no log while a new one is made.
-fn is_right(alloc: Global, disk: MemDisk, number: u16, old: &[&[u8]], image: &[&[u8]]) -> bool {
-    match frames_on(alloc, disk.stop(choice_of(number)).bytes()) {
+fn is_right(alloc: Global, bytes: &[u8], old: &[&[u8]], image: &[&[u8]]) -> bool {
+    match frames_on(alloc, bytes) {
         Ok(left) => are(&left, old) || !image.is_empty() && are(&left, image),
         Err(why) => old.is_empty() && matches!(why, OpenWhy::NotALog(_)),
     }
@@ -142,49 +125,62 @@ fn is_right(alloc: Global, disk: MemDisk, number: u16, old: &[&[u8]], image: &[&
 // Whether each stop at this call leaves what is right.
 fn stops_well(
     alloc: Global,
-    bytes: &[u8],
-    old: &[&[u8]],
-    image: &[&[u8]],
+    (bytes, old, image): (&[u8], &[&[u8]], &[&[u8]]),
+    frames: &Frames,
     fail: u64,
 ) -> Result<bool, AllocError> {
-    let frames = frames_of(alloc, image)?;
-    let (_, one) = run(alloc, bytes, &frames, fail)?;
-    let (_, other) = run(alloc, bytes, &frames, fail)?;
     let mut well = true;
-    for number in choices(one, other) {
-        let (_, disk) = run(alloc, bytes, &frames, fail)?;
-        well = well && is_right(alloc, disk, number, old, image);
+    for number in first_choice(alloc, bytes, frames, fail)?..258 {
+        let left = left(alloc, bytes, frames, fail, number)?;
+        well = well && is_right(alloc, left.bytes(), old, image);
     }
     Ok(well)
 }
 
-// How many calls of the disk a run has, and what is there at the end.
-fn calls_and_end(
+// How many calls of the disk a run has, where the disk reads as this at the end.
+fn calls_to(
     alloc: Global,
     bytes: &[u8],
-    image: &[&[u8]],
-) -> Result<Option<(u64, MemDisk)>, AllocError> {
-    let frames = frames_of(alloc, image)?;
+    image: &Frames,
+    end: &[u8],
+) -> Result<Option<u64>, AllocError> {
     for fail in 0..CALLS {
-        let (failed, disk) = run(alloc, bytes, &frames, fail)?;
+        let (failed, disk) = run(alloc, bytes, image, fail)?;
         if !failed {
-            return Ok(Some((fail, disk)));
+            let is_end = disk.bytes() == end;
+            return Ok(if is_end { Some(fail) } else { None });
+        }
+    }
+    Ok(None)
+}
+
+// The first call at which a stop leaves what is wrong, or more than any has where the run doesn't end as it must.
+fn wrong_stop(
+    alloc: Global,
+    (bytes, old, image): (&[u8], &[&[u8]], &[&[u8]]),
+    end: &[u8],
+) -> Result<Option<u64>, AllocError> {
+    let frames = frames_of(alloc, image)?;
+    let Some(calls) = calls_to(alloc, bytes, &frames, end)? else {
+        return Ok(Some(CALLS));
+    };
+    for fail in 0..calls {
+        if !stops_well(alloc, (bytes, old, image), &frames, fail)? {
+            return Ok(Some(fail));
         }
     }
     Ok(None)
 }
 
 #[test]
-fn a_stop_leaves_the_old_frames_or_the_new(rt: HostRuntime) -> Result<(), Fail> {
+fn a_stop_leaves_the_old_frames_or_the_new(rt: HostRuntime) {
     for (bytes, old, image, end) in CASES {
-        let (calls, disk) = calls_and_end(rt.alloc(), bytes, image)?.ok_or("it never ends")?;
-        assert_eq!(rt; disk.bytes(), end);
-        for fail in 0..calls {
-            let well = stops_well(rt.alloc(), bytes, old, image, fail)?;
-            assert!(rt; well, "{bytes:?}, {image:?}, fault {fail}");
-        }
+        let wrong = wrong_stop(rt.alloc(), (bytes, old, image), end);
+        assert!(rt;
+            matches!(wrong, Ok(None)),
+            "{bytes:?}, {image:?}, {wrong:?}"
+        );
     }
-    Ok(())
 }
 
 // The frames from the first gate on, then two appends, the frames after that tail's end, and the cursor after them.
@@ -204,17 +200,19 @@ fn two_tails(alloc: Global, log: &mut Log<MemDisk>) -> Result<(Frames, Frames, C
     Ok((first, second, end))
 }
 
-#[test]
-fn a_tail_gives_the_frames_after_its_cursor(rt: HostRuntime) -> Result<(), Fail> {
-    let Ok((mut log, _)) = Log::open(rt.alloc(), disk_of(rt.alloc(), ONE, CALLS)?) else {
-        return Err(Fail::from("the log doesn't open"));
-    };
-    if log.bytes() > 64 {
-        return Err(Fail::from("the log is too long"));
+// Whether the log of one frame is read so, before two appends and after them.
+fn tails_are_right(alloc: Global) -> Result<bool, OpenWhy> {
+    let (mut log, frames) = open(alloc, disk_of(alloc, ONE, &[])?)?;
+    drop(frames);
+    if log.stalled() || log.bytes() < 11 || log.bytes() > 64 {
+        return Ok(false);
     }
-    let (first, second, end) = two_tails(rt.alloc(), &mut log)?;
-    assert!(rt; are(&first, &[&[1, 2, 3]]));
-    assert!(rt; are(&second, &[&[4], &[5, 6]]));
-    assert_eq!(rt; (end.place, end.number), (31, 3));
-    Ok(())
+    let (first, second, end) = two_tails(alloc, &mut log)?;
+    let frames = are(&first, &[&[1, 2, 3]]) && are(&second, &[&[4], &[5, 6]]);
+    Ok(frames && end.place == 31 && end.number == 3)
+}
+
+#[test]
+fn a_tail_gives_the_frames_after_its_cursor(rt: HostRuntime) {
+    assert!(rt; matches!(tails_are_right(rt.alloc()), Ok(true)));
 }
