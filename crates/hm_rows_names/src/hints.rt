@@ -26,6 +26,16 @@ fn key(alloc: Global, kind: &str, text: &str) -> Result<CatKey, NameFault> {
     })
 }
 
+fn nonce_hint(alloc: Global, text: &str) -> Result<u64, NameFault> {
+    let nonce = Nonce::parse(alloc, text.as_bytes())?;
+    Ok(nonce.own_hint())
+}
+
+fn key_hint(alloc: Global, kind: &str, text: &str) -> Result<u64, NameFault> {
+    let key = key(alloc, kind, text)?;
+    Ok(key.own_hint())
+}
+
 /// Puts the own hint of what a text names.
 pub fn put_own_hint(
     alloc: Global,
@@ -35,8 +45,8 @@ pub fn put_own_hint(
 ) -> Result<(), NameFault> {
     let hint = match kind {
         "pid" => Pid(number(text)?).own_hint(),
-        "nonce" => Nonce::parse(alloc, text.as_bytes())?.own_hint(),
-        _ => key(alloc, kind, text)?.own_hint(),
+        "nonce" => nonce_hint(alloc, text)?,
+        _ => key_hint(alloc, kind, text)?,
     };
     write!(out, "{hint:016x}")?;
     Ok(())
@@ -58,16 +68,24 @@ fn keys_rise(
     Ok(one < other)
 }
 
+// Whether the first of two names of these kinds is less.
+fn rise(alloc: Global, one: (&str, &str), other: (&str, &str)) -> Result<bool, NameFault> {
+    if one.0 == "server" {
+        servers_rise(alloc, one.1, other.1)
+    } else {
+        keys_rise(alloc, one, other)
+    }
+}
+
+// The kind and the text of a name.
+fn named(text: &str) -> Result<(&str, &str), NameFault> {
+    text.split_once("=").ok_or(NameFault::Empty)
+}
+
 /// Puts whether the first of two names is less.
 pub fn put_less(alloc: Global, words: &str, out: &mut String) -> Result<(), NameFault> {
     let (one, other) = words.split_once(" ").ok_or(NameFault::Empty)?;
-    let (kind, one) = one.split_once("=").ok_or(NameFault::Empty)?;
-    let (other_kind, other) = other.split_once("=").ok_or(NameFault::Empty)?;
-    let less = if kind == "server" {
-        servers_rise(alloc, one, other)?
-    } else {
-        keys_rise(alloc, (kind, one), (other_kind, other))?
-    };
+    let less = rise(alloc, named(one)?, named(other)?)?;
     write!(out, "{less}")?;
     Ok(())
 }

@@ -48,9 +48,6 @@ fn put_answer(alloc: Global, line: &str, out: &mut String) -> Result<(), NameFau
 
 // Puts what a line is answered, or why its text is no name.
 fn put_case(alloc: Global, line: &str, out: &mut String) -> Result<(), AllocError> {
-    if line.starts_with("#") {
-        return Ok(());
-    }
     out.push_str(": ")?;
     if let Err(fault) = put_answer(alloc, line, out) {
         write!(out, "{fault}")?;
@@ -58,13 +55,20 @@ fn put_case(alloc: Global, line: &str, out: &mut String) -> Result<(), AllocErro
     Ok(())
 }
 
+// Prints a line with what it is answered.
+fn print_case(rt: &impl Print, alloc: Global, line: &str) -> io::Result<()> {
+    let mut out = String::new(alloc);
+    if !line.starts_with("#") {
+        put_case(alloc, line, &mut out)?;
+    }
+    println!(rt; "{line}{out}")
+}
+
 fn main(rt: HostRuntime) -> io::Result<()> {
     let alloc = rt.alloc();
     for line in BufReader::new(alloc, rt.reader())?.lines(alloc) {
         let line = line?;
-        let mut out = String::new(alloc);
-        put_case(alloc, &line, &mut out)?;
-        println!(rt; "{line}{out}")?;
+        print_case(&rt, alloc, &line)?;
     }
     Ok(())
 }
