@@ -1,51 +1,11 @@
-//! Requests in a catalog, as lines of a script: what each edits, or the first cause against it.
+//! Requests in a catalog, one in a line: how many edits each has, or the first cause against it.
+use crate::requests::request;
+use crate::texts::is_told;
 use hm_catalog::{Catalog, DeedWhy, deed, wrong_in};
-use hm_data::{CatKey, CatRow, Cause, Edit, Request};
-use hm_names::{List, RegionName, Same};
-use hm_script::{Command, parse};
-use std::alloc::{AllocError, Global};
-use std::test::Fail;
-
-// What a command asks for.
-pub fn request_of(command: Command) -> Option<Request> {
-    match command {
-        Command::Namespace { nonce: _, ns } => Some(Request::CreateNamespace { ns }),
-        Command::DropNamespace { nonce: _, ns } => Some(Request::DropNamespace { ns }),
-        Command::Create {
-            nonce: _,
-            table,
-            keys,
-        } => Some(Request::CreateTable { table, keys }),
-        Command::Delete { nonce: _, table } => Some(Request::DeleteTable { table }),
-        Command::Enable { nonce: _, table } => Some(Request::EnableTable { table }),
-        Command::Disable { nonce: _, table } => Some(Request::DisableTable { table }),
-        Command::Modify {
-            nonce: _,
-            table,
-            version,
-        } => Some(Request::ModifyTable { table, version }),
-        Command::Split {
-            nonce: _,
-            region,
-            key,
-        } => Some(Request::SplitRegion { region, key }),
-        Command::Merge { nonce: _, regions } => Some(Request::MergeRegions { regions }),
-        Command::Move {
-            nonce: _,
-            region,
-            to,
-        } => Some(Request::Move { region, to }),
-        _ => None,
-    }
-}
-
-// What became of a request: how many edits it has; the first cause against it; or what is wrong with it by itself.
-#[derive(Clone, Copy, Debug, PartialEq, Eq)]
-pub enum Done {
-    Edits(usize),
-    Cause(Cause),
-    Wrong(u64),
-}
+use hm_data::{CatKey, Edit, Request};
+use hm_names::{List, Same};
+use std::alloc::{AllocError, AllocGlobal, Global};
+use std::process::Abort;
 
 // Whether an edit tells the row that is there.
 fn tells(catalog: &Catalog, edit: &Edit) -> bool {
@@ -57,41 +17,26 @@ fn tells(catalog: &Catalog, edit: &Edit) -> bool {
 }
 
 // Sets what an edit leaves, if it tells the row that is there.
-fn set(catalog: &mut Catalog, alloc: Global, edit: Edit) -> Result<bool, AllocError> {
-    if !tells(catalog, &edit) {
-        return Ok(false);
+fn set(catalog: &mut Catalog, alloc: Global, edit: Edit) -> bool {
+    if !tells(catalog, &edit) || catalog.reserve(alloc, 1).is_err() {
+        drop(edit);
+        return false;
     }
-    catalog.reserve(alloc, 1)?;
-    catalog.set(edit.key, edit.after);
-    Ok(true)
+    let Edit { key, before, after } = edit;
+    drop(before);
+    catalog.set(key, after);
+    true
 }
 
-// Does what a request asks for, with the first id that was drawn for it.
-pub fn act(
-    alloc: Global,
-    catalog: &mut Catalog,
-    request: &Request,
-    first: u64,
-) -> Result<Done, AllocError> {
-    if let Some(number) = wrong_in(request) {
-        return Ok(Done::Wrong(number));
-    }
-    if first < 1 || first >= 0x1_0000_0000 {
-        return Ok(Done::Wrong(0));
-    }
+// Sets what some edits leave: how many of them tell the row that is there.
+fn set_all(catalog: &mut Catalog, alloc: Global, edits: List<Edit>) -> usize {
     let mut count: usize = 0;
-    match deed(alloc, request, first, catalog) {
-        Err(DeedWhy::Memory) => return Err(AllocError),
-        Err(DeedWhy::Cause(cause)) => return Ok(Done::Cause(cause)),
-        Ok(edits) => {
-            for edit in edits.into_vec() {
-                if set(catalog, alloc, edit)? {
-                    count = count.wrapping_add(1);
-                }
-            }
+    for edit in edits.into_vec() {
+        if set(catalog, alloc, edit) {
+            count = count.wrapping_add(1);
         }
     }
-    Ok(Done::Edits(count))
+    count
 }
 
 // The lowest number of a region that no region has, where all are of one table and none was removed.
@@ -105,216 +50,171 @@ fn next_id(catalog: &Catalog) -> u64 {
     id
 }
 
-// Does what the lines of a script ask for, one after another. Answers what became of the last.
-pub fn last(alloc: Global, catalog: &mut Catalog, script: &[u8]) -> Result<Done, AllocError> {
-    let mut done = Done::Edits(0);
-    let Ok(commands) = parse(alloc, script) else {
-        return Err(AllocError);
-    };
-    for command in commands {
-        if let Some(request) = request_of(command) {
-            let first = next_id(catalog);
-            done = act(alloc, catalog, &request, first)?;
-        }
+// Does what a request asks for, with the first id that was drawn for it, and puts what became of it.
+fn act(
+    alloc: Global,
+    catalog: &mut Catalog,
+    request: &Request,
+    out: &mut String,
+) -> Result<(), AllocError> {
+    if let Some(number) = wrong_in(request) {
+        return write!(out, "wrong {number}");
     }
-    Ok(done)
+    let first = next_id(catalog);
+    if first < 1 || first >= 0x1_0000_0000 {
+        return out.push_str("no id");
+    }
+    match deed(alloc, request, first, catalog) {
+        Err(DeedWhy::Memory) => Err(AllocError),
+        Err(DeedWhy::Cause(cause)) => write!(out, "{cause:?}"),
+        Ok(edits) => write!(out, "{}", set_all(catalog, alloc, edits)),
+    }
 }
 
-const NAMESPACES: &[(&[u8], Done)] = &[
-    (b"namespace 0:0 a", Done::Edits(1)),
-    (b"namespace 0:0 default", Done::Cause(Cause::NsExists)),
-    (b"drop-namespace 0:0 a", Done::Cause(Cause::NsMissing)),
-    (b"drop-namespace 0:0 hbase", Done::Wrong(1)),
-    (
-        b"namespace 0:0 a\ncreate 0:0 a:t\ndrop-namespace 0:0 a",
-        Done::Cause(Cause::NsNotEmpty),
-    ),
-    (
-        b"namespace 0:0 b\nnamespace 0:0 a\ncreate 0:0 b:t\ndrop-namespace 0:0 a",
-        Done::Edits(1),
-    ),
-    (
-        b"namespace 0:0 a\ncreate 0:0 a:t\ndisable 0:0 a:t\ndelete 0:0 a:t\ndrop-namespace 0:0 a",
-        Done::Edits(1),
-    ),
-];
-
-const TABLES: &[(&[u8], Done)] = &[
-    (b"create 0:0 a:t", Done::Cause(Cause::NsMissing)),
-    (b"create 0:0 t m", Done::Edits(3)),
-    (b"create 0:0 t m m", Done::Wrong(2)),
-    (
-        b"create 0:0 t\ncreate 0:0 t",
-        Done::Cause(Cause::TableExists),
-    ),
-    (b"delete 0:0 t", Done::Cause(Cause::TableMissing)),
-    (
-        b"create 0:0 t\ndelete 0:0 t",
-        Done::Cause(Cause::NotDisabled),
-    ),
-    (
-        b"create 0:0 s\ncreate 0:0 t m\ncreate 0:0 u\ndisable 0:0 t\ndelete 0:0 t",
-        Done::Edits(3),
-    ),
-    (b"enable 0:0 t", Done::Cause(Cause::TableMissing)),
-    (
-        b"create 0:0 t\nenable 0:0 t",
-        Done::Cause(Cause::NotDisabled),
-    ),
-    (b"create 0:0 t\ndisable 0:0 t\nenable 0:0 t", Done::Edits(1)),
-    (b"disable 0:0 t", Done::Cause(Cause::TableMissing)),
-    (
-        b"create 0:0 t\ndisable 0:0 t\ndisable 0:0 t",
-        Done::Cause(Cause::NotEnabled),
-    ),
-    (b"create 0:0 t\ndisable 0:0 t", Done::Edits(1)),
-    (b"modify 0:0 t 2", Done::Cause(Cause::TableMissing)),
-    (
-        b"create 0:0 t\nmodify 0:0 t 2",
-        Done::Cause(Cause::NotDisabled),
-    ),
-    (
-        b"create 0:0 t\ndisable 0:0 t\nmodify 0:0 t 2",
-        Done::Edits(1),
-    ),
-];
-
-const SPLITS: &[(&[u8], Done)] = &[
-    (b"split 0:0 t,1 m", Done::Cause(Cause::TableMissing)),
-    (b"split 0:0 t,1 \\-", Done::Wrong(5)),
-    (
-        b"create 0:0 t\nsplit 0:0 t,1 m\ndisable 0:0 t\nsplit 0:0 t,1 m",
-        Done::Cause(Cause::NotEnabled),
-    ),
-    (
-        b"create 0:0 t\nsplit 0:0 t,2 m",
-        Done::Cause(Cause::RegionMissing),
-    ),
-    (
-        b"create 0:0 t\nsplit 0:0 t,1 m\nsplit 0:0 t,1 c",
-        Done::Cause(Cause::RegionNotLive),
-    ),
-    (
-        b"create 0:0 t\nsplit 0:0 t,1 m\nsplit 0:0 t,3 c",
-        Done::Cause(Cause::KeyOutside),
-    ),
-    (
-        b"create 0:0 t m\nsplit 0:0 t,2 m",
-        Done::Cause(Cause::KeyOutside),
-    ),
-    (b"create 0:0 t m\nsplit 0:0 t,2 n", Done::Edits(3)),
-];
-
-const MERGES: &[(&[u8], Done)] = &[
-    (b"merge 0:0 t,1 t,2", Done::Cause(Cause::TableMissing)),
-    (b"merge 0:0 t,1 t,1", Done::Wrong(4)),
-    (b"merge 0:0 t,1 u,2", Done::Wrong(4)),
-    (
-        b"create 0:0 t m\ndisable 0:0 t\nmerge 0:0 t,1 t,3",
-        Done::Cause(Cause::NotEnabled),
-    ),
-    (
-        b"create 0:0 t m\nsplit 0:0 t,1 c\nmerge 0:0 t,1 t,9",
-        Done::Cause(Cause::RegionMissing),
-    ),
-    (
-        b"create 0:0 t c m\nsplit 0:0 t,1 a\nmerge 0:0 t,3 t,1",
-        Done::Cause(Cause::RegionNotLive),
-    ),
-    (
-        b"create 0:0 t c m\nmerge 0:0 t,1 t,3",
-        Done::Cause(Cause::NotAdjacent),
-    ),
-    (b"create 0:0 t c m\nmerge 0:0 t,3 t,2", Done::Edits(3)),
-];
-
-const LARGE_MERGES: &[(&[u8], Done)] = &[
-    (b"merge 0:0 t,1 t,2 t,1", Done::Wrong(4)),
-    (b"merge 0:0 t,1 t,2 u,3", Done::Wrong(4)),
-    (b"merge 0:0 t,1 t,2 t,3", Done::Cause(Cause::TableMissing)),
-    (
-        b"create 0:0 t c m\ndisable 0:0 t\nmerge 0:0 t,1 t,2 t,3",
-        Done::Cause(Cause::NotEnabled),
-    ),
-    (
-        b"create 0:0 t c m\nmerge 0:0 t,1 t,2 t,4",
-        Done::Cause(Cause::RegionMissing),
-    ),
-    (
-        b"create 0:0 t c m\nsplit 0:0 t,2 g\nmerge 0:0 t,1 t,2 t,3",
-        Done::Cause(Cause::RegionNotLive),
-    ),
-    (
-        b"create 0:0 t c m q\nmerge 0:0 t,1 t,2 t,4",
-        Done::Cause(Cause::NotAdjacent),
-    ),
-    (
-        b"create 0:0 t c m q\nmerge 0:0 t,4 t,1 t,3",
-        Done::Cause(Cause::NotAdjacent),
-    ),
-    (b"create 0:0 t c m\nmerge 0:0 t,3 t,1 t,2", Done::Edits(4)),
-    (
-        b"create 0:0 t a b c d e f g h i\nmerge 0:0 t,1 t,2 t,3 t,4 t,5 t,6 t,7 t,8 t,9 t,10",
-        Done::Edits(11),
-    ),
-];
-
-const MOVES: &[(&[u8], Done)] = &[
-    (b"move 0:0 t,1", Done::Cause(Cause::TableMissing)),
-    (
-        b"create 0:0 t\ndisable 0:0 t\nmove 0:0 t,2",
-        Done::Cause(Cause::NotEnabled),
-    ),
-    (
-        b"create 0:0 t\nmove 0:0 t,2",
-        Done::Cause(Cause::RegionMissing),
-    ),
-    (
-        b"create 0:0 t\nsplit 0:0 t,1 m\nmove 0:0 t,1",
-        Done::Cause(Cause::RegionNotLive),
-    ),
-    (b"create 0:0 t\nmove 0:0 t,1 h1,16020,1", Done::Edits(0)),
-];
-
-#[test]
-fn deed_of_each_request_with_each_of_its_causes(rt: HostRuntime) -> Result<(), Fail> {
-    for cases in [NAMESPACES, TABLES, SPLITS, MERGES, LARGE_MERGES, MOVES] {
-        for (script, expected) in cases {
-            let mut catalog = Catalog::start(rt.alloc())?;
-            let done = last(rt.alloc(), &mut catalog, script)?;
-            assert_eq!(rt; done, *expected);
-        }
-    }
-    Ok(())
-}
-
-// A merge of the regions of a table that have the first numbers, and what is wrong with it by itself.
-const COUNTS: &[(u64, Option<u64>)] = &[
-    (0, Some(4)),
-    (1, Some(4)),
-    (2, None),
-    (10, None),
-    (11, Some(4)),
-];
-
-fn merge_of(alloc: Global, count: u64) -> Result<Request, Fail> {
-    let mut regions = Vec::new(alloc);
-    for id in 1..=count {
-        let text = format!(in alloc; "t,{id}")?;
-        regions.push(RegionName::parse(alloc, text.as_bytes())?)?;
-    }
-    Ok(Request::MergeRegions {
-        regions: List::of(regions),
-    })
-}
-
-#[test]
-fn a_merge_has_two_to_ten_regions(rt: HostRuntime) -> Result<(), Fail> {
-    for (count, expected) in COUNTS {
-        let request = merge_of(rt.alloc(), *count)?;
-        let wrong = wrong_in(&request);
+/// Does what the lines ask for, one after another. Tells how many edits the last has; the first cause against it; or what is
+/// wrong with it by itself.
+pub fn last(
+    rt: &(impl Abort + AllocGlobal),
+    catalog: &mut Catalog,
+    lines: &str,
+) -> Result<String, AllocError> {
+    let mut text = String::new(rt.alloc());
+    for line in lines.split('\n') {
+        text.clear();
+        let request = request(rt, line);
+        let acted = act(rt.alloc(), catalog, &request, &mut text);
         drop(request);
-        assert_eq!(rt; wrong, *expected);
+        acted.expect(rt, "memory");
     }
-    Ok(())
+    Ok(text)
+}
+
+const NAMESPACES: &[(&str, &str)] = &[
+    ("namespace a", "1"),
+    ("namespace default", "NsExists"),
+    ("drop-namespace a", "NsMissing"),
+    ("drop-namespace hbase", "wrong 1"),
+    ("namespace a\ncreate a:t\ndrop-namespace a", "NsNotEmpty"),
+    (
+        "namespace b\nnamespace a\ncreate b:t\ndrop-namespace a",
+        "1",
+    ),
+    (
+        "namespace a\ncreate a:t\ndisable a:t\ndelete a:t\ndrop-namespace a",
+        "1",
+    ),
+];
+
+const TABLES: &[(&str, &str)] = &[
+    ("create a:t", "NsMissing"),
+    ("create t m", "3"),
+    ("create t m m", "wrong 2"),
+    ("create t\ncreate t", "TableExists"),
+    ("delete t", "TableMissing"),
+    ("create t\ndelete t", "NotDisabled"),
+    ("create s\ncreate t m\ncreate u\ndisable t\ndelete t", "3"),
+    ("enable t", "TableMissing"),
+    ("create t\nenable t", "NotDisabled"),
+    ("create t\ndisable t\nenable t", "1"),
+    ("disable t", "TableMissing"),
+    ("create t\ndisable t\ndisable t", "NotEnabled"),
+    ("create t\ndisable t", "1"),
+    ("modify t 2", "TableMissing"),
+    ("create t\nmodify t 2", "NotDisabled"),
+    ("create t\ndisable t\nmodify t 2", "1"),
+];
+
+const SPLITS: &[(&str, &str)] = &[
+    ("split t,1 m", "TableMissing"),
+    ("split t,1 \\-", "wrong 5"),
+    (
+        "create t\nsplit t,1 m\ndisable t\nsplit t,1 m",
+        "NotEnabled",
+    ),
+    ("create t\nsplit t,2 m", "RegionMissing"),
+    ("create t\nsplit t,1 m\nsplit t,1 c", "RegionNotLive"),
+    ("create t\nsplit t,1 m\nsplit t,3 c", "KeyOutside"),
+    ("create t m\nsplit t,2 m", "KeyOutside"),
+    ("create t m\nsplit t,2 n", "3"),
+];
+
+const MERGES: &[(&str, &str)] = &[
+    ("merge t,1 t,2", "TableMissing"),
+    ("merge t,1 t,1", "wrong 4"),
+    ("merge t,1 u,2", "wrong 4"),
+    ("create t m\ndisable t\nmerge t,1 t,3", "NotEnabled"),
+    ("create t m\nsplit t,1 c\nmerge t,1 t,9", "RegionMissing"),
+    ("create t c m\nsplit t,1 a\nmerge t,3 t,1", "RegionNotLive"),
+    ("create t c m\nmerge t,1 t,3", "NotAdjacent"),
+    ("create t c m\nmerge t,3 t,2", "3"),
+];
+
+const LARGE_MERGES: &[(&str, &str)] = &[
+    ("merge t,1 t,2 t,1", "wrong 4"),
+    ("merge t,1 t,2 u,3", "wrong 4"),
+    ("merge t,1 t,2 t,3", "TableMissing"),
+    ("create t c m\ndisable t\nmerge t,1 t,2 t,3", "NotEnabled"),
+    ("create t c m\nmerge t,1 t,2 t,4", "RegionMissing"),
+    (
+        "create t c m\nsplit t,2 g\nmerge t,1 t,2 t,3",
+        "RegionNotLive",
+    ),
+    ("create t c m q\nmerge t,1 t,2 t,4", "NotAdjacent"),
+    ("create t c m q\nmerge t,4 t,1 t,3", "NotAdjacent"),
+    ("create t c m\nmerge t,3 t,1 t,2", "4"),
+    (
+        "create t a b c d e f g h i\nmerge t,1 t,2 t,3 t,4 t,5 t,6 t,7 t,8 t,9 t,10",
+        "11",
+    ),
+];
+
+const MOVES: &[(&str, &str)] = &[
+    ("move t,1", "TableMissing"),
+    ("create t\ndisable t\nmove t,2", "NotEnabled"),
+    ("create t\nmove t,2", "RegionMissing"),
+    ("create t\nsplit t,1 m\nmove t,1", "RegionNotLive"),
+    ("create t\nmove t,1 h1,16020,1", "0"),
+];
+
+// What became of the last line.
+fn deed_of(rt: &(impl Abort + AllocGlobal), lines: &str) -> Result<String, AllocError> {
+    let mut catalog = Catalog::start(rt.alloc())?;
+    let told = last(rt, &mut catalog, lines);
+    drop(catalog);
+    told
+}
+
+#[test]
+fn deed_of_each_request_with_each_of_its_causes(rt: HostRuntime) {
+    for cases in [NAMESPACES, TABLES, SPLITS, MERGES, LARGE_MERGES, MOVES] {
+        for (lines, expected) in cases {
+            is_told(&rt, lines, deed_of(&rt, lines), expected);
+        }
+    }
+}
+
+// A merge of the first regions of a table, and what is wrong with it by itself.
+const COUNTS: &[(&str, &str)] = &[
+    ("merge", "Some(4)"),
+    ("merge t,1", "Some(4)"),
+    ("merge t,1 t,2", "None"),
+    ("merge t,1 t,2 t,3 t,4 t,5 t,6 t,7 t,8 t,9 t,10", "None"),
+    (
+        "merge t,1 t,2 t,3 t,4 t,5 t,6 t,7 t,8 t,9 t,10 t,11",
+        "Some(4)",
+    ),
+];
+
+fn wrong_of(rt: &(impl Abort + AllocGlobal), line: &str) -> Result<String, AllocError> {
+    let request = request(rt, line);
+    let wrong = wrong_in(&request);
+    drop(request);
+    format!(in rt.alloc(); "{wrong:?}")
+}
+
+#[test]
+fn a_merge_has_two_to_ten_regions(rt: HostRuntime) {
+    for (line, expected) in COUNTS {
+        is_told(&rt, line, wrong_of(&rt, line), expected);
+    }
 }

@@ -8,6 +8,10 @@ mod deeds;
 #[cfg(test)]
 mod reads;
 #[cfg(test)]
+mod requests;
+#[cfg(test)]
 mod spans;
 #[cfg(test)]
 mod stacks;
+#[cfg(test)]
+mod texts;

@@ -1,16 +1,20 @@
 //! Rows that are found in a catalog by their keys, and rows that stand together in it.
 
-use crate::deeds::{Done, last};
+use crate::calls::put_range;
+use crate::deeds::last;
+use crate::requests::{first_word, ns, number, region, table};
+use crate::texts::is_told;
 use hm_catalog::{Catalog, Name, RowsOf, Span};
 use hm_data::{CatKey, CatRow};
-use hm_names::{Ns, RegionName, TableName, parse_decimal};
-use std::alloc::{AllocError, Global};
-use std::test::Fail;
+use hm_names::TableName;
+use std::alloc::{AllocError, AllocGlobal};
+use std::process::Abort;
 
 // Of the tables t has two regions that were split, u is disabled, and s was deleted.
-const ROWS: &[u8] =
-    b"namespace 0:0 n\ncreate 0:0 t g m\ncreate 0:0 u\ncreate 0:0 n:b\ncreate 0:0 n:a\nsplit 0:0 t,2 j\nsplit 0:0 t,3 r\ncreate 0:0 s k\ndisable 0:0 s\ndelete 0:0 s\ndisable 0:0 u\nmodify 0:0 u 5";
+const ROWS: &str =
+    "namespace n\ncreate t g m\ncreate u\ncreate n:b\ncreate n:a\nsplit t,2 j\nsplit t,3 r\ncreate s k\ndisable s\ndelete s\ndisable u\nmodify u 5";
 
+// A key finds its row with the key, and none where it has no row or lost it.
 const FOUND: &[(&str, &str)] = &[
     ("ns n", "ns n;"),
     ("ns hbase", "ns hbase;"),
@@ -26,6 +30,7 @@ const FOUND: &[(&str, &str)] = &[
     ("region s,11", ""),
 ];
 
+// Keys that stand together give the rows that they have, in key order, and none where they have none.
 const TOGETHER: &[(&str, &str)] = &[
     ("tables default", "table t Enabled 1;table u Disabled 5;"),
     ("tables n", "table n:a Enabled 1;table n:b Enabled 1;"),
@@ -51,20 +56,29 @@ const TOGETHER: &[(&str, &str)] = &[
     ("numbers s 11 2", ""),
 ];
 
+// The regions of a table are told by name, in the order of their numbers.
 const REGIONS: &[(&str, &str)] = &[
-    ("t", "t,1;t,2;t,3;t,7;t,8;t,9;t,10;"),
-    ("u", "u,4;"),
-    ("n:a", "n:a,6;"),
-    ("s", ""),
-    ("x", ""),
+    ("names t", "t,1;t,2;t,3;t,7;t,8;t,9;t,10;"),
+    ("names u", "u,4;"),
+    ("names n:a", "n:a,6;"),
+    ("names s", ""),
+    ("names x", ""),
 ];
 
-// A row with its key.
-fn line(alloc: Global, key: &CatKey, row: &CatRow) -> Result<String, AllocError> {
-    match (key, row) {
-        (CatKey::Ns(ns), CatRow::Ns) => format!(in alloc; "ns {ns};"),
+/// The catalog that some lines leave, of which the last is told so.
+pub fn catalog_of(rt: &(impl Abort + AllocGlobal), lines: &str, expected: &str) -> Catalog {
+    let mut catalog = Catalog::start(rt.alloc()).expect(rt, "memory");
+    let told = last(rt, &mut catalog, lines);
+    is_told(rt, lines, told, expected);
+    catalog
+}
+
+// Puts a row with its key.
+fn put_row(out: &mut String, row: (&CatKey, &CatRow)) -> Result<(), AllocError> {
+    match row {
+        (CatKey::Ns(ns), CatRow::Ns) => write!(out, "ns {ns};"),
         (CatKey::Table(table), CatRow::Table { state, version }) => {
-            format!(in alloc; "table {table} {state:?} {version};")
+            write!(out, "table {table} {state:?} {version};")
         }
         (
             CatKey::Region(region),
@@ -74,139 +88,133 @@ fn line(alloc: Global, key: &CatKey, row: &CatRow) -> Result<String, AllocError>
                 parents: _,
             },
         ) => {
-            let start = &range.start;
-            let end = &range.end;
-            format!(in alloc; "region {region} {start} {end} {status:?};")
+            write!(out, "region {region} ")?;
+            put_range(out, range, *status)?;
+            out.push_str(";")
         }
-        _ => String::from_str(alloc, "another row;"),
+        _ => out.push_str("another row;"),
     }
 }
 
-// The row that is found by a name.
-fn found(alloc: Global, catalog: &Catalog, name: &Name<'_>) -> Result<String, AllocError> {
-    match catalog.find(name) {
-        Some((key, row)) => line(alloc, key, row),
-        None => Ok(String::new(alloc)),
-    }
-}
-
-// The row that is found by the name of a text.
-fn found_by(alloc: Global, catalog: &Catalog, text: &str) -> Result<String, Fail> {
-    let words: Vec<&str> = text.split(' ').collect(alloc)?;
-    Ok(match words.as_slice() {
-        ["ns", name] => {
-            let ns = Ns::parse(alloc, name.as_bytes())?;
-            found(alloc, catalog, &Name::Ns(&ns))?
-        }
-        ["table", name] => {
-            let table = TableName::parse(alloc, name.as_bytes())?;
-            found(alloc, catalog, &Name::Table(&table))?
-        }
-        ["region", name] => {
-            let region = RegionName::parse(alloc, name.as_bytes())?;
-            found(alloc, catalog, &Name::Region(&region))?
-        }
-        _ => Err("a name")?,
-    })
-}
-
-// The catalog of the rows.
-fn catalog_of_rows(alloc: Global) -> Result<Catalog, Fail> {
-    let mut catalog = Catalog::start(alloc)?;
-    if last(alloc, &mut catalog, ROWS)? != Done::Edits(1) {
-        Err("the last line")?;
-    }
-    Ok(catalog)
-}
-
-// A key finds its row with the key, and none where it has no row or lost it.
-#[test]
-fn find_of_keys_with_and_without_a_row(rt: HostRuntime) -> Result<(), Fail> {
-    let alloc = rt.alloc();
-    let catalog = catalog_of_rows(alloc)?;
-    for (text, expected) in FOUND {
-        let row = found_by(alloc, &catalog, text)?;
-        assert_eq!(rt; row.as_str(), *expected);
+// Puts rows one after another.
+fn put_rows(out: &mut String, rows: RowsOf<'_>) -> Result<(), AllocError> {
+    for row in rows {
+        put_row(out, row)?;
     }
     Ok(())
 }
 
-// Rows one after another.
-fn lines(alloc: Global, rows: RowsOf<'_>) -> Result<String, AllocError> {
-    let mut text = String::new(alloc);
-    for (key, row) in rows {
-        let line = line(alloc, key, row)?;
-        text.push_str(line.as_str())?;
+// Puts the row that is found by a name.
+fn put_found(out: &mut String, catalog: &Catalog, name: &Name<'_>) -> Result<(), AllocError> {
+    match catalog.find(name) {
+        Some(row) => put_row(out, row),
+        None => Ok(()),
     }
-    Ok(text)
 }
 
-// The rows of a table's regions, of all of them or of those with some numbers.
-fn of_table(alloc: Global, catalog: &Catalog, words: &[&str]) -> Result<String, Fail> {
-    Ok(match words {
-        ["regions", name] => {
-            let table = TableName::parse(alloc, name.as_bytes())?;
-            lines(alloc, catalog.rows_of(Span::Regions(&table)))?
-        }
-        ["numbers", name, first, count] => {
-            let table = &TableName::parse(alloc, name.as_bytes())?;
-            let first = parse_decimal(first.as_bytes()).ok_or("a number")?;
-            let count = parse_decimal(count.as_bytes()).ok_or("a count")?;
+// Puts the names of a table's regions.
+fn put_names(out: &mut String, catalog: &Catalog, table: &TableName) -> Result<(), AllocError> {
+    for region in catalog.regions_of(table) {
+        write!(out, "{region};")?;
+    }
+    Ok(())
+}
+
+// Puts the rows of a namespace: its own, or its tables'.
+fn put_of_ns(
+    rt: &(impl Abort + AllocGlobal),
+    out: &mut String,
+    catalog: &Catalog,
+    question: (&str, &str),
+) -> Result<(), AllocError> {
+    let (verb, name) = question;
+    let ns = ns(rt, name);
+    let put = if verb == "ns" {
+        put_found(out, catalog, &Name::Ns(&ns))
+    } else {
+        put_rows(out, catalog.rows_of(Span::Tables(&ns)))
+    };
+    drop(ns);
+    put
+}
+
+// Puts the row of a region.
+fn put_of_region(
+    rt: &(impl Abort + AllocGlobal),
+    out: &mut String,
+    catalog: &Catalog,
+    name: &str,
+) -> Result<(), AllocError> {
+    let region = region(rt, name);
+    let put = put_found(out, catalog, &Name::Region(&region));
+    drop(region);
+    put
+}
+
+// Puts what is told of a table: its row, the names of its regions, their rows, or those with some numbers.
+fn put_of(
+    rt: &impl Abort,
+    out: &mut String,
+    catalog: &Catalog,
+    table: &TableName,
+    question: (&str, &str),
+) -> Result<(), AllocError> {
+    let (verb, numbers) = question;
+    match verb {
+        "table" => put_found(out, catalog, &Name::Table(table)),
+        "names" => put_names(out, catalog, table),
+        "regions" => put_rows(out, catalog.rows_of(Span::Regions(table))),
+        _ => {
+            let (first, count) = first_word(numbers);
             let span = Span::Numbers {
                 table,
-                first,
-                count,
+                first: number(rt, first),
+                count: number(rt, count),
             };
-            lines(alloc, catalog.rows_of(span))?
+            put_rows(out, catalog.rows_of(span))
         }
-        _ => Err("keys that stand together")?,
-    })
-}
-
-// The rows of the keys that a text tells.
-fn together(alloc: Global, catalog: &Catalog, text: &str) -> Result<String, Fail> {
-    let words: Vec<&str> = text.split(' ').collect(alloc)?;
-    Ok(match words.as_slice() {
-        ["tables", name] => {
-            let ns = Ns::parse(alloc, name.as_bytes())?;
-            lines(alloc, catalog.rows_of(Span::Tables(&ns)))?
-        }
-        ["all-regions"] => lines(alloc, catalog.rows_of(Span::AllRegions))?,
-        _ => of_table(alloc, catalog, &words)?,
-    })
-}
-
-// Keys that stand together give the rows that they have, in key order, and none where they have none.
-#[test]
-fn rows_of_each_span_with_and_without_rows(rt: HostRuntime) -> Result<(), Fail> {
-    let alloc = rt.alloc();
-    let catalog = catalog_of_rows(alloc)?;
-    for (text, expected) in TOGETHER {
-        let rows = together(alloc, &catalog, text)?;
-        assert_eq!(rt; rows.as_str(), *expected);
     }
-    Ok(())
 }
 
-// The names of a table's regions.
-fn region_names(alloc: Global, catalog: &Catalog, table: &TableName) -> Result<String, AllocError> {
-    let mut text = String::new(alloc);
-    for region in catalog.regions_of(table) {
-        let name = format!(in alloc; "{region};")?;
-        text.push_str(name.as_str())?;
-    }
+fn put_of_table(
+    rt: &(impl Abort + AllocGlobal),
+    out: &mut String,
+    catalog: &Catalog,
+    question: (&str, &str),
+) -> Result<(), AllocError> {
+    let (verb, words) = question;
+    let (name, numbers) = first_word(words);
+    let table = table(rt, name);
+    let put = put_of(rt, out, catalog, &table, (verb, numbers));
+    drop(table);
+    put
+}
+
+// What is told where a question asks for it.
+fn told(
+    rt: &(impl Abort + AllocGlobal),
+    catalog: &Catalog,
+    question: &str,
+) -> Result<String, AllocError> {
+    let mut text = String::new(rt.alloc());
+    let (verb, words) = first_word(question);
+    let put = match verb {
+        "ns" | "tables" => put_of_ns(rt, &mut text, catalog, (verb, words)),
+        "region" => put_of_region(rt, &mut text, catalog, words),
+        "all-regions" => put_rows(&mut text, catalog.rows_of(Span::AllRegions)),
+        _ => put_of_table(rt, &mut text, catalog, (verb, words)),
+    };
+    put.expect(rt, "memory");
     Ok(text)
 }
 
-// The regions of a table are told by name, in the order of their numbers.
 #[test]
-fn regions_of_tells_names_in_order(rt: HostRuntime) -> Result<(), Fail> {
-    let alloc = rt.alloc();
-    let catalog = catalog_of_rows(alloc)?;
-    for (name, expected) in REGIONS {
-        let table = TableName::parse(alloc, name.as_bytes())?;
-        let text = region_names(alloc, &catalog, &table)?;
-        assert_eq!(rt; text.as_str(), *expected);
+fn find_rows_of_and_regions_of_with_and_without_rows(rt: HostRuntime) {
+    let catalog = catalog_of(&rt, ROWS, "1");
+    for cases in [FOUND, TOGETHER, REGIONS] {
+        for (question, expected) in cases {
+            is_told(&rt, question, told(&rt, &catalog, question), expected);
+        }
     }
-    Ok(())
+    drop(catalog);
 }

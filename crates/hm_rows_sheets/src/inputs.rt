@@ -1,22 +1,27 @@
 //! What a step of a case sees, read from its text.
-use crate::names::{region, server};
-use crate::parts::{added, args, changed, gaps, place, removed, row};
+use crate::names::{cut, first_word, region, server};
+use crate::parts::{args, edit, gaps, place, row};
 use crate::words::{number, told};
 use hm_data::{Args, CatKey, CatRow, Edit, Place, StepIn, Told, Turn};
 use hm_names::{List, Pid, RegionName, ServerName};
-use std::alloc::Global;
-use std::test::Fail;
+use std::alloc::{AllocGlobal, Global};
+use std::process::Abort;
 
-/// What was read so far of what a step sees.
+// What was read so far of what a step sees.
 #[derive(Drop)]
 struct Seen {
-    args: Vec<Args>,
     rows: Vec<(CatKey, CatRow)>,
     ends: Vec<(Pid, Told)>,
     places: Vec<Place>,
     on_server: Vec<RegionName>,
     picks: Vec<ServerName>,
     edits: Vec<Edit>,
+    marks: Marks,
+}
+
+// Numbers and marks of it.
+#[derive(Clone, Copy)]
+struct Marks {
     tries: u32,
     report: Option<Told>,
     fenced: bool,
@@ -24,124 +29,139 @@ struct Seen {
     undoes: bool,
 }
 
+impl Marks {
+    // An item of numbers and marks.
+    fn take(&mut self, rt: &impl Abort, kind: &str, word: &str) {
+        match kind {
+            "tries" => self.tries = u32::try_from(number(rt, word)).expect(rt, "tries"),
+            "report" => self.report = Some(told(word).expect(rt, "a report")),
+            "fenced" => self.fenced = true,
+            "aborted" => self.aborted = true,
+            _ => {
+                assert!(rt; kind == "undo");
+                self.undoes = true;
+            }
+        }
+    }
+}
+
+// Rows of adjacent live regions.
+fn push_gaps(rt: &(impl Abort + AllocGlobal), rows: &mut Vec<(CatKey, CatRow)>, words: &str) {
+    let mut more = gaps(rt, words);
+    rows.append(&mut more).expect(rt, "memory");
+    drop(more);
+}
+
+fn end(rt: &impl Abort, words: &str) -> (Pid, Told) {
+    let (pid, word) = first_word(words);
+    (Pid(number(rt, pid)), told(word).expect(rt, "an end"))
+}
+
 impl Seen {
     fn new(alloc: Global) -> Seen {
+        let marks = Marks {
+            tries: 0,
+            report: None,
+            fenced: false,
+            aborted: false,
+            undoes: false,
+        };
         Seen {
-            args: Vec::new(alloc),
             rows: Vec::new(alloc),
             ends: Vec::new(alloc),
             places: Vec::new(alloc),
             on_server: Vec::new(alloc),
             picks: Vec::new(alloc),
             edits: Vec::new(alloc),
-            tries: 0,
-            report: None,
-            fenced: false,
-            aborted: false,
-            undoes: false,
+            marks,
         }
     }
 
-    // An item of numbers and marks.
-    fn take_mark(&mut self, words: &[&str]) -> Result<(), Fail> {
-        match words {
-            ["tries", count] => self.tries = u32::try_from(number(count)?)?,
-            ["report", word] => self.report = Some(told(word).ok_or("a report")?),
-            ["fenced"] => self.fenced = true,
-            ["aborted"] => self.aborted = true,
-            ["undo"] => self.undoes = true,
-            _ => Err("an item")?,
+    // An item of rows, and of the edits of the step that is undone.
+    fn take_row(&mut self, rt: &(impl Abort + AllocGlobal), kind: &str, item: &str, words: &str) {
+        match kind {
+            "ns" | "table" | "region" => self.rows.push(row(rt, item)).expect(rt, "memory"),
+            "add" | "drop" | "set" => self.edits.push(edit(rt, kind, words)).expect(rt, "memory"),
+            _ => self.marks.take(rt, kind, words),
         }
-        Ok(())
-    }
-
-    // An item of the edits of the step that is undone.
-    fn take_edit(&mut self, alloc: Global, words: &[&str]) -> Result<(), Fail> {
-        match words {
-            ["add", words @ ..] => self.edits.push(added(alloc, words)?)?,
-            ["drop", words @ ..] => self.edits.push(removed(alloc, words)?)?,
-            ["set", words @ ..] => self.edits.push(changed(alloc, words)?)?,
-            _ => self.take_mark(words)?,
-        }
-        Ok(())
-    }
-
-    fn take_row(&mut self, alloc: Global, words: &[&str]) -> Result<(), Fail> {
-        match words {
-            ["ns" | "table" | "region", ..] => self.rows.push(row(alloc, words)?)?,
-            _ => self.take_edit(alloc, words)?,
-        }
-        Ok(())
     }
 
     // Any item.
-    fn take(&mut self, alloc: Global, words: &[&str]) -> Result<(), Fail> {
-        match words {
-            ["end", pid, word] => {
-                let end = (Pid(number(pid)?), told(word).ok_or("an end")?);
-                self.ends.push(end)?;
-            }
-            ["place", words @ ..] => self.places.push(place(alloc, words)?)?,
-            ["on", name] => self.on_server.push(region(alloc, name)?)?,
-            ["pick", name] => self.picks.push(server(alloc, name)?)?,
-            ["regions", words @ ..] => self.rows.append(&mut gaps(alloc, words)?)?,
-            _ => self.take_row(alloc, words)?,
+    fn take(&mut self, rt: &(impl Abort + AllocGlobal), item: &str) {
+        let (kind, words) = first_word(item);
+        match kind {
+            "end" => self.ends.push(end(rt, words)).expect(rt, "memory"),
+            "place" => self.places.push(place(rt, words)).expect(rt, "memory"),
+            "on" => self.on_server.push(region(rt, words)).expect(rt, "memory"),
+            "pick" => self.picks.push(server(rt, words)).expect(rt, "memory"),
+            "regions" => push_gaps(rt, &mut self.rows, words),
+            _ => self.take_row(rt, kind, item, words),
         }
-        Ok(())
     }
+}
 
-    fn input(self, kind: u8, row: u8) -> Result<StepIn, Fail> {
-        let Seen {
-            mut args,
-            rows,
-            ends,
-            mut places,
-            on_server,
-            mut picks,
-            edits,
-            tries,
-            report,
-            fenced,
-            aborted,
-            undoes,
-        } = self;
-        Ok(StepIn {
-            pid: Pid(7),
-            root: Pid(5),
-            kind,
-            edition: 0,
-            row,
-            args: args.pop().ok_or("args")?,
-            tries,
-            rows: List::of(rows),
-            ends: List::of(ends),
-            report,
-            place: places.pop(),
-            fenced,
-            on_server: List::of(on_server),
-            pick: picks.pop(),
-            aborted,
-            turn: if undoes {
-                Turn::Undo {
-                    edits: List::of(edits),
-                }
-            } else {
-                Turn::Step
-            },
-        })
+fn turn(edits: Vec<Edit>, undoes: bool) -> Turn {
+    if undoes {
+        return Turn::Undo {
+            edits: List::of(edits),
+        };
+    }
+    drop(edits);
+    Turn::Step
+}
+
+/// The last of some places, if there is one.
+pub fn last_place(mut places: Vec<Place>) -> Option<Place> {
+    let place = places.pop();
+    drop(places);
+    place
+}
+
+fn last_pick(mut picks: Vec<ServerName>) -> Option<ServerName> {
+    let pick = picks.pop();
+    drop(picks);
+    pick
+}
+
+// What the step sees of which that was read.
+fn seen_by(seen: Seen, kind: u8, row: u8, args: Args) -> StepIn {
+    let Seen {
+        rows,
+        ends,
+        places,
+        on_server,
+        picks,
+        edits,
+        marks,
+    } = seen;
+    StepIn {
+        pid: Pid(7),
+        root: Pid(5),
+        kind,
+        edition: 0,
+        row,
+        args,
+        tries: marks.tries,
+        rows: List::of(rows),
+        ends: List::of(ends),
+        report: marks.report,
+        place: last_place(places),
+        fenced: marks.fenced,
+        on_server: List::of(on_server),
+        pick: last_pick(picks),
+        aborted: marks.aborted,
+        turn: turn(edits, marks.undoes),
     }
 }
 
 /// What a step of procedure 7 of root 5 sees: its args, and then items, each after a semicolon.
-pub fn input(alloc: Global, kind: u8, row: u8, text: &str) -> Result<StepIn, Fail> {
-    let mut seen = Seen::new(alloc);
-    for item in text.split("; ") {
-        let words: Vec<&str> = item.split(' ').collect(alloc)?;
-        if seen.args.is_empty() {
-            seen.args.push(args(alloc, &words)?)?;
-        } else {
-            seen.take(alloc, &words)?;
+pub fn input(rt: &(impl Abort + AllocGlobal), kind: u8, row: u8, text: &str) -> StepIn {
+    let (work, items) = cut(text, "; ");
+    let mut seen = Seen::new(rt.alloc());
+    for item in items.split("; ") {
+        if !item.is_empty() {
+            seen.take(rt, item);
         }
     }
-    seen.input(kind, row)
+    seen_by(seen, kind, row, args(rt, work))
 }

@@ -1,15 +1,17 @@
 //! What a step of a case answers and does, read from its text.
-use crate::parts::{added, changed, child, gaps, place, removed, verb};
+use crate::inputs::last_place;
+use crate::names::first_word;
+use crate::parts::{alone, child, edit, gaps, place, verb};
 use crate::words::{cause, small, told};
 use hm_data::{Answer, Child, Edit, Place, StepOut, Verb};
 use hm_names::List;
-use std::alloc::Global;
-use std::test::Fail;
+use std::alloc::{AllocGlobal, Global};
+use std::process::Abort;
 
-/// What was read so far of what a step does.
+// What was read so far of what a step does.
 #[derive(Drop)]
 struct Done {
-    answers: Vec<Answer>,
+    answer: Option<Answer>,
     edits: Vec<Edit>,
     children: Vec<Child>,
     calls: Vec<Verb>,
@@ -17,35 +19,31 @@ struct Done {
     followers: Vec<Child>,
 }
 
-fn answer(words: &[&str]) -> Result<Answer, Fail> {
-    Ok(match words {
-        ["more", row] => Answer::More(small(row)?),
-        ["wait", row] => Answer::Wait(small(row)?),
-        ["await", row] => Answer::Await(small(row)?),
-        ["done", word] => Answer::Done(told(word).ok_or("what is told")?),
-        ["fail", word] => Answer::Fail(cause(word).ok_or("a cause")?),
-        ["undone"] => Answer::Undone,
-        _ => Err("an item")?,
-    })
+fn answer(rt: &impl Abort, kind: &str, word: &str) -> Answer {
+    match kind {
+        "more" => Answer::More(small(rt, word)),
+        "wait" => Answer::Wait(small(rt, word)),
+        "await" => Answer::Await(small(rt, word)),
+        "done" => Answer::Done(told(word).expect(rt, "what is told")),
+        "fail" => Answer::Fail(cause(word).expect(rt, "a cause")),
+        _ => {
+            assert!(rt; kind == "undone");
+            Answer::Undone
+        }
+    }
 }
 
 // Rows of adjacent live regions that are added, or removed.
-fn push_gaps(edits: &mut Vec<Edit>, alloc: Global, words: &[&str], adds: bool) -> Result<(), Fail> {
-    for (key, row) in gaps(alloc, words)? {
-        let (before, after) = if adds {
-            (None, Some(row))
-        } else {
-            (Some(row), None)
-        };
-        edits.push(Edit { key, before, after })?;
+fn push_gaps(rt: &(impl Abort + AllocGlobal), edits: &mut Vec<Edit>, words: &str, adds: bool) {
+    for row in gaps(rt, words) {
+        edits.push(alone(row, adds)).expect(rt, "memory");
     }
-    Ok(())
 }
 
 impl Done {
     fn new(alloc: Global) -> Done {
         Done {
-            answers: Vec::new(alloc),
+            answer: None,
             edits: Vec::new(alloc),
             children: Vec::new(alloc),
             calls: Vec::new(alloc),
@@ -54,55 +52,58 @@ impl Done {
         }
     }
 
-    fn take_edit(&mut self, alloc: Global, words: &[&str]) -> Result<(), Fail> {
-        match words {
-            ["add", words @ ..] => self.edits.push(added(alloc, words)?)?,
-            ["drop", words @ ..] => self.edits.push(removed(alloc, words)?)?,
-            ["set", words @ ..] => self.edits.push(changed(alloc, words)?)?,
-            ["adds", words @ ..] => push_gaps(&mut self.edits, alloc, words, true)?,
-            ["drops", words @ ..] => push_gaps(&mut self.edits, alloc, words, false)?,
-            _ => self.answers.push(answer(words)?)?,
+    fn take_edit(&mut self, rt: &(impl Abort + AllocGlobal), kind: &str, words: &str) {
+        match kind {
+            "add" | "drop" | "set" => self.edits.push(edit(rt, kind, words)).expect(rt, "memory"),
+            "adds" => push_gaps(rt, &mut self.edits, words, true),
+            "drops" => push_gaps(rt, &mut self.edits, words, false),
+            _ => self.answer = Some(answer(rt, kind, words)),
         }
-        Ok(())
     }
 
-    fn take(&mut self, alloc: Global, words: &[&str]) -> Result<(), Fail> {
-        match words {
-            ["child", words @ ..] => self.children.push(child(alloc, words)?)?,
-            ["call", words @ ..] => self.calls.push(verb(alloc, words)?)?,
-            ["place", words @ ..] => self.places.push(place(alloc, words)?)?,
-            ["follower", words @ ..] => self.followers.push(child(alloc, words)?)?,
-            _ => self.take_edit(alloc, words)?,
+    fn take(&mut self, rt: &(impl Abort + AllocGlobal), item: &str) {
+        let (kind, words) = first_word(item);
+        match kind {
+            "child" => self.children.push(child(rt, words)).expect(rt, "memory"),
+            "call" => self.calls.push(verb(rt, words)).expect(rt, "memory"),
+            "place" => self.places.push(place(rt, words)).expect(rt, "memory"),
+            "follower" => self.followers.push(child(rt, words)).expect(rt, "memory"),
+            _ => self.take_edit(rt, kind, words),
         }
-        Ok(())
     }
+}
 
-    fn output(self) -> Result<StepOut, Fail> {
-        let Done {
-            mut answers,
-            edits,
-            children,
-            mut calls,
-            mut places,
-            followers,
-        } = self;
-        Ok(StepOut {
-            answer: answers.pop().ok_or("an answer")?,
-            edits: List::of(edits),
-            children: List::of(children),
-            call: calls.pop(),
-            place: places.pop(),
-            followers: List::of(followers),
-        })
+fn last_call(mut calls: Vec<Verb>) -> Option<Verb> {
+    let call = calls.pop();
+    drop(calls);
+    call
+}
+
+// What the step does of which that was read.
+fn done_by(rt: &impl Abort, done: Done) -> StepOut {
+    let Done {
+        answer,
+        edits,
+        children,
+        calls,
+        places,
+        followers,
+    } = done;
+    StepOut {
+        answer: answer.expect(rt, "an answer"),
+        edits: List::of(edits),
+        children: List::of(children),
+        call: last_call(calls),
+        place: last_place(places),
+        followers: List::of(followers),
     }
 }
 
 /// What a step answers and does: items, each after a semicolon.
-pub fn output(alloc: Global, text: &str) -> Result<StepOut, Fail> {
-    let mut done = Done::new(alloc);
+pub fn output(rt: &(impl Abort + AllocGlobal), text: &str) -> StepOut {
+    let mut done = Done::new(rt.alloc());
     for item in text.split("; ") {
-        let words: Vec<&str> = item.split(' ').collect(alloc)?;
-        done.take(alloc, &words)?;
+        done.take(rt, item);
     }
-    done.output()
+    done_by(rt, done)
 }

@@ -1,254 +1,289 @@
 //! Parts of a case: requests, args, rows, edits, children and calls.
-use crate::names::{ids, key, keys, ns, perhaps_server, region, regions, server, table};
+use crate::names::{
+    cut, first_word, ids, key, keys, ns, perhaps_server, region, regions, server, table,
+};
 use crate::words::{goal, number, region_state, status, table_state};
 use hm_data::{Args, CatKey, CatRow, Child, Edit, Place, Request, Status, Verb};
 use hm_names::{Copied, KeyRange, List, Pid, RowKey};
-use std::alloc::Global;
-use std::test::Fail;
+use std::alloc::AllocGlobal;
+use std::process::Abort;
 
-fn namespace_request(alloc: Global, words: &[&str]) -> Result<Request, Fail> {
-    Ok(match words {
-        ["namespace", name] => Request::CreateNamespace {
-            ns: ns(alloc, name)?,
-        },
-        ["drop-namespace", name] => Request::DropNamespace {
-            ns: ns(alloc, name)?,
-        },
-        _ => Err("a request")?,
-    })
+fn namespace_request(rt: &(impl Abort + AllocGlobal), verb: &str, name: &str) -> Request {
+    if verb == "namespace" {
+        return Request::CreateNamespace { ns: ns(rt, name) };
+    }
+    assert!(rt; verb == "drop-namespace");
+    Request::DropNamespace { ns: ns(rt, name) }
 }
 
-fn region_request(alloc: Global, words: &[&str]) -> Result<Request, Fail> {
-    Ok(match words {
-        ["split", name, at] => Request::SplitRegion {
-            region: region(alloc, name)?,
-            key: key(alloc, at)?,
+fn region_request(rt: &(impl Abort + AllocGlobal), verb: &str, words: &str) -> Request {
+    let (name, more) = first_word(words);
+    match verb {
+        "split" => Request::SplitRegion {
+            region: region(rt, name),
+            key: key(rt, more),
         },
-        ["merge", names @ ..] => Request::MergeRegions {
-            regions: regions(alloc, names)?,
+        "merge" => Request::MergeRegions {
+            regions: regions(rt, words),
         },
-        ["move", name, to @ ..] => Request::Move {
-            region: region(alloc, name)?,
-            to: perhaps_server(alloc, to)?,
+        "move" => Request::Move {
+            region: region(rt, name),
+            to: perhaps_server(rt, more),
         },
-        _ => namespace_request(alloc, words)?,
-    })
+        _ => namespace_request(rt, verb, name),
+    }
 }
 
 /// A request.
-fn request(alloc: Global, words: &[&str]) -> Result<Request, Fail> {
-    Ok(match words {
-        ["create", name, at @ ..] => Request::CreateTable {
-            table: table(alloc, name)?,
-            keys: keys(alloc, at)?,
+fn request(rt: &(impl Abort + AllocGlobal), line: &str) -> Request {
+    let (verb, words) = first_word(line);
+    let (name, more) = first_word(words);
+    match verb {
+        "create" => Request::CreateTable {
+            table: table(rt, name),
+            keys: keys(rt, more),
         },
-        ["delete", name] => Request::DeleteTable {
-            table: table(alloc, name)?,
+        "delete" => Request::DeleteTable {
+            table: table(rt, name),
         },
-        ["enable", name] => Request::EnableTable {
-            table: table(alloc, name)?,
+        "enable" => Request::EnableTable {
+            table: table(rt, name),
         },
-        ["disable", name] => Request::DisableTable {
-            table: table(alloc, name)?,
+        "disable" => Request::DisableTable {
+            table: table(rt, name),
         },
-        ["modify", name, version] => Request::ModifyTable {
-            table: table(alloc, name)?,
-            version: number(version)?,
+        "modify" => Request::ModifyTable {
+            table: table(rt, name),
+            version: number(rt, more),
         },
-        _ => region_request(alloc, words)?,
-    })
+        _ => region_request(rt, verb, words),
+    }
 }
 
-fn call_args(alloc: Global, words: &[&str]) -> Result<Args, Fail> {
-    Ok(match words {
-        ["assign-call", name, at] => Args::AssignCall {
-            region: region(alloc, name)?,
-            server: server(alloc, at)?,
+fn root(rt: &(impl Abort + AllocGlobal), words: &str) -> Args {
+    let (first, line) = first_word(words);
+    Args::Root {
+        request: request(rt, line),
+        first: number(rt, first),
+    }
+}
+
+fn call_args(rt: &(impl Abort + AllocGlobal), kind: &str, words: &str) -> Args {
+    let (name, at) = first_word(words);
+    match kind {
+        "assign-call" => Args::AssignCall {
+            region: region(rt, name),
+            server: server(rt, at),
         },
-        ["close-call", name, at] => Args::CloseCall {
-            region: region(alloc, name)?,
-            server: server(alloc, at)?,
+        "close-call" => Args::CloseCall {
+            region: region(rt, name),
+            server: server(rt, at),
         },
-        ["fence-call", at] => Args::FenceCall {
-            server: server(alloc, at)?,
+        "fence-call" => Args::FenceCall {
+            server: server(rt, name),
         },
-        ["layout-call", root] => Args::LayoutCall {
-            root: Pid(number(root)?),
+        "layout-call" => Args::LayoutCall {
+            root: Pid(number(rt, name)),
         },
-        ["sweep-layout", root] => Args::SweepLayout {
-            root: Pid(number(root)?),
-        },
-        _ => Err("args")?,
-    })
+        _ => {
+            assert!(rt; kind == "sweep-layout");
+            Args::SweepLayout {
+                root: Pid(number(rt, name)),
+            }
+        }
+    }
 }
 
 /// What a procedure works on: `root FIRST REQUEST`, or the name of a kind that isn't submitted and its fields.
-pub fn args(alloc: Global, words: &[&str]) -> Result<Args, Fail> {
-    Ok(match words {
-        ["root", first, words @ ..] => Args::Root {
-            request: request(alloc, words)?,
-            first: number(first)?,
-        },
-        ["transit", name, to_do] => Args::Transit {
-            region: region(alloc, name)?,
-            goal: goal(to_do).ok_or("a goal")?,
+pub fn args(rt: &(impl Abort + AllocGlobal), text: &str) -> Args {
+    let (kind, words) = first_word(text);
+    let (name, more) = first_word(words);
+    match kind {
+        "root" => root(rt, words),
+        "transit" => Args::Transit {
+            region: region(rt, name),
+            goal: goal(more).expect(rt, "a goal"),
             to: None,
         },
-        ["crash", name] => Args::Crash {
-            server: server(alloc, name)?,
+        "crash" => Args::Crash {
+            server: server(rt, name),
         },
-        ["add-regions", name, first, bounds @ ..] => Args::AddRegions {
-            table: table(alloc, name)?,
-            first: number(first)?,
-            bounds: keys(alloc, bounds)?,
+        "add-regions" => {
+            let (first, bounds) = first_word(more);
+            Args::AddRegions {
+                table: table(rt, name),
+                first: number(rt, first),
+                bounds: keys(rt, bounds),
+            }
+        }
+        "drop-regions" => Args::DropRegions {
+            table: table(rt, name),
+            ids: ids(rt, more),
         },
-        ["drop-regions", name, numbers @ ..] => Args::DropRegions {
-            table: table(alloc, name)?,
-            ids: ids(alloc, numbers)?,
-        },
-        _ => call_args(alloc, words)?,
-    })
+        _ => call_args(rt, kind, words),
+    }
 }
 
 /// A child or a follower: `transits TABLE GOAL IDS`, or args.
-pub fn child(alloc: Global, words: &[&str]) -> Result<Child, Fail> {
-    Ok(match words {
-        ["transits", name, to_do, numbers @ ..] => Child::Transits {
-            table: table(alloc, name)?,
-            ids: ids(alloc, numbers)?,
-            goal: goal(to_do).ok_or("a goal")?,
+pub fn child(rt: &(impl Abort + AllocGlobal), text: &str) -> Child {
+    let (kind, words) = first_word(text);
+    if kind != "transits" {
+        return Child::One(args(rt, text));
+    }
+    let (name, more) = first_word(words);
+    let (to_do, numbers) = first_word(more);
+    Child::Transits {
+        table: table(rt, name),
+        ids: ids(rt, numbers),
+        goal: goal(to_do).expect(rt, "a goal"),
+    }
+}
+
+fn table_row(rt: &impl Abort, words: &str) -> CatRow {
+    let (state, version) = first_word(words);
+    CatRow::Table {
+        state: table_state(state).expect(rt, "a state"),
+        version: number(rt, version),
+    }
+}
+
+fn region_row(rt: &(impl Abort + AllocGlobal), words: &str) -> CatRow {
+    let (now, more) = first_word(words);
+    let (start, more) = first_word(more);
+    let (end, parents) = first_word(more);
+    CatRow::Region {
+        range: KeyRange {
+            start: key(rt, start),
+            end: key(rt, end),
         },
-        _ => Child::One(args(alloc, words)?),
-    })
+        status: status(now).expect(rt, "a status"),
+        parents: ids(rt, parents),
+    }
 }
 
 /// A row of the catalog: `ns NAME`, `table NAME STATE VERSION` or `region NAME STATUS START END PARENTS`.
-pub fn row(alloc: Global, words: &[&str]) -> Result<(CatKey, CatRow), Fail> {
-    Ok(match words {
-        ["ns", name] => (CatKey::Ns(ns(alloc, name)?), CatRow::Ns),
-        ["table", name, state, version] => {
-            let row = CatRow::Table {
-                state: table_state(state).ok_or("a state")?,
-                version: number(version)?,
-            };
-            (CatKey::Table(table(alloc, name)?), row)
+pub fn row(rt: &(impl Abort + AllocGlobal), text: &str) -> (CatKey, CatRow) {
+    let (kind, words) = first_word(text);
+    let (name, more) = first_word(words);
+    match kind {
+        "ns" => (CatKey::Ns(ns(rt, name)), CatRow::Ns),
+        "table" => (CatKey::Table(table(rt, name)), table_row(rt, more)),
+        _ => {
+            assert!(rt; kind == "region");
+            (CatKey::Region(region(rt, name)), region_row(rt, more))
         }
-        ["region", name, now, start, end, parents @ ..] => {
-            let row = CatRow::Region {
-                range: KeyRange {
-                    start: key(alloc, start)?,
-                    end: key(alloc, end)?,
-                },
-                status: status(now).ok_or("a status")?,
-                parents: ids(alloc, parents)?,
-            };
-            (CatKey::Region(region(alloc, name)?), row)
-        }
-        _ => Err("a row")?,
-    })
+    }
 }
 
-fn live_region(
-    alloc: Global,
-    name: &str,
-    id: u64,
-    bounds: (&RowKey, &RowKey),
-) -> Result<(CatKey, CatRow), Fail> {
-    let text = format!(in alloc; "{name},{id}")?;
-    let row = CatRow::Region {
+fn numbered_region(rt: &(impl Abort + AllocGlobal), name: &str, id: u64) -> CatKey {
+    let text = format!(in rt.alloc(); "{name},{id}").expect(rt, "memory");
+    let region = region(rt, &text);
+    drop(text);
+    CatKey::Region(region)
+}
+
+fn live_row(rt: &(impl Abort + AllocGlobal), start: &RowKey, end: &RowKey) -> CatRow {
+    CatRow::Region {
         range: KeyRange {
-            start: bounds.0.copy(alloc)?,
-            end: bounds.1.copy(alloc)?,
+            start: start.copy(rt.alloc()).expect(rt, "memory"),
+            end: end.copy(rt.alloc()).expect(rt, "memory"),
         },
         status: Status::Live,
-        parents: List::of(Vec::new(alloc)),
-    };
-    Ok((CatKey::Region(region(alloc, &text)?), row))
+        parents: List::of(Vec::new(rt.alloc())),
+    }
 }
 
 fn gap_rows(
-    alloc: Global,
+    rt: &(impl Abort + AllocGlobal),
     name: &str,
     first: u64,
     bounds: &[RowKey],
-) -> Result<Vec<(CatKey, CatRow)>, Fail> {
-    let mut rows = Vec::new(alloc);
+) -> Vec<(CatKey, CatRow)> {
+    let mut rows = Vec::new(rt.alloc());
     let mut id = first;
     let mut rest = bounds;
     while let [start, following @ ..] = rest {
         if let [end, ..] = following {
-            rows.push(live_region(alloc, name, id, (start, end))?)?;
+            let row = (numbered_region(rt, name, id), live_row(rt, start, end));
+            rows.push(row).expect(rt, "memory");
         }
         id = id.saturating_add(1);
         rest = following;
     }
-    Ok(rows)
+    rows
 }
 
 /// Rows of adjacent live regions: the table, the first id, and the bounds.
-pub fn gaps(alloc: Global, words: &[&str]) -> Result<Vec<(CatKey, CatRow)>, Fail> {
-    Ok(match words {
-        [name, first, bounds @ ..] => gap_rows(
-            alloc,
-            name,
-            number(first)?,
-            keys(alloc, bounds)?.as_slice(),
-        )?,
-        _ => Err("gaps")?,
-    })
+pub fn gaps(rt: &(impl Abort + AllocGlobal), words: &str) -> Vec<(CatKey, CatRow)> {
+    let (name, more) = first_word(words);
+    let (first, bounds) = first_word(more);
+    let keys = keys(rt, bounds);
+    let rows = gap_rows(rt, name, number(rt, first), keys.as_slice());
+    drop(keys);
+    rows
 }
 
-/// A row that is added.
-pub fn added(alloc: Global, words: &[&str]) -> Result<Edit, Fail> {
-    let (key, row) = row(alloc, words)?;
-    Ok(Edit {
-        key,
-        before: None,
-        after: Some(row),
-    })
-}
-
-/// A row that is removed.
-pub fn removed(alloc: Global, words: &[&str]) -> Result<Edit, Fail> {
-    let (key, row) = row(alloc, words)?;
-    Ok(Edit {
+/// A row that is added, or else removed.
+pub fn alone((key, row): (CatKey, CatRow), adds: bool) -> Edit {
+    if adds {
+        return Edit {
+            key,
+            before: None,
+            after: Some(row),
+        };
+    }
+    Edit {
         key,
         before: Some(row),
         after: None,
-    })
+    }
 }
 
-/// A row that another takes the place of: both of them, with an arrow between.
-pub fn changed(alloc: Global, words: &[&str]) -> Result<Edit, Fail> {
-    let place = words.iter().position(|w| *w == ">").ok_or("an arrow")?;
-    let (key, before) = row(alloc, &words[..place])?;
-    let (_, after) = row(alloc, &words[place + 1..])?;
-    Ok(Edit {
+// A row that another takes the place of: both of them, with an arrow between.
+fn changed(rt: &(impl Abort + AllocGlobal), words: &str) -> Edit {
+    let (before, after) = cut(words, " > ");
+    let (key, before) = row(rt, before);
+    let (same_key, after) = row(rt, after);
+    drop(same_key);
+    Edit {
         key,
         before: Some(before),
         after: Some(after),
-    })
+    }
+}
+
+/// An edit that adds a row, drops it or sets it.
+pub fn edit(rt: &(impl Abort + AllocGlobal), verb: &str, words: &str) -> Edit {
+    match verb {
+        "add" => alone(row(rt, words), true),
+        "drop" => alone(row(rt, words), false),
+        _ => {
+            assert!(rt; verb == "set");
+            changed(rt, words)
+        }
+    }
 }
 
 /// Where a region is: its state, and the server if there is one.
-pub fn place(alloc: Global, words: &[&str]) -> Result<Place, Fail> {
-    Ok(match words {
-        [state, at @ ..] => Place {
-            state: region_state(state).ok_or("a state")?,
-            server: perhaps_server(alloc, at)?,
-        },
-        [] => Err("a place")?,
-    })
+pub fn place(rt: &(impl Abort + AllocGlobal), words: &str) -> Place {
+    let (state, at) = first_word(words);
+    Place {
+        state: region_state(state).expect(rt, "a state"),
+        server: perhaps_server(rt, at),
+    }
 }
 
 /// What a call asks for.
-pub fn verb(alloc: Global, words: &[&str]) -> Result<Verb, Fail> {
-    Ok(match words {
-        ["assign", name] => Verb::AssignRegion(region(alloc, name)?),
-        ["close", name] => Verb::CloseRegion(region(alloc, name)?),
-        ["fence", name] => Verb::Fence(server(alloc, name)?),
-        ["layout", root] => Verb::Layout(Pid(number(root)?)),
-        ["sweep", root] => Verb::Sweep(Pid(number(root)?)),
-        _ => Err("a verb")?,
-    })
+pub fn verb(rt: &(impl Abort + AllocGlobal), words: &str) -> Verb {
+    let (asks, name) = first_word(words);
+    match asks {
+        "assign" => Verb::AssignRegion(region(rt, name)),
+        "close" => Verb::CloseRegion(region(rt, name)),
+        "fence" => Verb::Fence(server(rt, name)),
+        "layout" => Verb::Layout(Pid(number(rt, name))),
+        _ => {
+            assert!(rt; asks == "sweep");
+            Verb::Sweep(Pid(number(rt, name)))
+        }
+    }
 }

@@ -1,13 +1,12 @@
 //! Registries: which handlers make one, and which sheets it lists.
 use hm_crash::CrashHands;
 use hm_data::Sheet;
-use hm_names::List;
 use hm_sheet::{Handler, Registry, RegistryFault, all_kinds};
 use hm_split::SplitHands;
 use hm_tables::TableHands;
 use hm_transit::TransitHands;
-use std::alloc::{AllocError, Global};
-use std::test::Fail;
+use std::alloc::{AllocError, AllocGlobal, Global};
+use std::process::Abort;
 
 // The handler of tables, splits, transits or crashes, by its letter.
 fn handler(alloc: Global, letter: char) -> Result<Box<dyn Handler>, AllocError> {
@@ -20,47 +19,61 @@ fn handler(alloc: Global, letter: char) -> Result<Box<dyn Handler>, AllocError> 
 }
 
 // The registry of the handlers of these letters, or why they make none.
-fn registry(alloc: Global, letters: &str) -> Result<Result<Registry, RegistryFault>, AllocError> {
-    let mut handlers: Vec<Box<dyn Handler>> = Vec::new(alloc);
+fn registry(rt: &(impl Abort + AllocGlobal), letters: &str) -> Result<Registry, RegistryFault> {
+    let mut handlers: Vec<Box<dyn Handler>> = Vec::new(rt.alloc());
     for letter in letters.chars() {
-        handlers.push(handler(alloc, letter)?)?;
+        let handler = handler(rt.alloc(), letter).expect(rt, "memory");
+        handlers.push(handler).expect(rt, "memory");
     }
-    Ok(Registry::new(alloc, handlers))
+    Registry::new(rt.alloc(), handlers)
 }
 
-fn kinds_of(alloc: Global, sheets: &List<Sheet>) -> Result<Vec<u8>, AllocError> {
-    let mut kinds = Vec::new(alloc);
-    for sheet in sheets.as_slice() {
-        kinds.push(sheet.kind)?;
+// Why the handlers of these letters make no registry.
+fn fault_of(rt: &(impl Abort + AllocGlobal), letters: &str) -> Option<RegistryFault> {
+    match registry(rt, letters) {
+        Ok(registry) => {
+            drop(registry);
+            None
+        }
+        Err(fault) => Some(fault),
     }
-    Ok(kinds)
+}
+
+const CASES: [(&str, Option<RegistryFault>); 10] = [
+    ("", Some(RegistryFault::Missing(1))),
+    ("src", Some(RegistryFault::Missing(1))),
+    ("trc", Some(RegistryFault::Missing(8))),
+    ("tsc", Some(RegistryFault::Missing(10))),
+    ("tsr", Some(RegistryFault::Missing(11))),
+    ("tt", Some(RegistryFault::Twice(1))),
+    ("sstrc", Some(RegistryFault::Twice(8))),
+    ("crtsc", Some(RegistryFault::Twice(11))),
+    ("tsrc", None),
+    ("crst", None),
+];
+
+#[test]
+fn new_wants_each_kind_once(rt: HostRuntime) {
+    for (letters, fault) in CASES {
+        assert!(rt; fault_of(&rt, letters) == fault, "{letters}");
+    }
+}
+
+// Whether the sheets are of all kinds, in their order.
+fn are_all(rt: &(impl Abort + AllocGlobal), sheets: &[Sheet]) -> bool {
+    let mut kinds = Vec::new(rt.alloc());
+    for sheet in sheets {
+        kinds.push(sheet.kind).expect(rt, "memory");
+    }
+    let all = kinds.as_slice() == all_kinds();
+    drop(kinds);
+    all
 }
 
 #[test]
-fn new_wants_each_kind_once(rt: HostRuntime) -> Result<(), Fail> {
-    let cases = [
-        ("", Some(RegistryFault::Missing(1))),
-        ("src", Some(RegistryFault::Missing(1))),
-        ("trc", Some(RegistryFault::Missing(8))),
-        ("tsc", Some(RegistryFault::Missing(10))),
-        ("tsr", Some(RegistryFault::Missing(11))),
-        ("tt", Some(RegistryFault::Twice(1))),
-        ("sstrc", Some(RegistryFault::Twice(8))),
-        ("crtsc", Some(RegistryFault::Twice(11))),
-        ("tsrc", None),
-        ("crst", None),
-    ];
-    for (letters, fault) in cases {
-        let made = registry(rt.alloc(), letters)?;
-        assert_eq!(rt; made.err(), fault, "{letters}");
-    }
-    Ok(())
-}
-
-#[test]
-fn sheets_are_of_all_kinds_in_their_order(rt: HostRuntime) -> Result<(), Fail> {
-    let registry = registry(rt.alloc(), "crst")?.ok().ok_or("no registry")?;
-    let all = kinds_of(rt.alloc(), registry.sheets())?;
-    assert_eq!(rt; all.as_slice(), all_kinds());
-    Ok(())
+fn sheets_are_of_all_kinds_in_their_order(rt: HostRuntime) {
+    let registry = registry(&rt, "crst").expect(&rt, "a registry");
+    let all = are_all(&rt, registry.sheets().as_slice());
+    drop(registry);
+    assert!(rt; all);
 }

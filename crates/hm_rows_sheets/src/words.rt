@@ -1,16 +1,16 @@
 //! Words of a case: numbers, states, causes, and what was told.
 use hm_data::{Cause, Goal, RegionState, Status, TableState, Told};
 use hm_names::parse_decimal;
-use std::test::Fail;
+use std::process::Abort;
 
 /// A number.
-pub fn number(word: &str) -> Result<u64, Fail> {
-    Ok(parse_decimal(word.as_bytes()).ok_or("a number")?)
+pub fn number(rt: &impl Abort, word: &str) -> u64 {
+    parse_decimal(word.as_bytes()).expect(rt, "a number")
 }
 
 /// A number of one byte.
-pub fn small(word: &str) -> Result<u8, Fail> {
-    Ok(u8::try_from(number(word)?)?)
+pub fn small(rt: &impl Abort, word: &str) -> u8 {
+    u8::try_from(number(rt, word)).expect(rt, "a small number")
 }
 
 /// The state of a table.
