@@ -98,8 +98,10 @@ fn stops_well(
     choice: Choice,
 ) -> Result<bool, OpenWhy> {
     let disk = stopped(alloc, fail, choice)?;
+    let (count, bytes, disk) = opened(alloc, disk)?;
     let frames = wanted(choice, synced, open);
-    opens_as(alloc, disk, frames, if frames == 2 { TWO } else { ONE })
+    let size = if frames == 2 { 25 } else { 19 };
+    Ok(count == frames && bytes == size && disk.bytes().len() as u64 == bytes)
 }
 
 #[test]

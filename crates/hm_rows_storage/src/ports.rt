@@ -32,14 +32,26 @@ fn sure_source(alloc: Global) -> Result<SureSource, AllocError> {
     Ok(SureSource::new(b"one two".to_vec(alloc)?))
 }
 
+// Whether a source is read to its end, and then fails.
+fn fails_once_read(alloc: Global, source: MemSource) -> bool {
+    let mut source = source;
+    let is_read = reads_as(alloc, &mut source, 7, b"one two");
+    let why = why_not_read(alloc, &mut source, 7);
+    is_read && matches!(why, Some(ReadWhy::Failed))
+}
+
+// Whether a source of seven bytes is too long for six.
+fn is_too_long(alloc: Global, source: SureSource) -> bool {
+    let mut source = source;
+    let why = why_not_read(alloc, &mut source, 6);
+    matches!(why, Some(ReadWhy::TooLong))
+}
+
 #[test]
 fn read_all_reads_to_the_end(rt: HostRuntime) -> Result<(), Fail> {
-    let mut source = failing_source(rt.alloc())?;
-    assert!(rt; reads_as(rt.alloc(), &mut source, 7, b"one two"));
-    let why = why_not_read(rt.alloc(), &mut source, 7);
-    assert!(rt; why == Some(ReadWhy::Failed));
-    let why = why_not_read(rt.alloc(), &mut sure_source(rt.alloc())?, 6);
-    assert!(rt; why == Some(ReadWhy::TooLong));
+    let alloc = rt.alloc();
+    assert!(rt; fails_once_read(alloc, failing_source(alloc)?));
+    assert!(rt; is_too_long(alloc, sure_source(alloc)?));
     Ok(())
 }
 
@@ -53,29 +65,43 @@ fn failing_sink(alloc: Global) -> Result<MemSink, AllocError> {
     Ok(MemSink::new(room, [1].to_vec(alloc)?))
 }
 
+// Whether the second write fails, and the third, which fills the sink.
+fn stops_in_mid_stream(sink: MemSink) -> bool {
+    let mut sink = sink;
+    let first = is_written(&mut sink, b"one ");
+    let second = is_written(&mut sink, b"two ");
+    let third = is_written(&mut sink, b"three four");
+    first && !second && !third && sink.got() == b"one three".as_slice()
+}
+
 #[test]
 fn write_all_stops_in_mid_stream(rt: HostRuntime) -> Result<(), Fail> {
-    let mut sink = failing_sink(rt.alloc())?;
-    assert!(rt; is_written(&mut sink, b"one "));
-    assert!(rt; !is_written(&mut sink, b"two "));
-    assert!(rt; !is_written(&mut sink, b"three four"));
-    assert!(rt; sink.got() == b"one three".as_slice());
+    assert!(rt; stops_in_mid_stream(failing_sink(rt.alloc())?));
     assert!(rt; is_written(&mut SureSink::new(), b"anything"));
     Ok(())
 }
 
+fn a_reader_is_met(alloc: Global) -> bool {
+    let mut source = StdSource::new(b"one two".as_slice());
+    reads_as(alloc, &mut source, 7, b"one two")
+}
+
+fn a_writer_is_met(alloc: Global) -> bool {
+    let mut bytes = Vec::new(alloc);
+    let is_met = is_written(&mut StdSink::new(&mut bytes), b"one two");
+    is_met && bytes.as_slice() == b"one two".as_slice()
+}
+
+// Whether a slice that is full takes nothing, without an error.
+fn a_full_slice_is_met() -> bool {
+    let mut room = [0; 3];
+    let is_met = is_written(&mut StdSink::new(room.as_mut_slice()), b"one two");
+    !is_met && room.as_slice() == b"one".as_slice()
+}
+
 #[test]
 fn std_readers_and_writers_are_met(rt: HostRuntime) {
-    let mut source = StdSource::new(b"one two".as_slice());
-    assert!(rt; reads_as(rt.alloc(), &mut source, 7, b"one two"));
-
-    let mut bytes = Vec::new(rt.alloc());
-    assert!(rt; is_written(&mut StdSink::new(&mut bytes), b"one two"));
-    assert!(rt; bytes.as_slice() == b"one two".as_slice());
-
-    // A slice that is full takes nothing, without an error.
-    let mut room = [0; 3];
-    let mut full = StdSink::new(room.as_mut_slice());
-    assert!(rt; !is_written(&mut full, b"one two"));
-    assert!(rt; room.as_slice() == b"one".as_slice());
+    assert!(rt; a_reader_is_met(rt.alloc()));
+    assert!(rt; a_writer_is_met(rt.alloc()));
+    assert!(rt; a_full_slice_is_met());
 }
