@@ -6,4 +6,6 @@ mod cuts;
 #[cfg(test)]
 mod files;
 #[cfg(test)]
+mod logs;
+#[cfg(test)]
 mod things;

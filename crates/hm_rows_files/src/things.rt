@@ -1,11 +1,11 @@
 //! What is no regular file, where a system has it at a place that is known, and files by their descriptors.
-use crate::files::{is_refused, path_of};
+use crate::files::{is_refused, path_of, reads, writes};
 use hm_disk::FileDisk;
 use std::alloc::AllocError;
-use std::fs;
 use std::fs::File;
 use std::os::fd::AsRawFd;
 use std::test::Fail;
+use std::{fs, io};
 
 // Folders, devices, pipes and sockets. A system need not have each, and a standard stream may be a regular file.
 const PLACES: [&str; 27] = [
@@ -61,7 +61,7 @@ fn path_by_descriptor(rt: &HostRuntime, file: &File) -> Result<String, AllocErro
 }
 
 // Whether a folder or a device is refused by its descriptor too.
-fn is_refused_by_descriptor(rt: &HostRuntime, path: &str) -> Result<bool, Fail> {
+fn is_refused_by_descriptor(rt: &HostRuntime, path: &str) -> io::Result<bool> {
     let file = File::open(rt, path)?;
     let other = path_by_descriptor(rt, &file)?;
     Ok(is_refused(rt, &other))
@@ -75,38 +75,47 @@ fn a_link_to_a_descriptor_is_judged_by_what_it_leads_to(rt: HostRuntime) -> Resu
     Ok(())
 }
 
-// Whether a path opens to be read, and whether it opens to be written.
-fn opens(rt: &HostRuntime, path: &str) -> (bool, bool) {
-    let reads = FileDisk::read_only(rt, path).is_ok();
-    (reads, FileDisk::writable(rt, path).is_ok())
-}
-
 // Whether another path opens to be read alone while a file is open for writing, and for writing then.
 fn is_one_writer(rt: &HostRuntime, path: &str, other: &str) -> bool {
     let first = FileDisk::writable(rt, path);
-    let meanwhile = opens(rt, other);
+    let is_read = reads(rt, other);
+    let is_written = writes(rt, other);
     drop(first);
-    meanwhile == (true, false) && opens(rt, other) == (true, true)
+    is_read && !is_written && reads(rt, other) && writes(rt, other)
+}
+
+// The same by the path of a descriptor.
+fn is_one_writer_by_descriptor(rt: &HostRuntime, path: &str) -> io::Result<bool> {
+    let file = File::open(rt, path)?;
+    let descriptor = path_by_descriptor(rt, &file)?;
+    Ok(is_one_writer(rt, path, &descriptor))
+}
+
+// Whether a new file has one writer by its path, by a link to it and by another name, which are made and removed.
+fn has_one_writer(rt: &HostRuntime, path: &str, link: &str, name: &str) -> io::Result<bool> {
+    fs::write(rt, path, b"HMASTERJ\x01-")?;
+    std::os::unix::fs::symlink(rt, path, link)?;
+    fs::hard_link(rt, path, name)?;
+    let by_descriptor = is_one_writer_by_descriptor(rt, path)?;
+    let by_link = is_one_writer(rt, path, link);
+    let by_name = is_one_writer(rt, path, name);
+    fs::remove_file(rt, link)?;
+    fs::remove_file(rt, name)?;
+    fs::remove_file(rt, path)?;
+    Ok(by_descriptor && by_link && by_name)
+}
+
+// The same at the paths of this process.
+fn has_one_writer_here(rt: &HostRuntime, path: &str) -> Result<bool, Fail> {
+    let link = path_of(rt, "paths-link")?;
+    let name = path_of(rt, "paths-name")?;
+    let link = link.as_path().as_str();
+    Ok(has_one_writer(rt, path, link, name.as_path().as_str())?)
 }
 
 #[test]
 fn a_file_has_one_writer_by_all_its_paths(rt: HostRuntime) -> Result<(), Fail> {
     let path = path_of(&rt, "paths")?;
-    let path = path.as_path().as_str();
-    let link = path_of(&rt, "paths-link")?;
-    let link = link.as_path().as_str();
-    let name = path_of(&rt, "paths-name")?;
-    let name = name.as_path().as_str();
-    fs::write(&rt, path, b"HMASTERJ\x01-")?;
-    std::os::unix::fs::symlink(&rt, path, link)?;
-    fs::hard_link(&rt, path, name)?;
-    let file = File::open(&rt, path)?;
-    let descriptor = path_by_descriptor(&rt, &file)?;
-    assert!(rt; is_one_writer(&rt, path, link));
-    assert!(rt; is_one_writer(&rt, path, name));
-    assert!(rt; is_one_writer(&rt, path, &descriptor));
-    fs::remove_file(&rt, link)?;
-    fs::remove_file(&rt, name)?;
-    fs::remove_file(&rt, path)?;
+    assert!(rt; has_one_writer_here(&rt, path.as_path().as_str())?);
     Ok(())
 }
