@@ -1,87 +1,78 @@
 //! What each kind of procedure asks for.
-ghost use Rattle.std.specs.Prelude.{IfOk, box_value};
 ghost use Rattle.hm_locks.specs.Needs.{HasFirst};
 
-use crate::work::{Asked, Work, args};
+use crate::texts::is_told;
+use crate::work::args;
 use hm_data::Args;
 use hm_locks::asks;
 use hm_model::{Ask, Resource};
 use std::alloc::{AllocError, Global};
-use std::test::Fail;
 
 // The lowest id that was not drawn is 11.
-const ASKED: &[(Work, &str)] = &[
-    (Work::Root(Asked::CreateNamespace("n")), "ns n X;"),
-    (Work::Root(Asked::DropNamespace("n")), "ns n X;"),
-    (Work::Root(Asked::CreateTable("n:t")), "ns n S;table n:t X;"),
-    (Work::Root(Asked::DeleteTable("n:t")), "ns n S;table n:t X;"),
-    (Work::Root(Asked::EnableTable("n:t")), "ns n S;table n:t X;"),
+const ASKED: &[(&str, &str)] = &[
+    ("namespace n", "ns n X;"),
+    ("drop-namespace n", "ns n X;"),
+    ("create n:t", "ns n S;table n:t X;"),
+    ("delete n:t", "ns n S;table n:t X;"),
+    ("enable n:t", "ns n S;table n:t X;"),
+    ("disable n:t", "ns n S;table n:t X;"),
+    ("modify t", "ns default S;table t X;"),
     (
-        Work::Root(Asked::DisableTable("n:t")),
-        "ns n S;table n:t X;",
-    ),
-    (
-        Work::Root(Asked::ModifyTable("t")),
-        "ns default S;table t X;",
-    ),
-    (
-        Work::Root(Asked::Split("n:t,4")),
+        "split n:t,4",
         "ns n S;table n:t S;region n:t,4 X;region n:t,11 X;region n:t,12 X;",
     ),
     (
-        Work::Root(Asked::Merge(&["n:t,9", "n:t,8"])),
+        "merge n:t,9 n:t,8",
         "ns n S;table n:t S;region n:t,8 X;region n:t,9 X;region n:t,11 X;",
     ),
     (
-        Work::Root(Asked::Merge(&["n:t,3", "n:t,10", "n:t,2"])),
+        "merge n:t,3 n:t,10 n:t,2",
         "ns n S;table n:t S;region n:t,2 X;region n:t,3 X;region n:t,10 X;region n:t,11 X;",
     ),
+    ("move n:t,4", "ns n S;table n:t S;region n:t,4 X;"),
     (
-        Work::Root(Asked::Move("n:t,4")),
+        "move n:t,4 h1,16020,1",
         "ns n S;table n:t S;region n:t,4 X;",
     ),
-    (
-        Work::Root(Asked::MoveTo("n:t,4", "h1,16020,1")),
-        "ns n S;table n:t S;region n:t,4 X;",
-    ),
-    (Work::Transit("t,4"), "ns default S;table t S;region t,4 X;"),
-    (Work::Crash("h1,16020,1"), "server h1,16020,1 X;"),
-    (Work::AddRegions("n:t"), ""),
-    (Work::DropRegions("n:t"), ""),
-    (Work::AssignCall("n:t,4", "h1,16020,1"), ""),
-    (Work::CloseCall("n:t,4", "h1,16020,1"), ""),
-    (Work::FenceCall("h1,16020,1"), ""),
-    (Work::LayoutCall, ""),
-    (Work::SweepLayout, ""),
+    ("transit t,4", "ns default S;table t S;region t,4 X;"),
+    ("crash h1,16020,1", "server h1,16020,1 X;"),
+    ("add-regions n:t", ""),
+    ("drop-regions n:t", ""),
+    ("assign-call n:t,4 h1,16020,1", ""),
+    ("close-call n:t,4 h1,16020,1", ""),
+    ("fence-call h1,16020,1", ""),
+    ("layout-call", ""),
+    ("sweep-layout", ""),
 ];
 
-// An ask: its resource, and whether it is shared or exclusive.
-fn line(alloc: Global, ask: &Ask) -> Result<String, AllocError> {
+// Puts an ask: its resource, and whether it is shared or exclusive.
+fn put_ask(out: &mut String, ask: &Ask) -> Result<(), AllocError> {
     let mode = if ask.exclusive { "X" } else { "S" };
     match &ask.resource {
-        Resource::Ns(ns) => format!(in alloc; "ns {ns} {mode};"),
-        Resource::Table(table) => format!(in alloc; "table {table} {mode};"),
-        Resource::Region(region) => format!(in alloc; "region {region} {mode};"),
-        Resource::Server(server) => format!(in alloc; "server {server} {mode};"),
+        Resource::Ns(ns) => write!(out, "ns {ns} {mode};"),
+        Resource::Table(table) => write!(out, "table {table} {mode};"),
+        Resource::Region(region) => write!(out, "region {region} {mode};"),
+        Resource::Server(server) => write!(out, "server {server} {mode};"),
     }
+}
+
+fn put_asks(out: &mut String, asked: &[Ask]) -> Result<(), AllocError> {
+    for ask in asked {
+        put_ask(out, ask)?;
+    }
+    Ok(())
 }
 
 /// Asks one after another.
 pub fn lines(alloc: Global, asked: &[Ask]) -> Result<String, AllocError> {
     let mut text = String::new(alloc);
-    for ask in asked {
-        let line = line(alloc, ask)?;
-        text.push_str(line.as_str())?;
+    match put_asks(&mut text, asked) {
+        Ok(()) => Ok(text),
+        Err(error) => {
+            drop(text);
+            Err(error)
+        }
     }
-    Ok(text)
-}
-
-// What a procedure works on.
-fn boxed(alloc: Global, work: &Work) -> Result<Box<Args>, Fail>
-    ensures { IfOk result (λ args. HasFirst (box_value args)) }
-{
-    let args = args(alloc, work)?;
-    Ok(Box::new(alloc, args)?)
 }
 
 // What a procedure asks for that works on this.
@@ -89,16 +80,18 @@ fn asked_of(alloc: Global, args: &Args) -> Result<String, AllocError>
     requires { HasFirst args.now }
 {
     let asked = asks(alloc, args)?;
-    lines(alloc, asked.as_slice())
+    let text = lines(alloc, asked.as_slice());
+    drop(asked);
+    text
 }
 
 // Each kind asks for its resources in their order, shared or exclusively.
 #[test]
-fn asks_of_each_kind(rt: HostRuntime) -> Result<(), Fail> {
+fn asks_of_each_kind(rt: HostRuntime) {
     for (work, expected) in ASKED {
-        let args = boxed(rt.alloc(), work)?;
-        let asked = asked_of(rt.alloc(), &args)?;
-        assert_eq!(rt; asked.as_str(), *expected);
+        let args = args(&rt, work);
+        let told = asked_of(rt.alloc(), &args);
+        drop(args);
+        is_told(&rt, work, told, expected);
     }
-    Ok(())
 }

@@ -6,6 +6,8 @@ mod asking;
 #[cfg(test)]
 mod books;
 #[cfg(test)]
-mod drafts;
+mod deeds;
+#[cfg(test)]
+mod texts;
 #[cfg(test)]
 mod work;

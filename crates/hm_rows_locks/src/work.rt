@@ -1,159 +1,145 @@
-//! What procedures work on, told by names.
-ghost use Rattle.std.specs.Prelude.{IfOk};
+//! What procedures work on, told by words.
 ghost use Rattle.hm_locks.specs.Needs.{HasFirst};
 
 use hm_data::{Args, Goal, Request};
 use hm_names::{List, Ns, Pid, RegionName, RowKey, ServerName, TableName};
-use std::alloc::Global;
-use std::test::Fail;
+use std::alloc::AllocGlobal;
+use std::process::Abort;
 
-/// What a root is asked for.
-pub enum Asked {
-    CreateNamespace(&'static str),
-    DropNamespace(&'static str),
-    CreateTable(&'static str),
-    DeleteTable(&'static str),
-    EnableTable(&'static str),
-    DisableTable(&'static str),
-    ModifyTable(&'static str),
-    Split(&'static str),
-    Merge(&'static [&'static str]),
-    Move(&'static str),
-    MoveTo(&'static str, &'static str),
-}
-
-/// A root, or a kind that isn't submitted.
-pub enum Work {
-    Root(Asked),
-    Transit(&'static str),
-    Crash(&'static str),
-    AddRegions(&'static str),
-    DropRegions(&'static str),
-    AssignCall(&'static str, &'static str),
-    CloseCall(&'static str, &'static str),
-    FenceCall(&'static str),
-    LayoutCall,
-    SweepLayout,
-}
-
-fn ns(alloc: Global, name: &str) -> Result<Ns, Fail> {
-    Ok(Ns::parse(alloc, name.as_bytes())?)
-}
-
-fn table(alloc: Global, name: &str) -> Result<TableName, Fail> {
-    Ok(TableName::parse(alloc, name.as_bytes())?)
-}
-
-fn region(alloc: Global, name: &str) -> Result<RegionName, Fail> {
-    Ok(RegionName::parse(alloc, name.as_bytes())?)
-}
-
-fn server(alloc: Global, name: &str) -> Result<ServerName, Fail> {
-    Ok(ServerName::parse(alloc, name.as_bytes())?)
-}
-
-fn merge(alloc: Global, names: &[&str]) -> Result<Request, Fail> {
-    let mut regions = Vec::new(alloc);
-    for name in names {
-        regions.push(region(alloc, name)?)?;
+/// The first word, and the others.
+pub fn first_word(words: &str) -> (&str, &str) {
+    match words.split_once(' ') {
+        Some(parts) => parts,
+        None => (words, ""),
     }
-    Ok(Request::MergeRegions {
-        regions: List::of(regions),
-    })
 }
 
-// A split at the key m.
-fn split(alloc: Global, name: &str) -> Result<Request, Fail> {
-    let region = region(alloc, name)?;
-    let key = RowKey::parse(alloc, b"m")?;
-    Ok(Request::SplitRegion { region, key })
+pub fn ns(rt: &(impl Abort + AllocGlobal), name: &str) -> Ns {
+    Ns::parse(rt.alloc(), name.as_bytes()).expect(rt, "a namespace")
 }
 
-fn move_to(alloc: Global, name: &str, to: &str) -> Result<Request, Fail> {
-    let region = region(alloc, name)?;
-    let to = Some(server(alloc, to)?);
-    Ok(Request::Move { region, to })
+pub fn table(rt: &(impl Abort + AllocGlobal), name: &str) -> TableName {
+    TableName::parse(rt.alloc(), name.as_bytes()).expect(rt, "a table")
 }
 
-fn request(alloc: Global, asked: &Asked) -> Result<Request, Fail> {
-    Ok(match asked {
-        Asked::CreateNamespace(name) => Request::CreateNamespace {
-            ns: ns(alloc, name)?,
+pub fn region(rt: &(impl Abort + AllocGlobal), name: &str) -> RegionName {
+    RegionName::parse(rt.alloc(), name.as_bytes()).expect(rt, "a region")
+}
+
+fn server(rt: &(impl Abort + AllocGlobal), name: &str) -> ServerName {
+    ServerName::parse(rt.alloc(), name.as_bytes()).expect(rt, "a server")
+}
+
+fn perhaps_server(rt: &(impl Abort + AllocGlobal), name: &str) -> Option<ServerName> {
+    if name.is_empty() {
+        return None;
+    }
+    Some(server(rt, name))
+}
+
+fn regions(rt: &(impl Abort + AllocGlobal), names: &str) -> List<RegionName> {
+    let mut regions = Vec::new(rt.alloc());
+    for name in names.split(' ') {
+        regions.push(region(rt, name)).expect(rt, "memory");
+    }
+    List::of(regions)
+}
+
+// What is asked for a region, or for some. A split is at the key m.
+fn region_request(rt: &(impl Abort + AllocGlobal), verb: &str, words: &str) -> Request {
+    let (name, to) = first_word(words);
+    match verb {
+        "split" => Request::SplitRegion {
+            region: region(rt, name),
+            key: RowKey::parse(rt.alloc(), b"m").expect(rt, "a key"),
         },
-        Asked::DropNamespace(name) => Request::DropNamespace {
-            ns: ns(alloc, name)?,
+        "merge" => Request::MergeRegions {
+            regions: regions(rt, words),
         },
-        Asked::CreateTable(name) => Request::CreateTable {
-            table: table(alloc, name)?,
-            keys: List::of(Vec::new(alloc)),
+        _ => {
+            assert!(rt; verb == "move");
+            Request::Move {
+                region: region(rt, name),
+                to: perhaps_server(rt, to),
+            }
+        }
+    }
+}
+
+fn request(rt: &(impl Abort + AllocGlobal), verb: &str, words: &str) -> Request {
+    match verb {
+        "namespace" => Request::CreateNamespace { ns: ns(rt, words) },
+        "drop-namespace" => Request::DropNamespace { ns: ns(rt, words) },
+        "create" => Request::CreateTable {
+            table: table(rt, words),
+            keys: List::of(Vec::new(rt.alloc())),
         },
-        Asked::DeleteTable(name) => Request::DeleteTable {
-            table: table(alloc, name)?,
+        "delete" => Request::DeleteTable {
+            table: table(rt, words),
         },
-        Asked::EnableTable(name) => Request::EnableTable {
-            table: table(alloc, name)?,
+        "enable" => Request::EnableTable {
+            table: table(rt, words),
         },
-        Asked::DisableTable(name) => Request::DisableTable {
-            table: table(alloc, name)?,
+        "disable" => Request::DisableTable {
+            table: table(rt, words),
         },
-        Asked::ModifyTable(name) => Request::ModifyTable {
-            table: table(alloc, name)?,
+        "modify" => Request::ModifyTable {
+            table: table(rt, words),
             version: 2,
         },
-        Asked::Split(name) => split(alloc, name)?,
-        Asked::Merge(names) => merge(alloc, names)?,
-        Asked::Move(name) => Request::Move {
-            region: region(alloc, name)?,
-            to: None,
-        },
-        Asked::MoveTo(name, to) => move_to(alloc, name, to)?,
-    })
-}
-
-// The call of a region to be opened or closed at a server.
-fn region_call(alloc: Global, name: &str, at: &str, opens: bool) -> Result<Args, Fail>
-    ensures { IfOk result (λ args. HasFirst args) }
-{
-    let region = region(alloc, name)?;
-    let server = server(alloc, at)?;
-    if opens {
-        return Ok(Args::AssignCall { region, server });
+        _ => region_request(rt, verb, words),
     }
-    Ok(Args::CloseCall { region, server })
 }
 
-/// What a procedure works on. The first id of a root is 11.
-pub fn args(alloc: Global, work: &Work) -> Result<Args, Fail>
-    ensures { IfOk result (λ args. HasFirst args) }
+// The args of a call, or of a root. The first id of a root is 11.
+fn other_args(rt: &(impl Abort + AllocGlobal), kind: &str, words: &str) -> Args
+    ensures { HasFirst result }
 {
-    Ok(match work {
-        Work::Root(asked) => Args::Root {
-            request: request(alloc, asked)?,
+    let (name, at) = first_word(words);
+    match kind {
+        "assign-call" => Args::AssignCall {
+            region: region(rt, name),
+            server: server(rt, at),
+        },
+        "close-call" => Args::CloseCall {
+            region: region(rt, name),
+            server: server(rt, at),
+        },
+        "fence-call" => Args::FenceCall {
+            server: server(rt, name),
+        },
+        "layout-call" => Args::LayoutCall { root: Pid(1) },
+        "sweep-layout" => Args::SweepLayout { root: Pid(1) },
+        _ => Args::Root {
+            request: request(rt, kind, words),
             first: 11,
         },
-        Work::Transit(name) => Args::Transit {
-            region: region(alloc, name)?,
+    }
+}
+
+/// What a procedure works on: a kind that isn't submitted, or a request, and its fields.
+pub fn args(rt: &(impl Abort + AllocGlobal), work: &str) -> Args
+    ensures { HasFirst result }
+{
+    let (kind, words) = first_word(work);
+    match kind {
+        "transit" => Args::Transit {
+            region: region(rt, words),
             goal: Goal::Assign,
             to: None,
         },
-        Work::Crash(name) => Args::Crash {
-            server: server(alloc, name)?,
+        "crash" => Args::Crash {
+            server: server(rt, words),
         },
-        Work::AddRegions(name) => Args::AddRegions {
-            table: table(alloc, name)?,
+        "add-regions" => Args::AddRegions {
+            table: table(rt, words),
             first: 11,
-            bounds: List::of(Vec::new(alloc)),
+            bounds: List::of(Vec::new(rt.alloc())),
         },
-        Work::DropRegions(name) => Args::DropRegions {
-            table: table(alloc, name)?,
-            ids: List::of(Vec::new(alloc)),
+        "drop-regions" => Args::DropRegions {
+            table: table(rt, words),
+            ids: List::of(Vec::new(rt.alloc())),
         },
-        Work::AssignCall(name, at) => region_call(alloc, name, at, true)?,
-        Work::CloseCall(name, at) => region_call(alloc, name, at, false)?,
-        Work::FenceCall(at) => Args::FenceCall {
-            server: server(alloc, at)?,
-        },
-        Work::LayoutCall => Args::LayoutCall { root: Pid(1) },
-        Work::SweepLayout => Args::SweepLayout { root: Pid(1) },
-    })
+        _ => other_args(rt, kind, words),
+    }
 }
