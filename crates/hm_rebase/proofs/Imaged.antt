@@ -14,7 +14,7 @@ use Rattle.hm_data.specs.declared.catalog.CatRow.{CatRow}
 use Rattle.hm_data.specs.declared.entry.Entry.{Entry}
 use Rattle.hm_data.specs.declared.entry.Entry.TheVariants as entry_is
 use Rattle.hm_model.proofs.KeyTests.{bytes_eq-refl}
-use Rattle.hm_rebase.specs.Alike.{Alike, IsIdle}
+use Rattle.hm_rebase.specs.Alike.{Alike, IsForgotten, IsIdle, base_of}
 use Rattle.hm_rebase.proofs.Untold.{untold}
 use Rattle.hm_data.specs.declared.part.Part.{Part}
 use Rattle.hm_data.specs.declared.part.Part.TheVariants as part_is
@@ -40,13 +40,14 @@ use Rattle.hm_model.specs.Inputs.{made_at_step}
 use Rattle.hm_model.specs.Phase.{cause}
 use Rattle.hm_model.specs.Reports.{verb_of}
 use Rattle.hm_model.specs.Undo.{stack}
-use Rattle.hm_model.specs.TransitActs.{is_placed}
+use Rattle.hm_model.specs.TransitActs.{is_placed, nowhere}
 use Rattle.hm_model.specs.Tree.{drawn, made, node_of, pid_of}
 use Rattle.hm_model.proofs.Grown.{ends_parted, grown_all, sheets_are}
 use Rattle.hm_model.proofs.Parted.{by_parts, no_half}
 use Rattle.hm_serial.proofs.Serial.{settled_is}
 use Rattle.hm_cover.proofs.Now.{live_cover}
 use Rattle.hm_rebase.proofs.Cores.{cores, cores_all, no_nonce, rises_of, top, under}
+use Rattle.hm_rebase.proofs.Drawn.{known_all}
 use Rattle.hm_rebase.proofs.Fixed.{fixed_there}
 use Rattle.hm_rebase.proofs.Keyed.{Keyed, Reached, free, reach_all}
 use Rattle.hm_rebase.proofs.Laid.{image_laid, roots_unlaid}
@@ -347,6 +348,27 @@ module _ (J : Past) (legal : IsLegal J) (begun : IsBegun J) (may : MayRoll J) wh
   base_nonce : (p : ℕ) → nonce_of (based (image J)) p ≡ no_nonce
   base_nonce p = ap (λ X. nonce_of X p) imaged.is ∙ base_none (entry_is.Base imaged.own ∷ imaged.behind) refl (subst IsLegal imaged.is says.legal_now) p
 
+  base_is : base_of (based (image J)) ≡ based (image J)
+  base_is = ap base_of imaged.is ∙ sym imaged.is
+
+  -- a region that the image doesn't tell
+  forgotten : (region : Region) → place_of (based (image J)) region ≡ nowhere place_is.Offline → cat J (key_is.Region region) ≡ None → (place_of J region ≡ place_of (based (image J)) region) ⊎ IsForgotten J (based (image J)) region
+  forgotten region off gone = elim (known_all J legal region) [
+    | inl first ↦ inl (first ∙ sym off)
+    | inr had ↦ elim (place_stands J legal may.0 begun region) [
+      | inl idle ↦
+          let rowless : cat (based (image J)) (key_is.Region region) ≡ None = says.rows (key_is.Region region) ∙ gone in
+          inr (record {
+            old = subst (λ X. region.id ≤ drawn X region.table) (sym base_is) (subst (λ n. region.id ≤ n) (sym (says.ids region.table)) had.1);
+            unbased = subst (λ X. cat X (key_is.Region region) ≡ None) (sym base_is) rowless;
+            rowless = rowless;
+            one = idle;
+            other = subst IsIdle (sym off) (record { unplaced = refl; untried = refl; nowhere = refl });
+          })
+      | inr held ↦ absurd (none-some _ (sym gone ∙ held.live.1))
+    ]
+  ]
+
   pub image_alike : Alike J (based (image J))
   image_alike = record {
     counts = sym says.counts;
@@ -373,13 +395,7 @@ module _ (J : Past) (legal : IsLegal J) (begun : IsBegun J) (may : MayRoll J) wh
     roots = sym roots_are;
     sheets = sym says.sheets;
     rows = λ key. sym (says.rows key);
-    places = λ region. elim (says.places region) [
-      | inl same ↦ inl (sym same)
-      | inr off ↦ elim (place_stands J legal may.0 begun region) [
-        | inl idle ↦ inr (idle, subst IsIdle (sym off.0) (record { unplaced = refl; untried = refl; nowhere = refl }))
-        | inr held ↦ absurd (none-some _ (sym off.1 ∙ held.live.1))
-      ]
-    ];
+    places = λ region. elim (says.places region) [ inl same ↦ inl (sym same) | inr off ↦ forgotten region off.0 off.1 ];
     servers = sym says.servers;
     live = λ s. sym (says.live s);
     fenced = λ s. sym (says.fenced s);

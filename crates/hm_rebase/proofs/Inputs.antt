@@ -21,10 +21,10 @@ use Rattle.hm_model.specs.Wanted.{wanted_of}
 use Rattle.hm_model.specs.Whereabouts.{crashed_in, moved_by}
 use Rattle.hm_model.proofs.Rows.{read_alike}
 use Rattle.hm_model.proofs.UndoMakes.{AllThere, stacked_all}
-use Rattle.hm_rebase.specs.Alike.{Alike, AreOnePlace}
+use Rattle.hm_rebase.specs.Alike.{Alike}
 use Rattle.hm_rebase.proofs.Bounds.{above_base}
 use Rattle.hm_rebase.proofs.Readings.{ends_same, root_sheets, row_same, sheet_by_same, undoes_same}
-use Rattle.hm_rebase.proofs.Seen.{Sees, answer_same, failed_one, picks_same, server_one}
+use Rattle.hm_rebase.proofs.Seen.{AreOnePlace, Sees, answer_same, failed_one, picks_same, server_one}
 use Rattle.hm_rebase.proofs.Servers.{has_other_same, on_same, place_told_same, sees_fenced_same}
 
 undo_sees : (latest : Undoable) (its : Node) (at to : StepIn) → Sees at to → Sees (undo_input latest its at) (undo_input latest its to)

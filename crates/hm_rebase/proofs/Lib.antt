@@ -4,6 +4,8 @@ mod Readings
 mod Servers
 mod Inputs
 mod Allowing
+mod Forgetting
+mod Drawn
 mod Telling
 mod Staying
 mod Rows

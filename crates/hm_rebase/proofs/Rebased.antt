@@ -21,7 +21,7 @@ use Rattle.hm_model.proofs.Counting.{count_same}
 use Rattle.hm_model.proofs.Grown.{ends_parted}
 use Rattle.hm_model.proofs.Parted.{by_parts}
 use Rattle.hm_model.proofs.Trees.{le_or_lt}
-use Rattle.hm_rebase.specs.Alike.{Alike}
+use Rattle.hm_rebase.specs.Alike.{Alike, AlikePlaces}
 use Rattle.hm_rebase.specs.Rebased.{AlikeUnderWay, DownAreFenced, ImagesAreBases, OpenAreServed, ParentsAreFew, RebasedAreAlike, TablesAreSteady}
 use Rattle.hm_rebase.proofs.Allowing.{allowed_to}
 use Rattle.hm_rebase.proofs.Bounds.{none_below}
@@ -126,3 +126,6 @@ alike_under_way J K legal_J legal_K alike =
         old : p ≤ offset K → (o : Option Node) → node_of J p ≡ o → (is_some (node_of J p) && not (ended J p)) ≡ false
         old le None e = ap (λ o. is_some o && not (ended J p)) e
         old le (Some x) e = ap (λ o. is_some o && not (ended J p)) e ∙ ap not (alike.over p x le e)
+
+pub alike_places : AlikePlaces
+alike_places J K alike region row = elim (alike.places region) [ inl same ↦ same | inr forgotten ↦ absurd (row (alike.rows (key_is.Region region) ∙ forgotten.rowless)) ]

@@ -1,5 +1,5 @@
 -- What is answered to inputs that differ in the place of a region that nobody has, and in the edition.
-use Rattle.std.proofs.Common.{◌≡◌, ℕ, List, [], ◌∷◌, Bool, true, false, not, ◌&&◌, ◌||◌, cond, Option, Some, None, refl, ap, sym, ◌∙◌, inl, inr}
+use Rattle.std.proofs.Common.{◌≡◌, ℕ, List, [], ◌∷◌, Bool, true, false, not, ◌&&◌, ◌||◌, cond, Option, Some, None, refl, ap, sym, ◌∙◌, inl, inr, ◌⊎◌}
 use Rattle.std.proofs.lemmas.Bool.{cases_Bool, or_left, or_right, true≢false}
 use Rattle.hm_names.specs.Region.{Region}
 use Rattle.hm_names.specs.Server.{Server}
@@ -24,18 +24,27 @@ use Rattle.hm_data.specs.declared.step.Turn.{Turn}
 use Rattle.hm_data.specs.declared.step.Turn.TheVariants as turn_is
 use Rattle.hm_model.specs.Acts.{act_answer}
 use Rattle.hm_model.specs.Evaluation.{answer_at, answer_by, answer_of, is_cut_off, is_picking, is_step, picks_at, picks_by, turn_answer, wants_server}
+use Rattle.hm_model.specs.Journal.{Past}
+use Rattle.hm_model.specs.Places.{place_of}
 use Rattle.hm_model.specs.Outs.{ends_with, fails, given, places, spawns}
 use Rattle.hm_model.specs.RowsSaid.{Rows}
 use Rattle.hm_model.specs.Sheets.{row_in, sheet_for}
 use Rattle.hm_model.specs.Undoing.{undo_out}
 use Rattle.hm_model.specs.Views.{region_of}
 use Rattle.hm_model.specs.Wanted.{goal_in}
-use Rattle.hm_rebase.specs.Alike.{AreOnePlace, IsIdle}
+use Rattle.hm_rebase.specs.Alike.{Alike, IsIdle}
 use Rattle.hm_model.specs.CallActs.{call_assign, call_close, call_fence, call_layout, call_sweep, settle_call, settle_layout}
 use Rattle.hm_model.specs.CrashActs.{fence, reassign}
 use Rattle.hm_model.specs.NamespaceActs.{add_namespace, add_table, check_free_namespace, check_namespace_empty, check_table_disabled, check_table_enabled, check_table_free, drop_namespace, drop_table, lay_out, set_state, set_version}
 use Rattle.hm_model.specs.RegionActs.{add_region_rows, add_regions, check_merge, check_split, close_parents, close_regions, drop_region_rows, drop_regions, open_new, open_regions, update_merge_meta, update_split_meta}
 use Rattle.hm_model.specs.TransitActs.{behind_close, candidate, close_at, close_or_go, is_open, is_placed, is_state, is_told, lost_if, may_open_in, opened_or_not, told_place, check_move, close_there, confirm_closed, confirm_opened, get_assign_candidate, open_there}
+
+-- one place, or both idle
+abbrev pub AreOnePlace : Place → Place → Type 0
+AreOnePlace one other = (one ≡ other) ⊎ (IsIdle one × IsIdle other)
+
+pub one_place : (J K : Past) → Alike J K → (region : Region) → AreOnePlace (place_of J region) (place_of K region)
+one_place J K alike region = elim (alike.places region) [ inl same ↦ inl same | inr forgotten ↦ inr (forgotten.one, forgotten.other) ]
 
 -- inputs with the same in them, but for the place of a region that nobody has, and the edition
 pub record Sees (at to : StepIn) : Type 0 where

@@ -17,8 +17,8 @@ use Rattle.hm_model.specs.Whereabouts.{called_by, moved_by}
 use Rattle.hm_model.proofs.InOrder.{AllLater, InOrder, at_order, not_later}
 use Rattle.hm_model.proofs.NameTies.{regions_total}
 use Rattle.hm_costs.proofs.Lost.{at_listed, listed_at}
-use Rattle.hm_rebase.specs.Alike.{Alike, AreOnePlace}
-use Rattle.hm_rebase.proofs.Seen.{placed_one, server_one}
+use Rattle.hm_rebase.specs.Alike.{Alike}
+use Rattle.hm_rebase.proofs.Seen.{AreOnePlace, one_place, placed_one, server_one}
 
 later_in : (region y : Region) (list : List Region) → AllLater region list → IsIn y list → region_cmp region y ≡ Less
 later_in region y [] all h = elim h [ ]
@@ -54,7 +54,7 @@ any_same one other (s ∷ list) same = ap (λ b. b || list_any one list) (same s
 module _ (J K : Past) (alike : Alike J K) where
   pub at_same : (server : Server) (region : Region) → is_at server (place_of J region) ≡ is_at server (place_of K region)
   at_same server region =
-      let one = alike.places region in
+      let one = one_place J K alike region in
       ap (λ b. b && is_the_server server (place_of J region).server) (placed_one (place_of J region) (place_of K region) one)
       ∙ ap (λ s. is_placed (place_of K region) && is_the_server server s) (server_one (place_of J region) (place_of K region) one)
 
@@ -73,7 +73,7 @@ module _ (J K : Past) (alike : Alike J K) where
 
   place_server : (region : Option Region) → server_at (place_if J region) ≡ server_at (place_if K region)
   place_server None = refl
-  place_server (Some region) = server_one (place_of J region) (place_of K region) (alike.places region)
+  place_server (Some region) = server_one (place_of J region) (place_of K region) (one_place J K alike region)
 
   pub sees_fenced_same : (args : Args) → sees_fenced J args ≡ sees_fenced K args
   sees_fenced_same args =
@@ -83,7 +83,7 @@ module _ (J K : Past) (alike : Alike J K) where
 
   pub place_told_same : (region : Option Region) → AreOnePlace (told_place (place_if J region)) (told_place (place_if K region))
   place_told_same None = inl refl
-  place_told_same (Some region) = alike.places region
+  place_told_same (Some region) = one_place J K alike region
 
   pub has_newer_same : (server : Server) → has_newer J server ≡ has_newer K server
   has_newer_same server = ap (λ l. list_any (λ other. same_address server other && not (nat_lt other.start server.start)) l) alike.servers

@@ -1,5 +1,5 @@
 -- Journals that read alike do so behind each entry that may come next.
-use Rattle.std.proofs.Common.{◌≡◌, ℕ, ◌+◌, ◌-◌, ◌<◌, ◌≤◌, List, [], ◌∷◌, ◌++◌, Bool, true, false, cond, not, length, ◌&&◌, ◌||◌, ◌==◌, nat_lt, Option, Some, None, is_some, option_map, slice_get, refl, ap, sym, ◌∙◌, subst, inl, inr, arith}
+use Rattle.std.proofs.Common.{◌≡◌, ℕ, ◌+◌, ◌-◌, ◌<◌, ◌≤◌, List, [], ◌∷◌, ◌++◌, Bool, true, false, cond, not, length, ◌&&◌, ◌||◌, ◌==◌, nat_lt, Option, Some, None, is_some, option_map, slice_get, refl, ap, sym, ◌∙◌, subst, inl, inr, ◌⊎◌, arith}
 use Rattle.std.specs.Option.{option_or}
 use Rattle.std.proofs.lemmas.Bool.{cond-false, le-ltb, ne_eqb, true≢false}
 use Rattle.std.proofs.lemmas.List.{append_cancel_right}
@@ -14,6 +14,7 @@ use Rattle.hm_data.specs.declared.args.Args.{Args}
 use Rattle.hm_data.specs.declared.args.Args.TheVariants as args_are
 use Rattle.hm_data.specs.declared.call.Told.{Told}
 use Rattle.hm_data.specs.declared.call.Told.TheVariants as told_is
+use Rattle.hm_data.specs.declared.catalog.CatKey.TheVariants as key_is
 use Rattle.hm_data.specs.declared.entry.Entry.{Entry}
 use Rattle.hm_data.specs.declared.entry.Entry.TheVariants as entry_is
 use Rattle.hm_data.specs.declared.place.Place.{Place}
@@ -22,7 +23,7 @@ use Rattle.hm_data.specs.declared.sheet.Sheet.{Sheet}
 use Rattle.hm_data.specs.declared.step.StepOut.{StepOut}
 use Rattle.hm_model.specs.Answers.{failing, is_stopped, last_answer}
 use Rattle.hm_model.specs.Base.{IsBegun}
-use Rattle.hm_model.specs.Catalog.{edited}
+use Rattle.hm_model.specs.Catalog.{cat, edited}
 use Rattle.hm_model.specs.Fleet.{fences_if, is_fenced, same_server, with_server}
 use Rattle.hm_model.specs.Image.{nonce_of, root_parts}
 use Rattle.hm_model.specs.Journal.{Past}
@@ -37,14 +38,15 @@ use Rattle.hm_model.specs.Procedures.{offset}
 use Rattle.hm_model.specs.Reports.{is_the_region, verb_of}
 use Rattle.hm_model.specs.Rules.{Allowed, IsLegal}
 use Rattle.hm_model.specs.Sheets.{sheets_by, sheets_of, undo_by, undo_of_next}
-use Rattle.hm_model.specs.Tree.{Node, args_in, child_of, children_of, first_of, ids_for, is_top, made, new_ids, node_of, root_in, root_node, root_of, submitted}
+use Rattle.hm_model.specs.Tree.{Node, args_in, child_of, children_of, drawn, first_of, ids_for, is_top, made, new_ids, node_of, root_in, root_node, root_of, submitted}
 use Rattle.hm_model.specs.Undo.{pushed, rest_of, row_if_there, stack}
 use Rattle.hm_model.proofs.Grown.{grown_all, nodes_stay}
 use Rattle.hm_model.proofs.Tops.{ended_top, root_stays}
 use Rattle.hm_model.proofs.Trees.{le_or_lt, node_new, other_answer}
-use Rattle.hm_rebase.specs.Alike.{Alike, AlikeStay, AreOnePlace, IsSame}
-use Rattle.hm_rebase.proofs.Allowing.{called_high, latest_high, step_high}
+use Rattle.hm_rebase.specs.Alike.{Alike, AlikeStay, IsForgotten, IsIdle, IsSame, base_of}
+use Rattle.hm_rebase.proofs.Allowing.{allowed_to, called_high, latest_high, step_high}
 use Rattle.hm_rebase.proofs.Bounds.{none_below}
+use Rattle.hm_rebase.proofs.Forgetting.{base_on, forgotten_rowless}
 use Rattle.hm_rebase.proofs.Readings.{next_row_same, root_high, root_of_same, row_same}
 use Rattle.hm_rebase.proofs.Telling.{above, above_same, below, below_on, leaves_base, nonce_old, roots_split, told_same}
 
@@ -97,13 +99,15 @@ old_root pid pick out J its its_is p node is at = elim (le_or_lt p (made J)) [
         let two : pid.0 ∷ its.above ≡ [] = ap (λ (n : Node). n.above) one ∙ at in
         cc
 
-place_on : (region : Region) (own : Option Region) (given : Option Place) (one other : Place) → AreOnePlace one other → AreOnePlace (placed_by region own given one) (placed_by region own given other)
-place_on region own None one other h = h
-place_on region own (Some given) one other h = by (is_the_region region own)
+-- a step gives both one place, or leaves both
+place_on : (region : Region) (own : Option Region) (given : Option Place) (one other : Place)
+    → (placed_by region own given one ≡ placed_by region own given other) ⊎ ((placed_by region own given one ≡ one) × (placed_by region own given other ≡ other))
+place_on region own None one other = inr (refl, refl)
+place_on region own (Some given) one other = by (is_the_region region own)
   where
-    by : (b : Bool) → AreOnePlace (cond b given one) (cond b given other)
+    by : (b : Bool) → (cond b given one ≡ cond b given other) ⊎ ((cond b given one ≡ one) × (cond b given other ≡ other))
     by true = inl refl
-    by false = h
+    by false = inr (refl, refl)
 
 module _ (J K : Past) (legal_J : IsLegal J) (legal_K : IsLegal K) (begun_J : IsBegun J) (begun_K : IsBegun K) (alike : Alike J K) where
   over_on : (entry : Entry) → is_part entry ≡ false → Allowed J entry → ((p : ℕ) → p ≤ offset K → last_answer (entry ∷ J) p ≡ last_answer J p) → (p : ℕ) (node : Node) → p ≤ offset K → node_of (entry ∷ J) p ≡ Some node → ended (entry ∷ J) p ≡ true
@@ -146,6 +150,24 @@ module _ (J K : Past) (legal_J : IsLegal J) (legal_K : IsLegal K) (begun_J : IsB
       ∙ ap (λ l. below (entry ∷ K) (offset K) ++ l) (above_same (entry ∷ J) (entry ∷ K) (offset K) last_now (λ q high. let s = same q high in told_same (entry ∷ J) (entry ∷ K) q s.node s.nonce s.failure))
       ∙ sym (roots_split (entry ∷ K) (offset K) (omega (arith, base_K)) (omega (arith, low, more_K)))
 
+  -- a place that both leave is one in both, or that of a region that stays forgotten
+  place_stays : (entry : Entry) → is_part entry ≡ false → Allowed J entry → (region : Region) → place_of (entry ∷ J) region ≡ place_of J region → place_of (entry ∷ K) region ≡ place_of K region
+      → (place_of (entry ∷ J) region ≡ place_of (entry ∷ K) region) ⊎ IsForgotten (entry ∷ J) (entry ∷ K) region
+  place_stays entry other allowed region one two = elim (alike.places region) [
+    | inl same ↦ inl (one ∙ same ∙ sym two)
+    | inr was ↦
+        let base = sym (base_on entry K other) in
+        let old : region.id ≤ drawn (base_of (entry ∷ K)) region.table = subst (λ B. region.id ≤ drawn B region.table) base was.old in
+        let unbased : cat (base_of (entry ∷ K)) (key_is.Region region) ≡ None = subst (λ B. cat B (key_is.Region region) ≡ None) base was.unbased in
+        inr (record {
+          old = old;
+          unbased = unbased;
+          rowless = forgotten_rowless (entry ∷ K) (legal_K, allowed_to J K legal_J legal_K alike begun_J begun_K entry other allowed) region old unbased;
+          one = subst IsIdle (sym one) was.one;
+          other = subst IsIdle (sym two) was.other;
+        })
+  ]
+
   first_same : (table : Option TableName) → first_of J table ≡ first_of K table
   first_same None = refl
   first_same (Some table) = ap (λ n. n + 1) (alike.ids table)
@@ -181,7 +203,7 @@ module _ (J K : Past) (legal_J : IsLegal J) (legal_K : IsLegal K) (begun_J : IsB
       roots = roots_on (entry_is.Submit nonce request) refl (ap (λ n. n + 1) alike.last) (λ p le. refl) same_submit;
       sheets = alike.sheets;
       rows = alike.rows;
-      places = alike.places;
+      places = λ region. place_stays (entry_is.Submit nonce request) refl allowed region refl refl;
       servers = alike.servers;
       live = alike.live;
       fenced = alike.fenced;
@@ -245,6 +267,14 @@ module _ (J K : Past) (legal_J : IsLegal J) (legal_K : IsLegal K) (begun_J : IsB
         let own : root_of J pid.0 ≡ its.root = ap root_in its_is in
         cond-false (root_of J pid.0 == p) (or_else (cause J p) (failing out.answer)) (cause J p) (ne_eqb (root_of J pid.0) p (λ e. omega (arith, le, high, own, e)))
 
+    step_places : (region : Region) → (place_of (entry_is.Step pid pick out ∷ J) region ≡ place_of (entry_is.Step pid pick out ∷ K) region) ⊎ IsForgotten (entry_is.Step pid pick out ∷ J) (entry_is.Step pid pick out ∷ K) region
+    step_places region =
+        let own = ap (λ o. placed_by region (region_if o) out.place (place_of J region)) me.node in
+        elim (place_on region (region_if (node_of K pid.0)) out.place (place_of J region) (place_of K region)) [
+          | inl given ↦ inl (own ∙ given)
+          | inr left ↦ place_stays (entry_is.Step pid pick out) refl allowed region (own ∙ left.0) left.1
+        ]
+
     on_step : Alike (entry_is.Step pid pick out ∷ J) (entry_is.Step pid pick out ∷ K)
     on_step = record {
       counts = ap (λ n. n + 1) alike.counts;
@@ -254,7 +284,7 @@ module _ (J K : Past) (legal_J : IsLegal J) (legal_K : IsLegal K) (begun_J : IsB
       roots = roots_on (entry_is.Step pid pick out) refl (ap (λ n. n + length (args_in out.children)) alike.last) step_quiet same_step;
       sheets = alike.sheets;
       rows = λ key. ap (edited out.edits key) (alike.rows key);
-      places = λ region. subst (λ o. AreOnePlace (placed_by region (region_if o) out.place (place_of J region)) (place_of (entry_is.Step pid pick out ∷ K) region)) (sym me.node) (place_on region (region_if (node_of K pid.0)) out.place (place_of J region) (place_of K region) (alike.places region));
+      places = step_places;
       servers = alike.servers;
       live = alike.live;
       fenced = alike.fenced;
@@ -299,7 +329,7 @@ module _ (J K : Past) (legal_J : IsLegal J) (legal_K : IsLegal K) (begun_J : IsB
       roots = roots_on (entry_is.Undo pid row out) refl (ap (λ n. n + length (args_in out.followers)) alike.last) (λ p le. refl) same_undo;
       sheets = alike.sheets;
       rows = λ key. ap (edited out.edits key) (alike.rows key);
-      places = alike.places;
+      places = λ region. place_stays (entry_is.Undo pid row out) refl allowed region refl refl;
       servers = alike.servers;
       live = alike.live;
       fenced = alike.fenced;
@@ -336,7 +366,7 @@ module _ (J K : Past) (legal_J : IsLegal J) (legal_K : IsLegal K) (begun_J : IsB
       roots = roots_on (entry_is.Report call told) refl (alike.last) (λ p le. refl) same_report;
       sheets = alike.sheets;
       rows = alike.rows;
-      places = alike.places;
+      places = λ region. place_stays (entry_is.Report call told) refl allowed region refl refl;
       servers = alike.servers;
       live = alike.live;
       fenced = λ server. ap (λ o. ((told_number told == told_number told_is.Fenced) && fences_if o server) || is_fenced J server) told_of.node ∙ ap (λ b. ((told_number told == told_number told_is.Fenced) && fences_if (node_of K call.0) server) || b) (alike.fenced server);
@@ -370,7 +400,7 @@ module _ (J K : Past) (legal_J : IsLegal J) (legal_K : IsLegal K) (begun_J : IsB
       roots = roots_on (entry_is.Up server) refl (alike.last) (λ p le. refl) same_up;
       sheets = alike.sheets;
       rows = alike.rows;
-      places = alike.places;
+      places = λ region. place_stays (entry_is.Up server) refl allowed region refl refl;
       servers = ap (with_server server) alike.servers;
       live = λ own. ap (λ b. same_server own server || b) (alike.live own);
       fenced = alike.fenced;
@@ -409,7 +439,7 @@ module _ (J K : Past) (legal_J : IsLegal J) (legal_K : IsLegal K) (begun_J : IsB
       roots = roots_on (entry_is.Down server) refl (ap (λ n. n + 1) alike.last) (λ p le. refl) same_down;
       sheets = alike.sheets;
       rows = alike.rows;
-      places = alike.places;
+      places = λ region. place_stays (entry_is.Down server) refl allowed region refl refl;
       servers = alike.servers;
       live = λ own. ap (λ b. not (same_server own server) && b) (alike.live own);
       fenced = alike.fenced;
@@ -443,7 +473,7 @@ module _ (J K : Past) (legal_J : IsLegal J) (legal_K : IsLegal K) (begun_J : IsB
       roots = roots_on (entry_is.Abort pid) refl (alike.last) (λ p le. refl) same_abort;
       sheets = alike.sheets;
       rows = alike.rows;
-      places = alike.places;
+      places = λ region. place_stays (entry_is.Abort pid) refl allowed region refl refl;
       servers = alike.servers;
       live = alike.live;
       fenced = alike.fenced;
@@ -477,7 +507,7 @@ module _ (J K : Past) (legal_J : IsLegal J) (legal_K : IsLegal K) (begun_J : IsB
       roots = roots_on (entry_is.Adopt sheets) refl (alike.last) (λ p le. refl) same_adopt;
       sheets = refl;
       rows = alike.rows;
-      places = alike.places;
+      places = λ region. place_stays (entry_is.Adopt sheets) refl allowed region refl refl;
       servers = alike.servers;
       live = alike.live;
       fenced = alike.fenced;

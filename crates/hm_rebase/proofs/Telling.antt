@@ -3,7 +3,6 @@ use Rattle.std.proofs.Common.{◌≡◌, ℕ, zero, suc, ◌+◌, ◌-◌, ◌<�
 use Rattle.std.specs.List.{flat_map}
 use Rattle.std.proofs.lemmas.Grind.{flat_map-append}
 use Rattle.std.proofs.lemmas.Bool.{cond-false, ne_eqb, true≢false}
-use Rattle.hm_data.specs.declared.answer.Cause.{Cause}
 use Rattle.hm_data.specs.declared.catalog.CatKey.{CatKey}
 use Rattle.hm_data.specs.declared.catalog.CatKey.TheVariants as key_is
 use Rattle.hm_data.specs.declared.catalog.CatRow.{CatRow}
@@ -14,10 +13,9 @@ use Rattle.hm_data.specs.declared.entry.Entry.TheVariants as entry_is
 use Rattle.hm_data.specs.declared.part.Part.{Part}
 use Rattle.hm_data.specs.declared.part.Part.TheVariants as part_is
 use Rattle.hm_names.specs.Server.{Server}
-use Rattle.hm_names.specs.declared.nonce.Nonce.{Nonce}
 use Rattle.hm_names.specs.declared.table.TableName.{TableName}
 use Rattle.hm_model.specs.Catalog.{cat}
-use Rattle.hm_model.specs.Image.{catalog_parts, first_made, key_parts, layout_parts, named_keys, nonce_of, old_roots, root_parts, root_parts_by, server_part, server_parts, table_in, table_parts, with_root}
+use Rattle.hm_model.specs.Image.{catalog_parts, first_made, key_parts, named_keys, nonce_of, old_roots, root_parts, root_parts_by, server_part, table_in, table_parts, with_root}
 use Rattle.hm_model.specs.Journal.{Past}
 use Rattle.hm_model.specs.Laws.{is_part}
 use Rattle.hm_model.specs.Phase.{cause}

@@ -1,11 +1,13 @@
 -- Journals that read alike from here on: one may have forgotten procedures that the other has, where they ended.
-use Rattle.std.specs.Prelude.{◌≡◌, ℕ, ◌<◌, ◌≤◌, [], ◌∷◌, None, Some, true, false, ◌⊎◌, ◌↔◌}
+use Rattle.std.specs.Prelude.{◌≡◌, ◌≢◌, ℕ, ◌<◌, ◌≤◌, [], ◌∷◌, None, Some, true, false, ◌⊎◌, ◌↔◌}
 use Rattle.hm_names.specs.Region.{Region}
 use Rattle.hm_names.specs.Server.{Server}
 use Rattle.hm_names.specs.declared.nonce.Nonce.{Nonce}
 use Rattle.hm_names.specs.declared.table.TableName.{TableName}
 use Rattle.hm_data.specs.declared.catalog.CatKey.{CatKey}
+use Rattle.hm_data.specs.declared.catalog.CatKey.TheVariants as key_is
 use Rattle.hm_data.specs.declared.entry.Entry.{Entry}
+use Rattle.hm_data.specs.declared.entry.Entry.TheVariants as entry_is
 use Rattle.hm_data.specs.declared.place.Place.{Place}
 use Rattle.hm_data.specs.declared.place.RegionState.TheVariants as place_is
 use Rattle.hm_model.specs.Answers.{is_aborted, last_answer, report_of}
@@ -34,9 +36,19 @@ pub record IsIdle (place : Place) : Type 0 where
   pub untried : is_state place_is.FailedOpen place ≡ false
   pub nowhere : place.server ≡ None
 
--- one place, or both idle
-abbrev pub AreOnePlace : Place → Place → Type 0
-AreOnePlace one other = (one ≡ other) ⊎ (IsIdle one × IsIdle other)
+-- the base of a journal: the parts that it begins with
+abbrev pub base_of : Past → Past
+base_of [] = []
+base_of (entry_is.Base part ∷ before) = entry_is.Base part ∷ before
+base_of (entry ∷ before) = base_of before
+
+-- A region of which the second journal's base has no row, though its id was drawn before: it has none, and its place is idle in both.
+pub record IsForgotten (J K : Past) (region : Region) : Type 0 where
+  pub old : region.id ≤ drawn (base_of K) region.table
+  pub unbased : cat (base_of K) (key_is.Region region) ≡ None
+  pub rowless : cat K (key_is.Region region) ≡ None
+  pub one : IsIdle (place_of J region)
+  pub other : IsIdle (place_of K region)
 
 -- a procedure is the same in both, and a root has the same nonce and the same sheets
 pub record IsSame (J K : Past) (p : ℕ) : Type 0 where
@@ -62,7 +74,7 @@ pub record Alike (J K : Past) : Type 0 where
   pub roots : root_parts J ≡ root_parts K
   pub sheets : sheets_of J ≡ sheets_of K
   pub rows : (key : CatKey) → cat J key ≡ cat K key
-  pub places : (region : Region) → AreOnePlace (place_of J region) (place_of K region)
+  pub places : (region : Region) → (place_of J region ≡ place_of K region) ⊎ IsForgotten J K region
   pub servers : servers_of J ≡ servers_of K
   pub live : (server : Server) → is_live J server ≡ is_live K server
   pub fenced : (server : Server) → is_fenced J server ≡ is_fenced K server
@@ -81,3 +93,14 @@ abbrev pub AlikeStay : Type 0
 AlikeStay =
     (J K : Past) → IsLegal J → IsLegal K → IsBegun J → IsBegun K → Alike J K
     → (entry : Entry) → is_part entry ≡ false → Allowed J entry → Alike (entry ∷ J) (entry ∷ K)
+
+-- a region with a row has the same place in both
+abbrev pub AlikePlaces : Type 0
+AlikePlaces =
+    (J K : Past) → Alike J K → (region : Region) → cat J (key_is.Region region) ≢ None → place_of J region ≡ place_of K region
+
+-- no entry gives a row to a region that the base has none of, though its id was drawn before
+abbrev pub ForgottenAreRowless : Type 0
+ForgottenAreRowless =
+    (J : Past) → IsLegal J → (region : Region) → region.id ≤ drawn (base_of J) region.table
+    → cat (base_of J) (key_is.Region region) ≡ None → cat J (key_is.Region region) ≡ None

@@ -1,13 +1,16 @@
 //! The laws.
-ghost use Rattle.hm_rebase.specs.Alike.{AlikeAllow, AlikeStay};
+ghost use Rattle.hm_rebase.specs.Alike.{AlikeAllow, AlikePlaces, AlikeStay, ForgottenAreRowless};
 ghost use Rattle.hm_rebase.specs.Rebased.{AlikeUnderWay, DownAreFenced, ImagesAreBases, OpenAreServed, ParentsAreFew, RebasedAreAlike, TablesAreSteady};
 
 /// Journals that read alike allow the same next entries, parts of a base aside, read alike behind each, and have as many unfinished
-/// procedures.
+/// procedures. Regions with a row have the same place in both: one that a base has no row of, though its id was drawn before, never
+/// gets one.
 pub fn alike_go_on()
     ensures allow { AlikeAllow }
     ensures stay { AlikeStay }
     ensures under_way { AlikeUnderWay }
+    ensures placed { AlikePlaces }
+    ensures rowless { ForgottenAreRowless }
 {}
 
 /// Where nothing is unfinished, servers that went down are fenced, what is open is open at a live one, tables are enabled or

@@ -1,5 +1,6 @@
 use Rattle.hm_rebase.proofs.Allowing.{alike_allow}
-use Rattle.hm_rebase.proofs.Rebased.{alike_under_way}
+use Rattle.hm_rebase.proofs.Forgetting.{forgotten_rowless}
+use Rattle.hm_rebase.proofs.Rebased.{alike_places, alike_under_way}
 use Rattle.hm_rebase.proofs.Staying.{alike_stay}
 use Rattle.hm_rebase.proofs.laws.alike_go_on.Goals as goal
 
@@ -11,3 +12,9 @@ returns-clause-stay c = alike_stay
 
 pub returns-clause-under_way : goal.returns-clause-under_way
 returns-clause-under_way c = alike_under_way
+
+pub returns-clause-placed : goal.returns-clause-placed
+returns-clause-placed c = alike_places
+
+pub returns-clause-rowless : goal.returns-clause-rowless
+returns-clause-rowless c = forgotten_rowless
