@@ -10,7 +10,7 @@ mod placed;
 mod standing;
 
 use actors::{put_actor, put_storage};
-use calls::server;
+use calls::{first_word, server};
 use fleets::{new_fleet, put_fleet};
 use hm_fleet::Fleet;
 use hm_names::NameFault;
@@ -20,6 +20,7 @@ use placed::put_placed;
 use standing::put_standing;
 use std::alloc::{AllocError, Global};
 use std::io::{self, BufRead, BufReader};
+use std::mem;
 
 // Two servers, with no calls.
 #[derive(Drop)]
@@ -62,45 +63,71 @@ fn new_actor(alloc: Global, name: &str) -> Result<Actor, NameFault> {
 
 fn new_pair(alloc: Global) -> Result<Pair, NameFault> {
     let first = new_actor(alloc, "h1,1,1")?;
-    let second = new_actor(alloc, "h2,1,1")?;
-    Ok(Pair { first, second })
+    match new_actor(alloc, "h2,1,1") {
+        Ok(second) => Ok(Pair { first, second }),
+        Err(fault) => {
+            drop(first);
+            Err(fault)
+        }
+    }
 }
 
 fn new_called(alloc: Global) -> Result<Called, NameFault> {
-    let storage = StorageActor::new(alloc)?;
     let pair = new_pair(alloc)?;
-    Ok(Called { pair, storage })
+    match StorageActor::new(alloc) {
+        Ok(storage) => Ok(Called { pair, storage }),
+        Err(_) => {
+            drop(pair);
+            Err(NameFault::Memory)
+        }
+    }
 }
 
 fn new_known(alloc: Global) -> Result<Known, AllocError> {
     let places = Places::new(alloc)?;
-    let servers = Servers::new(alloc)?;
-    Ok(Known { places, servers })
+    match Servers::new(alloc) {
+        Ok(servers) => Ok(Known { places, servers }),
+        Err(error) => {
+            drop(places);
+            Err(error)
+        }
+    }
 }
 
 fn new_outside(alloc: Global) -> Result<Outside, NameFault> {
     let known = new_known(alloc)?;
-    let fleet = new_fleet(alloc)?;
-    Ok(Outside { fleet, known })
+    match new_fleet(alloc) {
+        Ok(fleet) => Ok(Outside { fleet, known }),
+        Err(fault) => {
+            drop(known);
+            Err(fault)
+        }
+    }
 }
 
 fn new_world(alloc: Global) -> Result<World, NameFault> {
     let outside = new_outside(alloc)?;
-    let called = new_called(alloc)?;
-    Ok(World { called, outside })
+    match new_called(alloc) {
+        Ok(called) => Ok(World { called, outside }),
+        Err(fault) => {
+            drop(outside);
+            Err(fault)
+        }
+    }
 }
 
 // Puts what is answered of who is live, or of where regions are.
 fn put_rest(
     alloc: Global,
     known: &mut Known,
-    words: &[&str],
+    words: &str,
     out: &mut String,
 ) -> Result<(), NameFault> {
-    match words {
-        ["servers"] => known.servers = Servers::new(alloc)?,
-        ["place", words @ ..] => put_placed(alloc, &mut known.places, words, out)?,
-        words => put_standing(alloc, &mut known.servers, &known.places, words, out)?,
+    let (subject, rest) = first_word(words);
+    match subject {
+        "servers" => drop(mem::replace(&mut known.servers, Servers::new(alloc)?)),
+        "place" => put_placed(alloc, &mut known.places, rest, out)?,
+        _ => put_standing(alloc, &mut known.servers, &known.places, words, out)?,
     }
     Ok(())
 }
@@ -109,16 +136,17 @@ fn put_rest(
 fn put_answer(
     alloc: Global,
     world: &mut World,
-    words: &[&str],
+    words: &str,
     out: &mut String,
 ) -> Result<(), NameFault> {
-    match words {
-        ["anew"] => *world = new_world(alloc)?,
-        ["first", words @ ..] => put_actor(alloc, &mut world.called.pair.first, words, out)?,
-        ["second", words @ ..] => put_actor(alloc, &mut world.called.pair.second, words, out)?,
-        ["storage", words @ ..] => put_storage(alloc, &mut world.called.storage, words, out)?,
-        ["fleet", words @ ..] => put_fleet(alloc, &mut world.outside.fleet, words, out)?,
-        words => put_rest(alloc, &mut world.outside.known, words, out)?,
+    let (subject, rest) = first_word(words);
+    match subject {
+        "anew" => drop(mem::replace(world, new_world(alloc)?)),
+        "first" => put_actor(alloc, &mut world.called.pair.first, rest, out)?,
+        "second" => put_actor(alloc, &mut world.called.pair.second, rest, out)?,
+        "storage" => put_storage(alloc, &mut world.called.storage, rest, out)?,
+        "fleet" => put_fleet(alloc, &mut world.outside.fleet, rest, out)?,
+        _ => put_rest(alloc, &mut world.outside.known, words, out)?,
     }
     Ok(())
 }
@@ -133,23 +161,33 @@ fn put_case(
     if line.starts_with("#") {
         return Ok(());
     }
-    let words: Vec<&str> = line.split(' ').collect(alloc)?;
-    let mut answer = String::new(alloc);
-    if let Err(fault) = put_answer(alloc, world, &words, &mut answer) {
-        write!(answer, "{fault}")?;
+    out.push_str(": ")?;
+    let before = out.len();
+    if let Err(fault) = put_answer(alloc, world, line, out) {
+        write!(out, "{fault}")?;
     }
-    if answer.is_empty() {
-        answer.push_str("done")?;
+    if out.len() == before {
+        out.push_str("done")?;
     }
-    write!(out, ": {answer}")
+    Ok(())
+}
+
+fn put_line(rt: &impl Print, alloc: Global, world: &mut World, line: &str) -> io::Result<()> {
+    let mut out = String::new(alloc);
+    let printed = match put_case(alloc, world, line, &mut out) {
+        Ok(()) => println!(rt; "{line}{out}"),
+        Err(error) => Err(error.into()),
+    };
+    drop(out);
+    printed
 }
 
 fn put_cases(rt: &(impl Input + Print), alloc: Global, world: &mut World) -> io::Result<()> {
     for line in BufReader::new(alloc, rt.reader())?.lines(alloc) {
         let line = line?;
-        let mut out = String::new(alloc);
-        put_case(alloc, world, &line, &mut out)?;
-        println!(rt; "{line}{out}")?;
+        let put = put_line(rt, alloc, world, &line);
+        drop(line);
+        put?;
     }
     Ok(())
 }
@@ -157,7 +195,11 @@ fn put_cases(rt: &(impl Input + Print), alloc: Global, world: &mut World) -> io:
 fn main(rt: HostRuntime) -> io::Result<()> {
     let alloc = rt.alloc();
     match new_world(alloc) {
-        Ok(mut world) => put_cases(&rt, alloc, &mut world),
+        Ok(mut world) => {
+            let put = put_cases(&rt, alloc, &mut world);
+            drop(world);
+            put
+        }
         Err(_) => println!(rt; "no world"),
     }
 }

@@ -1,5 +1,5 @@
 //! Servers that come up, go down and are fenced, what is refused, and who is picked.
-use crate::calls::server;
+use crate::calls::{first_word, server};
 use hm_names::{NameFault, ServerName};
 use hm_places::{Places, Servers};
 use std::alloc::{AllocError, Global};
@@ -13,7 +13,11 @@ fn put_up(
 ) -> Result<(), AllocError> {
     match servers.up(alloc, name) {
         Ok(None) => out.push_str("up"),
-        Ok(Some(older)) => write!(out, "up, {older} down"),
+        Ok(Some(older)) => {
+            let put = write!(out, "up, {older} down");
+            drop(older);
+            put
+        }
         Err(refused) => write!(out, "{refused:?}"),
     }
 }
@@ -27,12 +31,26 @@ fn put_down(servers: &mut Servers, name: &ServerName, out: &mut String) -> Resul
 
 // Adds a server that may come up, where no older one is live.
 fn add(alloc: Global, servers: &mut Servers, name: ServerName) -> Result<bool, AllocError> {
-    servers.reserve(alloc, 1)?;
+    if let Err(error) = servers.reserve(alloc, 1) {
+        drop(name);
+        return Err(error);
+    }
     if servers.may_come_up(&name).is_err() || servers.has_older_live(&name) {
+        drop(name);
         return Ok(false);
     }
     servers.add(name);
     Ok(true)
+}
+
+fn put_added(
+    alloc: Global,
+    servers: &mut Servers,
+    name: ServerName,
+    out: &mut String,
+) -> Result<(), AllocError> {
+    let added = add(alloc, servers, name)?;
+    write!(out, "{added}")
 }
 
 // Fences a server that is live.
@@ -66,6 +84,19 @@ fn put_name(name: Option<&ServerName>, out: &mut String) -> Result<(), AllocErro
     }
 }
 
+// Puts the older server that is live.
+fn put_older(
+    alloc: Global,
+    servers: &Servers,
+    name: &ServerName,
+    out: &mut String,
+) -> Result<(), AllocError> {
+    let older = servers.older_of(alloc, name)?;
+    let put = put_name(older.as_ref(), out);
+    drop(older);
+    put
+}
+
 // Puts what is told of a server.
 fn put_told(
     alloc: Global,
@@ -79,7 +110,7 @@ fn put_told(
         "fenced" => write!(out, "{}", servers.fenced(name)),
         "others" => put_others(servers, name, out),
         "may" => put_may(servers, name, out),
-        _ => put_name(servers.older_of(alloc, name)?.as_ref(), out),
+        _ => put_older(alloc, servers, name, out),
     }
 }
 
@@ -92,6 +123,22 @@ fn put_all(servers: &Servers, out: &mut String) -> Result<(), AllocError> {
     Ok(())
 }
 
+// Puts what becomes of a server that stands already, or what is told of it.
+fn put_known(
+    alloc: Global,
+    servers: &mut Servers,
+    (verb, name): (&str, ServerName),
+    out: &mut String,
+) -> Result<(), AllocError> {
+    let put = match verb {
+        "down" => put_down(servers, &name, out),
+        "fence" => write!(out, "{}", fence(servers, &name)),
+        _ => put_told(alloc, servers, verb, &name, out),
+    };
+    drop(name);
+    put
+}
+
 // Puts what becomes of a server, or what is told of it.
 fn put_of(
     alloc: Global,
@@ -102,11 +149,27 @@ fn put_of(
     let name = server(alloc, name)?;
     match verb {
         "up" => put_up(alloc, servers, name, out)?,
-        "down" => put_down(servers, &name, out)?,
-        "add" => write!(out, "{}", add(alloc, servers, name)?)?,
-        "fence" => write!(out, "{}", fence(servers, &name))?,
-        _ => put_told(alloc, servers, verb, &name, out)?,
+        "add" => put_added(alloc, servers, name, out)?,
+        _ => put_known(alloc, servers, (verb, name), out)?,
     }
+    Ok(())
+}
+
+// Puts who is picked, where one may be avoided.
+fn put_pick(
+    alloc: Global,
+    servers: &Servers,
+    (places, avoid): (&Places, &str),
+    out: &mut String,
+) -> Result<(), NameFault> {
+    if avoid.is_empty() {
+        put_name(servers.pick(places, None), out)?;
+        return Ok(());
+    }
+    let avoid = server(alloc, avoid)?;
+    let put = put_name(servers.pick(places, Some(&avoid)), out);
+    drop(avoid);
+    put?;
     Ok(())
 }
 
@@ -115,19 +178,15 @@ pub fn put_standing(
     alloc: Global,
     servers: &mut Servers,
     places: &Places,
-    words: &[&str],
+    words: &str,
     out: &mut String,
 ) -> Result<(), NameFault> {
-    match words {
-        ["all"] => put_all(servers, out)?,
-        ["any-live"] => write!(out, "{}", servers.any_live())?,
-        ["pick"] => put_name(servers.pick(places, None), out)?,
-        ["pick", avoid] => {
-            let avoid = server(alloc, avoid)?;
-            put_name(servers.pick(places, Some(&avoid)), out)?;
-        }
-        [verb, name] => put_of(alloc, servers, (verb, name), out)?,
-        _ => out.push_str("no such line")?,
+    let (verb, name) = first_word(words);
+    match verb {
+        "all" => put_all(servers, out)?,
+        "any-live" => write!(out, "{}", servers.any_live())?,
+        "pick" => put_pick(alloc, servers, (places, name), out)?,
+        _ => put_of(alloc, servers, (verb, name), out)?,
     }
     Ok(())
 }

@@ -1,5 +1,4 @@
 //! A journal with a table that is created, a split that is undone, and a server that is lost. An independent implementation wrote it.
-ghost use Rattle.std.specs.Prelude.{IfOk};
 ghost use Rattle.hm_model.specs.Base.{AreSheets};
 
 use hm_crash::CrashHands;
@@ -12,8 +11,8 @@ use hm_split::SplitHands;
 use hm_state::State;
 use hm_tables::TableHands;
 use hm_transit::TransitHands;
-use std::alloc::{AllocError, Global};
-use std::test::Fail;
+use std::alloc::AllocGlobal;
+use std::process::Abort;
 
 // The entries after its start.
 const JOURNAL: [&[u8]; 65] = [
@@ -88,72 +87,66 @@ const JOURNAL: [&[u8]; 65] = [
     b"\x02\x13\0\0\0\0\0\0\0\0\x01\x02\0\0\x01\0\x17\x07\0default\x01\0t\x01\0\0\0\0\0\0\0\x02\0h2\x94>\x01\0\0\0\0\0\0\0\0\0\0\0",
 ];
 
-// The sheets with which a journal begins.
-pub(crate) fn sheets(alloc: Global) -> Result<List<Sheet>, AllocError>
-    ensures valid { IfOk result AreSheets }
-{
-    let tables = Box::new(alloc, TableHands::new(alloc)?)?;
-    let splits = Box::new(alloc, SplitHands::new(alloc)?)?;
-    let transits = Box::new(alloc, TransitHands::new(alloc)?)?;
-    let crashes = Box::new(alloc, CrashHands::new(alloc)?)?;
+// All handlers.
+fn handlers(rt: &(impl Abort + AllocGlobal)) -> Vec<Box<dyn Handler>> {
+    let alloc = rt.alloc();
+    let tables = Box::new(alloc, TableHands::new(alloc).expect(rt, "memory")).expect(rt, "memory");
+    let splits = Box::new(alloc, SplitHands::new(alloc).expect(rt, "memory")).expect(rt, "memory");
+    let transits = Box::new(alloc, TransitHands::new(alloc).expect(rt, "memory")).expect(
+        rt, "memory",
+    );
+    let crashes = Box::new(alloc, CrashHands::new(alloc).expect(rt, "memory")).expect(rt, "memory");
     let handlers: [Box<dyn Handler>; 4] = [tables, splits, transits, crashes];
-    let Ok(registry) = Registry::new(alloc, Vec::from_array(alloc, handlers)?) else {
-        return Err(AllocError);
-    };
-    registry.sheets().copy(alloc)
+    Vec::from_array(alloc, handlers).expect(rt, "memory")
 }
 
-// Adds an entry, if the rules allow it.
-pub(crate) fn add(
-    alloc: Global,
-    state: &mut State,
-    entry: &Entry,
-) -> Result<Option<NotAllowed>, AllocError> {
-    if let Err(why) = state.allowed(alloc, entry) {
-        return Ok(Some(why));
+// The sheets with which a journal begins.
+pub(crate) fn sheets(rt: &(impl Abort + AllocGlobal)) -> List<Sheet>
+    ensures valid { AreSheets result }
+{
+    let Ok(registry) = Registry::new(rt.alloc(), handlers(rt)) else {
+        panic!(rt; "no registry");
+    };
+    let sheets = registry.sheets().copy(rt.alloc()).expect(rt, "memory");
+    drop(registry);
+    sheets
+}
+
+// Adds an entry, if the rules allow it. Tells the rule that doesn't, or 0.
+pub(crate) fn add(rt: &(impl Abort + AllocGlobal), state: &mut State, entry: &Entry) -> u8 {
+    match state.allowed(rt.alloc(), entry) {
+        Ok(()) => {
+            let ready = state.prepare(rt.alloc(), entry).expect(rt, "memory");
+            state.apply(ready);
+            0
+        }
+        Err(NotAllowed::Rule(rule)) => rule,
+        Err(_) => panic!(rt; "memory"),
     }
-    let ready = state.prepare(alloc, entry)?;
-    state.apply(ready);
-    Ok(None)
 }
 
 // Adds the entry that is spelled so, if the rules allow it.
-pub(crate) fn add_spelled(
-    alloc: Global,
-    state: &mut State,
-    bytes: &[u8],
-) -> Result<Option<NotAllowed>, AllocError> {
-    let Ok(entry) = decode(alloc, bytes) else {
-        return Err(AllocError);
+pub(crate) fn add_spelled(rt: &(impl Abort + AllocGlobal), state: &mut State, bytes: &[u8]) -> u8 {
+    let Ok(entry) = decode(rt.alloc(), bytes) else {
+        panic!(rt; "no entry");
     };
-    let added = add(alloc, state, &entry);
+    let rule = add(rt, state, &entry);
     drop(entry);
-    added
+    rule
 }
 
-// Adds the first of some entries, so many at most. False where one isn't allowed.
-fn add_first(
-    alloc: Global,
-    state: &mut State,
-    entries: &[&[u8]],
-    most: usize,
-) -> Result<bool, AllocError> {
-    for bytes in entries.iter().take(most) {
-        if add_spelled(alloc, state, bytes)?.is_some() {
-            return Ok(false);
-        }
+// Adds entries that are allowed.
+pub(crate) fn add_all(rt: &(impl Abort + AllocGlobal), state: &mut State, entries: &[&[u8]]) {
+    for bytes in entries {
+        assert!(rt; add_spelled(rt, state, bytes) == 0);
     }
-    Ok(true)
 }
 
-// The state of so many entries of the journal, and of some more after them.
-pub(crate) fn state_at(alloc: Global, count: usize, more: &[&[u8]]) -> Result<State, Fail> {
-    let mut state = State::start(alloc, sheets(alloc)?)?;
-    let first = add_first(alloc, &mut state, &JOURNAL, count.saturating_sub(1));
-    let then = add_first(alloc, &mut state, more, more.len());
-    if first == Ok(true) && then == Ok(true) {
-        return Ok(state);
+// The state of so many entries of the journal.
+pub(crate) fn state_at(rt: &(impl Abort + AllocGlobal), count: usize) -> State {
+    let mut state = State::start(rt.alloc(), sheets(rt)).expect(rt, "memory");
+    for bytes in JOURNAL.iter().take(count.saturating_sub(1)) {
+        assert!(rt; add_spelled(rt, &mut state, bytes) == 0);
     }
-    drop(state);
-    Err(Fail::from("an entry isn't allowed"))
+    state
 }

@@ -9,3 +9,5 @@ mod readers;
 mod rules;
 #[cfg(test)]
 mod state;
+#[cfg(test)]
+mod texts;

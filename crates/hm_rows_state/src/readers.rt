@@ -1,54 +1,26 @@
 //! What the readers of a state tell of the journal, at some of its lengths. What is expected was asked of an independent
 //! implementation.
 use crate::journal::state_at;
-use hm_data::{CatKey, CatRow, Place, Record, RegionState, StepIn, Told, Turn};
-use hm_names::{Nonce, Pid, TableName};
+use crate::texts::is_told;
+use hm_data::{CatKey, CatRow, Place, Record, StepIn, Turn};
+use hm_names::{Nonce, Pid, TableName, parse_decimal};
 use hm_state::State;
-use std::alloc::{AllocError, Global};
-use std::test::Fail;
+use std::alloc::{AllocError, AllocGlobal, Global};
+use std::process::Abort;
+
+// How many entries there are, what is asked, and what is told.
+type Case = (usize, &'static str, &'static str);
 
 // The last number, how many roots haven't ended, how many numbers were drawn for the table, and who was made under two nonces.
-type Counts = (u64, u64, u64, Option<Pid>, Option<Pid>);
-
-const COUNTS: [(usize, Counts); 7] = [
-    (1, (0, 0, 0, None, None)),
-    (3, (1, 1, 3, Some(Pid(1)), None)),
-    (31, (9, 1, 3, Some(Pid(1)), None)),
-    (32, (9, 0, 3, Some(Pid(1)), None)),
-    (33, (10, 1, 5, Some(Pid(1)), Some(Pid(10)))),
-    (55, (16, 0, 5, Some(Pid(1)), Some(Pid(10)))),
-    (66, (22, 1, 5, Some(Pid(1)), Some(Pid(10)))),
+const COUNTS: &[Case] = &[
+    (1, "counts", "0 0 0 None None"),
+    (3, "counts", "1 1 3 Some(Pid(1)) None"),
+    (31, "counts", "9 1 3 Some(Pid(1)) None"),
+    (32, "counts", "9 0 3 Some(Pid(1)) None"),
+    (33, "counts", "10 1 5 Some(Pid(1)) Some(Pid(10))"),
+    (55, "counts", "16 0 5 Some(Pid(1)) Some(Pid(10))"),
+    (66, "counts", "22 1 5 Some(Pid(1)) Some(Pid(10))"),
 ];
-
-fn made_under(state: &State, number: u64) -> Option<Pid> {
-    state.by_nonce(&Nonce { group: 1, number })
-}
-
-fn counts(state: &State, table: &TableName) -> Counts {
-    (
-        state.last_pid(),
-        state.unfinished(),
-        state.drawn(table),
-        made_under(state, 1),
-        made_under(state, 2),
-    )
-}
-
-fn counts_at(alloc: Global, count: usize) -> Result<Counts, Fail> {
-    let table = TableName::parse(alloc, b"t")?;
-    let state = state_at(alloc, count, &[])?;
-    let told = counts(&state, &table);
-    drop(state);
-    Ok(told)
-}
-
-#[test]
-fn last_pid_unfinished_drawn_and_by_nonce(rt: HostRuntime) -> Result<(), Fail> {
-    for (count, told) in COUNTS {
-        assert_eq!(rt; counts_at(rt.alloc(), count)?, told, "{count}");
-    }
-    Ok(())
-}
 
 // Of each procedure its number, its parent's or 0, its kind, the row that is next or 255 where it has ended, how often its region failed
 // to open, how far it is, whether its call is settled, and its children's numbers.
@@ -58,169 +30,230 @@ const UNDOING: &str =
 const CRASHED: &str =
     "1 0 3 255 0 Success true 2 3 4 5 6;2 1 26 255 0 Success true;3 1 20 255 0 Success true;4 1 10 255 0 Success true 7;5 1 10 255 0 Success true 8;6 1 10 255 0 Success true 9;7 4 23 255 0 Success true;8 5 23 255 0 Success true;9 6 23 255 0 Success true;10 0 8 255 0 RolledBack(LayoutRefused) true 11 13;11 10 10 255 0 RolledBack(LayoutRefused) true 12;12 11 24 255 0 RolledBack(LayoutRefused) true;13 10 26 255 0 RolledBack(LayoutRefused) true;14 0 27 255 0 Success true;15 0 10 255 0 Success true 16;16 15 23 255 0 Success true;17 0 11 1 0 Waiting false 18 19 20 21;18 17 25 255 0 Success true;19 17 10 2 0 Waiting false 22;20 17 10 1 0 Runnable false;21 17 10 1 0 Runnable false;22 19 23 0 0 Runnable false;";
 
-// What stands of a procedure.
-fn record_text(alloc: Global, record: &Record, ended: bool) -> Result<String, AllocError> {
-    let Record {
-        pid,
-        parent,
-        kind,
-        row,
-        tries,
-        phase,
-        ..
-    } = record;
-    let parent = parent.map_or(0, |parent| parent.0);
-    let row = if ended { 255 } else { *row };
-    format!(in alloc; "{} {parent} {kind} {row} {tries} {phase:?}", pid.0)
-}
+const PROCEDURES: &[Case] = &[
+    (1, "procedures", ""),
+    (44, "procedures", UNDOING),
+    (66, "procedures", CRASHED),
+];
 
-// Adds the numbers of a procedure's children.
-fn add_children(
-    alloc: Global,
-    text: &mut String,
-    state: &State,
-    pid: Pid,
-) -> Result<(), AllocError> {
-    for child in state.procedures().children(alloc, pid)?.into_vec() {
-        let number = format!(in alloc; " {}", child.0)?;
-        text.push_str(number.as_str())?;
-    }
-    text.push_str(";")
-}
-
-// Adds a procedure.
-fn add_procedure(
-    alloc: Global,
-    text: &mut String,
-    state: &State,
-    record: &Record,
-) -> Result<(), AllocError> {
-    let ended = state.procedures().has_ended(record.pid);
-    let record_text = record_text(alloc, record, ended)?;
-    let settled = state.procedures().is_settled(record.pid);
-    let line = format!(in alloc; "{record_text} {settled}")?;
-    text.push_str(line.as_str())?;
-    add_children(alloc, text, state, record.pid)
-}
-
-fn procedures_text(alloc: Global, state: &State) -> Result<String, AllocError> {
-    let mut text = String::new(alloc);
-    for pid in 0..=state.last_pid() {
-        if let Some(record) = state.find(Pid(pid)) {
-            add_procedure(alloc, &mut text, state, record)?;
-        }
-    }
-    Ok(text)
-}
-
-#[test]
-fn find_children_and_is_settled(rt: HostRuntime) -> Result<(), Fail> {
-    for (count, told) in [(1, ""), (44, UNDOING), (66, CRASHED)] {
-        let state = state_at(rt.alloc(), count, &[])?;
-        let text = procedures_text(rt.alloc(), &state);
-        drop(state);
-        assert_eq!(rt; text?.as_str(), told);
-    }
-    Ok(())
-}
-
-// Of each region its place; of each server whether it is live, whether it is fenced, and how many regions are at it.
-const PLACES: [(usize, &str, &str); 7] = [
-    (2, "", "h1,16020,1 true false 0;"),
-    (14, "t,1 Opening h1,16020,1;", "h1,16020,1 true false 1;"),
+// Of each region its place.
+const PLACES: &[Case] = &[
+    (2, "places", ""),
+    (14, "places", "t,1 Opening h1,16020,1;"),
     (
         36,
+        "places",
         "t,1 Opened h1,16020,1;t,2 Closing h1,16020,1;t,3 Opened h1,16020,1;",
-        "h1,16020,1 true false 3;",
     ),
     (
         40,
+        "places",
         "t,1 Opened h1,16020,1;t,2 Closed -;t,3 Opened h1,16020,1;",
-        "h1,16020,1 true false 2;",
     ),
     (
         58,
+        "places",
         "t,1 Opened h1,16020,1;t,2 Opened h1,16020,1;t,3 Opened h1,16020,1;",
+    ),
+    (
+        61,
+        "places",
+        "t,1 Opened h1,16020,1;t,2 Opened h1,16020,1;t,3 Opened h1,16020,1;",
+    ),
+    (
+        66,
+        "places",
+        "t,1 Opening h2,16020,1;t,2 Opening h2,16020,1;t,3 Opening h2,16020,1;",
+    ),
+];
+
+// Of each server whether it is live, whether it is fenced, and how many regions are at it.
+const SERVERS: &[Case] = &[
+    (2, "servers", "h1,16020,1 true false 0;"),
+    (14, "servers", "h1,16020,1 true false 1;"),
+    (36, "servers", "h1,16020,1 true false 3;"),
+    (40, "servers", "h1,16020,1 true false 2;"),
+    (
+        58,
+        "servers",
         "h1,16020,1 false false 3;h2,16020,1 true false 0;",
     ),
     (
         61,
-        "t,1 Opened h1,16020,1;t,2 Opened h1,16020,1;t,3 Opened h1,16020,1;",
+        "servers",
         "h1,16020,1 false true 3;h2,16020,1 true false 0;",
     ),
     (
         66,
-        "t,1 Opening h2,16020,1;t,2 Opening h2,16020,1;t,3 Opening h2,16020,1;",
+        "servers",
         "h1,16020,1 false true 0;h2,16020,1 true false 3;",
     ),
 ];
 
-fn place_text(alloc: Global, place: &Place) -> Result<String, AllocError> {
-    let state = &place.state;
-    match &place.server {
-        Some(server) => format!(in alloc; "{state:?} {server}"),
-        None => format!(in alloc; "{state:?} -"),
-    }
-}
-
-fn places_text(alloc: Global, state: &State) -> Result<String, AllocError> {
-    let mut text = String::new(alloc);
-    for (region, place) in state.places().all().iter() {
-        let place = place_text(alloc, place)?;
-        let line = format!(in alloc; "{region} {place};")?;
-        text.push_str(line.as_str())?;
-    }
-    Ok(text)
-}
-
-fn servers_text(alloc: Global, state: &State) -> Result<String, AllocError> {
-    let mut text = String::new(alloc);
-    for (server, _) in state.servers().all().iter() {
-        let live = state.servers().live(server);
-        let fenced = state.servers().fenced(server);
-        let load = state.places().load(server);
-        let line = format!(in alloc; "{server} {live} {fenced} {load};")?;
-        text.push_str(line.as_str())?;
-    }
-    Ok(text)
-}
-
-#[test]
-fn places_and_servers(rt: HostRuntime) -> Result<(), Fail> {
-    for (count, places, servers) in PLACES {
-        let state = state_at(rt.alloc(), count, &[])?;
-        let placed = places_text(rt.alloc(), &state);
-        let standing = servers_text(rt.alloc(), &state);
-        drop(state);
-        assert_eq!(rt; placed?.as_str(), places, "{count}");
-        assert_eq!(rt; standing?.as_str(), servers, "{count}");
-    }
-    Ok(())
-}
-
 // The rows of the catalog; a region's with its range and its status.
-const ROWS: [(usize, &str); 5] = [
-    (1, "default;hbase;"),
-    (5, "default;hbase;t Disabled 1;"),
+const ROWS: &[Case] = &[
+    (1, "rows", "default;hbase;"),
+    (5, "rows", "default;hbase;t Disabled 1;"),
     (
         11,
+        "rows",
         "default;hbase;t Disabled 1;t,1 \\- f Live;t,2 f m Live;t,3 m \\- Live;",
     ),
     (
         12,
+        "rows",
         "default;hbase;t Enabling 1;t,1 \\- f Live;t,2 f m Live;t,3 m \\- Live;",
     ),
     (
         66,
+        "rows",
         "default;hbase;t Enabled 1;t,1 \\- f Live;t,2 f m Live;t,3 m \\- Live;",
     ),
 ];
 
-fn row_text(alloc: Global, key: &CatKey, row: &CatRow) -> Result<String, AllocError> {
-    match (key, row) {
-        (CatKey::Ns(ns), CatRow::Ns) => format!(in alloc; "{ns};"),
+// Whose step is undone next of a root, and its row.
+const UNDOS: &[Case] = &[
+    (4, "undo 1", ""),
+    (5, "undo 1", "1 1"),
+    (6, "undo 1", "1 2"),
+    (10, "undo 1", "1 2"),
+    (11, "undo 1", "3 0"),
+    (12, "undo 1", "1 4"),
+    (31, "undo 1", "1 4"),
+    (32, "undo 1", ""),
+    (34, "undo 10", ""),
+    (35, "undo 10", "10 1"),
+    (44, "undo 10", "10 2"),
+    (45, "undo 10", "10 1"),
+    (47, "undo 10", ""),
+    (55, "undo 10", ""),
+];
+
+// The kind and the row that a procedure's next step sees; how many rows of the catalog, ends of children and regions to assign;
+// the report, the place's state, whether it is fenced, and how many edits an undo finds. These were worked out by hand.
+const INPUTS: &[Case] = &[
+    (3, "step 1", "3 0, 1 0 0, None None false None"),
+    (8, "step 2", "26 1, 0 0 0, Some(LaidOut) None false None"),
+    (9, "step 1", "3 3, 2 1 0, None None false None"),
+    (13, "step 4", "10 0, 2 0 0, None Some(Offline) false None"),
+    (24, "step 4", "10 2, 2 1 0, None Some(Opening) false None"),
+    (33, "step 10", "8 0, 2 0 0, None None false None"),
+    (44, "step 10", "8 2, 2 0 0, None None false Some(0)"),
+    (45, "step 10", "8 1, 2 0 0, None None false Some(0)"),
+    (57, "step 17", "11 0, 0 0 3, None None false None"),
+    (61, "step 17", "11 1, 0 1 3, None None false None"),
+    (62, "step 19", "10 0, 2 0 0, None Some(Opened) true None"),
+];
+
+fn put_counts(state: &State, table: &TableName, out: &mut String) -> Result<(), AllocError> {
+    let last = state.last_pid();
+    let unfinished = state.unfinished();
+    let drawn = state.drawn(table);
+    let first = state.by_nonce(&Nonce {
+        group: 1,
+        number: 1,
+    });
+    let second = state.by_nonce(&Nonce {
+        group: 1,
+        number: 2,
+    });
+    write!(out, "{last} {unfinished} {drawn} {first:?} {second:?}")
+}
+
+fn put_counts_of(rt: &(impl Abort + AllocGlobal), state: &State, out: &mut String) {
+    let table = TableName::parse(rt.alloc(), b"t").expect(rt, "a table");
+    let put = put_counts(state, &table, out);
+    drop(table);
+    put.expect(rt, "memory");
+}
+
+// Puts what stands of a procedure.
+fn put_record(record: &Record, ended: bool, out: &mut String) -> Result<(), AllocError> {
+    let parent = match record.parent {
+        Some(parent) => parent.0,
+        None => 0,
+    };
+    let row = if ended { 255 } else { record.row };
+    let pid = record.pid.0;
+    let kind = record.kind;
+    let tries = record.tries;
+    let phase = &record.phase;
+    write!(out, "{pid} {parent} {kind} {row} {tries} {phase:?}")
+}
+
+// Puts the numbers of a procedure's children.
+fn put_children(
+    alloc: Global,
+    state: &State,
+    pid: Pid,
+    out: &mut String,
+) -> Result<(), AllocError> {
+    let children = state.procedures().children(alloc, pid)?;
+    let put = put_numbers(children.as_slice(), out);
+    drop(children);
+    put
+}
+
+fn put_numbers(pids: &[Pid], out: &mut String) -> Result<(), AllocError> {
+    for pid in pids {
+        write!(out, " {}", pid.0)?;
+    }
+    out.push_str(";")
+}
+
+fn put_procedure(
+    alloc: Global,
+    state: &State,
+    record: &Record,
+    out: &mut String,
+) -> Result<(), AllocError> {
+    let ended = state.procedures().has_ended(record.pid);
+    put_record(record, ended, out)?;
+    let settled = state.procedures().is_settled(record.pid);
+    write!(out, " {settled}")?;
+    put_children(alloc, state, record.pid, out)
+}
+
+fn put_procedures(alloc: Global, state: &State, out: &mut String) -> Result<(), AllocError> {
+    for pid in 0..=state.last_pid() {
+        if let Some(record) = state.find(Pid(pid)) {
+            put_procedure(alloc, state, record, out)?;
+        }
+    }
+    Ok(())
+}
+
+fn put_place(place: &Place, out: &mut String) -> Result<(), AllocError> {
+    let state = &place.state;
+    match &place.server {
+        Some(server) => write!(out, "{state:?} {server};"),
+        None => write!(out, "{state:?} -;"),
+    }
+}
+
+fn put_places(state: &State, out: &mut String) -> Result<(), AllocError> {
+    for (region, place) in state.places().all().iter() {
+        write!(out, "{region} ")?;
+        put_place(place, out)?;
+    }
+    Ok(())
+}
+
+fn put_servers(state: &State, out: &mut String) -> Result<(), AllocError> {
+    for (server, _) in state.servers().all().iter() {
+        let live = state.servers().live(server);
+        let fenced = state.servers().fenced(server);
+        let load = state.places().load(server);
+        write!(out, "{server} {live} {fenced} {load};")?;
+    }
+    Ok(())
+}
+
+fn put_row(row: (&CatKey, &CatRow), out: &mut String) -> Result<(), AllocError> {
+    match row {
+        (CatKey::Ns(ns), CatRow::Ns) => write!(out, "{ns};"),
         (CatKey::Table(table), CatRow::Table { state, version }) => {
-            format!(in alloc; "{table} {state:?} {version};")
+            write!(out, "{table} {state:?} {version};")
         }
         (
             CatKey::Region(region),
@@ -232,127 +265,25 @@ fn row_text(alloc: Global, key: &CatKey, row: &CatRow) -> Result<String, AllocEr
         ) => {
             let start = &range.start;
             let end = &range.end;
-            format!(in alloc; "{region} {start} {end} {status:?};")
+            write!(out, "{region} {start} {end} {status:?};")
         }
         _ => Err(AllocError),
     }
 }
 
-fn rows_text(alloc: Global, state: &State) -> Result<String, AllocError> {
-    let mut text = String::new(alloc);
-    for (key, row) in state.catalog().rows() {
-        let line = row_text(alloc, key, row)?;
-        text.push_str(line.as_str())?;
-    }
-    Ok(text)
-}
-
-#[test]
-fn catalog(rt: HostRuntime) -> Result<(), Fail> {
-    for (count, rows) in ROWS {
-        let state = state_at(rt.alloc(), count, &[])?;
-        let text = rows_text(rt.alloc(), &state);
-        drop(state);
-        assert_eq!(rt; text?.as_str(), rows, "{count}");
+fn put_rows(state: &State, out: &mut String) -> Result<(), AllocError> {
+    for row in state.catalog().rows() {
+        put_row(row, out)?;
     }
     Ok(())
 }
 
-// Whose step is undone next of a root, and its row.
-const UNDOS: [(usize, u64, Option<(Pid, u8)>); 14] = [
-    (4, 1, None),
-    (5, 1, Some((Pid(1), 1))),
-    (6, 1, Some((Pid(1), 2))),
-    (10, 1, Some((Pid(1), 2))),
-    (11, 1, Some((Pid(3), 0))),
-    (12, 1, Some((Pid(1), 4))),
-    (31, 1, Some((Pid(1), 4))),
-    (32, 1, None),
-    (34, 10, None),
-    (35, 10, Some((Pid(10), 1))),
-    (44, 10, Some((Pid(10), 2))),
-    (45, 10, Some((Pid(10), 1))),
-    (47, 10, None),
-    (55, 10, None),
-];
-
-#[test]
-fn stack(rt: HostRuntime) -> Result<(), Fail> {
-    for (count, root, next) in UNDOS {
-        let state = state_at(rt.alloc(), count, &[])?;
-        let told = state.stack().next_undo(Pid(root));
-        drop(state);
-        assert_eq!(rt; told, next, "{count}");
+fn put_undo(state: &State, root: Pid, out: &mut String) -> Result<(), AllocError> {
+    match state.stack().next_undo(root) {
+        Some((pid, row)) => write!(out, "{} {row}", pid.0),
+        None => Ok(()),
     }
-    Ok(())
 }
-
-// The kind and the row that a step sees, how many rows of the catalog, ends of children and regions to assign, the report, the place's
-// state, whether it is fenced, and how many edits an undo finds.
-type Input = (
-    u8,
-    u8,
-    [usize; 3],
-    Option<Told>,
-    Option<RegionState>,
-    bool,
-    Option<usize>,
-);
-
-// A number of entries, a procedure, and what its next step sees. These were worked out by hand.
-const INPUTS: [(usize, u64, Input); 11] = [
-    (3, 1, (3, 0, [1, 0, 0], None, None, false, None)),
-    (
-        8,
-        2,
-        (26, 1, [0, 0, 0], Some(Told::LaidOut), None, false, None),
-    ),
-    (9, 1, (3, 3, [2, 1, 0], None, None, false, None)),
-    (
-        13,
-        4,
-        (
-            10,
-            0,
-            [2, 0, 0],
-            None,
-            Some(RegionState::Offline),
-            false,
-            None,
-        ),
-    ),
-    (
-        24,
-        4,
-        (
-            10,
-            2,
-            [2, 1, 0],
-            None,
-            Some(RegionState::Opening),
-            false,
-            None,
-        ),
-    ),
-    (33, 10, (8, 0, [2, 0, 0], None, None, false, None)),
-    (44, 10, (8, 2, [2, 0, 0], None, None, false, Some(0))),
-    (45, 10, (8, 1, [2, 0, 0], None, None, false, Some(0))),
-    (57, 17, (11, 0, [0, 0, 3], None, None, false, None)),
-    (61, 17, (11, 1, [0, 1, 3], None, None, false, None)),
-    (
-        62,
-        19,
-        (
-            10,
-            0,
-            [2, 0, 0],
-            None,
-            Some(RegionState::Opened),
-            true,
-            None,
-        ),
-    ),
-];
 
 fn undone(turn: &Turn) -> Option<usize> {
     match turn {
@@ -361,41 +292,77 @@ fn undone(turn: &Turn) -> Option<usize> {
     }
 }
 
-fn input(at: &StepIn) -> Input {
-    let counts = [
-        at.rows.as_slice().len(),
-        at.ends.as_slice().len(),
-        at.on_server.as_slice().len(),
-    ];
-    let place = at.place.as_ref().map(|place| place.state);
-    (
-        at.kind,
-        at.row,
-        counts,
-        at.report,
-        place,
-        at.fenced,
-        undone(&at.turn),
-    )
+fn put_input(at: &StepIn, out: &mut String) -> Result<(), AllocError> {
+    let rows = at.rows.as_slice().len();
+    let ends = at.ends.as_slice().len();
+    let regions = at.on_server.as_slice().len();
+    write!(out, "{} {}, {rows} {ends} {regions}, ", at.kind, at.row)?;
+    let report = at.report;
+    let place = match &at.place {
+        Some(place) => Some(place.state),
+        None => None,
+    };
+    let undone = undone(&at.turn);
+    write!(out, "{report:?} {place:?} {} {undone:?}", at.fenced)
 }
 
-fn input_of(alloc: Global, state: &State, pid: Pid) -> Result<Option<Input>, AllocError> {
+// Puts what a procedure's next step sees.
+fn put_step(alloc: Global, state: &State, pid: Pid, out: &mut String) -> Result<(), AllocError> {
     if state.find(pid).is_none() {
-        return Ok(None);
+        return out.push_str("no procedure");
     }
     let at = state.step_in(alloc, pid, None)?;
-    let seen = input(&at);
+    let put = put_input(&at, out);
     drop(at);
-    Ok(Some(seen))
+    put
+}
+
+// Puts what is told of a procedure.
+fn put_of(
+    alloc: Global,
+    state: &State,
+    question: &str,
+    out: &mut String,
+) -> Result<(), AllocError> {
+    let Some((verb, word)) = question.split_once(' ') else {
+        return out.push_str("no question");
+    };
+    match parse_decimal(word.as_bytes()) {
+        Some(number) if verb == "undo" => put_undo(state, Pid(number), out),
+        Some(number) => put_step(alloc, state, Pid(number), out),
+        None => out.push_str("no number"),
+    }
+}
+
+fn told(
+    rt: &(impl Abort + AllocGlobal),
+    state: &State,
+    question: &str,
+) -> Result<String, AllocError> {
+    let mut text = String::new(rt.alloc());
+    let put = match question {
+        "procedures" => put_procedures(rt.alloc(), state, &mut text),
+        "places" => put_places(state, &mut text),
+        "servers" => put_servers(state, &mut text),
+        "rows" => put_rows(state, &mut text),
+        "counts" => {
+            put_counts_of(rt, state, &mut text);
+            Ok(())
+        }
+        _ => put_of(rt.alloc(), state, question, &mut text),
+    };
+    put.expect(rt, "memory");
+    Ok(text)
 }
 
 #[test]
-fn step_in(rt: HostRuntime) -> Result<(), Fail> {
-    for (count, pid, expected) in INPUTS {
-        let state = state_at(rt.alloc(), count, &[])?;
-        let seen = input_of(rt.alloc(), &state, Pid(pid));
-        drop(state);
-        assert_eq!(rt; seen?, Some(expected), "{count}");
+fn readers_tell_counts_procedures_places_servers_rows_undos_and_steps(rt: HostRuntime) {
+    for cases in [COUNTS, PROCEDURES, PLACES, SERVERS, ROWS, UNDOS, INPUTS] {
+        for (count, question, expected) in cases {
+            let state = state_at(&rt, *count);
+            let told = told(&rt, &state, question);
+            drop(state);
+            is_told(&rt, question, told, expected);
+        }
     }
-    Ok(())
 }

@@ -1,10 +1,8 @@
 //! Entries that break a rule, and what is said of them. What is expected was asked of an independent implementation.
-use crate::journal::{add_spelled, state_at};
-use hm_judge::NotAllowed;
+use crate::journal::{add_all, add_spelled, state_at};
 use hm_state::State;
-use std::alloc::{AllocError, AllocGlobal, Global};
+use std::alloc::AllocGlobal;
 use std::process::Abort;
-use std::test::Fail;
 
 // How many entries of the journal there are, what follows them, the entry that isn't allowed then, and the lowest rule that it breaks.
 type Case = (usize, &'static [&'static [u8]], &'static [u8], u8);
@@ -196,27 +194,23 @@ const CASES: [Case; 53] = [
     (51, &[], b"\x07\x0f\0\0\0\0\0\0\0", 17),
 ];
 
-// What the rules say of the last entry of a case.
-fn judged(alloc: Global, case: &Case) -> Result<Option<NotAllowed>, Fail> {
+// The rule that the last entry of a case breaks.
+fn broken(rt: &(impl Abort + AllocGlobal), case: &Case) -> u8 {
     let (count, more, entry, _) = case;
-    let mut state = state_at(alloc, *count, more)?;
-    let why = add_spelled(alloc, &mut state, entry);
+    let mut state = state_at(rt, *count);
+    add_all(rt, &mut state, more);
+    let rule = add_spelled(rt, &mut state, entry);
     drop(state);
-    Ok(why?)
+    rule
 }
 
 #[test]
-fn allowed_names_the_lowest_rule_that_is_broken(rt: HostRuntime) -> Result<(), Fail> {
+fn allowed_names_the_lowest_rule_that_is_broken(rt: HostRuntime) {
     for case in &CASES {
-        let (count, _, entry, rule) = case;
-        let why = judged(rt.alloc(), case)?;
-        assert_eq!(rt;
-            why,
-            Some(NotAllowed::Rule(*rule)),
-            "{entry:?} behind {count}"
-        );
+        let (count, _, _, expected) = case;
+        let rule = broken(&rt, case);
+        assert!(rt; rule == *expected, "{rule} for {expected} behind {count}");
     }
-    Ok(())
 }
 
 // A namespace, under a nonce.
@@ -225,80 +219,76 @@ const NAMED: &[u8] = b"\x01\x01\0\0\0\0\0\0\0\x01\0\0\0\0\0\0\0\x01\x04\0shop";
 // A table of 256 regions under no nonce, but for the keys that cut it.
 const WIDE: &[u8] = b"\x01\0\0\0\0\0\0\0\0\0\0\0\0\0\0\0\0\x03\x07\0default\x01\0u\xff\0";
 
-// What is asked for where all numbers of the table are drawn, and the lowest rule that it breaks.
-const DRAWN: [(&[u8], Option<u8>); 8] = [
+// What is asked for where all numbers of the table are drawn, and the lowest rule that it breaks, or 0.
+const DRAWN: [(&[u8], u8); 8] = [
     // A create, a split, a merge.
     (
         b"\x01\0\0\0\0\0\0\0\0\0\0\0\0\0\0\0\0\x03\x07\0default\x01\0u\0\0",
-        Some(4),
+        4,
     ),
     (
         b"\x01\0\0\0\0\0\0\0\0\0\0\0\0\0\0\0\0\x08\x07\0default\x01\0u\x01\0\0\0\0\0\0\0\x01\0m",
-        Some(4),
+        4,
     ),
     (
         b"\x01\0\0\0\0\0\0\0\0\0\0\0\0\0\0\0\0\t\x02\0\x07\0default\x01\0u\x01\0\0\0\0\0\0\0\x07\0default\x01\0u\x02\0\0\0\0\0\0\0",
-        Some(4),
+        4,
     ),
     // Under a nonce that was used; at the empty key.
     (
         b"\x01\x01\0\0\0\0\0\0\0\x01\0\0\0\0\0\0\0\x03\x07\0default\x01\0u\0\0",
-        Some(3),
+        3,
     ),
     (
         b"\x01\0\0\0\0\0\0\0\0\0\0\0\0\0\0\0\0\x08\x07\0default\x01\0u\x01\0\0\0\0\0\0\0\0\0",
-        Some(2),
+        2,
     ),
     // What draws none, and another table.
     (
         b"\x01\0\0\0\0\0\0\0\0\0\0\0\0\0\0\0\0\x07\x07\0default\x01\0u\x02\0\0\0\0\0\0\0",
-        None,
+        0,
     ),
     (
         b"\x01\0\0\0\0\0\0\0\0\0\0\0\0\0\0\0\0\n\x07\0default\x01\0u\x01\0\0\0\0\0\0\0\0",
-        None,
+        0,
     ),
     (
         b"\x01\0\0\0\0\0\0\0\0\0\0\0\0\0\0\0\0\x03\x07\0default\x01\0v\0\0",
-        None,
+        0,
     ),
 ];
 
 // The table, cut at each key of one byte but the lowest.
-fn wide(alloc: Global) -> Result<Vec<u8>, AllocError> {
-    let mut entry = WIDE.to_vec(alloc)?;
+fn wide(rt: &(impl Abort + AllocGlobal)) -> Vec<u8> {
+    let mut entry = WIDE.to_vec(rt.alloc()).expect(rt, "memory");
     for key in 1..=255 {
-        entry.extend_from_slice(&[1, 0, key])?;
+        entry.extend_from_slice(&[1, 0, key]).expect(rt, "memory");
     }
-    Ok(entry)
+    entry
 }
 
-// Asks for the table so often that all its numbers are drawn. False where that isn't allowed.
-fn draw_all(alloc: Global, state: &mut State) -> Result<bool, AllocError> {
-    let entry = wide(alloc)?;
+// Asks for the table so often that all its numbers are drawn.
+fn draw_all(rt: &(impl Abort + AllocGlobal), state: &mut State) {
+    let entry = wide(rt);
     for _ in 0..16 {
-        if add_spelled(alloc, state, &entry)?.is_some() {
-            return Ok(false);
-        }
+        assert!(rt; add_spelled(rt, state, entry.as_slice()) == 0);
     }
-    Ok(true)
+    drop(entry);
 }
 
 // Compares what the rules say of what is asked for then.
-fn judges_drawn(rt: &(impl Abort + AllocGlobal), state: &mut State) -> Result<(), AllocError> {
-    for (entry, rule) in DRAWN {
-        let why = add_spelled(rt.alloc(), state, entry)?;
-        assert_eq!(rt; why, rule.map(NotAllowed::Rule), "{entry:?}");
+fn judges_drawn(rt: &(impl Abort + AllocGlobal), state: &mut State) {
+    for (entry, expected) in &DRAWN {
+        let rule = add_spelled(rt, state, entry);
+        assert!(rt; rule == *expected, "{rule} for {expected}");
     }
-    Ok(())
 }
 
 #[test]
-fn allowed_draws_4096_numbers_for_a_table(rt: HostRuntime) -> Result<(), Fail> {
-    let mut state = state_at(rt.alloc(), 1, &[NAMED])?;
-    let drawn = draw_all(rt.alloc(), &mut state);
-    let judged = judges_drawn(&rt, &mut state);
+fn allowed_draws_4096_numbers_for_a_table(rt: HostRuntime) {
+    let mut state = state_at(&rt, 1);
+    add_all(&rt, &mut state, &[NAMED]);
+    draw_all(&rt, &mut state);
+    judges_drawn(&rt, &mut state);
     drop(state);
-    assert_eq!(rt; drawn, Ok(true));
-    Ok(judged?)
 }

@@ -1,51 +1,41 @@
 //! The state of a journal, by its own calls.
 use crate::journal::{add, sheets};
+use crate::texts::is_told;
 use hm_data::{Answer, Entry, Request, StepOut, Told};
-use hm_judge::NotAllowed;
 use hm_names::{List, Nonce, Ns, Pid};
 use hm_state::State;
 use std::alloc::{AllocError, AllocGlobal, Global};
 use std::process::Abort;
-use std::test::Fail;
 
-// The kind and the row that a step sees, and how many rows of the catalog.
-type Input = (u8, u8, usize);
+// How many entries and procedures there are, whose the submission's nonce is, and what its next step sees: the kind and the
+// row, and how many rows of the catalog.
+const STARTED: &str = "1 0 None";
 
-// How many entries and procedures there are, whose the submission's nonce is, and what its next step sees.
-type Seen = (u64, u64, Option<Pid>, Option<Input>);
+const ASKED: &str = "2 1 Some(Pid(1)) 1 0 0";
 
-const STARTED: Seen = (1, 0, None, None);
+const STEPPED: &str = "3 1 Some(Pid(1)) 1 1 0";
 
-const ASKED: Seen = (2, 1, Some(Pid(1)), Some((1, 0, 0)));
-
-const STEPPED: Seen = (3, 1, Some(Pid(1)), Some((1, 1, 0)));
-
-// What is added: the submission, or a step of its procedure that has this answer and does nothing else. Why that isn't
-// allowed, and what is seen after it.
-const CASES: [(Option<Answer>, Option<NotAllowed>, Seen); 5] = [
-    (Some(Answer::More(1)), Some(NotAllowed::Rule(5)), STARTED),
-    (None, None, ASKED),
-    (None, Some(NotAllowed::Rule(3)), ASKED),
-    (
-        Some(Answer::Done(Told::Nothing)),
-        Some(NotAllowed::Rule(8)),
-        ASKED,
-    ),
-    (Some(Answer::More(1)), None, STEPPED),
+// What is added: the submission, or a step of its procedure that has this answer and does nothing else. The rule that doesn't
+// allow that, or 0, and what is seen after it.
+const CASES: [(Option<Answer>, u8, &str); 5] = [
+    (Some(Answer::More(1)), 5, STARTED),
+    (None, 0, ASKED),
+    (None, 3, ASKED),
+    (Some(Answer::Done(Told::Nothing)), 8, ASKED),
+    (Some(Answer::More(1)), 0, STEPPED),
 ];
 
 // The submission of a namespace.
-fn submission(alloc: Global) -> Result<Entry, AllocError> {
-    let Ok(ns) = Ns::of(alloc, b"more") else {
-        return Err(AllocError);
-    };
-    Ok(Entry::Submit {
+fn submission(rt: &(impl Abort + AllocGlobal)) -> Entry {
+    Entry::Submit {
         nonce: Nonce {
             group: 1,
             number: 1,
         },
-        request: Request::CreateNamespace { ns },
-    })
+        request: Request::CreateNamespace {
+            ns: Ns::of(rt.alloc(), b"more").expect(rt, "a namespace"),
+        },
+    }
 }
 
 fn step(alloc: Global, answer: Answer) -> Entry {
@@ -64,64 +54,53 @@ fn step(alloc: Global, answer: Answer) -> Entry {
     }
 }
 
-fn entry_of(alloc: Global, answer: Option<Answer>) -> Result<Entry, AllocError> {
+fn entry_of(rt: &(impl Abort + AllocGlobal), answer: Option<Answer>) -> Entry {
     match answer {
-        Some(answer) => Ok(step(alloc, answer)),
-        None => submission(alloc),
+        Some(answer) => step(rt.alloc(), answer),
+        None => submission(rt),
     }
 }
 
 // Adds what a case says.
-fn add_case(
-    alloc: Global,
-    state: &mut State,
-    answer: Option<Answer>,
-) -> Result<Option<NotAllowed>, AllocError> {
-    let entry = entry_of(alloc, answer)?;
-    let added = add(alloc, state, &entry);
+fn add_case(rt: &(impl Abort + AllocGlobal), state: &mut State, answer: Option<Answer>) -> u8 {
+    let entry = entry_of(rt, answer);
+    let rule = add(rt, state, &entry);
     drop(entry);
-    added
+    rule
 }
 
-fn next_input(alloc: Global, state: &State) -> Result<Option<Input>, AllocError> {
+fn put_input(alloc: Global, state: &State, out: &mut String) -> Result<(), AllocError> {
     if state.find(Pid(1)).is_none() {
-        return Ok(None);
+        return Ok(());
     }
     let at = state.step_in(alloc, Pid(1), None)?;
-    let input = (at.kind, at.row, at.rows.as_slice().len());
+    let rows = at.rows.as_slice().len();
+    let put = write!(out, " {} {} {rows}", at.kind, at.row);
     drop(at);
-    Ok(Some(input))
+    put
 }
 
-fn seen(alloc: Global, state: &State) -> Result<Seen, AllocError> {
+fn seen(rt: &(impl Abort + AllocGlobal), state: &State) -> Result<String, AllocError> {
     let nonce = Nonce {
         group: 1,
         number: 1,
     };
-    let input = next_input(alloc, state)?;
-    Ok((
-        state.entries(),
-        state.last_pid(),
-        state.by_nonce(&nonce),
-        input,
-    ))
-}
-
-// Adds what the cases say, and compares.
-fn plays_cases(rt: &(impl Abort + AllocGlobal), state: &mut State) -> Result<(), AllocError> {
-    assert_eq!(rt; seen(rt.alloc(), state)?, STARTED);
-    for (answer, refused, expected) in CASES {
-        assert_eq!(rt; add_case(rt.alloc(), state, answer)?, refused);
-        assert_eq!(rt; seen(rt.alloc(), state)?, expected);
-    }
-    Ok(())
+    let entries = state.entries();
+    let last = state.last_pid();
+    let made = state.by_nonce(&nonce);
+    let mut text = String::new(rt.alloc());
+    write!(text, "{entries} {last} {made:?}").expect(rt, "memory");
+    put_input(rt.alloc(), state, &mut text).expect(rt, "memory");
+    Ok(text)
 }
 
 #[test]
-fn start_allowed_prepare_and_step_in_of_a_request(rt: HostRuntime) -> Result<(), Fail> {
-    let sheets = sheets(rt.alloc())?;
-    let mut state = State::start(rt.alloc(), sheets)?;
-    let played = plays_cases(&rt, &mut state);
+fn start_allowed_prepare_and_step_in_of_a_request(rt: HostRuntime) {
+    let mut state = State::start(rt.alloc(), sheets(&rt)).expect(&rt, "memory");
+    is_told(&rt, "the start", seen(&rt, &state), STARTED);
+    for (answer, rule, expected) in CASES {
+        assert!(rt; add_case(&rt, &mut state, answer) == rule, "rule {rule}");
+        is_told(&rt, "a case", seen(&rt, &state), expected);
+    }
     drop(state);
-    Ok(played?)
 }
