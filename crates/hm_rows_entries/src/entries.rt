@@ -66,34 +66,38 @@ fn plain_step(alloc: Global) -> Entry
     }
 }
 
-// What is written of an entry, and none where that is longer than a frame.
-pub(crate) fn spelled(alloc: Global, entry: &Entry) -> Result<Option<Vec<u8>>, AllocError>
+// Whether these bytes are written of an entry.
+pub(crate) fn is_spelled(alloc: Global, entry: &Entry, bytes: &[u8]) -> Result<bool, AllocError>
     requires { EntryIsSpelled entry.now }
 {
     let length = length(entry);
     if length > 65_536 {
-        return Ok(None);
+        return Ok(false);
     }
     let mut out = Vec::with_capacity(alloc, length as usize)?;
     encode_into(entry, &mut out);
-    Ok(Some(out))
+    Ok(out.as_slice() == bytes)
 }
 
 // The same of an entry that is let go.
-fn written(alloc: Global, entry: Entry) -> Result<Option<Vec<u8>>, AllocError>
+fn is_written(alloc: Global, entry: Entry, bytes: &[u8]) -> Result<bool, AllocError>
     requires { EntryIsSpelled entry }
 {
-    let bytes = spelled(alloc, &entry);
+    let is_spelled = is_spelled(alloc, &entry, bytes);
     drop(entry);
-    bytes
+    is_spelled
+}
+
+fn submission_is_written(alloc: Global) -> Result<bool, NameFault> {
+    let entry = submission(alloc)?;
+    Ok(is_written(alloc, entry, &SUBMIT[..24])?)
 }
 
 #[test]
 fn encode_into_writes_the_spelling(rt: HostRuntime) -> Result<(), Fail> {
-    let submit = written(rt.alloc(), submission(rt.alloc())?)?.ok_or("too long")?;
-    assert_eq!(rt; submit.as_slice(), &SUBMIT[..24]);
-    let step = written(rt.alloc(), plain_step(rt.alloc()))?.ok_or("too long")?;
-    assert_eq!(rt; step.as_slice(), PLAIN_STEP.as_slice());
+    assert!(rt; submission_is_written(rt.alloc())?);
+    let step = plain_step(rt.alloc());
+    assert!(rt; is_written(rt.alloc(), step, &PLAIN_STEP)?);
     Ok(())
 }
 
@@ -108,31 +112,44 @@ fn read(alloc: Global, bytes: &[u8]) -> Result<String, AllocError> {
     }
 }
 
+// Bytes, how many of them are read, and as what.
+const READINGS: [(&[u8], usize, &str); 18] = [
+    (&SUBMIT, 24, "an entry"),
+    (&STEP, 47, "an entry"),
+    (&SUBMIT, 23, "the field at 18 runs past the end"),
+    (&SUBMIT, 25, "bytes follow at 24"),
+    (&MERGE, 62, "an entry"),
+    (&MERGE, 61, "the field at 54 runs past the end"),
+    (&MERGE, 48, "the field at 48 runs past the end"),
+    (&ROOT, 45, "an entry"),
+    (&ROOT, 46, "bytes follow at 45"),
+    (&[8, 6, 7, 0, 0, 0, 0, 0, 0, 0], 10, "an entry"),
+    (&ROOT, 27, "the field at 27 runs past the end"),
+    (&ROOT, 9, "the field at 2 runs past the end"),
+    (&[8], 1, "the field at 1 runs past the end"),
+    (&[8, 7], 2, "no such value at 1"),
+    (&[9, 0, 0], 3, "an entry"),
+    (&[9, 1], 2, "the field at 1 runs past the end"),
+    (&[9, 1, 0, 1, 1, 0, 46], 7, "no such value at 6"),
+    (&[0xFF], 1, "no such value at 0"),
+];
+
+// Whether the first of some bytes are read so.
+fn reads_as(alloc: Global, bytes: &[u8], size: usize, want: &str) -> Result<bool, AllocError> {
+    let Some(front) = bytes.get(..size) else {
+        return Ok(false);
+    };
+    let read = read(alloc, front)?;
+    Ok(read.as_str() == want)
+}
+
 #[test]
 fn decode_gives_the_entry_or_the_first_fault(rt: HostRuntime) -> Result<(), Fail> {
-    let cases = [
-        (&SUBMIT[..24], "an entry"),
-        (&STEP, "an entry"),
-        (&SUBMIT[..23], "the field at 18 runs past the end"),
-        (&SUBMIT, "bytes follow at 24"),
-        (&MERGE, "an entry"),
-        (&MERGE[..61], "the field at 54 runs past the end"),
-        (&MERGE[..48], "the field at 48 runs past the end"),
-        (&ROOT[..45], "an entry"),
-        (&ROOT, "bytes follow at 45"),
-        (&[8, 6, 7, 0, 0, 0, 0, 0, 0, 0], "an entry"),
-        (&ROOT[..27], "the field at 27 runs past the end"),
-        (&ROOT[..9], "the field at 2 runs past the end"),
-        (&[8], "the field at 1 runs past the end"),
-        (&[8, 7], "no such value at 1"),
-        (&[9, 0, 0], "an entry"),
-        (&[9, 1], "the field at 1 runs past the end"),
-        (&[9, 1, 0, 1, 1, 0, 46], "no such value at 6"),
-        (&[0xFF], "no such value at 0"),
-    ];
-    for (bytes, want) in cases {
-        let read = read(rt.alloc(), bytes)?;
-        assert_eq!(rt; read.as_str(), want, "{bytes:?}");
+    for (bytes, size, want) in READINGS {
+        assert!(rt;
+            reads_as(rt.alloc(), bytes, size, want)?,
+            "{size} of {bytes:?}"
+        );
     }
     Ok(())
 }

@@ -1,7 +1,7 @@
 //! Parts of a base, and new sheets: the bytes that spell each, both ways.
 ghost use Rattle.hm_entry.specs.Fits.{EntryIsSpelled};
 
-use crate::entries::spelled;
+use crate::entries::is_spelled;
 use hm_data::{
     Act, Args, Back, Cause, Entry, Goal, Part, Place, RegionState, Request, Row, Sheet, Status,
     TableState,
@@ -59,6 +59,19 @@ const LAYOUT: [u8; 10] = [8, 6, 9, 0, 0, 0, 0, 0, 0, 0];
 
 const ADOPT: [u8; 10] = [9, 1, 0, 1, 1, 0, 1, 255, 0, 1];
 
+// Parts by their names, and the bytes that spell them.
+const PARTS: [(&str, &[u8]); 7] = [
+    ("head", &HEAD),
+    ("namespace", &NAMESPACE),
+    ("table", &TABLE),
+    ("table without a row", &GONE),
+    ("region", &REGION),
+    ("server", &SERVER),
+    ("layout", &LAYOUT),
+];
+
+const ROOTS: [(&str, &[u8]); 3] = [("request", &DROP), ("transit", &TRANSIT), ("crash", &CRASH)];
+
 fn one<T: Drop>(alloc: Global, item: T) -> Result<List<T>, AllocError> {
     let mut items = Vec::with_capacity(alloc, 1)?;
     items.push(item)?;
@@ -76,65 +89,89 @@ fn sheets(alloc: Global) -> Result<List<Sheet>, AllocError> {
     one(alloc, Sheet { kind: 1, rows })
 }
 
-fn head(alloc: Global) -> Result<Part, AllocError> {
+fn head(alloc: Global) -> Result<Part, NameFault> {
+    let sheets = sheets(alloc)?;
     Ok(Part::Head {
         entries: 20,
         last: Pid(9),
         parts: 2,
-        sheets: sheets(alloc)?,
+        sheets,
     })
 }
 
 fn namespace(alloc: Global) -> Result<Part, NameFault> {
-    Ok(Part::Namespace {
-        ns: Ns::parse(alloc, b"shop")?,
-    })
+    let ns = Ns::parse(alloc, b"shop")?;
+    Ok(Part::Namespace { ns })
 }
 
 fn table(alloc: Global, row: Option<(TableState, u64)>) -> Result<Part, NameFault> {
+    let table = TableName::parse(alloc, b"a:b")?;
     Ok(Part::Table {
-        table: TableName::parse(alloc, b"a:b")?,
+        table,
         drawn: 5,
         row,
     })
 }
 
 fn range(alloc: Global) -> Result<KeyRange, NameFault> {
-    Ok(KeyRange {
-        start: RowKey::of(alloc, b"")?,
-        end: RowKey::of(alloc, b"m")?,
-    })
+    let start = RowKey::of(alloc, b"")?;
+    let end = RowKey::of(alloc, b"m")?;
+    Ok(KeyRange { start, end })
+}
+
+fn first_server(alloc: Global) -> Result<ServerName, NameFault> {
+    ServerName::parse(alloc, b"h1,16020,1")
+}
+
+fn place(alloc: Global) -> Result<Place, NameFault> {
+    let server = Some(first_server(alloc)?);
+    let state = RegionState::Opened;
+    Ok(Place { state, server })
+}
+
+// A name of a region, and its rows.
+fn name_and_range(alloc: Global) -> Result<(RegionName, KeyRange), NameFault> {
+    let region = RegionName::parse(alloc, b"a:b,3")?;
+    let range = range(alloc)?;
+    Ok((region, range))
+}
+
+// What a region is made of, and where it is.
+fn parents_and_place(alloc: Global) -> Result<(List<u64>, Place), NameFault> {
+    let parents = one(alloc, 2u64)?;
+    let place = place(alloc)?;
+    Ok((parents, place))
 }
 
 fn region(alloc: Global) -> Result<Part, NameFault> {
-    let server = ServerName::parse(alloc, b"h1,16020,1")?;
+    let (region, range) = name_and_range(alloc)?;
+    let (parents, place) = parents_and_place(alloc)?;
     Ok(Part::Region {
-        region: RegionName::parse(alloc, b"a:b,3")?,
-        range: range(alloc)?,
+        region,
+        range,
         status: Status::Live,
-        parents: one(alloc, 2u64)?,
-        place: Place {
-            state: RegionState::Opened,
-            server: Some(server),
-        },
+        parents,
+        place,
     })
 }
 
 fn server(alloc: Global) -> Result<Part, NameFault> {
+    let server = first_server(alloc)?;
     Ok(Part::Server {
-        server: ServerName::parse(alloc, b"h1,16020,1")?,
+        server,
         fenced: true,
     })
 }
 
-// The part of the root 9.
-fn root(number: u64, args: Args, cause: Option<Cause>) -> Part {
-    let group = if number == 0 { 0 } else { 1 };
-    Part::Root {
-        pid: Pid(9),
-        nonce: Nonce { group, number },
-        args,
-        cause,
+fn part(alloc: Global, name: &str) -> Result<Part, NameFault> {
+    match name {
+        "head" => head(alloc),
+        "namespace" => namespace(alloc),
+        "table" => table(alloc, Some((TableState::Enabled, 7))),
+        "table without a row" => table(alloc, None),
+        "region" => region(alloc),
+        "server" => server(alloc),
+        _ => Ok(Part::Layout { pid: Pid(9) }),
     }
 }
 
@@ -147,41 +184,67 @@ fn drop_namespace(alloc: Global) -> Result<Args, NameFault> {
 }
 
 fn transit(alloc: Global) -> Result<Args, NameFault> {
+    let region = RegionName::parse(alloc, b"a:b,3")?;
     Ok(Args::Transit {
-        region: RegionName::parse(alloc, b"a:b,3")?,
+        region,
         goal: Goal::Assign,
         to: None,
     })
 }
 
 fn crash(alloc: Global) -> Result<Args, NameFault> {
-    Ok(Args::Crash {
-        server: ServerName::parse(alloc, b"h1,16020,1")?,
+    let server = first_server(alloc)?;
+    Ok(Args::Crash { server })
+}
+
+fn args(alloc: Global, name: &str) -> Result<Args, NameFault> {
+    match name {
+        "request" => drop_namespace(alloc),
+        "transit" => transit(alloc),
+        _ => crash(alloc),
+    }
+}
+
+// The part of the root 9. Only the request has a nonce, and the transit alone failed.
+fn root(alloc: Global, name: &str) -> Result<Part, NameFault> {
+    let args = args(alloc, name)?;
+    let (group, number) = if name == "request" { (1, 2) } else { (0, 0) };
+    let cause = if name == "transit" {
+        Some(Cause::TableMissing)
+    } else {
+        None
+    };
+    Ok(Part::Root {
+        pid: Pid(9),
+        nonce: Nonce { group, number },
+        args,
+        cause,
     })
 }
 
 // Whether an entry is written as the bytes, and they are read as it.
-fn both_ways(alloc: Global, entry: &Entry, bytes: &[u8]) -> Result<bool, Fail>
+fn both_ways(alloc: Global, entry: &Entry, bytes: &[u8]) -> Result<bool, AllocError>
     requires { EntryIsSpelled entry.now }
 {
-    let written = spelled(alloc, entry)?.ok_or("too long")?;
-    if written.as_slice() != bytes {
-        return Ok(false);
+    let is_written = is_spelled(alloc, entry, bytes)?;
+    match decode(alloc, bytes) {
+        Ok(read) => {
+            let is_same = read.same(entry);
+            drop(read);
+            Ok(is_written && is_same)
+        }
+        Err(_) => Ok(false),
     }
-    let read = decode(alloc, bytes)?;
-    let same = read.same(entry);
-    drop(read);
-    Ok(same)
 }
 
-fn is_part(alloc: Global, part: Part, bytes: &[u8]) -> Result<bool, Fail> {
+fn is_part(alloc: Global, part: Part, bytes: &[u8]) -> Result<bool, AllocError> {
     let entry = Entry::Base { part };
     let told = both_ways(alloc, &entry, bytes);
     drop(entry);
     told
 }
 
-fn are_new(alloc: Global, sheets: List<Sheet>, bytes: &[u8]) -> Result<bool, Fail> {
+fn are_new(alloc: Global, sheets: List<Sheet>, bytes: &[u8]) -> Result<bool, AllocError> {
     let entry = Entry::Adopt { sheets };
     let told = both_ways(alloc, &entry, bytes);
     drop(entry);
@@ -190,39 +253,25 @@ fn are_new(alloc: Global, sheets: List<Sheet>, bytes: &[u8]) -> Result<bool, Fai
 
 #[test]
 fn a_part_is_written_and_read_back(rt: HostRuntime) -> Result<(), Fail> {
-    let alloc = rt.alloc();
-    assert!(rt; is_part(alloc, head(alloc)?, &HEAD)?, "head");
-    assert!(rt; is_part(alloc, namespace(alloc)?, &NAMESPACE)?, "namespace");
-    let row = Some((TableState::Enabled, 7));
-    assert!(rt; is_part(alloc, table(alloc, row)?, &TABLE)?, "table");
-    assert!(rt;
-        is_part(alloc, table(alloc, None)?, &GONE)?,
-        "table without a row"
-    );
-    assert!(rt; is_part(alloc, region(alloc)?, &REGION)?, "region");
-    assert!(rt; is_part(alloc, server(alloc)?, &SERVER)?, "server");
-    assert!(rt;
-        is_part(alloc, Part::Layout { pid: Pid(9) }, &LAYOUT)?,
-        "layout"
-    );
+    for (name, bytes) in PARTS {
+        let part = part(rt.alloc(), name)?;
+        assert!(rt; is_part(rt.alloc(), part, bytes)?, "{name}");
+    }
     Ok(())
 }
 
 #[test]
 fn a_root_is_written_and_read_back(rt: HostRuntime) -> Result<(), Fail> {
-    let alloc = rt.alloc();
-    let drop = root(2, drop_namespace(alloc)?, None);
-    assert!(rt; is_part(alloc, drop, &DROP)?, "request");
-    let transit = root(0, transit(alloc)?, Some(Cause::TableMissing));
-    assert!(rt; is_part(alloc, transit, &TRANSIT)?, "transit");
-    let crash = root(0, crash(alloc)?, None);
-    assert!(rt; is_part(alloc, crash, &CRASH)?, "crash");
+    for (name, bytes) in ROOTS {
+        let root = root(rt.alloc(), name)?;
+        assert!(rt; is_part(rt.alloc(), root, bytes)?, "{name}");
+    }
     Ok(())
 }
 
 #[test]
 fn new_sheets_are_written_and_read_back(rt: HostRuntime) -> Result<(), Fail> {
-    let alloc = rt.alloc();
-    assert!(rt; are_new(alloc, sheets(alloc)?, &ADOPT)?);
+    let sheets = sheets(rt.alloc())?;
+    assert!(rt; are_new(rt.alloc(), sheets, &ADOPT)?);
     Ok(())
 }
