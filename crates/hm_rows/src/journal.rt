@@ -1,18 +1,14 @@
 //! Journals that are opened and recorded in, over memory.
-ghost use Rattle.std.specs.Prelude.{IfOk};
+ghost use Rattle.std.specs.Prelude.{IfOk, ◌≤◌};
 ghost use Rattle.hm_hall.specs.Recording.{CanBeRecorded};
 ghost use Rattle.hm_model.specs.Base.{AreSheets};
 
-use crate::runs::disk;
-use hm_crash::CrashHands;
+use crate::runs::{boxes, disk};
 use hm_data::{Entry, Request, Sheet};
 use hm_disk::MemDisk;
 use hm_journal::{Journal, Limits, entries_fit_frames};
 use hm_names::{Copied, List, Nonce, Ns};
 use hm_sheet::{Handler, Registry};
-use hm_split::SplitHands;
-use hm_tables::TableHands;
-use hm_transit::TransitHands;
 use std::alloc::{AllocError, Global};
 use std::fmt::Write;
 
@@ -20,15 +16,15 @@ use std::fmt::Write;
 fn sheets(alloc: Global) -> Result<List<Sheet>, AllocError>
     ensures valid { IfOk result AreSheets }
 {
-    let tables = Box::new(alloc, TableHands::new(alloc)?)?;
-    let splits = Box::new(alloc, SplitHands::new(alloc)?)?;
-    let transits = Box::new(alloc, TransitHands::new(alloc)?)?;
-    let crashes = Box::new(alloc, CrashHands::new(alloc)?)?;
+    let (tables, splits, transits, crashes) = boxes(alloc, 0)?;
     let handlers: [Box<dyn Handler>; 4] = [tables, splits, transits, crashes];
-    let Ok(registry) = Registry::new(alloc, Vec::from_array(alloc, handlers)?) else {
+    let handlers = Vec::from_array(alloc, handlers)?;
+    let Ok(registry) = Registry::new(alloc, handlers) else {
         return Err(AllocError);
     };
-    registry.sheets().copy(alloc)
+    let sheets = registry.sheets().copy(alloc);
+    drop(registry);
+    sheets
 }
 
 // The entry that asks for a namespace `more`.
@@ -50,16 +46,37 @@ fn submission(alloc: Global) -> Result<Entry, AllocError>
     })
 }
 
-fn open(alloc: Global, log: &[u8], limits: Limits) -> Result<Journal<MemDisk>, AllocError> {
-    let sheets = sheets(alloc)?;
+// Opens the log as a journal of these sheets.
+fn open_with(
+    alloc: Global,
+    log: &[u8],
+    sheets: &[Sheet],
+    limits: Limits,
+) -> Result<Journal<MemDisk>, AllocError>
+    requires valid { AreSheets sheets.now }
+    requires hard { 65552 ≤ limits.hard }
+{
     let disk = disk(alloc, log, None)?;
+    match Journal::open(alloc, disk, sheets, limits) {
+        Ok((journal, state)) => {
+            drop(state);
+            Ok(journal)
+        }
+        Err((disk, _)) => {
+            drop(disk);
+            Err(AllocError)
+        }
+    }
+}
+
+fn open(alloc: Global, log: &[u8], limits: Limits) -> Result<Journal<MemDisk>, AllocError> {
     if limits.hard < 65_552 {
         return Err(AllocError);
     }
-    match Journal::open(alloc, disk, sheets.as_slice(), limits) {
-        Ok((journal, _)) => Ok(journal),
-        Err(_) => Err(AllocError),
-    }
+    let sheets = sheets(alloc)?;
+    let opened = open_with(alloc, log, sheets.as_slice(), limits);
+    drop(sheets);
+    opened
 }
 
 // Says how long a journal is, and whether it is at its soft mark.

@@ -1,5 +1,6 @@
 //! A run over memory.
-ghost use Rattle.std.specs.Prelude.{◌≤◌};
+ghost use Rattle.std.specs.Prelude.{All};
+ghost use Rattle.hm_sheet.specs.Registry.{IsRegistry};
 
 use crate::hands::Counted;
 use hm_crash::CrashHands;
@@ -76,13 +77,33 @@ pub(crate) fn disk(alloc: Global, log: &[u8], fails: Option<u64>) -> Result<MemD
     MemDisk::new(alloc, room, bytes, call(alloc, fails)?)
 }
 
+// A source of a script, of which a call may fail.
+fn source(alloc: Global, script: &[u8], fails: Option<u64>) -> Result<MemSource, AllocError> {
+    let calls = call(alloc, fails)?;
+    Ok(MemSource::new(script.to_vec(alloc)?, calls))
+}
+
+// A sink with much room, of which a call may fail.
+fn sink(alloc: Global, fails: Option<u64>) -> Result<MemSink, AllocError> {
+    let calls = call(alloc, fails)?;
+    Ok(MemSink::new(vec![in alloc; 0; 16_384]?, calls))
+}
+
+fn streams_of(alloc: Global, setting: &Setting<'_>) -> Result<(MemSource, MemSink), AllocError> {
+    let source = source(alloc, setting.script, setting.fails.source)?;
+    let sink = sink(alloc, setting.fails.sink)?;
+    Ok((source, sink))
+}
+
 fn devices_of(alloc: Global, setting: &Setting<'_>) -> Result<Devices, AllocError> {
-    let fails = setting.fails;
+    let words = words_of(alloc, setting.words)?;
+    let disk = disk(alloc, setting.log, setting.fails.disk)?;
+    let (source, sink) = streams_of(alloc, setting)?;
     Ok(Devices {
-        words: words_of(alloc, setting.words)?,
-        source: MemSource::new(setting.script.to_vec(alloc)?, call(alloc, fails.source)?),
-        sink: MemSink::new(vec![in alloc; 0; 16_384]?, call(alloc, fails.sink)?),
-        disk: disk(alloc, setting.log, fails.disk)?,
+        words,
+        source,
+        sink,
+        disk,
     })
 }
 
@@ -94,21 +115,68 @@ fn runs_of(alloc: Global, hands: &[Registry]) -> Result<Vec<u64>, AllocError> {
     Ok(runs)
 }
 
-// Runs with a registry for each of these groups of handlers.
-fn play_with(
+// A run that has ended so, with what its sink has got.
+fn with_text(
+    status: RunStatus,
+    disk: MemDisk,
+    numbers: (Vec<u64>, Vec<u64>),
+    text: Result<Vec<u8>, AllocError>,
+) -> Result<Played, AllocError> {
+    let (marks, runs) = numbers;
+    match text {
+        Ok(text) => Ok(Played {
+            status,
+            disk,
+            marks,
+            runs,
+            text,
+        }),
+        Err(lack) => {
+            drop(disk);
+            drop(marks);
+            drop(runs);
+            Err(lack)
+        }
+    }
+}
+
+// What a run that has ended left, with what its sink has got.
+fn outcome(
+    alloc: Global,
+    ended: Ended<MemDisk>,
+    text: Result<Vec<u8>, AllocError>,
+) -> Result<Played, AllocError> {
+    let Ended {
+        status,
+        disk,
+        marks,
+        hands,
+    } = ended;
+    let runs = runs_of(alloc, &hands);
+    drop(hands);
+    match runs {
+        Ok(runs) => with_text(status, disk, (marks, runs), text),
+        Err(lack) => {
+            drop(disk);
+            drop(marks);
+            drop(text);
+            Err(lack)
+        }
+    }
+}
+
+// Runs with these registries.
+fn play_hands(
     alloc: Global,
     devices: Devices,
-    groups: Vec<Vec<Box<dyn Handler>>>,
+    hands: Vec<Registry>,
     limits: Option<Limits>,
-) -> Result<Played, AllocError> {
-    let mut hands = Vec::new(alloc);
-    for handlers in groups {
-        let Ok(registry) = Registry::new(alloc, handlers) else {
-            return Err(AllocError);
-        };
-        hands.push(registry)?;
-    }
+) -> Result<Played, AllocError>
+    requires { All (IsRegistry ⟦<dyn Handler as Handler>⟧) hands.items }
+{
     if !hands_agree(&hands) {
+        drop(devices);
+        drop(hands);
         return Err(AllocError);
     }
     let Devices {
@@ -119,12 +187,7 @@ fn play_with(
     } = devices;
     let mut source = source;
     let mut sink = sink;
-    let Ended {
-        status,
-        disk,
-        marks,
-        hands,
-    } = match limits {
+    let ended = match limits {
         Some(limits) if limits.hard >= 65_552 => run_within(
             alloc,
             &words,
@@ -136,30 +199,55 @@ fn play_with(
         ),
         _ => run(alloc, &words, &mut source, &mut sink, disk, hands),
     };
-    Ok(Played {
-        status,
-        disk,
-        marks,
-        runs: runs_of(alloc, &hands)?,
-        text: sink.got().to_vec(alloc)?,
-    })
+    drop(words);
+    drop(source);
+    let text = sink.got().to_vec(alloc);
+    drop(sink);
+    outcome(alloc, ended, text)
+}
+
+// Runs with a registry for each of these groups of handlers.
+fn play_with(
+    alloc: Global,
+    setting: &Setting<'_>,
+    groups: Vec<Vec<Box<dyn Handler>>>,
+) -> Result<Played, AllocError> {
+    let mut hands = Vec::new(alloc);
+    for handlers in groups {
+        let Ok(registry) = Registry::new(alloc, handlers) else {
+            return Err(AllocError);
+        };
+        hands.push(registry)?;
+    }
+    let devices = devices_of(alloc, setting)?;
+    play_hands(alloc, devices, hands, setting.limits)
 }
 
 // Boxes that have, together, each kind of procedures.
-type Boxes = (
+pub(crate) type Boxes = (
     Box<Counted>,
     Box<SplitHands>,
     Box<TransitHands>,
     Box<CrashHands>,
 );
 
-fn boxes(alloc: Global, steps: u64) -> Result<Boxes, AllocError> {
-    Ok((
-        Box::new(alloc, Counted::new(alloc, steps)?)?,
-        Box::new(alloc, SplitHands::new(alloc)?)?,
-        Box::new(alloc, TransitHands::new(alloc)?)?,
-        Box::new(alloc, CrashHands::new(alloc)?)?,
-    ))
+fn first_boxes(alloc: Global, steps: u64) -> Result<(Box<Counted>, Box<SplitHands>), AllocError> {
+    let tables = Box::new(alloc, Counted::new(alloc, steps)?)?;
+    let splits = Box::new(alloc, SplitHands::new(alloc)?)?;
+    Ok((tables, splits))
+}
+
+fn last_boxes(alloc: Global) -> Result<(Box<TransitHands>, Box<CrashHands>), AllocError> {
+    let transits = Box::new(alloc, TransitHands::new(alloc)?)?;
+    let crashes = Box::new(alloc, CrashHands::new(alloc)?)?;
+    Ok((transits, crashes))
+}
+
+/// Boxes of which that of tables answers so many steps.
+pub(crate) fn boxes(alloc: Global, steps: u64) -> Result<Boxes, AllocError> {
+    let (tables, splits) = first_boxes(alloc, steps)?;
+    let (transits, crashes) = last_boxes(alloc)?;
+    Ok((tables, splits, transits, crashes))
 }
 
 /// Runs with a group of handlers for each of the seventeen registries that a run asks for.
@@ -170,5 +258,5 @@ pub(crate) fn play(alloc: Global, setting: &Setting<'_>) -> Result<Played, Alloc
         let handlers: [Box<dyn Handler>; 4] = [tables, splits, transits, crashes];
         groups.push(Vec::from_array(alloc, handlers)?)?;
     }
-    play_with(alloc, devices_of(alloc, setting)?, groups, setting.limits)
+    play_with(alloc, setting, groups)
 }
