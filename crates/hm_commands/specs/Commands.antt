@@ -147,16 +147,10 @@ IsUnanswered command old new = Comes command old None new
 
 -- a step, what undoes one, or a report
 abbrev pub IsWork : Entry → Type 0
-IsWork (entry_is.Start sheets) = ⊥
-IsWork (entry_is.Submit nonce request) = ⊥
 IsWork (entry_is.Step pid pick out) = Unit {0}
 IsWork (entry_is.Undo pid row out) = Unit {0}
 IsWork (entry_is.Report call told) = Unit {0}
-IsWork (entry_is.Up server) = ⊥
-IsWork (entry_is.Down server) = ⊥
-IsWork (entry_is.Abort pid) = ⊥
-IsWork (entry_is.Adopt sheets) = ⊥
-IsWork (entry_is.Base part) = ⊥
+IsWork entry = ⊥
 
 -- a move of a region to a server, under no nonce
 abbrev pub IsMove : Entry → Type 0

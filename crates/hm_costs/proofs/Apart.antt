@@ -45,16 +45,9 @@ apart_same entry J legal same apart s t x y h k = apart s t x y (held entry J le
 
 pub apart_all : (J : Past) → IsLegal J → Apart J
 apart_all [] legal = λ s t x y h k differs clash. h.1 refl
-apart_all (entry_is.Start sheets ∷ J) legal = apart_same (entry_is.Start sheets) J legal (λ s. refl) (apart_all J legal.0)
-apart_all (entry_is.Submit nonce request ∷ J) legal = apart_same (entry_is.Submit nonce request) J legal (λ s. refl) (apart_all J legal.0)
 apart_all (entry_is.Step pid pick out ∷ J) legal = apart_step pid pick out J legal (apart_all J legal.0)
-apart_all (entry_is.Undo pid row out ∷ J) legal = apart_same (entry_is.Undo pid row out) J legal (λ s. refl) (apart_all J legal.0)
-apart_all (entry_is.Report call told ∷ J) legal = apart_same (entry_is.Report call told) J legal (λ s. refl) (apart_all J legal.0)
-apart_all (entry_is.Up server ∷ J) legal = apart_same (entry_is.Up server) J legal (λ s. refl) (apart_all J legal.0)
-apart_all (entry_is.Down server ∷ J) legal = apart_same (entry_is.Down server) J legal (λ s. refl) (apart_all J legal.0)
-apart_all (entry_is.Abort pid ∷ J) legal = apart_same (entry_is.Abort pid) J legal (λ s. refl) (apart_all J legal.0)
-apart_all (entry_is.Adopt sheets ∷ J) legal = apart_same (entry_is.Adopt sheets) J legal (λ s. refl) (apart_all J legal.0)
 apart_all (entry_is.Base part ∷ J) legal = λ s t x y h k differs clash. h.1 refl
+apart_all (entry ∷ J) legal = apart_same entry J legal (λ s. refl) (apart_all J legal.0)
 
 -- who holds doesn't clash with the root of a tree in which a step is made
 pub step_apart : (pid : Pid) (pick : Option Server) (out : StepOut) (J : Past) → IsLegal (entry_is.Step pid pick out ∷ J) → (top : Node) → TopIs J (root_of J pid.0) top → (q : ℕ) (y : Node) → TopHolds J q y → q ≢ root_of J pid.0 → Clash (asks top.args) (asks y.args) → ⊥

@@ -76,14 +76,12 @@ pub record CallAt (J : Past) (q : ℕ) (x : Node) (budget : ℕ) : Type 0 where
 
 -- what a transit may cost from a row on
 abbrev pub close_due : Goal → ℕ
-close_due goal_is.Assign = 11
 close_due goal_is.Unassign = 5
-close_due goal_is.Move = 11
+close_due goal = 11
 
 abbrev pub closed_due : Goal → ℕ
-closed_due goal_is.Assign = 7
 closed_due goal_is.Unassign = 1
-closed_due goal_is.Move = 7
+closed_due goal = 7
 
 abbrev pub due_at : Goal → ℕ → ℕ
 due_at goal row =

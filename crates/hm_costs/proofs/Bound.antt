@@ -62,15 +62,12 @@ use Rattle.hm_costs.proofs.Trees.{no_root_by_step, quiet_unaborted}
 
 -- a new root is one of these
 new_fresh : (entry : Entry) (J : Past) → IsLegal (entry ∷ J) → (r : ℕ) (top : Node) → node_of J r ≡ None → node_of (entry ∷ J) r ≡ Some top → top.above ≡ [] → Fresh (entry ∷ J) r top
-new_fresh (entry_is.Start sheets) J legal r top none is at_top = absurd (none-some top (sym none ∙ is))
 new_fresh (entry_is.Submit nonce request) J legal r top none is at_top = elim (cases_eq r (made J + 1)) [
   | inl new ↦ (subst (λ (n : Node). IsFreshArgs n.args ⊎ IsFreshCrash (entry_is.Submit nonce request ∷ J) r n.args) (same_Some (submitted J request r) top (sym (cond-true (r == made J + 1) (Some (submitted J request r)) (node_of J r) (eq-eqb r (made J + 1) new)) ∙ is)) (inl tt), at_top)
   | inr old ↦ absurd (none-some top (sym none ∙ sym (cond-false (r == made J + 1) (Some (submitted J request r)) (node_of J r) (ne_eqb r (made J + 1) old)) ∙ is))
 ]
 new_fresh (entry_is.Step pid pick out) J legal r top none is at_top = absurd (no_root_by_step pid pick out J legal r top none is at_top)
 new_fresh (entry_is.Undo pid row out) J legal r top none is at_top = (inl (follower_fresh pid row out J legal r top none is), at_top)
-new_fresh (entry_is.Report call told) J legal r top none is at_top = absurd (none-some top (sym none ∙ is))
-new_fresh (entry_is.Up server) J legal r top none is at_top = absurd (none-some top (sym none ∙ is))
 new_fresh (entry_is.Down server) J legal r top none is at_top = elim (cases_eq r (made J + 1)) [
   | inl new ↦
       let crash : args_are.Crash server ≡ top.args = ap (λ (n : Node). n.args) (same_Some (root_node r (args_are.Crash server) 1) top (sym (cond-true (r == made J + 1) (Some (root_node r (args_are.Crash server) 1)) (node_of J r) (eq-eqb r (made J + 1) new)) ∙ is)) in
@@ -78,9 +75,8 @@ new_fresh (entry_is.Down server) J legal r top none is at_top = elim (cases_eq r
       (inr (server, sym crash, down_dead server J legal, at_server J server, sym lost, λ y here. at_listed J server y here), at_top)
   | inr old ↦ absurd (none-some top (sym none ∙ sym (cond-false (r == made J + 1) (Some (root_node r (args_are.Crash server) 1)) (node_of J r) (ne_eqb r (made J + 1) old)) ∙ is))
 ]
-new_fresh (entry_is.Abort pid) J legal r top none is at_top = absurd (none-some top (sym none ∙ is))
-new_fresh (entry_is.Adopt sheets) J legal r top none is at_top = absurd (none-some top (sym none ∙ is))
 new_fresh (entry_is.Base part) J legal r top none is at_top = absurd (none-some top is)
+new_fresh entry J legal r top none is at_top = absurd (none-some top (sym none ∙ is))
 
 one_at_least : (J : Past) (r : ℕ) (args : Args) → IsFreshArgs args → 1 ≤ cost J r args
 one_at_least J r (args_are.Root (request_is.CreateNamespace ns) first) fresh = omega arith
@@ -220,14 +216,7 @@ steps_priced pid pick out J legal r top going all me is_me of budget at =
 
 fenced_only : (server : Server) (told : Told) → fits_verb (verb_is.Fence server) told ≡ true → (told_number told == told_number told_is.Fenced) ≡ true
 fenced_only server told_is.Fenced fits = refl
-fenced_only server told_is.Nothing fits = absurd (false≢true fits)
-fenced_only server told_is.Opened fits = absurd (false≢true fits)
-fenced_only server told_is.FailedOpen fits = absurd (false≢true fits)
-fenced_only server told_is.Closed fits = absurd (false≢true fits)
-fenced_only server told_is.Gone fits = absurd (false≢true fits)
-fenced_only server told_is.LaidOut fits = absurd (false≢true fits)
-fenced_only server told_is.Refused fits = absurd (false≢true fits)
-fenced_only server told_is.Swept fits = absurd (false≢true fits)
+fenced_only server told fits = absurd (false≢true fits)
 
 told_goes : (call : Pid) (told : Told) (J : Past) (me : Node) → node_of J call.0 ≡ Some me → (verb : Verb) → verb_in me.args ≡ Some verb → fits_verb verb told ≡ true → (args : Args) → me.args ≡ args → CallGoes J call.0 me args → CallGoes (entry_is.Report call told ∷ J) call.0 me args
 told_goes call told J me is verb v fits (args_are.AssignCall region server) e h = h

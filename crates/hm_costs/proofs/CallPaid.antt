@@ -57,15 +57,9 @@ due_some (Some answer_is.Undone) report runs = absurd (true≢false runs)
 
 -- a report that opens nothing else and is no refusal
 opened_only : (region : Region) (told : Told) → fits_verb (verb_is.AssignRegion region) told ≡ true → is_refusal told ≡ false → told ≡ told_is.Opened
-opened_only region told_is.Nothing fits clean = absurd (false≢true fits)
 opened_only region told_is.Opened fits clean = refl
 opened_only region told_is.FailedOpen fits clean = absurd (true≢false clean)
-opened_only region told_is.Closed fits clean = absurd (false≢true fits)
-opened_only region told_is.Gone fits clean = absurd (false≢true fits)
-opened_only region told_is.Fenced fits clean = absurd (false≢true fits)
-opened_only region told_is.LaidOut fits clean = absurd (false≢true fits)
-opened_only region told_is.Refused fits clean = absurd (false≢true fits)
-opened_only region told_is.Swept fits clean = absurd (false≢true fits)
+opened_only region told fits clean = absurd (false≢true fits)
 
 module _ (pid : Pid) (pick : Option Server) (out : StepOut) (J : Past) (legal : IsLegal (entry_is.Step pid pick out ∷ J)) (me : Node) (is_me : node_of J pid.0 ≡ Some me) (unfenced : (server : Server) → is_live J server ≡ true → is_fenced J server ≡ false) (unaborted : is_aborted J pid.0 ≡ false) (budget : ℕ) (verb : Verb) (v : verb_in me.args ≡ Some verb) (at : CallAt J pid.0 me budget) where
   call_grown : Grown J
@@ -110,26 +104,15 @@ module _ (pid : Pid) (pick : Option Server) (out : StepOut) (J : Past) (legal : 
   ]
 
   call_runs_on : (a : Answer) → out.answer ≡ a → is_stopped (Some a) ≡ false → (args : Args) → CallGoes J pid.0 me args → CallGoes (entry_is.Step pid pick out ∷ J) pid.0 me args
-  call_runs_on a e runs (args_are.Root request first) h = tt
-  call_runs_on a e runs (args_are.Transit region goal to) h = tt
-  call_runs_on a e runs (args_are.Crash server) h = tt
-  call_runs_on a e runs (args_are.AddRegions table first bounds) h = tt
-  call_runs_on a e runs (args_are.DropRegions table ids) h = tt
   call_runs_on a e runs (args_are.AssignCall region server) h = (h.0, λ stops. absurd (true≢false (sym stops ∙ ap is_stopped (last_now a e) ∙ runs)))
-  call_runs_on a e runs (args_are.CloseCall region server) h = tt
   call_runs_on a e runs (args_are.FenceCall server) h = (h.0, λ stops. absurd (true≢false (sym stops ∙ ap is_stopped (last_now a e) ∙ runs)))
   call_runs_on a e runs (args_are.LayoutCall root) h = h
-  call_runs_on a e runs (args_are.SweepLayout root) h = tt
+  call_runs_on a e runs args h = tt
 
   done_no_fail : (t : Told) (c : Cause) → answer_is.Done t ≡ answer_is.Fail c → ⊥
   done_no_fail t c e = cc
 
   call_ends : (t : Told) → out.answer ≡ answer_is.Done t → Ending J pid.0 me.args (last_answer J pid.0) (answer_is.Done t) → (args : Args) → me.args ≡ args → CallGoes J pid.0 me args → CallGoes (entry_is.Step pid pick out ∷ J) pid.0 me args
-  call_ends t e ending (args_are.Root request first) is h = tt
-  call_ends t e ending (args_are.Transit region goal to) is h = tt
-  call_ends t e ending (args_are.Crash server) is h = tt
-  call_ends t e ending (args_are.AddRegions table first bounds) is h = tt
-  call_ends t e ending (args_are.DropRegions table ids) is h = tt
   call_ends t e ending (args_are.AssignCall region server) is h = (
     h.0,
     λ stops. last_now (answer_is.Done t) e ∙ ap (λ x. Some (answer_is.Done x)) (elim ending [
@@ -152,7 +135,6 @@ module _ (pid : Pid) (pick : Option Server) (out : StepOut) (J : Past) (legal : 
 
       done_fail : (t : Told) (c : Cause) → answer_is.Done t ≡ answer_is.Fail c → ⊥
       done_fail t c e = cc
-  call_ends t e ending (args_are.CloseCall region server) is h = tt
   call_ends t e ending (args_are.FenceCall server) is h = (
     h.0,
     λ stops. elim ending [
@@ -164,22 +146,15 @@ module _ (pid : Pid) (pick : Option Server) (out : StepOut) (J : Past) (legal : 
     ],
   )
   call_ends t e ending (args_are.LayoutCall root) is h = h
-  call_ends t e ending (args_are.SweepLayout root) is h = tt
+  call_ends t e ending args is h = tt
 
   settled : (o : Option Told) → report_of J pid.0 ≡ o → failing (settle_layout (report_of J pid.0)).answer ≡ None
   settled None e = ap (λ o. failing (settle_layout o).answer) e
   settled (Some told) e = ap (λ o. failing (settle_layout o).answer) e ∙ by told (at.clean told e)
     where
       by : (t : Told) → is_refusal t ≡ false → failing (layout_told t).answer ≡ None
-      by told_is.Nothing clean = refl
-      by told_is.Opened clean = refl
-      by told_is.FailedOpen clean = refl
-      by told_is.Closed clean = refl
-      by told_is.Gone clean = refl
-      by told_is.Fenced clean = refl
-      by told_is.LaidOut clean = refl
       by told_is.Refused clean = absurd (true≢false clean)
-      by told_is.Swept clean = refl
+      by told clean = refl
 
   layout_at : (row : Row) (place : ℕ) → row_of J pid.0 me ≡ place → slice_get (exact_rows 26) place ≡ Some row → (own : Pid) → me.args ≡ args_are.LayoutCall own → failing (act_answer row.act row.next (step_input J pid.0 me pick)).answer ≡ None → failing out.answer ≡ None
   layout_at row place here there own is fine =

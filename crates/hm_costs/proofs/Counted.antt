@@ -99,8 +99,6 @@ more_edits asked there (edit ∷ edits) keys order listed =
 -- a key that had a row before the first step of a root is listed
 was_listed : (J : Past) (r : ℕ) → last_answer J r ≢ None → (key : CatKey) → was J r key ≢ None → IsIn key (keys_of J)
 was_listed [] r begun key some = absurd (begun refl)
-was_listed (entry_is.Start sheets ∷ J) r begun key some = was_listed J r begun key some
-was_listed (entry_is.Submit nonce request ∷ J) r begun key some = was_listed J r begun key some
 was_listed (entry_is.Step pid pick out ∷ J) r begun key some = elim (cases_eq r pid.0) [
   | inr differs ↦ in_with_keys key out.edits (keys_of J) (was_listed J r (λ none. begun (cond-false (r == pid.0) (Some out.answer) (last_answer J r) (ne_eqb r pid.0 differs) ∙ none)) key (λ none. some (ap (λ (c : Catalog). c key) (cond-false ((r == pid.0) && is_none (last_answer J pid.0)) (cat J) (was J r) (and_left (r == pid.0) (is_none (last_answer J pid.0)) (ne_eqb r pid.0 differs))) ∙ none)))
   | inl same ↦ by (λ begun some. was_listed J r begun key some) (last_answer J pid.0) refl same
@@ -110,12 +108,8 @@ was_listed (entry_is.Step pid pick out ∷ J) r begun key some = elim (cases_eq 
     by on None e same = in_with_keys key out.edits (keys_of J) (has_key J key (λ none. some (ap (λ (c : Catalog). c key) (cond-true ((r == pid.0) && is_none (last_answer J pid.0)) (cat J) (was J r) (and_from (r == pid.0) (is_none (last_answer J pid.0)) (eq-eqb r pid.0 same) (ap is_none e))) ∙ none)))
     by on (Some a) e same = in_with_keys key out.edits (keys_of J) (on (λ none. none-some a (sym none ∙ ap (last_answer J) same ∙ e)) (λ none. some (ap (λ (c : Catalog). c key) (cond-false ((r == pid.0) && is_none (last_answer J pid.0)) (cat J) (was J r) (and_right (r == pid.0) (is_none (last_answer J pid.0)) (ap is_none e))) ∙ none)))
 was_listed (entry_is.Undo pid row out ∷ J) r begun key some = in_with_keys key out.edits (keys_of J) (was_listed J r begun key some)
-was_listed (entry_is.Report call told ∷ J) r begun key some = was_listed J r begun key some
-was_listed (entry_is.Up server ∷ J) r begun key some = was_listed J r begun key some
-was_listed (entry_is.Down server ∷ J) r begun key some = was_listed J r begun key some
-was_listed (entry_is.Abort pid ∷ J) r begun key some = was_listed J r begun key some
-was_listed (entry_is.Adopt sheets ∷ J) r begun key some = was_listed J r begun key some
 was_listed (entry_is.Base part ∷ J) r begun key some = absurd (begun refl)
+was_listed (entry ∷ J) r begun key some = was_listed J r begun key some
 
 -- the cost by the rows that are counted
 cost_rows : (args : Args) (lost : ℕ) (keys more : List CatKey) (there : Catalog) → ((table : TableName) → rows_at (is_region_in table (λ id. true)) there more ≡ rows_at (is_region_in table (λ id. true)) there keys) → cost_in args lost more there ≡ cost_in args lost keys there
@@ -126,8 +120,6 @@ cost_rows (args_are.Root request first) lost keys more there same = refl
 cost_rows args lost keys more there same = refl
 
 was_same : (entry : Entry) (J : Past) → IsLegal (entry ∷ J) → (r : ℕ) → last_answer J r ≢ None → was (entry ∷ J) r ≡ was J r
-was_same (entry_is.Start sheets) J legal r begun = refl
-was_same (entry_is.Submit nonce request) J legal r begun = refl
 was_same (entry_is.Step pid pick out) J legal r begun = cond-false ((r == pid.0) && is_none (last_answer J pid.0)) (cat J) (was J r) (elim (cases_eq r pid.0) [
   | inl same ↦ and_right (r == pid.0) (is_none (last_answer J pid.0)) (by (last_answer J pid.0) refl same)
   | inr differs ↦ and_left (r == pid.0) (is_none (last_answer J pid.0)) (ne_eqb r pid.0 differs)
@@ -136,37 +128,19 @@ was_same (entry_is.Step pid pick out) J legal r begun = cond-false ((r == pid.0)
     by : (o : Option Answer) → last_answer J pid.0 ≡ o → r ≡ pid.0 → is_none (last_answer J pid.0) ≡ false
     by None e same = absurd (begun (ap (last_answer J) same ∙ e))
     by (Some a) e same = ap is_none e
-was_same (entry_is.Undo pid row out) J legal r begun = refl
-was_same (entry_is.Report call told) J legal r begun = refl
-was_same (entry_is.Up server) J legal r begun = refl
-was_same (entry_is.Down server) J legal r begun = refl
-was_same (entry_is.Abort pid) J legal r begun = refl
-was_same (entry_is.Adopt sheets) J legal r begun = refl
 was_same (entry_is.Base part) J legal r begun = absurd (begun ((grown_all J legal.0).unmade r (no_node part J legal.1.0 r)))
+was_same entry J legal r begun = refl
 
 pub lost_same : (entry : Entry) (J : Past) → IsLegal (entry ∷ J) → (r : ℕ) (top : Node) → node_of J r ≡ Some top → regions_lost (entry ∷ J) r ≡ regions_lost J r
-lost_same (entry_is.Start sheets) J legal r top is = refl
-lost_same (entry_is.Submit nonce request) J legal r top is = refl
-lost_same (entry_is.Step pid pick out) J legal r top is = refl
-lost_same (entry_is.Undo pid row out) J legal r top is = refl
-lost_same (entry_is.Report call told) J legal r top is = refl
-lost_same (entry_is.Up server) J legal r top is = refl
 lost_same (entry_is.Down server) J legal r top is = cond-false (r == made J + 1) _ (regions_lost J r) (ne_eqb r (made J + 1) (λ e. let few = is_there J (grown_all J legal.0) r top is in omega (arith, few, e)))
-lost_same (entry_is.Abort pid) J legal r top is = refl
-lost_same (entry_is.Adopt sheets) J legal r top is = refl
 lost_same (entry_is.Base part) J legal r top is = absurd (none-some top (sym (no_node part J legal.1.0 r) ∙ is))
+lost_same entry J legal r top is = refl
 
 keys_more : (entry : Entry) (J : Past) → IsLegal (entry ∷ J) → (r : ℕ) → last_answer J r ≢ None → (asked : CatKey → Bool) → rows_at asked (was J r) (keys_of (entry ∷ J)) ≡ rows_at asked (was J r) (keys_of J)
-keys_more (entry_is.Start sheets) J legal r begun asked = refl
-keys_more (entry_is.Submit nonce request) J legal r begun asked = refl
 keys_more (entry_is.Step pid pick out) J legal r begun asked = more_edits asked (was J r) out.edits (keys_of J) (keys_in_order J) (was_listed J r begun)
 keys_more (entry_is.Undo pid row out) J legal r begun asked = more_edits asked (was J r) out.edits (keys_of J) (keys_in_order J) (was_listed J r begun)
-keys_more (entry_is.Report call told) J legal r begun asked = refl
-keys_more (entry_is.Up server) J legal r begun asked = refl
-keys_more (entry_is.Down server) J legal r begun asked = refl
-keys_more (entry_is.Abort pid) J legal r begun asked = refl
-keys_more (entry_is.Adopt sheets) J legal r begun asked = refl
 keys_more (entry_is.Base part) J legal r begun asked = absurd (begun ((grown_all J legal.0).unmade r (no_node part J legal.1.0 r)))
+keys_more entry J legal r begun asked = refl
 
 pub cost_same : (entry : Entry) (J : Past) → IsLegal (entry ∷ J) → (r : ℕ) (top : Node) → node_of J r ≡ Some top → last_answer J r ≢ None → cost (entry ∷ J) r top.args ≡ cost J r top.args
 cost_same entry J legal r top is begun =

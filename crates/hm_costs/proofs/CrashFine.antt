@@ -148,8 +148,7 @@ candidate_fine next true place fenced pick = by (is_open place fenced)
 
 behind_fine : (goal : Goal) (told : Told) → failing (behind_close goal told) ≡ None
 behind_fine goal_is.Assign told = refl
-behind_fine goal_is.Unassign told = refl
-behind_fine goal_is.Move told = refl
+behind_fine goal told = refl
 
 close_fine : (next : ℕ) (goal : Goal) (region : Region) (place : Place) (b : Bool) → failing (close_or_go next goal region place b).answer ≡ None
 close_fine next goal region place true = given_fine place.server next (close_at next region) (λ server. refl)
@@ -188,10 +187,9 @@ far_from_check : (next first : ℕ) (answer : Answer) → GoesNear next answer �
 far_from_check next first (answer_is.More n) (inl near) differs is = differs (sym near ∙ is)
 far_from_check next first (answer_is.More n) (inr zero_is) differs is = omega (arith, zero_is, is)
 far_from_check next first (answer_is.Wait n) near differs is = differs (sym near ∙ is)
-far_from_check next first (answer_is.Await n) near differs is = near
 far_from_check next first (answer_is.Done told) near differs is = omega (arith, is)
 far_from_check next first (answer_is.Fail cause) near differs is = omega (arith, is)
-far_from_check next first answer_is.Undone near differs is = near
+far_from_check next first answer near differs is = near
 
 checks_calm : (entry : Entry) (J : Past) → IsLegal (entry ∷ J) → (p : ℕ) → last_answer (entry ∷ J) p ≡ last_answer J p → ChecksFirst J → (x : Node) (region : Region) → node_of (entry ∷ J) p ≡ Some x → moved_by x.args ≡ Some region → row_of (entry ∷ J) p x ≡ 5 → last_answer (entry ∷ J) p ≡ None
 checks_calm entry J legal p last before x region is m at = by (node_of J p) refl

@@ -71,10 +71,9 @@ fresh_batches [] = tt
 fresh_batches (batch ∷ more) = fresh_ids batch.table batch.ids (args_in (map (λ batch. child_is.Transits batch.table batch.ids goal_is.Assign) more)) (fresh_batches more)
 
 fresh_followers : (undo : Back) (args : Args) (root : Pid) → AllFresh (args_in (undo_followers undo args root))
-fresh_followers back_is.Nothing args root = tt
-fresh_followers back_is.Edits args root = tt
 fresh_followers back_is.Sweep args root = (tt, tt)
 fresh_followers back_is.Reopen args root = fresh_batches (batches (in_name_order (closed_by args)))
+fresh_followers undo args root = tt
 
 -- a follower of an undo
 pub follower_is : (pid : Pid) (row : ℕ) (out : StepOut) (J : Past) → IsLegal (entry_is.Undo pid row out ∷ J) → (q : ℕ) (x : Node) → node_of J q ≡ None → node_of (entry_is.Undo pid row out ∷ J) q ≡ Some x → IsFollower x.args
@@ -147,7 +146,6 @@ fencers_rooted entry J legal old new q x is server f = elim (new q x is) [
 
 pub fencers_all : (J : Past) → IsLegal J → FencersDead J
 fencers_all [] legal = λ p node is. absurd (none-some node is)
-fencers_all (entry_is.Start sheets ∷ J) legal = fencers_rooted (entry_is.Start sheets) J legal (fencers_all J legal.0) (λ q x is. inl is)
 fencers_all (entry_is.Submit nonce request ∷ J) legal = fencers_rooted (entry_is.Submit nonce request) J legal (fencers_all J legal.0) (λ q x is. elim (cases_eq q (made J + 1)) [
   | inl new ↦ inr (λ server f. absurd (none-some server (ap (λ (n : Node). fence_in n.args) (same_Some (submitted J request q) x (sym (cond-true (q == made J + 1) (Some (submitted J request q)) (node_of J q) (eq-eqb q (made J + 1) new)) ∙ is)) ∙ f)))
   | inr old ↦ inl (sym (cond-false (q == made J + 1) (Some (submitted J request q)) (node_of J q) (ne_eqb q (made J + 1) old)) ∙ is)
@@ -169,15 +167,12 @@ fencers_all (entry_is.Undo pid row out ∷ J) legal =
       | inl le ↦ inl (sym (rooted.old q le) ∙ is)
       | inr lt ↦ inr (λ server f. absurd (fresh_unfenced x.args server (follower_fresh pid row out J legal q x ((grown_all J legal.0).numbered q lt) is) f))
     ])
-fencers_all (entry_is.Report call told ∷ J) legal = fencers_rooted (entry_is.Report call told) J legal (fencers_all J legal.0) (λ q x is. inl is)
-fencers_all (entry_is.Up server ∷ J) legal = fencers_rooted (entry_is.Up server) J legal (fencers_all J legal.0) (λ q x is. inl is)
 fencers_all (entry_is.Down server ∷ J) legal = fencers_rooted (entry_is.Down server) J legal (fencers_all J legal.0) (λ q x is. elim (cases_eq q (made J + 1)) [
   | inl new ↦ inr (λ other f. subst (IsDead (entry_is.Down server ∷ J)) (same_Some server other (ap (λ (n : Node). fence_in n.args) (same_Some (root_node q (args_are.Crash server) 1) x (sym (cond-true (q == made J + 1) (Some (root_node q (args_are.Crash server) 1)) (node_of J q) (eq-eqb q (made J + 1) new)) ∙ is)) ∙ f)) (down_dead server J legal))
   | inr old ↦ inl (sym (cond-false (q == made J + 1) (Some (root_node q (args_are.Crash server) 1)) (node_of J q) (ne_eqb q (made J + 1) old)) ∙ is)
 ])
-fencers_all (entry_is.Abort pid ∷ J) legal = fencers_rooted (entry_is.Abort pid) J legal (fencers_all J legal.0) (λ q x is. inl is)
-fencers_all (entry_is.Adopt sheets ∷ J) legal = fencers_rooted (entry_is.Adopt sheets) J legal (fencers_all J legal.0) (λ q x is. inl is)
 fencers_all (entry_is.Base part ∷ J) legal = λ p node is. absurd (none-some node is)
+fencers_all (entry ∷ J) legal = fencers_rooted entry J legal (fencers_all J legal.0) (λ q x is. inl is)
 
 fenced_all : (J : Past) → IsLegal J → FencedDead J
 fenced_all [] legal = λ server fenced. absurd (false≢true fenced)

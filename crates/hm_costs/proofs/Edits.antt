@@ -49,9 +49,8 @@ use Rattle.hm_model.proofs.Siblings.{merge_is, one_table}
 
 -- a region's key is of the table, if there is one
 abbrev pub IsKeyOf : Option TableName → CatKey → Type 0
-IsKeyOf table (key_is.Ns ns) = Unit {0}
-IsKeyOf table (key_is.Table other) = Unit {0}
 IsKeyOf table (key_is.Region region) = table ≡ Some region.table
+IsKeyOf table key = Unit {0}
 
 -- of some edits those of regions' rows are of the table
 abbrev pub AreEditsOf : Option TableName → List Edit → Type 0
@@ -97,9 +96,8 @@ edits_as one other same [] all = tt
 edits_as one other same (edit ∷ edits) all = (by edit.key all.0, edits_as one other same edits all.1)
   where
     by : (key : CatKey) → IsKeyOf one key → IsKeyOf other key
-    by (key_is.Ns ns) is = tt
-    by (key_is.Table table) is = tt
     by (key_is.Region region) is = same region.table is
+    by key is = tt
 
 -- what the acts edit
 added_of : (rows : Catalog) (table : TableName) (first : ℕ) (ranges : List KeyRange) → AreEditsOf (Some table) (add_ranges rows table first ranges)
@@ -204,16 +202,4 @@ act_edits act_is.AddRegionRows h next at own = given_of (table_of at.args) (tabl
 act_edits act_is.DropRegionRows h next at own = given_of (table_of at.args) (table_of at.args) next (λ table. edits_rows next (remove_regions (row_at at.rows) (regions_in table (ids_of at.args)))) (λ table e. subst (λ t. AreEditsOf t (remove_regions (row_at at.rows) (regions_in table (ids_of at.args)))) (sym e) (removed_of (row_at at.rows) table (ids_of at.args)))
 act_edits act_is.Fence h next at own = given_of (table_of at.args) (server_of at.args) next (λ server. spawns next (child_is.One (args_are.FenceCall server) ∷ [])) (λ server e. tt)
 act_edits act_is.Reassign h next at own = reassigned_of (table_of at.args) next (transits goal_is.Assign at.on_server)
-act_edits act_is.GetAssignCandidate h next at own = absurd (false≢true h)
-act_edits act_is.Open h next at own = absurd (false≢true h)
-act_edits act_is.ConfirmOpened h next at own = absurd (false≢true h)
-act_edits act_is.Close h next at own = absurd (false≢true h)
-act_edits act_is.ConfirmClosed h next at own = absurd (false≢true h)
-act_edits act_is.CheckMove h next at own = absurd (false≢true h)
-act_edits act_is.CallAssign h next at own = absurd (false≢true h)
-act_edits act_is.CallClose h next at own = absurd (false≢true h)
-act_edits act_is.Settle h next at own = absurd (false≢true h)
-act_edits act_is.CallFence h next at own = absurd (false≢true h)
-act_edits act_is.CallLayout h next at own = absurd (false≢true h)
-act_edits act_is.SettleLayout h next at own = absurd (false≢true h)
-act_edits act_is.CallSweep h next at own = absurd (false≢true h)
+act_edits act h next at own = absurd (false≢true h)

@@ -80,19 +80,15 @@ module _ (pid : Pid) (pick : Option Server) (out : StepOut) (J : Past) (grown : 
 
 pub sound_all : (J : Past) → IsLegal J → IsSoundJournal J
 sound_all [] legal = record { undone = λ p is. none-some answer_is.Undone is; caused = λ p node is. absurd (none-some node is) }
-sound_all (entry_is.Start sheets ∷ J) legal = let s = sound_all J legal.0 in record { undone = s.undone; caused = s.caused }
 sound_all (entry_is.Submit nonce request ∷ J) legal = let grown = grown_all J legal.0 in sound_rooted J (entry_is.Submit nonce request ∷ J) (submit_rooted nonce request J grown) grown (λ r. refl) (sound_all J legal.0)
 sound_all (entry_is.Step pid pick out ∷ J) legal =
     let grown = grown_all J legal.0 in
     let step = step_of pid pick out J grown legal in
     sound_step pid pick out J grown step (does_of pid pick out J grown step) (sound_all J legal.0)
 sound_all (entry_is.Undo pid row out ∷ J) legal = let grown = grown_all J legal.0 in sound_rooted J (entry_is.Undo pid row out ∷ J) (undo_rooted pid row out J grown) grown (λ r. refl) (sound_all J legal.0)
-sound_all (entry_is.Report call told ∷ J) legal = let s = sound_all J legal.0 in record { undone = s.undone; caused = s.caused }
-sound_all (entry_is.Up server ∷ J) legal = let s = sound_all J legal.0 in record { undone = s.undone; caused = s.caused }
 sound_all (entry_is.Down server ∷ J) legal = let grown = grown_all J legal.0 in sound_rooted J (entry_is.Down server ∷ J) (down_rooted server J grown) grown (λ r. refl) (sound_all J legal.0)
-sound_all (entry_is.Abort pid ∷ J) legal = let s = sound_all J legal.0 in record { undone = s.undone; caused = s.caused }
-sound_all (entry_is.Adopt sheets ∷ J) legal = let s = sound_all J legal.0 in record { undone = s.undone; caused = s.caused }
 sound_all (entry_is.Base part ∷ J) legal = record { undone = λ p is. none-some answer_is.Undone is; caused = λ p node is. absurd (none-some node is) }
+sound_all (entry ∷ J) legal = let s = sound_all J legal.0 in record { undone = s.undone; caused = s.caused }
 
 -- the last number below n that fails a test, if one does
 last_failing : (n : ℕ) (test : ℕ → Bool) → (all_below n test ≡ true) ⊎ ((q : ℕ) × (q < n) × (test q ≡ false) × ((k : ℕ) → q < k → k < n → test k ≡ true))

@@ -72,7 +72,6 @@ child_at pid pick out J legal me is_me q lt (args_are.Transit region goal_is.Ass
 child_at pid pick out J legal me is_me q lt (args_are.Transit region goal_is.Unassign to) is =
     let new = new_unstepped pid pick out J legal me is_me q lt in
     at_moves (entry_is.Step pid pick out ∷ J) q (child_of pid.0 me (args_are.Transit region goal_is.Unassign to)) 5 region refl refl refl (start_transit (entry_is.Step pid pick out ∷ J) q (child_of pid.0 me (args_are.Transit region goal_is.Unassign to)) region 3 refl new.0 (λ e. absurd (omega (arith, e))) (λ e. omega (arith, e)) (λ e. omega (arith, e)))
-child_at pid pick out J legal me is_me q lt (args_are.Transit region goal_is.Move to) is = absurd is
 child_at pid pick out J legal me is_me q lt (args_are.AddRegions table first bounds) is =
     let new = new_unstepped pid pick out J legal me is_me q lt in
     at_lined (entry_is.Step pid pick out ∷ J) q (child_of pid.0 me (args_are.AddRegions table first bounds)) 1 refl refl refl (λ runs. start_lined (entry_is.Step pid pick out ∷ J) legal q (child_of pid.0 me (args_are.AddRegions table first bounds)) 0 _ _ refl refl refl new.0 (inl refl) (inr refl) refl)
@@ -85,11 +84,7 @@ child_at pid pick out J legal me is_me q lt (args_are.FenceCall server) is =
 child_at pid pick out J legal me is_me q lt (args_are.LayoutCall own) is =
     let new = new_unstepped pid pick out J legal me is_me q lt in
     at_calls (entry_is.Step pid pick out ∷ J) q (child_of pid.0 me (args_are.LayoutCall own)) 3 (verb_is.Layout own) refl (start_call (entry_is.Step pid pick out ∷ J) q (child_of pid.0 me (args_are.LayoutCall own)) new.0 new.1 (λ e. cc))
-child_at pid pick out J legal me is_me q lt (args_are.Root request first) is = absurd is
-child_at pid pick out J legal me is_me q lt (args_are.Crash server) is = absurd is
-child_at pid pick out J legal me is_me q lt (args_are.AssignCall region server) is = absurd is
-child_at pid pick out J legal me is_me q lt (args_are.CloseCall region server) is = absurd is
-child_at pid pick out J legal me is_me q lt (args_are.SweepLayout own) is = absurd is
+child_at pid pick out J legal me is_me q lt args is = absurd is
 
 -- a number that is counted costs at most as much
 spend_within : (act : Act) (args : Args) (at : StepIn) (n : ℕ) (bounds : Option (List (List ℕ))) → bounds_of args ≡ bounds → CountsNow act (table_of at.args) at.rows n → spend act args (counted_at act at) ≤ spend act args n
@@ -159,12 +154,11 @@ module _ (pid : Pid) (pick : Option Server) (out : StepOut) (J : Past) (legal : 
   plain_out = subst (IsPlainOut line_step.row.next) (sym says) (plain_act line_step.row.act plain_row line_step.row.next sees)
 
   next_row : (a : Answer) → GoesTo line_step.row.next a → is_stopped (Some a) ≡ false → row_after (first_row_of me.args) (Some a) ≡ line_step.row.next
-  next_row (answer_is.More n) goes runs = goes
-  next_row (answer_is.Wait n) goes runs = goes
   next_row (answer_is.Await n) goes runs = absurd goes
   next_row (answer_is.Done told) goes runs = absurd (true≢false runs)
   next_row (answer_is.Fail c) goes runs = absurd (true≢false runs)
   next_row answer_is.Undone goes runs = absurd goes
+  next_row answer goes runs = goes
 
   -- what the line counts now is within the number
   within_count : (n : ℕ) (line : Line) (lines : List Line) → (reading me.args (line ∷ lines) ≡ false) ⊎ Counting J pid.0 me n (line ∷ lines) → spend line.act me.args (counted_at line.act sees) ≤ spend line.act me.args n

@@ -40,10 +40,6 @@ not_again : (J : Past) (server other : Server) → came_up J server ≡ true →
 not_again J server other came rule same = true≢false (sym (subst (λ s. has_newer J s ≡ true) (same_server-is server other same) (newer_of server (servers_of J) came)) ∙ rule)
 
 dead_part : (part : Part) (J : Past) → PartFits part J → (server : Server) → IsDead J server → IsDead (entry_is.Base part ∷ J) server
-dead_part (part_is.Head entries last parts sheets) J fits server dead = dead
-dead_part (part_is.Namespace ns) J fits server dead = dead
-dead_part (part_is.Table table drawn own) J fits server dead = dead
-dead_part (part_is.Region region range status parents place) J fits server dead = dead
 dead_part (part_is.Server other fenced) J fits server dead = (
   came_on J other server dead.0,
   elim (cases_Bool (same_server server other)) [
@@ -51,16 +47,10 @@ dead_part (part_is.Server other fenced) J fits server dead = (
     | inr differs ↦ or_from (same_server server other && not fenced) (is_live J server) (and_left (same_server server other) (not fenced) differs) dead.1
   ],
 )
-dead_part (part_is.Root pid nonce args cause) J fits server dead = dead
-dead_part (part_is.Layout pid) J fits server dead = dead
+dead_part part J fits server dead = dead
 
 -- who is dead stays so
 pub dead_stays : (entry : Entry) (J : Past) → IsLegal (entry ∷ J) → (server : Server) → IsDead J server → IsDead (entry ∷ J) server
-dead_stays (entry_is.Start sheets) J legal server dead = dead
-dead_stays (entry_is.Submit nonce request) J legal server dead = dead
-dead_stays (entry_is.Step pid pick out) J legal server dead = dead
-dead_stays (entry_is.Undo pid row out) J legal server dead = dead
-dead_stays (entry_is.Report call told) J legal server dead = dead
 dead_stays (entry_is.Up other) J legal server dead = (
   came_on J other server dead.0,
   elim (cases_Bool (same_server server other)) [
@@ -69,37 +59,21 @@ dead_stays (entry_is.Up other) J legal server dead = (
   ],
 )
 dead_stays (entry_is.Down other) J legal server dead = (dead.0, and_right (not (same_server server other)) (is_live J server) dead.1)
-dead_stays (entry_is.Abort pid) J legal server dead = dead
-dead_stays (entry_is.Adopt sheets) J legal server dead = dead
 dead_stays (entry_is.Base part) J legal server dead = dead_part part J legal.1.0 server dead
+dead_stays entry J legal server dead = dead
 
 pub down_dead : (server : Server) (J : Past) → IsLegal (entry_is.Down server ∷ J) → IsDead (entry_is.Down server ∷ J) server
 down_dead server J legal = (live_came J server legal.1.1.0, and_left (not (same_server server server)) (is_live J server) (ap not (same_server-refl server)))
 
 -- the server that a procedure is to fence, or has fenced
 abbrev pub fence_in : Args → Option Server
-fence_in (args_are.Root request first) = None
-fence_in (args_are.Transit region goal to) = None
 fence_in (args_are.Crash server) = Some server
-fence_in (args_are.AddRegions table first bounds) = None
-fence_in (args_are.DropRegions table ids) = None
-fence_in (args_are.AssignCall region server) = None
-fence_in (args_are.CloseCall region server) = None
 fence_in (args_are.FenceCall server) = Some server
-fence_in (args_are.LayoutCall root) = None
-fence_in (args_are.SweepLayout root) = None
+fence_in args = None
 
 fences_in : (args : Args) (server : Server) → fences_by args server ≡ true → fence_in args ≡ Some server
-fences_in (args_are.Root request first) server h = absurd (false≢true h)
-fences_in (args_are.Transit region goal to) server h = absurd (false≢true h)
-fences_in (args_are.Crash other) server h = absurd (false≢true h)
-fences_in (args_are.AddRegions table first bounds) server h = absurd (false≢true h)
-fences_in (args_are.DropRegions table ids) server h = absurd (false≢true h)
-fences_in (args_are.AssignCall region other) server h = absurd (false≢true h)
-fences_in (args_are.CloseCall region other) server h = absurd (false≢true h)
 fences_in (args_are.FenceCall other) server h = ap Some (sym (same_server-is server other h))
-fences_in (args_are.LayoutCall root) server h = absurd (false≢true h)
-fences_in (args_are.SweepLayout root) server h = absurd (false≢true h)
+fences_in args server h = absurd (false≢true h)
 
 -- where each server that a procedure is to fence is dead, so is each that is fenced
 abbrev pub FencersDead : Past → Type 0
@@ -110,12 +84,6 @@ FencedDead J = (server : Server) → is_fenced J server ≡ true → IsDead J se
 
 -- a part that has a server fenced
 fenced_part : (part : Part) (J : Past) → PartFits part J → FencedDead J → FencedDead (entry_is.Base part ∷ J)
-fenced_part (part_is.Head entries last parts sheets) J fits old server fenced = old server fenced
-fenced_part (part_is.Namespace ns) J fits old server fenced = old server fenced
-fenced_part (part_is.Table table drawn own) J fits old server fenced = old server fenced
-fenced_part (part_is.Region region range status parents place) J fits old server fenced = old server fenced
-fenced_part (part_is.Root pid nonce args cause) J fits old server fenced = old server fenced
-fenced_part (part_is.Layout pid) J fits old server fenced = old server fenced
 fenced_part (part_is.Server other down) J fits old server fenced = elim (or_cases (same_server server other && down) (is_fenced J server) fenced) [
   | inr was ↦ dead_part (part_is.Server other down) J fits server (old server was)
   | inl now ↦
@@ -128,12 +96,10 @@ fenced_part (part_is.Server other down) J fits old server fenced = elim (or_case
     by : (b : Bool) → is_live J server ≡ b → same_server server other ≡ true → b ≡ false
     by false e same = refl
     by true e same = absurd (not_again J server other (live_came J server e) fits.1 same)
+fenced_part part J fits old server fenced = old server fenced
 
 pub fenced_step : (entry : Entry) (J : Past) → IsLegal (entry ∷ J) → FencersDead J → FencedDead J → FencedDead (entry ∷ J)
 fenced_step (entry_is.Start sheets) J legal fencers old server fenced = dead_stays (entry_is.Start sheets) J legal server (old server fenced)
-fenced_step (entry_is.Submit nonce request) J legal fencers old server fenced = old server fenced
-fenced_step (entry_is.Step pid pick out) J legal fencers old server fenced = old server fenced
-fenced_step (entry_is.Undo pid row out) J legal fencers old server fenced = old server fenced
 fenced_step (entry_is.Report call told) J legal fencers old server fenced = elim (or_cases ((told_number told == told_number told_is.Fenced) && fences_if (node_of J call.0) server) (is_fenced J server) fenced) [
   | inl new ↦ by (node_of J call.0) refl (and_parts (told_number told == told_number told_is.Fenced) (fences_if (node_of J call.0) server) new).1
   | inr was ↦ old server was
@@ -144,6 +110,5 @@ fenced_step (entry_is.Report call told) J legal fencers old server fenced = elim
     by (Some node) e h = fencers call.0 node e server (fences_in node.args server h)
 fenced_step (entry_is.Up other) J legal fencers old server fenced = dead_stays (entry_is.Up other) J legal server (old server fenced)
 fenced_step (entry_is.Down other) J legal fencers old server fenced = dead_stays (entry_is.Down other) J legal server (old server fenced)
-fenced_step (entry_is.Abort pid) J legal fencers old server fenced = old server fenced
-fenced_step (entry_is.Adopt sheets) J legal fencers old server fenced = old server fenced
 fenced_step (entry_is.Base part) J legal fencers old server fenced = fenced_part part J legal.1.0 old server fenced
+fenced_step entry J legal fencers old server fenced = old server fenced

@@ -75,8 +75,6 @@ in_joined_if y (Some region) (Some place) list h = in_joined y region list (inr 
 -- a region at a server had a place once
 at_placed : (J : Past) (server : Server) (y : Region) → is_at server (place_of J y) ≡ true → IsIn y (placed J)
 at_placed [] server y at = absurd (false≢true at)
-at_placed (entry_is.Start sheets ∷ J) server y at = at_placed J server y at
-at_placed (entry_is.Submit nonce request ∷ J) server y at = at_placed J server y at
 at_placed (entry_is.Step pid pick out ∷ J) server y at = by (at_placed J server y) out.place (region_if (node_of J pid.0)) at
   where
     by : (is_at server (place_of J y) ≡ true → IsIn y (placed J)) → (place : Option Place) (own : Option Region) → is_at server (placed_by y own place (place_of J y)) ≡ true → IsIn y (joined_if own place (placed J))
@@ -86,25 +84,15 @@ at_placed (entry_is.Step pid pick out ∷ J) server y at = by (at_placed J serve
       | inl same ↦ in_joined y region (placed J) (inl (same_region-is y region same))
       | inr differs ↦ in_joined y region (placed J) (inr (on (ap (is_at server) (sym (cond-false (same_region y region) place (place_of J y) differs)) ∙ at)))
     ]
-at_placed (entry_is.Undo pid row out ∷ J) server y at = at_placed J server y at
-at_placed (entry_is.Report call told ∷ J) server y at = at_placed J server y at
-at_placed (entry_is.Up other ∷ J) server y at = at_placed J server y at
-at_placed (entry_is.Down other ∷ J) server y at = at_placed J server y at
-at_placed (entry_is.Abort pid ∷ J) server y at = at_placed J server y at
-at_placed (entry_is.Adopt sheets ∷ J) server y at = at_placed J server y at
 at_placed (entry_is.Base part ∷ J) server y at = by part (at_placed J server y) at
   where
     by : (part : Part) → (is_at server (place_of J y) ≡ true → IsIn y (placed J)) → is_at server (part_place part y (place_of J y)) ≡ true → IsIn y (part_placed part (placed J))
-    by (part_is.Head entries last parts sheets) on at = on at
-    by (part_is.Namespace ns) on at = on at
-    by (part_is.Table table drawn own) on at = on at
-    by (part_is.Server server fenced) on at = on at
-    by (part_is.Root pid nonce args cause) on at = on at
-    by (part_is.Layout pid) on at = on at
     by (part_is.Region region range status parents given) on at = elim (cases_Bool (same_region y region)) [
       | inl same ↦ in_joined y region (placed J) (inl (same_region-is y region same))
       | inr differs ↦ in_joined y region (placed J) (inr (on (ap (is_at server) (sym (cond-false (same_region y region) given (place_of J y) differs)) ∙ at)))
     ]
+    by part on at = on at
+at_placed (entry ∷ J) server y at = at_placed J server y at
 
 in_filter : (test : Region → Bool) (y : Region) (list : List Region) → IsIn y list → test y ≡ true → IsIn y (filter test list)
 in_filter test y [] h on = elim h [ ]

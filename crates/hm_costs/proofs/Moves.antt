@@ -187,9 +187,8 @@ module _ (pid : Pid) (pick : Option Server) (out : StepOut) (J : Past) (legal : 
   goes_far n e = far_row (answer_is.More n) n e refl
 
   behind_far : (goal : Goal) (told : Told) → out.answer ≡ behind_close goal told → AtOpening (entry_is.Step pid pick out ∷ J)
-  behind_far goal_is.Assign told e = goes_far 0 e (λ e. omega (arith, e)) (λ e. omega (arith, e))
   behind_far goal_is.Unassign told e = stops_far told e
-  behind_far goal_is.Move told e = goes_far 0 e (λ e. omega (arith, e)) (λ e. omega (arith, e))
+  behind_far goal told e = goes_far 0 e (λ e. omega (arith, e)) (λ e. omega (arith, e))
 
   pub opening_now : AtOpening J → AtOpening (entry_is.Step pid pick out ∷ J)
   opening_now before = by (row_of J pid.0 me) refl (answers (row_of J pid.0 me) refl)

@@ -106,12 +106,8 @@ fails_step pid pick out J legal p before x r is m top c failed = elim (le_or_lt 
     ]
 
     fail_stops : (a : Answer) → failing a ≡ Some c → is_stopped (Some a) ≡ true
-    fail_stops (answer_is.More n) e = absurd (none-some c e)
-    fail_stops (answer_is.Wait n) e = absurd (none-some c e)
-    fail_stops (answer_is.Await n) e = absurd (none-some c e)
-    fail_stops (answer_is.Done told) e = absurd (none-some c e)
     fail_stops (answer_is.Fail k) e = refl
-    fail_stops answer_is.Undone e = absurd (none-some c e)
+    fail_stops answer e = absurd (none-some c e)
 
     by_cause : node_of J p ≡ Some x → root_of J pid.0 ≡ p → (o : Option Cause) → cause J p ≡ o → or_else o (failing out.answer) ≡ Some c → is_stopped (last_answer (entry_is.Step pid pick out ∷ J) p) ≡ true
     by_cause was root (Some k) e now = old was (e ∙ now)
@@ -130,16 +126,9 @@ fails_step pid pick out J legal p before x r is m top c failed = elim (le_or_lt 
 
 pub fails_all : (J : Past) → IsLegal J → (p : ℕ) → FailsItself J p
 fails_all [] legal p = λ x r is. absurd (none-some x is)
-fails_all (entry_is.Start sheets ∷ J) legal p = fails_calm (entry_is.Start sheets) J legal p refl refl (fails_all J legal.0 p)
-fails_all (entry_is.Submit nonce request ∷ J) legal p = fails_calm (entry_is.Submit nonce request) J legal p refl refl (fails_all J legal.0 p)
 fails_all (entry_is.Step pid pick out ∷ J) legal p = fails_step pid pick out J legal p (fails_all J legal.0 p)
-fails_all (entry_is.Undo pid row out ∷ J) legal p = fails_calm (entry_is.Undo pid row out) J legal p refl refl (fails_all J legal.0 p)
-fails_all (entry_is.Report call told ∷ J) legal p = fails_calm (entry_is.Report call told) J legal p refl refl (fails_all J legal.0 p)
-fails_all (entry_is.Up server ∷ J) legal p = fails_calm (entry_is.Up server) J legal p refl refl (fails_all J legal.0 p)
-fails_all (entry_is.Down server ∷ J) legal p = fails_calm (entry_is.Down server) J legal p refl refl (fails_all J legal.0 p)
-fails_all (entry_is.Abort pid ∷ J) legal p = fails_calm (entry_is.Abort pid) J legal p refl refl (fails_all J legal.0 p)
-fails_all (entry_is.Adopt sheets ∷ J) legal p = fails_calm (entry_is.Adopt sheets) J legal p refl refl (fails_all J legal.0 p)
 fails_all (entry_is.Base part ∷ J) legal p = λ x r is. absurd (none-some x is)
+fails_all (entry ∷ J) legal p = fails_calm entry J legal p refl refl (fails_all J legal.0 p)
 
 -- who has stopped is at no row
 stopped_row : (first : ℕ) (last : Option Answer) → is_stopped last ≡ true → row_after first last ≡ no_row
@@ -228,17 +217,10 @@ placed_other pid pick out J legal region none =
 
 -- the place of a region stays where a transit of it holds, and doesn't step
 pub place_stays : (entry : Entry) (J : Past) → IsLegal (entry ∷ J) → (q : ℕ) (x : Node) (region : Region) → node_of J q ≡ Some x → moved_by x.args ≡ Some region → HoldsWith J [] q → Spares entry q → place_of (entry ∷ J) region ≡ place_of J region
-place_stays (entry_is.Start sheets) J legal q x region is m holds spares = refl
-place_stays (entry_is.Submit nonce request) J legal q x region is m holds spares = refl
 place_stays (entry_is.Step pid pick out) J legal q x region is m holds spares =
     placed_other pid pick out J legal region (λ own there n. step_free pid pick out J legal q holds (transits_conflict J (grown_all J legal.0) pid.0 q own x region (λ here. spares (sym here)) there n is m))
-place_stays (entry_is.Undo pid row out) J legal q x region is m holds spares = refl
-place_stays (entry_is.Report call told) J legal q x region is m holds spares = refl
-place_stays (entry_is.Up server) J legal q x region is m holds spares = refl
-place_stays (entry_is.Down server) J legal q x region is m holds spares = refl
-place_stays (entry_is.Abort pid) J legal q x region is m holds spares = refl
-place_stays (entry_is.Adopt sheets) J legal q x region is m holds spares = refl
 place_stays (entry_is.Base part) J legal q x region is m holds spares = absurd spares
+place_stays entry J legal q x region is m holds spares = refl
 
 -- at the rows that open it a region is being opened
 abbrev IsOpening : Past → Type 0
@@ -276,16 +258,9 @@ opening_step pid pick out J legal before p x region is m at = elim (cases_eq p p
 -- so it is in every legal journal
 pub opening_all : (J : Past) → IsLegal J → IsOpening J
 opening_all [] legal = λ p x region is. absurd (none-some x is)
-opening_all (entry_is.Start sheets ∷ J) legal = opening_calm (entry_is.Start sheets) J legal (λ p. refl) (λ region. refl) (opening_all J legal.0)
-opening_all (entry_is.Submit nonce request ∷ J) legal = opening_calm (entry_is.Submit nonce request) J legal (λ p. refl) (λ region. refl) (opening_all J legal.0)
 opening_all (entry_is.Step pid pick out ∷ J) legal = opening_step pid pick out J legal (opening_all J legal.0)
-opening_all (entry_is.Undo pid row out ∷ J) legal = opening_calm (entry_is.Undo pid row out) J legal (λ p. refl) (λ region. refl) (opening_all J legal.0)
-opening_all (entry_is.Report call told ∷ J) legal = opening_calm (entry_is.Report call told) J legal (λ p. refl) (λ region. refl) (opening_all J legal.0)
-opening_all (entry_is.Up server ∷ J) legal = opening_calm (entry_is.Up server) J legal (λ p. refl) (λ region. refl) (opening_all J legal.0)
-opening_all (entry_is.Down server ∷ J) legal = opening_calm (entry_is.Down server) J legal (λ p. refl) (λ region. refl) (opening_all J legal.0)
-opening_all (entry_is.Abort pid ∷ J) legal = opening_calm (entry_is.Abort pid) J legal (λ p. refl) (λ region. refl) (opening_all J legal.0)
-opening_all (entry_is.Adopt sheets ∷ J) legal = opening_calm (entry_is.Adopt sheets) J legal (λ p. refl) (λ region. refl) (opening_all J legal.0)
 opening_all (entry_is.Base part ∷ J) legal = λ p x region is. absurd (none-some x is)
+opening_all (entry ∷ J) legal = opening_calm entry J legal (λ p. refl) (λ region. refl) (opening_all J legal.0)
 
 -- an entry is no part of a base, and picks no such server
 abbrev pub PicksOther : Past → Server → Entry → Type 0
@@ -295,8 +270,6 @@ PicksOther J server entry = Unit {0}
 
 -- no region comes to a server that isn't picked
 pub none_comes_other : (entry : Entry) (J : Past) → IsLegal (entry ∷ J) → (server : Server) → PicksOther J server entry → (region : Region) → is_at server (place_of (entry ∷ J) region) ≡ true → is_at server (place_of J region) ≡ true
-none_comes_other (entry_is.Start sheets) J legal server other region at = at
-none_comes_other (entry_is.Submit nonce request) J legal server other region at = at
 none_comes_other (entry_is.Step pid pick out) J legal server other region at = by (moved_by step.node.args) refl
   where
     step : StepFacts J pid.0 pick out
@@ -313,13 +286,8 @@ none_comes_other (entry_is.Step pid pick out) J legal server other region at = b
           let m : moved_by step.node.args ≡ Some region = e ∙ ap Some (sym (same_region-is region own on)) in
           comes_not pid pick out J legal step.node step.node_is region m (opening_all J legal.0 pid.0 step.node region step.node_is m) server other at
     ]
-none_comes_other (entry_is.Undo pid row out) J legal server other region at = at
-none_comes_other (entry_is.Report call told) J legal server other region at = at
-none_comes_other (entry_is.Up peer) J legal server other region at = at
-none_comes_other (entry_is.Down peer) J legal server other region at = at
-none_comes_other (entry_is.Abort pid) J legal server other region at = at
-none_comes_other (entry_is.Adopt sheets) J legal server other region at = at
 none_comes_other (entry_is.Base part) J legal server other region at = absurd other
+none_comes_other entry J legal server other region at = at
 
 -- nor to one that went down
 pub none_comes : (entry : Entry) (J : Past) → IsLegal (entry ∷ J) → (p : ℕ) (x : Node) → node_of J p ≡ Some x → (server : Server) → IsDead J server → (region : Region) → is_at server (place_of (entry ∷ J) region) ≡ true → is_at server (place_of J region) ≡ true
@@ -334,11 +302,4 @@ none_comes entry J legal p x is server dead region at = none_comes_other entry J
     other : (entry : Entry) → IsLegal (entry ∷ J) → PicksOther J server entry
     other (entry_is.Step pid pick out) legal = λ picked e live. apart picked live
     other (entry_is.Base part) legal = absurd (none-some x (sym (no_node part J legal.1.0 p) ∙ is))
-    other (entry_is.Start sheets) legal = tt
-    other (entry_is.Submit nonce request) legal = tt
-    other (entry_is.Undo pid row out) legal = tt
-    other (entry_is.Report call told) legal = tt
-    other (entry_is.Up peer) legal = tt
-    other (entry_is.Down peer) legal = tt
-    other (entry_is.Abort pid) legal = tt
-    other (entry_is.Adopt sheets) legal = tt
+    other entry legal = tt

@@ -93,31 +93,17 @@ module _ (At : Past → ℕ → Node → ℕ → Type 0) (Fresh : Past → ℕ �
     going_on going = record { legal = legal; quiet = quiet; is_top = there; at_top = at_top; unended = ended_same false going.unended; clean = same.cause_is ∙ going.clean }
 
     spared : (q : ℕ) (x : Node) → node_of J q ≡ Some x → x.root ≡ r → (e : Entry) → entry ≡ e → Spares e q
-    spared q x at of (entry_is.Start sheets) e = tt
-    spared q x at of (entry_is.Submit nonce request) e = tt
     spared q x at of (entry_is.Step pid pick out) e = λ here. other (sym (ap (tree_of J) e ∙ ap (root_of J) (sym here) ∙ ap root_in at ∙ of))
-    spared q x at of (entry_is.Undo pid row out) e = tt
     spared q x at of (entry_is.Report call told) e = λ here. other (sym (ap (tree_of J) e ∙ ap (root_of J) (sym here) ∙ ap root_in at ∙ of))
-    spared q x at of (entry_is.Up server) e = tt
-    spared q x at of (entry_is.Down server) e = tt
-    spared q x at of (entry_is.Abort pid) e = tt
-    spared q x at of (entry_is.Adopt sheets) e = tt
     spared q x at of (entry_is.Base part) e = let own : IsLegal (entry_is.Base part ∷ J) = subst (λ n. IsLegal (n ∷ J)) e legal in none-some x (sym (no_node part J own.1.0 q) ∙ at)
+    spared q x at of entry e = tt
 
     more_made : made J ≤ made (entry ∷ J)
     more_made = by entry legal
       where
         by : (e : Entry) → IsLegal (e ∷ J) → made J ≤ made (e ∷ J)
-        by (entry_is.Start sheets) e = omega arith
-        by (entry_is.Submit nonce request) e = omega arith
-        by (entry_is.Step pid pick out) e = omega arith
-        by (entry_is.Undo pid row out) e = omega arith
-        by (entry_is.Report call told) e = omega arith
-        by (entry_is.Up server) e = omega arith
-        by (entry_is.Down server) e = omega arith
-        by (entry_is.Abort pid) e = omega arith
-        by (entry_is.Adopt sheets) e = omega arith
         by (entry_is.Base part) e = absurd (none-some top (sym (no_node part J e.1.0 r) ∙ is))
+        by entry e = omega arith
 
     pub other_paid : Paid J r top → Paid (entry ∷ J) r top
     other_paid (over ended stepped within) =
@@ -246,12 +232,8 @@ module _ (At : Past → ℕ → Node → ℕ → Type 0) (Fresh : Past → ℕ �
         (here, ap (λ o. root_over o (rolled_back (entry_is.Step pid pick out ∷ J) r) (done_with (last_answer (entry_is.Step pid pick out ∷ J) r))) (cause_now ∙ failed) ∙ and_from (all_stopped (entry_is.Step pid pick out ∷ J) r) (is_empty (stack (entry_is.Step pid pick out ∷ J) r)) stopped (ap is_empty empty))
       where
         childless : (a : Answer) → out.answer ≡ a → (c : Cause) → failing a ≡ Some c → ChildrenWait a out.children → out.children ≡ []
-        childless (answer_is.More n) e c failed w = w
         childless (answer_is.Wait n) e c failed w = absurd (none-some c failed)
-        childless (answer_is.Await n) e c failed w = w
-        childless (answer_is.Done told) e c failed w = w
-        childless (answer_is.Fail d) e c failed w = w
-        childless answer_is.Undone e c failed w = w
+        childless answer e c failed w = w
 
         all_from : (n : ℕ) (test : ℕ → Bool) → ((q : ℕ) → q < n → test q ≡ true) → all_below n test ≡ true
         all_from zero test each = refl
@@ -268,9 +250,7 @@ module _ (At : Past → ℕ → Node → ℕ → Type 0) (Fresh : Past → ℕ �
 
         unpushed : (how : Back) (failed : Bool) (p row : ℕ) (edits : List Edit) (below : List Undoable) → failed ≡ true → pushed how failed p row edits below ≡ below
         unpushed back_is.Nothing failed p row edits below e = refl
-        unpushed back_is.Edits failed p row edits below e = ap (λ b. unless_failed b (record { pid = p; row = row; undo = back_is.Edits; edits = edits }) below) e
-        unpushed back_is.Sweep failed p row edits below e = ap (λ b. unless_failed b (record { pid = p; row = row; undo = back_is.Sweep; edits = edits }) below) e
-        unpushed back_is.Reopen failed p row edits below e = ap (λ b. unless_failed b (record { pid = p; row = row; undo = back_is.Reopen; edits = edits }) below) e
+        unpushed other failed p row edits below e = ap (λ b. unless_failed b (record { pid = p; row = row; undo = other; edits = edits }) below) e
 
     spends_on : failing out.answer ≡ None → root_ended (entry_is.Step pid pick out ∷ J) r ≡ false → last_answer (entry_is.Step pid pick out ∷ J) r ≢ None → Spends (entry_is.Step pid pick out ∷ J) r top
     spends_on fine unended stepped =
@@ -308,12 +288,10 @@ module _ (At : Past → ℕ → Node → ℕ → Type 0) (Fresh : Past → ℕ �
         by a e sound over_is some
       where
         by : (a : Answer) → out.answer ≡ a → IsStepAnswer a → ((b : Bool) → is_some (done_with (Some a)) ≡ b → root_ended (entry_is.Step pid pick out ∷ J) r ≡ b) → last_answer (entry_is.Step pid pick out ∷ J) r ≢ None → Paid (entry_is.Step pid pick out ∷ J) r top
-        by (answer_is.More n) e sound over_is some = spends (spends_on fine (over_is false refl) some)
-        by (answer_is.Wait n) e sound over_is some = spends (spends_on fine (over_is false refl) some)
-        by (answer_is.Await n) e sound over_is some = spends (spends_on fine (over_is false refl) some)
         by (answer_is.Done told) e sound over_is some = over (over_is true refl) some entries_within
         by (answer_is.Fail c) e sound over_is some = absurd (none-some c (sym fine ∙ ap failing e))
         by answer_is.Undone e sound over_is some = absurd sound
+        by answer e sound over_is some = spends (spends_on fine (over_is false refl) some)
 
     by_failing : (o : Option Cause) → failing out.answer ≡ o → Paid (entry_is.Step pid pick out ∷ J) r top
     by_failing (Some c) failed =
@@ -531,19 +509,16 @@ module _ (At : Past → ℕ → Node → ℕ → Type 0) (Fresh : Past → ℕ �
       by (Some x) e h = other (sym (at_top J (grown_all J legal.0) pid.0 x e (sym (ap is_root_in e) ∙ h)) ∙ sym (ap root_in e) ∙ sym mine)
 
   own_entry : ArePriced At Fresh price → (entry : Entry) (J : Past) (legal : IsLegal (entry ∷ J)) (r : ℕ) (top : Node) → node_of J r ≡ Some top → top.above ≡ [] → IsQuiet (entry ∷ J) r → r ≡ tree_of J entry → Paid J r top → Paid (entry ∷ J) r top
-  own_entry priced (entry_is.Start sheets) J legal r top is at_top quiet mine p = let up = (made_up_to J (made_all J legal.0) r top is).0 in absurd (omega (arith, up, mine))
   own_entry priced (entry_is.Submit nonce request) J legal r top is at_top quiet mine p = let few = is_there J (grown_all J legal.0) r top is in absurd (omega (arith, few, mine))
   own_entry priced (entry_is.Step pid pick out) J legal r top is at_top quiet mine p = own_step priced pid pick out J legal r top is at_top quiet mine p
   own_entry priced (entry_is.Undo pid row out) J legal r top is at_top quiet mine p = absurd (own_undo pid row out J legal r top mine p)
   own_entry priced (entry_is.Report call told) J legal r top is at_top quiet mine p = own_report priced call told J legal r top is at_top quiet mine p
-  own_entry priced (entry_is.Up server) J legal r top is at_top quiet mine p = let up = (made_up_to J (made_all J legal.0) r top is).0 in absurd (omega (arith, up, mine))
   own_entry priced (entry_is.Down server) J legal r top is at_top quiet mine p = let few = is_there J (grown_all J legal.0) r top is in absurd (omega (arith, few, mine))
   own_entry priced (entry_is.Abort pid) J legal r top is at_top quiet mine p = absurd (own_abort pid J legal r mine quiet.1)
-  own_entry priced (entry_is.Adopt sheets) J legal r top is at_top quiet mine p = let up = (made_up_to J (made_all J legal.0) r top is).0 in absurd (omega (arith, up, mine))
   own_entry priced (entry_is.Base part) J legal r top is at_top quiet mine p = absurd (none-some top (sym (no_node part J legal.1.0 r) ∙ is))
+  own_entry priced entry J legal r top is at_top quiet mine p = let up = (made_up_to J (made_all J legal.0) r top is).0 in absurd (omega (arith, up, mine))
 
   new_entry : ArePriced At Fresh price → (entry : Entry) (J : Past) (legal : IsLegal (entry ∷ J)) (r : ℕ) (top : Node) → node_of J r ≡ None → node_of (entry ∷ J) r ≡ Some top → top.above ≡ [] → IsQuiet (entry ∷ J) r → Paid (entry ∷ J) r top
-  new_entry priced (entry_is.Start sheets) J legal r top none is at_top quiet = absurd (none-some top (sym none ∙ is))
   new_entry priced (entry_is.Submit nonce request) J legal r top none is at_top quiet =
       new_lone priced (entry_is.Submit nonce request) J legal (submit_rooted nonce request J (grown_all J legal.0)) r top none is at_top quiet
       (one_if_true (r == made J + 1) (entries_of J r) (elim (cases_Bool (r == made J + 1)) [ inl on ↦ on | inr off ↦ absurd (none-some top (sym none ∙ sym (cond-false (r == made J + 1) _ (node_of J r) off) ∙ is)) ])) refl refl
@@ -557,14 +532,11 @@ module _ (At : Past → ℕ → Node → ℕ → Type 0) (Fresh : Past → ℕ �
       new_lone priced (entry_is.Undo pid row out) J legal rooted r top none is at_top quiet
       (one_if_true ((root_of J pid.0 == r) || makes J out.followers r) (entries_of J r) (or_right (root_of J pid.0 == r) _ (and_from (nat_lt (made J) r) (nat_le r (made J + length (args_in out.followers))) (lt-ltb (made J) r lt) (le-leb r (made J + length (args_in out.followers)) few)))) refl
       (cond-false (root_of J pid.0 == r) _ (stack J r) off)
-  new_entry priced (entry_is.Report call told) J legal r top none is at_top quiet = absurd (none-some top (sym none ∙ is))
-  new_entry priced (entry_is.Up server) J legal r top none is at_top quiet = absurd (none-some top (sym none ∙ is))
   new_entry priced (entry_is.Down server) J legal r top none is at_top quiet =
       new_lone priced (entry_is.Down server) J legal (down_rooted server J (grown_all J legal.0)) r top none is at_top quiet
       (one_if_true (r == made J + 1) (entries_of J r) (elim (cases_Bool (r == made J + 1)) [ inl on ↦ on | inr off ↦ absurd (none-some top (sym none ∙ sym (cond-false (r == made J + 1) _ (node_of J r) off) ∙ is)) ])) refl refl
-  new_entry priced (entry_is.Abort pid) J legal r top none is at_top quiet = absurd (none-some top (sym none ∙ is))
-  new_entry priced (entry_is.Adopt sheets) J legal r top none is at_top quiet = absurd (none-some top (sym none ∙ is))
   new_entry priced (entry_is.Base part) J legal r top none is at_top quiet = absurd (none-some top is)
+  new_entry priced entry J legal r top none is at_top quiet = absurd (none-some top (sym none ∙ is))
 
   paid_on : ArePriced At Fresh price → (entry : Entry) (J : Past) (legal : IsLegal (entry ∷ J)) (r : ℕ) (top : Node) → node_of (entry ∷ J) r ≡ Some top → top.above ≡ [] → IsQuiet (entry ∷ J) r → (node_of J r ≡ Some top → Paid J r top) → Paid (entry ∷ J) r top
   paid_on priced entry J legal r top is at_top quiet before = by (node_of J r) refl

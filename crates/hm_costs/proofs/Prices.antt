@@ -28,16 +28,10 @@ pub record Going (J : Past) (r : ℕ) (top : Node) : Type 0 where
 
 -- an entry that is no step and no report of a procedure
 abbrev pub Spares : Entry → ℕ → Type 0
-Spares (entry_is.Start sheets) q = Unit {0}
-Spares (entry_is.Submit nonce request) q = Unit {0}
 Spares (entry_is.Step pid pick out) q = q ≢ pid.0
-Spares (entry_is.Undo pid row out) q = Unit {0}
 Spares (entry_is.Report call told) q = q ≢ call.0
-Spares (entry_is.Up server) q = Unit {0}
-Spares (entry_is.Down server) q = Unit {0}
-Spares (entry_is.Abort pid) q = Unit {0}
-Spares (entry_is.Adopt sheets) q = Unit {0}
 Spares (entry_is.Base part) q = ⊥
+Spares entry q = Unit {0}
 
 module _ (At : Past → ℕ → Node → ℕ → Type 0) (Fresh : Past → ℕ → Node → Type 0) (price : Args → ℕ) where
   -- each procedure of the tree may still cost some

@@ -120,8 +120,6 @@ module _ (pid : Pid) (pick : Option Server) (out : StepOut) (J : Past) (legal : 
 module _ (J : Past) (r : ℕ) (all : AllAt At Fresh price J r) (q : ℕ) (x : Node) (of : x.root ≡ r) (server : Server) (dead : IsDead J server) (fenced : is_fenced J server ≡ true) (rest : List Region) where
   -- a transit of the crash that stops at an entry leaves no region there
   stops_off : (entry : Entry) → IsLegal (entry ∷ J) → (y : Region) → is_at server (place_of (entry ∷ J) y) ≡ true → (c : ℕ) → node_of J c ≡ Some (child_of q x (args_are.Transit y goal_is.Assign None)) → is_stopped (last_answer J c) ≡ false → is_stopped (last_answer (entry ∷ J) c) ≡ true → ⊥
-  stops_off (entry_is.Start sheets) legal y there c is runs stops = true≢false (sym stops ∙ runs)
-  stops_off (entry_is.Submit nonce request) legal y there c is runs stops = true≢false (sym stops ∙ runs)
   stops_off (entry_is.Step pid pick out) legal y there c is runs stops = elim (cases_eq c pid.0) [
     | inr other ↦ true≢false (sym stops ∙ ap is_stopped (other_answer pid pick out J c other) ∙ runs)
     | inl mine ↦
@@ -129,13 +127,8 @@ module _ (J : Past) (r : ℕ) (all : AllAt At Fresh price J r) (q : ℕ) (x : No
         let own = all pid.0 _ me of in
         leaves pid pick out J legal q x y me server dead fenced own.0 (own.1.moves y refl) (sym (ap is_stopped (answer_now pid pick out J)) ∙ ap (λ k. is_stopped (last_answer (entry_is.Step pid pick out ∷ J) k)) (sym mine) ∙ stops) there
   ]
-  stops_off (entry_is.Undo pid row out) legal y there c is runs stops = true≢false (sym stops ∙ runs)
-  stops_off (entry_is.Report call told) legal y there c is runs stops = true≢false (sym stops ∙ runs)
-  stops_off (entry_is.Up other) legal y there c is runs stops = true≢false (sym stops ∙ runs)
-  stops_off (entry_is.Down other) legal y there c is runs stops = true≢false (sym stops ∙ runs)
-  stops_off (entry_is.Abort pid) legal y there c is runs stops = true≢false (sym stops ∙ runs)
-  stops_off (entry_is.Adopt sheets) legal y there c is runs stops = true≢false (sym stops ∙ runs)
   stops_off (entry_is.Base part) legal y there c is runs stops = none-some _ (sym (no_node part J legal.1.0 c) ∙ is)
+  stops_off entry legal y there c is runs stops = true≢false (sym stops ∙ runs)
 
   pub covered_stays : (entry : Entry) → IsLegal (entry ∷ J) → node_of J q ≡ Some x → Covered J q x server rest → Covered (entry ∷ J) q x server rest
   covered_stays entry legal is covered = λ y there. elim (covered y (none_comes entry J legal q x is server dead y there)) [

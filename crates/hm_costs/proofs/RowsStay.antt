@@ -67,12 +67,11 @@ aside_of own table other [] all = tt
 aside_of own table other (edit ∷ edits) all = (by edit.key all.0, aside_of own table other edits all.1)
   where
     by : (key : CatKey) → IsKeyOf own key → is_region_in table (λ id. true) key ≡ false
-    by (key_is.Ns ns) is = refl
-    by (key_is.Table name) is = refl
     by (key_is.Region region) is = and_left (same_table table region.table) true (elim (cases_Bool (same_table table region.table)) [
       | inr off ↦ off
       | inl on ↦ absurd (other (is ∙ ap Some (sym (same_table-is table region.table on))))
     ])
+    by key is = refl
 
 spared_row : (table : TableName) (edits : List Edit) → AreAside table edits → (key : CatKey) → is_region_in table (λ id. true) key ≡ true → (row : Option CatRow) → edited edits key row ≡ row
 spared_row table [] aside key asked row = refl
@@ -198,16 +197,10 @@ module _ (J : Past) (q : ℕ) (x : Node) (going : Going J q x) (begun : last_ans
 
   -- what such a root counts stays while it is idle and makes no step
   pub counts_stay : (entry : Entry) → IsLegal (entry ∷ J) → Spares entry q → (n : ℕ) (lines : List Line) → AllCounted J x.args n lines → AllCounted (entry ∷ J) x.args n lines
-  counts_stay (entry_is.Start sheets) legal spares = counts_kept J (entry_is.Start sheets ∷ J) [] (λ key. refl) refl x.args counter (λ table is. tt)
-  counts_stay (entry_is.Submit nonce request) legal spares = counts_kept J (entry_is.Submit nonce request ∷ J) [] (λ key. refl) refl x.args counter (λ table is. tt)
   counts_stay (entry_is.Step pid pick out) legal spares = counts_kept J (entry_is.Step pid pick out ∷ J) out.edits (λ key. refl) refl x.args counter (step_aside pid pick out legal spares)
   counts_stay (entry_is.Undo pid row out) legal spares = counts_kept J (entry_is.Undo pid row out ∷ J) out.edits (λ key. refl) refl x.args counter (undo_aside pid row out legal)
-  counts_stay (entry_is.Report call told) legal spares = counts_kept J (entry_is.Report call told ∷ J) [] (λ key. refl) refl x.args counter (λ table is. tt)
-  counts_stay (entry_is.Up server) legal spares = counts_kept J (entry_is.Up server ∷ J) [] (λ key. refl) refl x.args counter (λ table is. tt)
-  counts_stay (entry_is.Down server) legal spares = counts_kept J (entry_is.Down server ∷ J) [] (λ key. refl) refl x.args counter (λ table is. tt)
-  counts_stay (entry_is.Abort pid) legal spares = counts_kept J (entry_is.Abort pid ∷ J) [] (λ key. refl) refl x.args counter (λ table is. tt)
-  counts_stay (entry_is.Adopt sheets) legal spares = counts_kept J (entry_is.Adopt sheets ∷ J) [] (λ key. refl) refl x.args counter (λ table is. tt)
   counts_stay (entry_is.Base part) legal spares = absurd spares
+  counts_stay entry legal spares = counts_kept J (entry ∷ J) [] (λ key. refl) refl x.args counter (λ table is. tt)
 
 given_aside : {A : Type 0} (table : TableName) (part : Option A) (next : ℕ) (act : A → StepOut) → ((y : A) → AreAside table (act y).edits) → AreAside table (given part next act).edits
 given_aside table None next act each = tt

@@ -58,30 +58,21 @@ price (args_are.Transit region goal to) = transit_price goal
 price (args_are.Crash server) = 0
 price (args_are.AddRegions table first bounds) = 1
 price (args_are.DropRegions table ids) = 1
-price (args_are.AssignCall region server) = 3
-price (args_are.CloseCall region server) = 3
-price (args_are.FenceCall server) = 3
-price (args_are.LayoutCall root) = 3
-price (args_are.SweepLayout root) = 3
+price args = 3
 
 -- transits are made to assign or to unassign
 abbrev pub IsChildGoal : Goal → Type 0
-IsChildGoal goal_is.Assign = Unit {0}
-IsChildGoal goal_is.Unassign = Unit {0}
 IsChildGoal goal_is.Move = ⊥
+IsChildGoal goal = Unit {0}
 
 -- what procedures are made by acts that call nobody
 abbrev pub IsChild : Args → Args → Type 0
-IsChild up (args_are.Root request first) = ⊥
 IsChild up (args_are.Transit region goal to) = IsChildGoal goal
-IsChild up (args_are.Crash server) = ⊥
 IsChild up (args_are.AddRegions table first bounds) = table_of up ≡ Some table
 IsChild up (args_are.DropRegions table ids) = table_of up ≡ Some table
-IsChild up (args_are.AssignCall region server) = ⊥
-IsChild up (args_are.CloseCall region server) = ⊥
 IsChild up (args_are.FenceCall server) = server_of up ≡ Some server
 IsChild up (args_are.LayoutCall root) = Unit {0}
-IsChild up (args_are.SweepLayout root) = ⊥
+IsChild up args = ⊥
 
 abbrev pub AreChildren : Args → List Args → Type 0
 AreChildren up [] = Unit {0}
@@ -157,13 +148,11 @@ transits_price goal_is.Move n = 12 * n
 
 one_more : (goal : Goal) (n a b : ℕ) → a ≡ transit_price goal + b → b ≡ transits_price goal n → a ≡ transits_price goal (suc n)
 one_more goal_is.Assign n a b sum before = omega (arith, sum, before)
-one_more goal_is.Unassign n a b sum before = omega (arith, sum, before)
-one_more goal_is.Move n a b sum before = omega (arith, sum, before)
+one_more goal n a b sum before = omega (arith, sum, before)
 
 no_transits : (goal : Goal) → 0 ≡ transits_price goal 0
 no_transits goal_is.Assign = refl
-no_transits goal_is.Unassign = refl
-no_transits goal_is.Move = refl
+no_transits goal = refl
 
 transits_of : (up : Args) (goal : Goal) → IsChildGoal goal → (list : List Region) → (total price (args_in (map (λ batch. child_is.Transits batch.table batch.ids goal) (batches list))) ≡ transits_price goal (length list)) × AreChildren up (args_in (map (λ batch. child_is.Transits batch.table batch.ids goal) (batches list)))
 transits_of up goal ok [] = (no_transits goal, tt)
@@ -351,16 +340,4 @@ act_spent act_is.AddRegionRows h next at = given_spent at.args 1 (omega arith) (
 act_spent act_is.DropRegionRows h next at = given_spent at.args 1 (omega arith) (table_of at.args) next (λ table. edits_rows next (remove_regions (row_at at.rows) (regions_in table (ids_of at.args)))) (λ table. none_spent at.args 1 (omega arith) _ refl)
 act_spent act_is.Fence h next at = fence_spent at.args (server_of at.args) refl next
 act_spent act_is.Reassign h next at = let t = transits_spent at.args goal_is.Assign tt at.on_server in reassign_spent at.args next (transits goal_is.Assign at.on_server) (length at.on_server) t.0 t.1
-act_spent act_is.GetAssignCandidate h next at = absurd (false≢true h)
-act_spent act_is.Open h next at = absurd (false≢true h)
-act_spent act_is.ConfirmOpened h next at = absurd (false≢true h)
-act_spent act_is.Close h next at = absurd (false≢true h)
-act_spent act_is.ConfirmClosed h next at = absurd (false≢true h)
-act_spent act_is.CheckMove h next at = absurd (false≢true h)
-act_spent act_is.CallAssign h next at = absurd (false≢true h)
-act_spent act_is.CallClose h next at = absurd (false≢true h)
-act_spent act_is.Settle h next at = absurd (false≢true h)
-act_spent act_is.CallFence h next at = absurd (false≢true h)
-act_spent act_is.CallLayout h next at = absurd (false≢true h)
-act_spent act_is.SettleLayout h next at = absurd (false≢true h)
-act_spent act_is.CallSweep h next at = absurd (false≢true h)
+act_spent act h next at = absurd (false≢true h)

@@ -36,54 +36,27 @@ use Rattle.hm_costs.proofs.Spend.{price}
 use Rattle.hm_model.specs.Wanted.{goal_in}
 
 spared_last : (entry : Entry) (J : Past) (q : ℕ) → Spares entry q → last_answer (entry ∷ J) q ≡ last_answer J q
-spared_last (entry_is.Start sheets) J q spares = refl
-spared_last (entry_is.Submit nonce request) J q spares = refl
 spared_last (entry_is.Step pid pick out) J q spares = other_answer pid pick out J q spares
-spared_last (entry_is.Undo pid row out) J q spares = refl
-spared_last (entry_is.Report call told) J q spares = refl
-spared_last (entry_is.Up server) J q spares = refl
-spared_last (entry_is.Down server) J q spares = refl
-spared_last (entry_is.Abort pid) J q spares = refl
-spared_last (entry_is.Adopt sheets) J q spares = refl
 spared_last (entry_is.Base part) J q spares = absurd spares
+spared_last entry J q spares = refl
 
 spared_report : (entry : Entry) (J : Past) (q : ℕ) → Spares entry q → report_of (entry ∷ J) q ≡ report_of J q
-spared_report (entry_is.Start sheets) J q spares = refl
-spared_report (entry_is.Submit nonce request) J q spares = refl
-spared_report (entry_is.Step pid pick out) J q spares = refl
-spared_report (entry_is.Undo pid row out) J q spares = refl
 spared_report (entry_is.Report call told) J q spares = cond-false (q == call.0) (Some told) (report_of J q) (ne_eqb q call.0 spares)
-spared_report (entry_is.Up server) J q spares = refl
-spared_report (entry_is.Down server) J q spares = refl
-spared_report (entry_is.Abort pid) J q spares = refl
-spared_report (entry_is.Adopt sheets) J q spares = refl
 spared_report (entry_is.Base part) J q spares = absurd spares
+spared_report entry J q spares = refl
 
 spared_steps : (entry : Entry) (J : Past) (q : ℕ) → Spares entry q → made_at_step (entry ∷ J) q ≡ made_at_step J q
-spared_steps (entry_is.Start sheets) J q spares = refl
-spared_steps (entry_is.Submit nonce request) J q spares = refl
 spared_steps (entry_is.Step pid pick out) J q spares = other_steps pid pick out J q spares
-spared_steps (entry_is.Undo pid row out) J q spares = refl
-spared_steps (entry_is.Report call told) J q spares = refl
-spared_steps (entry_is.Up server) J q spares = refl
-spared_steps (entry_is.Down server) J q spares = refl
-spared_steps (entry_is.Abort pid) J q spares = refl
-spared_steps (entry_is.Adopt sheets) J q spares = refl
 spared_steps (entry_is.Base part) J q spares = absurd spares
+spared_steps entry J q spares = refl
 
 -- a server that is live stays so while the root goes on
 live_stays : (entry : Entry) (J : Past) (r : ℕ) (top : Node) → Going J r top → Going (entry ∷ J) r top → (server : Server) → is_live J server ≡ true → is_live (entry ∷ J) server ≡ true
-live_stays (entry_is.Start sheets) J r top going later server live = live
-live_stays (entry_is.Submit nonce request) J r top going later server live = live
-live_stays (entry_is.Step pid pick out) J r top going later server live = live
-live_stays (entry_is.Undo pid row out) J r top going later server live = live
-live_stays (entry_is.Report call told) J r top going later server live = live
 live_stays (entry_is.Up other) J r top going later server live = or_right (same_server server other) (is_live J server) live
 live_stays (entry_is.Down other) J r top going later server live =
     absurd (true≢false (sym (later.quiet.1 (λ none. none-some top (sym none ∙ going.is_top))) ∙ ended_top J r top going.is_top going.at_top ∙ going.unended))
-live_stays (entry_is.Abort pid) J r top going later server live = live
-live_stays (entry_is.Adopt sheets) J r top going later server live = live
 live_stays (entry_is.Base part) J r top going later server live = absurd (none-some top later.is_top)
+live_stays entry J r top going later server live = live
 
 module _ (entry : Entry) (J : Past) (legal : IsLegal (entry ∷ J)) (r : ℕ) (top : Node) (going : Going J r top) (later : Going (entry ∷ J) r top) (stepped : last_answer J r ≢ None) (all : AllAt At Fresh price J r) (q : ℕ) (x : Node) (is : node_of J q ≡ Some x) (of : x.root ≡ r) (spares : Spares entry q) where
   last_stays : last_answer (entry ∷ J) q ≡ last_answer J q
@@ -111,16 +84,10 @@ module _ (entry : Entry) (J : Past) (legal : IsLegal (entry ∷ J)) (r : ℕ) (t
   }
 
   goes_stays : (args : Args) → CallGoes J q x args → CallGoes (entry ∷ J) q x args
-  goes_stays (args_are.Root request first) h = tt
-  goes_stays (args_are.Transit region goal to) h = tt
-  goes_stays (args_are.Crash server) h = tt
-  goes_stays (args_are.AddRegions table first bounds) h = tt
-  goes_stays (args_are.DropRegions table ids) h = tt
   goes_stays (args_are.AssignCall region server) h = (live_stays entry J r top going later server h.0, λ stops. last_stays ∙ h.1 (ap is_stopped (sym last_stays) ∙ stops))
-  goes_stays (args_are.CloseCall region server) h = tt
   goes_stays (args_are.FenceCall server) h = (λ told e. fenced_stays entry J server (h.0 told (sym (spared_report entry J q spares) ∙ e)), λ stops. fenced_stays entry J server (h.1 (ap is_stopped (sym last_stays) ∙ stops)))
   goes_stays (args_are.LayoutCall root) h = h
-  goes_stays (args_are.SweepLayout root) h = tt
+  goes_stays args h = tt
 
   call_stays : (budget : ℕ) → CallAt J q x budget → CallAt (entry ∷ J) q x budget
   call_stays budget at = record {

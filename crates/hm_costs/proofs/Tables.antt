@@ -244,7 +244,6 @@ module _ (pid : Pid) (pick : Option Server) (out : StepOut) (J : Past) (legal : 
 -- so it is in every legal journal
 pub tabled_all : (J : Past) → IsLegal J → Tabled J
 tabled_all [] legal = record { own = λ q x is. absurd (none-some x is); tables = λ q x top is. absurd (none-some x is); undone = λ r top is. tt }
-tabled_all (entry_is.Start sheets ∷ J) legal = tabled_same (entry_is.Start sheets) J legal (tabled_all J legal.0) (λ q. refl) (λ r. refl)
 tabled_all (entry_is.Submit nonce request ∷ J) legal = tabled_rooted (entry_is.Submit nonce request) J legal (tabled_all J legal.0) (λ r top is all. all) (λ r none. (absent_all J legal.0 r none).stacked) (λ q x is. one_root J (grown_all J legal.0) (args_are.Root request (first_of J (table_of_request request))) (first_of J (table_of_request request)) (asked_closes request (first_of J (table_of_request request)) legal.1.1.0) tt q x is)
 tabled_all (entry_is.Step pid pick out ∷ J) legal = tabled_step pid pick out J legal (tabled_all J legal.0)
 tabled_all (entry_is.Undo pid row out ∷ J) legal =
@@ -257,12 +256,9 @@ tabled_all (entry_is.Undo pid row out ∷ J) legal =
       | inl was ↦ inl was
       | inr new ↦ inr (e, ap (λ (n : Node). n.root) new.2, own_follower x (follower_is pid row out J legal q x e is))
     ]
-tabled_all (entry_is.Report call told ∷ J) legal = tabled_same (entry_is.Report call told) J legal (tabled_all J legal.0) (λ q. refl) (λ r. refl)
-tabled_all (entry_is.Up server ∷ J) legal = tabled_same (entry_is.Up server) J legal (tabled_all J legal.0) (λ q. refl) (λ r. refl)
 tabled_all (entry_is.Down server ∷ J) legal = tabled_rooted (entry_is.Down server) J legal (tabled_all J legal.0) (λ r top is all. all) (λ r none. (absent_all J legal.0 r none).stacked) (λ q x is. one_root J (grown_all J legal.0) (args_are.Crash server) 1 tt tt q x is)
-tabled_all (entry_is.Abort pid ∷ J) legal = tabled_same (entry_is.Abort pid) J legal (tabled_all J legal.0) (λ q. refl) (λ r. refl)
-tabled_all (entry_is.Adopt sheets ∷ J) legal = tabled_same (entry_is.Adopt sheets) J legal (tabled_all J legal.0) (λ q. refl) (λ r. refl)
 tabled_all (entry_is.Base part ∷ J) legal = record { own = λ q x is. absurd (none-some x is); tables = λ q x top is. absurd (none-some x is); undone = λ r top is. tt }
+tabled_all (entry ∷ J) legal = tabled_same entry J legal (tabled_all J legal.0) (λ q. refl) (λ r. refl)
 
 -- a step edits regions' rows of its root's table alone
 pub step_edits : (pid : Pid) (pick : Option Server) (out : StepOut) (J : Past) → IsLegal (entry_is.Step pid pick out ∷ J) → (top : Node) → node_of J (root_of J pid.0) ≡ Some top → AreEditsOf (table_of top.args) out.edits
@@ -276,7 +272,5 @@ undo_edits_of pid row out J legal top is =
     subst (λ (o : StepOut). AreEditsOf (table_of top.args) o.edits) (sym u.out_is) (by u.undo u.latest.edits all.0)
   where
     by : (back : Back) (edits : List Edit) → AreEditsOf (table_of top.args) edits → AreEditsOf (table_of top.args) (undo_edits back edits)
-    by back_is.Nothing edits all = tt
     by back_is.Edits edits all = edits_turned (table_of top.args) edits all
-    by back_is.Sweep edits all = tt
-    by back_is.Reopen edits all = tt
+    by undo edits all = tt

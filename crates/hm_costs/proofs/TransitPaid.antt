@@ -213,14 +213,12 @@ module _ (pid : Pid) (pick : Option Server) (out : StepOut) (J : Past) (legal : 
 
   -- after a close, or where there is nothing to close
   behind_paid : (goal : Goal) → goal_in me.args ≡ goal → (told : Told) → out.answer ≡ behind_close goal told → out.children ≡ [] → closed_due goal ≤ budget → Paid
-  behind_paid goal_is.Assign g told e none enough = on_paid 0 e none (λ e. absurd (omega (arith, e))) (λ e. omega (arith, e)) (λ e. omega (arith, e)) (omega (arith, enough))
   behind_paid goal_is.Unassign g told e none enough = ends_paid told e none (omega (arith, enough))
-  behind_paid goal_is.Move g told e none enough = on_paid 0 e none (λ e. absurd (omega (arith, e))) (λ e. omega (arith, e)) (λ e. omega (arith, e)) (omega (arith, enough))
+  behind_paid goal g told e none enough = on_paid 0 e none (λ e. absurd (omega (arith, e))) (λ e. omega (arith, e)) (λ e. omega (arith, e)) (omega (arith, enough))
 
   close_more : (goal : Goal) → closed_due goal + 4 ≤ close_due goal
   close_more goal_is.Assign = omega arith
-  close_more goal_is.Unassign = omega arith
-  close_more goal_is.Move = omega arith
+  close_more goal = omega arith
 
   close_paid : row_of J pid.0 me ≡ 3 → (b : Bool) → out ≡ close_or_go 4 (goal_in me.args) region (place_of J region) b → Paid
   close_paid here false is =
@@ -238,8 +236,7 @@ module _ (pid : Pid) (pick : Option Server) (out : StepOut) (J : Past) (legal : 
     where
       close_few : (goal : Goal) → close_due goal ≤ 11
       close_few goal_is.Assign = omega arith
-      close_few goal_is.Unassign = omega arith
-      close_few goal_is.Move = omega arith
+      close_few goal = omega arith
   check_paid here (Some cause) is = record {
     fails = λ c failed. at.first here;
     rest = 0;

@@ -44,11 +44,6 @@ IsOwn part r = (range : KeyRange) × (status : Status) × (parents : List ℕ) �
 
 own_or : (part : Part) (J : Past) → PartFits part J → (r : Region) → IsOwn part r ⊎ (part_row part (key_is.Region r) (cat J (key_is.Region r)) ≡ cat J (key_is.Region r))
 own_or (part_is.Head entries last parts sheets) J fits r = inr (sym (ap (λ j. cat j (key_is.Region r)) fits.0))
-own_or (part_is.Namespace ns) J fits r = inr refl
-own_or (part_is.Table own ids row) J fits r = inr refl
-own_or (part_is.Server server fenced) J fits r = inr refl
-own_or (part_is.Root pid nonce args cause) J fits r = inr refl
-own_or (part_is.Layout pid) J fits r = inr refl
 own_or (part_is.Region own range status parents place) J fits r = elim (cases_key (key_is.Region r) (key_is.Region own)) [
   | inl same ↦ inl (range, status, parents, place, ap (λ k. part_is.Region k range status parents place) (own_is same.1))
   | inr differs ↦ inr (cond-false (same_key (key_is.Region r) (key_is.Region own)) (Some (row_is.Region range status parents)) (cat J (key_is.Region r)) differs.0)
@@ -56,6 +51,7 @@ own_or (part_is.Region own range status parents place) J fits r = elim (cases_ke
   where
     own_is : key_is.Region r ≡ key_is.Region own → own ≡ r
     own_is e = cc
+own_or part J fits r = inr refl
 
 own_row : (r : Region) (range : KeyRange) (status : Status) (parents : List ℕ) (place : Place) (row : Option CatRow) → part_row (part_is.Region r range status parents place) (key_is.Region r) row ≡ Some (row_is.Region range status parents)
 own_row r range status parents place row = cond-true (same_key (key_is.Region r) (key_is.Region r)) (Some (row_is.Region range status parents)) row (same_key-refl (key_is.Region r))
@@ -71,8 +67,7 @@ live_row range one status parents more e = (cc, cc)
 
 filled_by : (J : Past) (r : Region) (range : KeyRange) (status : Status) (parents : List ℕ) → RangeFits J r range status → IsFilled (Some (row_is.Region range status parents))
 filled_by J r range status_is.Live parents fits = (fits refl).0
-filled_by J r range status_is.Split parents fits = tt
-filled_by J r range status_is.Merged parents fits = tt
+filled_by J r range status parents fits = tt
 
 module _ (part : Part) (J : Past) (legal : IsLegal (entry_is.Base part ∷ J)) (was : Regions J) where
   fits_own : (r : Region) (own : IsOwn part r) → PartFits (part_is.Region r own.0 own.1 own.2 own.3) J
@@ -112,15 +107,11 @@ module _ (part : Part) (J : Past) (legal : IsLegal (entry_is.Base part ∷ J)) (
     where
       by : (p : Part) → PartFits p J → part_row p (key_is.Table t) (cat J (key_is.Table t)) ≢ None
       by (part_is.Head entries last parts sheets) fits = absurd (some (ap (λ j. cat j (key_is.Table t)) fits.0))
-      by (part_is.Namespace ns) fits = some
-      by (part_is.Region own range status parents place) fits = some
-      by (part_is.Server server fenced) fits = some
-      by (part_is.Root pid nonce args cause) fits = some
-      by (part_is.Layout pid) fits = some
       by (part_is.Table own ids row) fits = elim (cases_key (key_is.Table t) (key_is.Table own)) [
         | inl same ↦ absurd (some (ap (cat J) same.1 ∙ (table_new own ids row J legal.0 fits).0))
         | inr differs ↦ λ none. some (sym (cond-false (same_key (key_is.Table t) (key_is.Table own)) _ (cat J (key_is.Table t)) differs.0) ∙ none)
       ]
+      by part fits = some
 
   homed_now : (r : Region) → cat (entry_is.Base part ∷ J) (key_is.Region r) ≢ None → cat (entry_is.Base part ∷ J) (key_is.Table r.table) ≢ None
   homed_now r some = elim (own_or part J legal.1.0 r) [
@@ -131,43 +122,19 @@ module _ (part : Part) (J : Past) (legal : IsLegal (entry_is.Base part ∷ J)) (
 pub regions_of_parts : (J : Past) → IsLegal J → are_parts J ≡ true → Regions J
 regions_of_parts [] legal is = record { apart = λ t a b one other ta tb differs la lb. absurd (none-some _ la.1); filled = λ r. tt; homed = λ r some. absurd (some refl) }
 regions_of_parts (entry_is.Base part ∷ J) legal is = let was = regions_of_parts J legal.0 is in record { apart = apart_now part J legal was; filled = filled_now part J legal was; homed = homed_now part J legal was }
-regions_of_parts (entry_is.Start sheets ∷ J) legal is = absurd (false≢true is)
-regions_of_parts (entry_is.Submit nonce request ∷ J) legal is = absurd (false≢true is)
-regions_of_parts (entry_is.Step pid pick out ∷ J) legal is = absurd (false≢true is)
-regions_of_parts (entry_is.Undo pid row out ∷ J) legal is = absurd (false≢true is)
-regions_of_parts (entry_is.Report call told ∷ J) legal is = absurd (false≢true is)
-regions_of_parts (entry_is.Up server ∷ J) legal is = absurd (false≢true is)
-regions_of_parts (entry_is.Down server ∷ J) legal is = absurd (false≢true is)
-regions_of_parts (entry_is.Abort pid ∷ J) legal is = absurd (false≢true is)
-regions_of_parts (entry_is.Adopt sheets ∷ J) legal is = absurd (false≢true is)
+regions_of_parts (entry ∷ J) legal is = absurd (false≢true is)
 
 -- a legal journal is parts alone, or has no unfinished base
 pub half_or : (J : Past) → IsLegal J → (are_parts J ≡ true) ⊎ HasNoHalfBase J
 half_or [] legal = inr tt
-half_or (entry_is.Start sheets ∷ J) legal = inr tt
-half_or (entry_is.Submit nonce request ∷ J) legal = inr tt
-half_or (entry_is.Step pid pick out ∷ J) legal = inr tt
-half_or (entry_is.Undo pid row out ∷ J) legal = inr tt
-half_or (entry_is.Report call told ∷ J) legal = inr tt
-half_or (entry_is.Up server ∷ J) legal = inr tt
-half_or (entry_is.Down server ∷ J) legal = inr tt
-half_or (entry_is.Abort pid ∷ J) legal = inr tt
-half_or (entry_is.Adopt sheets ∷ J) legal = inr tt
 half_or (entry_is.Base part ∷ J) legal = inl (all_parts (entry_is.Base part ∷ J) legal refl)
+half_or (entry ∷ J) legal = inr tt
 
 -- of parts alone the catalog is that of the deeds
 pub parts_serial : (J : Past) → are_parts J ≡ true → (key : CatKey) → serial J key ≡ cat J key
 parts_serial [] is key = refl
-parts_serial (entry_is.Start sheets ∷ J) is key = absurd (false≢true is)
-parts_serial (entry_is.Submit nonce request ∷ J) is key = absurd (false≢true is)
-parts_serial (entry_is.Step pid pick out ∷ J) is key = absurd (false≢true is)
-parts_serial (entry_is.Undo pid row out ∷ J) is key = absurd (false≢true is)
-parts_serial (entry_is.Report call told ∷ J) is key = absurd (false≢true is)
-parts_serial (entry_is.Up server ∷ J) is key = absurd (false≢true is)
-parts_serial (entry_is.Down server ∷ J) is key = absurd (false≢true is)
-parts_serial (entry_is.Abort pid ∷ J) is key = absurd (false≢true is)
-parts_serial (entry_is.Adopt sheets ∷ J) is key = absurd (false≢true is)
 parts_serial (entry_is.Base part ∷ J) is key = ap (part_row part key) (parts_serial J is key)
+parts_serial (entry ∷ J) is key = absurd (false≢true is)
 
 -- at most one of some numbers passes
 at_most_one : (n : ℕ) (g : ℕ → Bool) → ((i j : ℕ) → i < n → j < n → g i ≡ true → g j ≡ true → i ≡ j) → count_below g n ≤ 1

@@ -112,16 +112,10 @@ module _ (act : Act) (rows : Rows) (edits : List Edit) where
 
   -- only splits and merges change regions by themselves
   wide_lists : (request : Request) → is_local request ≡ false → (is_listed (request_kind request) act_is.UpdateSplitMeta ≡ false) × (is_listed (request_kind request) act_is.UpdateMergeMeta ≡ false)
-  wide_lists (request_is.CreateNamespace ns) h = (refl, refl)
-  wide_lists (request_is.DropNamespace ns) h = (refl, refl)
-  wide_lists (request_is.CreateTable table keys) h = (refl, refl)
-  wide_lists (request_is.DeleteTable table) h = (refl, refl)
-  wide_lists (request_is.EnableTable table) h = (refl, refl)
-  wide_lists (request_is.DisableTable table) h = (refl, refl)
-  wide_lists (request_is.ModifyTable table version) h = (refl, refl)
   wide_lists (request_is.SplitRegion region key) h = absurd (true≢false h)
   wide_lists (request_is.MergeRegions regions) h = absurd (true≢false h)
   wide_lists (request_is.Move region to) h = absurd (true≢false h)
+  wide_lists request h = (refl, refl)
 
   wide_gives : (request : Request) (first : ℕ) → is_local request ≡ false → is_listed (request_kind request) act ≡ true → Shape act (args_are.Root request first) rows edits → Gives (args_are.Root request first) rows edits
   wide_gives request first wide on (inl none) = quiet_gives (args_are.Root request first) rows edits none
@@ -136,13 +130,7 @@ module _ (act : Act) (rows : Rows) (edits : List Edit) where
   gives (args_are.Root request first) (inr kid) exact on shape = absurd (false≢true kid)
   gives (args_are.AddRegions table first bounds) which exact on shape = adds_give table first bounds on shape
   gives (args_are.DropRegions table ids) which exact on shape = drops_give table ids on shape
-  gives (args_are.Transit region goal to) which exact on shape = absurd (cons_nil _ _ exact)
-  gives (args_are.Crash server) which exact on shape = absurd (cons_nil _ _ exact)
-  gives (args_are.AssignCall region server) which exact on shape = absurd (cons_nil _ _ exact)
-  gives (args_are.CloseCall region server) which exact on shape = absurd (cons_nil _ _ exact)
-  gives (args_are.FenceCall server) which exact on shape = absurd (cons_nil _ _ exact)
-  gives (args_are.LayoutCall root) which exact on shape = absurd (cons_nil _ _ exact)
-  gives (args_are.SweepLayout root) which exact on shape = absurd (cons_nil _ _ exact)
+  gives args which exact on shape = absurd (cons_nil _ _ exact)
 
 -- what is read of a catalog is there
 pub read_or : (asked : CatKey → Bool) (there : Catalog) (keys : List CatKey) (key : CatKey) → (row_at (rows_at asked there keys) key ≡ None) ⊎ (row_at (rows_at asked there keys) key ≡ there key)

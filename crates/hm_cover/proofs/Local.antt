@@ -53,15 +53,7 @@ local_free (args_are.Root (request_is.DeleteTable table) first) h t = absurd (fa
 local_free (args_are.Root (request_is.EnableTable table) first) h t = absurd (false≢true h)
 local_free (args_are.Root (request_is.DisableTable table) first) h t = absurd (false≢true h)
 local_free (args_are.Root (request_is.ModifyTable table version) first) h t = absurd (false≢true h)
-local_free (args_are.Transit region goal to) h t = refl
-local_free (args_are.Crash server) h t = refl
-local_free (args_are.AddRegions table first bounds) h t = refl
-local_free (args_are.DropRegions table ids) h t = refl
-local_free (args_are.AssignCall region server) h t = refl
-local_free (args_are.CloseCall region server) h t = refl
-local_free (args_are.FenceCall server) h t = refl
-local_free (args_are.LayoutCall root) h t = refl
-local_free (args_are.SweepLayout root) h t = refl
+local_free args h t = refl
 
 own_id : (args : Args) (t : TableName) (first i : ℕ) → i ≡ first → covers args (region_key t first) ≡ true → covers args (region_key t i) ≡ true
 own_id args t first i e c = ap (λ j. covers args (region_key t j)) e ∙ c
@@ -76,13 +68,7 @@ covers_new (request_is.MergeRegions []) first h t is i low high = absurd (none-s
 covers_new (request_is.MergeRegions (region ∷ more)) first h t is i low high = subst (λ x. covers (args_are.Root (request_is.MergeRegions (region ∷ more)) first) (region_key x i) ≡ true) (same_Some region.table t is)
     (own_id (args_are.Root (request_is.MergeRegions (region ∷ more)) first) region.table first i (omega (arith, low, high)) (covers_from (args_are.Root (request_is.MergeRegions (region ∷ more)) first) (resource_is.Region (record { table = region.table; id = first })) (region_key region.table first) (merge_new region more first) (same_region-itself (record { table = region.table; id = first }))))
 covers_new (request_is.Move region to) first h t is i low high = absurd (omega (arith, low, high))
-covers_new (request_is.CreateNamespace ns) first h t is i low high = absurd (false≢true h)
-covers_new (request_is.DropNamespace ns) first h t is i low high = absurd (false≢true h)
-covers_new (request_is.CreateTable table keys) first h t is i low high = absurd (false≢true h)
-covers_new (request_is.DeleteTable table) first h t is i low high = absurd (false≢true h)
-covers_new (request_is.EnableTable table) first h t is i low high = absurd (false≢true h)
-covers_new (request_is.DisableTable table) first h t is i low high = absurd (false≢true h)
-covers_new (request_is.ModifyTable table version) first h t is i low high = absurd (false≢true h)
+covers_new request first h t is i low high = absurd (false≢true h)
 
 split_ready : (region : Region) (key : List ℕ) (first : ℕ) (base : Catalog) (lines : List Line) (then : List Edit) → Splitting region key first base lines then → (then ≡ []) ⊎ Splitting region key first base (late act_is.Finish ∷ []) then
 split_ready region key first base lines then Splitting.begins = inl refl

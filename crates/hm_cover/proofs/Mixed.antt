@@ -117,11 +117,7 @@ root_touches args wide key = absurd (true≢false wide)
 
 waiting_fine : (answer : Answer) → IsWaiting (Some answer) → failing answer ≡ None
 waiting_fine (answer_is.Wait n) w = refl
-waiting_fine (answer_is.More n) w = absurd w
-waiting_fine (answer_is.Await n) w = absurd w
-waiting_fine (answer_is.Done told) w = absurd w
-waiting_fine (answer_is.Fail c) w = absurd w
-waiting_fine answer_is.Undone w = absurd w
+waiting_fine answer w = absurd w
 
 waiting_some : (o : Option Answer) → IsWaiting o → o ≢ None
 waiting_some None w e = w
@@ -235,8 +231,6 @@ module _ (pid : Pid) (pick : Option Server) (out : StepOut) (J : Past) (legal : 
       ]
 
       rows_now : (key : CatKey) → MixedAt node.args base key (cat (entry_is.Step pid pick out ∷ J) key)
-      rows_now (key_is.Ns ns) region c = absurd (true≢false (sym region))
-      rows_now (key_is.Table table) region c = absurd (true≢false (sym region))
       rows_now (key_is.Region one) region c = elim given [
         | inl none ↦ subst (IsMixed node.args base (key_is.Region one)) (sym (ap (λ l. edited l (key_is.Region one) (cat J (key_is.Region one))) none)) (s.rows (key_is.Region one) region c)
         | inr g ↦ elim (g.leaves one (cat J (key_is.Region one))) [
@@ -244,6 +238,7 @@ module _ (pid : Pid) (pick : Option Server) (out : StepOut) (J : Past) (legal : 
           | inr took ↦ subst (IsMixed node.args base (key_is.Region one)) (sym took.1) (own_value (key_is.Region one) took.0)
         ]
       ]
+      rows_now key region c = absurd (true≢false (sym region))
 
       reads_so : RegionsRead out.edits rows_seen
       reads_so = elim given [ inl none ↦ subst (λ l. RegionsRead l rows_seen) (sym none) tt | inr g ↦ g.finds ]
@@ -371,12 +366,9 @@ mixed_all (entry_is.Submit nonce request ∷ J) legal r node h wide =
     made_mixed J (entry_is.Submit nonce request ∷ J) rooted grown refl refl refl r node (mixed_all J legal.0 r node (held_before J (entry_is.Submit nonce request ∷ J) rooted grown r node refl refl refl h) wide)
 mixed_all (entry_is.Step pid pick out ∷ J) legal r node h wide = step_mixed pid pick out J legal (mixed_all J legal.0) r node h wide
 mixed_all (entry_is.Undo pid row out ∷ J) legal r node h wide = undo_mixed pid row out J legal (mixed_all J legal.0) r node h wide
-mixed_all (entry_is.Report call told ∷ J) legal r node h wide = let t = mixed_all J legal.0 r node h wide in record { rows = t.rows; kids = t.kids; mixes = t.mixes }
-mixed_all (entry_is.Up server ∷ J) legal r node h wide = let t = mixed_all J legal.0 r node h wide in record { rows = t.rows; kids = t.kids; mixes = t.mixes }
 mixed_all (entry_is.Down server ∷ J) legal r node h wide =
     let grown = grown_all J legal.0 in
     let rooted = down_rooted server J grown in
     made_mixed J (entry_is.Down server ∷ J) rooted grown refl refl refl r node (mixed_all J legal.0 r node (held_before J (entry_is.Down server ∷ J) rooted grown r node refl refl refl h) wide)
-mixed_all (entry_is.Abort pid ∷ J) legal r node h wide = let t = mixed_all J legal.0 r node h wide in record { rows = t.rows; kids = t.kids; mixes = t.mixes }
-mixed_all (entry_is.Adopt sheets ∷ J) legal r node h wide = let t = mixed_all J legal.0 r node h wide in record { rows = t.rows; kids = t.kids; mixes = t.mixes }
 mixed_all (entry_is.Base part ∷ J) legal r node h wide = absurd (none-some node h.0.0)
+mixed_all (entry ∷ J) legal r node h wide = let t = mixed_all J legal.0 r node h wide in record { rows = t.rows; kids = t.kids; mixes = t.mixes }

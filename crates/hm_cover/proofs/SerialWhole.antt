@@ -75,15 +75,7 @@ asked_ids d (args_are.Root request first) a fits is u i at =
     let own : (x : Asked) → x ≡ a → InRange x u i = (λ x e. subst (λ y. InRange y u i) (sym e) at) in
     let mine = own (record { request = request; first = first }) (same_Some (record { request = request; first = first }) a is) in
     fits u mine.0 i mine.1 mine.2
-asked_ids d (args_are.Transit region goal to) a fits is u i at = absurd (none-some a is)
-asked_ids d (args_are.Crash server) a fits is u i at = absurd (none-some a is)
-asked_ids d (args_are.AddRegions table first bounds) a fits is u i at = absurd (none-some a is)
-asked_ids d (args_are.DropRegions table ids) a fits is u i at = absurd (none-some a is)
-asked_ids d (args_are.AssignCall region server) a fits is u i at = absurd (none-some a is)
-asked_ids d (args_are.CloseCall region server) a fits is u i at = absurd (none-some a is)
-asked_ids d (args_are.FenceCall server) a fits is u i at = absurd (none-some a is)
-asked_ids d (args_are.LayoutCall root) a fits is u i at = absurd (none-some a is)
-asked_ids d (args_are.SweepLayout root) a fits is u i at = absurd (none-some a is)
+asked_ids d args a fits is u i at = absurd (none-some a is)
 
 -- a deed that a step ends, or nothing
 deed_or_none : (above : List ℕ) (answer : Answer) (o : Option Asked) (keys : List CatKey) (there : Catalog)
@@ -116,15 +108,7 @@ waiting_undone o w = running_undone o (waiting_runs o w)
 
 kid_unasked : (args : Args) → is_kid args ≡ true → asked_of args ≡ None
 kid_unasked (args_are.Root request first) k = absurd (false≢true k)
-kid_unasked (args_are.Transit region goal to) k = refl
-kid_unasked (args_are.Crash server) k = refl
-kid_unasked (args_are.AddRegions table first bounds) k = refl
-kid_unasked (args_are.DropRegions table ids) k = refl
-kid_unasked (args_are.AssignCall region server) k = refl
-kid_unasked (args_are.CloseCall region server) k = refl
-kid_unasked (args_are.FenceCall server) k = refl
-kid_unasked (args_are.LayoutCall root) k = refl
-kid_unasked (args_are.SweepLayout root) k = refl
+kid_unasked args k = refl
 
 -- while a descendant goes on its root hasn't ended
 kid_open : (J : Past) → Grown J → (q : ℕ) (y : Node) → node_of J q ≡ Some y → y.above ≢ [] → is_stopped (last_answer J q) ≡ false → IsWaiting (last_answer J y.root) × (root_ended J y.root ≡ false)
@@ -341,9 +325,8 @@ module _ (n : ℕ) (big : 4096 < n) (pid : Pid) (pick : Option Server) (out : St
         none_from (serial (entry_is.Step pid pick out ∷ J) (region_key u i)) (λ some. edited_drawn (λ t j. InRange b t j → ⊥) done (region_key u i) (serial J (region_key u i)) all (rows (region_key u i)) some at)
       where
         seen_free : SeenDrawn (λ t j. InRange b t j → ⊥) (serial J)
-        seen_free (key_is.Ns ns) = tt
-        seen_free (key_is.Table table) = tt
         seen_free (key_is.Region r) = λ some its. some (kept.free q y b qy qb undone r.table r.id its)
+        seen_free key = tt
 
     deed_done : IsWhole n (entry_is.Step pid pick out ∷ J)
     unfolding step grown
@@ -371,10 +354,9 @@ assigns_unasked [] = tt
 assigns_unasked (batch ∷ more) = ((λ id. refl), assigns_unasked more)
 
 followers_unasked : (undo : Back) (args : Args) (root : Pid) → AllMade (λ own. asked_of own ≡ None) (undo_followers undo args root)
-followers_unasked back_is.Nothing args root = tt
-followers_unasked back_is.Edits args root = tt
 followers_unasked back_is.Sweep args root = (refl, tt)
 followers_unasked back_is.Reopen args root = assigns_unasked (batches (in_name_order (closed_by args)))
+followers_unasked undo args root = tt
 
 undo_old : (pid : Pid) (row : ℕ) (out : StepOut) (J : Past) → IsLegal (entry_is.Undo pid row out ∷ J) → (p : ℕ) (x : Node) (a : Asked) → node_of (entry_is.Undo pid row out ∷ J) p ≡ Some x → asked_of x.args ≡ Some a → node_of J p ≡ Some x
 undo_old pid row out J legal p x a is asked = elim (le_or_lt p (made J)) [
@@ -419,11 +401,7 @@ whole_all n big (entry_is.Start sheets ∷ J) legal begun = calm_whole n J (entr
 whole_all n big (entry_is.Submit nonce request ∷ J) legal begun = submit_whole n nonce request J legal (whole_all n big J legal.0 (no_half J legal.1.0))
 whole_all n big (entry_is.Step pid pick out ∷ J) legal begun = step_whole n big pid pick out J legal (whole_all n big J legal.0 (no_half J legal.1.0))
 whole_all n big (entry_is.Undo pid row out ∷ J) legal begun = calm_whole n J (entry_is.Undo pid row out ∷ J) (whole_all n big J legal.0 (no_half J legal.1.0)) (λ key. refl) (undo_old pid row out J legal) (λ p. refl) (λ key at. in_with_keys key out.edits (keys_of J) at) (λ t. refl)
-whole_all n big (entry_is.Report call told ∷ J) legal begun = calm_whole n J (entry_is.Report call told ∷ J) (whole_all n big J legal.0 (no_half J legal.1.0)) (λ key. refl) (λ p x a is asked. is) (λ p. refl) (λ key at. at) (λ t. refl)
-whole_all n big (entry_is.Up server ∷ J) legal begun = calm_whole n J (entry_is.Up server ∷ J) (whole_all n big J legal.0 (no_half J legal.1.0)) (λ key. refl) (λ p x a is asked. is) (λ p. refl) (λ key at. at) (λ t. refl)
 whole_all n big (entry_is.Down server ∷ J) legal begun = calm_whole n J (entry_is.Down server ∷ J) (whole_all n big J legal.0 (no_half J legal.1.0)) (λ key. refl) (down_old server J) (λ p. refl) (λ key at. at) (λ t. refl)
-whole_all n big (entry_is.Abort pid ∷ J) legal begun = calm_whole n J (entry_is.Abort pid ∷ J) (whole_all n big J legal.0 (no_half J legal.1.0)) (λ key. refl) (λ p x a is asked. is) (λ p. refl) (λ key at. at) (λ t. refl)
-whole_all n big (entry_is.Adopt sheets ∷ J) legal begun = calm_whole n J (entry_is.Adopt sheets ∷ J) (whole_all n big J legal.0 (no_half J legal.1.0)) (λ key. refl) (λ p x a is asked. is) (λ p. refl) (λ key at. at) (λ t. refl)
 whole_all n big (entry_is.Base part ∷ J) legal begun = record {
   whole = λ t. whole_same n (cat (entry_is.Base part ∷ J)) (serial (entry_is.Base part ∷ J)) t (λ id. sym (same (region_key t id))) (ap is_some (sym (same (key_is.Table t)))) (base_whole n big (entry_is.Base part ∷ J) legal (all_parts (entry_is.Base part ∷ J) legal refl) begun t);
   sound = λ p x a is. absurd (none-some x is);
@@ -435,6 +413,7 @@ whole_all n big (entry_is.Base part ∷ J) legal begun = record {
   where
     same : (key : CatKey) → cat (entry_is.Base part ∷ J) key ≡ serial (entry_is.Base part ∷ J) key
     same key = catalog_is (entry_is.Base part ∷ J) legal key (λ busy. none-some busy.1 busy.2)
+whole_all n big (entry ∷ J) legal begun = calm_whole n J (entry ∷ J) (whole_all n big J legal.0 (no_half J legal.1.0)) (λ key. refl) (λ p x a is asked. is) (λ p. refl) (λ key at. at) (λ t. refl)
 
 -- where no root holds, the catalog has whole tables too
 pub rest_whole : (n : ℕ) → 4096 < n → (J : Past) → IsLegal J → HasNoHalfBase J → ((r : ℕ) (x : Node) → TopHolds J r x → ⊥) → (t : TableName) → Whole n (cat J) t

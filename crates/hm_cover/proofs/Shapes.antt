@@ -41,9 +41,8 @@ use Rattle.hm_model.specs.Views.{asked_of, bounds_of, first_id_of, namespace_of,
 use Rattle.hm_model.specs.Wanted.{ids_of, layout_of, server_of}
 
 abbrev pub is_region_key : CatKey → Bool
-is_region_key (key_is.Ns ns) = false
-is_region_key (key_is.Table table) = false
 is_region_key (key_is.Region region) = true
+is_region_key key = false
 
 -- no edit is of a region's row
 abbrev pub NoRegion : List Edit → Type 0
@@ -102,14 +101,7 @@ module _ (act : Act) (args : Args) (rows : Rows) where
 
   told_fine : (told : Told) → Shaped act args rows (layout_told told)
   told_fine told_is.Nothing = inl tt
-  told_fine told_is.Opened = inl tt
-  told_fine told_is.FailedOpen = inl tt
-  told_fine told_is.Closed = inl tt
-  told_fine told_is.Gone = inl tt
-  told_fine told_is.Fenced = inl tt
-  told_fine told_is.LaidOut = inl tt
-  told_fine told_is.Refused = inl tt
-  told_fine told_is.Swept = inl tt
+  told_fine told = inl tt
 
   layout_fine : (told : Option Told) → Shaped act args rows (settle_layout told)
   layout_fine None = inl tt
@@ -150,12 +142,6 @@ shape_act act_is.CheckMerge next at = fine_checked act_is.CheckMerge at.args at.
 shape_act act_is.UpdateMergeMeta next at = inr (inr (inr (inr (refl, refl))))
 shape_act act_is.AddRegionRows next at = fine_given act_is.AddRegionRows at.args at.rows (table_of at.args) next (λ table. given (bounds_of at.args) next (λ bounds. edits_rows next (add_ranges (row_at at.rows) table (first_id_of at.args) (ranges_between bounds)))) (λ table is. fine_given act_is.AddRegionRows at.args at.rows (bounds_of at.args) next (λ bounds. edits_rows next (add_ranges (row_at at.rows) table (first_id_of at.args) (ranges_between bounds))) (λ bounds bound. inr (inl (refl, table, is, bounds, bound, refl))))
 shape_act act_is.DropRegionRows next at = fine_given act_is.DropRegionRows at.args at.rows (table_of at.args) next (λ table. edits_rows next (remove_regions (row_at at.rows) (regions_in table (ids_of at.args)))) (λ table is. inr (inr (inl (refl, table, is, refl))))
-shape_act act_is.GetAssignCandidate next at = moves_fine act_is.GetAssignCandidate at.args at.rows (act_answer act_is.GetAssignCandidate next at) (move_act act_is.GetAssignCandidate refl next at)
-shape_act act_is.Open next at = moves_fine act_is.Open at.args at.rows (act_answer act_is.Open next at) (move_act act_is.Open refl next at)
-shape_act act_is.ConfirmOpened next at = moves_fine act_is.ConfirmOpened at.args at.rows (act_answer act_is.ConfirmOpened next at) (move_act act_is.ConfirmOpened refl next at)
-shape_act act_is.Close next at = moves_fine act_is.Close at.args at.rows (act_answer act_is.Close next at) (move_act act_is.Close refl next at)
-shape_act act_is.ConfirmClosed next at = moves_fine act_is.ConfirmClosed at.args at.rows (act_answer act_is.ConfirmClosed next at) (move_act act_is.ConfirmClosed refl next at)
-shape_act act_is.CheckMove next at = moves_fine act_is.CheckMove at.args at.rows (act_answer act_is.CheckMove next at) (move_act act_is.CheckMove refl next at)
 shape_act act_is.Fence next at = fine_given act_is.Fence at.args at.rows (server_of at.args) next (λ server. spawns next (child_is.One (args_are.FenceCall server) ∷ [])) (λ server is. fine_spawns act_is.Fence at.args at.rows next (child_is.One (args_are.FenceCall server) ∷ []))
 shape_act act_is.Reassign next at = reassign_fine act_is.Reassign at.args at.rows next (transits goal_is.Assign at.on_server)
 shape_act act_is.CallAssign next at = unless_fine act_is.CallAssign at.args at.rows at.fenced (given (region_of at.args) next (λ region. calls next (verb_is.AssignRegion region))) (fine_given act_is.CallAssign at.args at.rows (region_of at.args) next (λ region. calls next (verb_is.AssignRegion region)) (λ region is. inl tt))
@@ -165,6 +151,7 @@ shape_act act_is.CallFence next at = fine_given act_is.CallFence at.args at.rows
 shape_act act_is.CallLayout next at = fine_given act_is.CallLayout at.args at.rows (layout_of at.args) next (λ root. calls next (verb_is.Layout root)) (λ root is. inl tt)
 shape_act act_is.SettleLayout next at = layout_fine act_is.SettleLayout at.args at.rows at.report
 shape_act act_is.CallSweep next at = fine_given act_is.CallSweep at.args at.rows (layout_of at.args) next (λ root. calls next (verb_is.Sweep root)) (λ root is. inl tt)
+shape_act act next at = moves_fine act at.args at.rows (act_answer act next at) (move_act act refl next at)
 
 -- and a row: cut off, none
 pub shape_row : (row : Row) (at : StepIn) → Shaped row.act at.args at.rows (row_answer row at)

@@ -96,29 +96,17 @@ none_spares args edits none t id off = (args_are.AddRegions t 0 [], subst (Withi
 
 -- a split or a merge: what its root asks for alone are regions
 abbrev pub is_local : Request → Bool
-is_local (request_is.CreateNamespace ns) = false
-is_local (request_is.DropNamespace ns) = false
-is_local (request_is.CreateTable table keys) = false
-is_local (request_is.DeleteTable table) = false
-is_local (request_is.EnableTable table) = false
-is_local (request_is.DisableTable table) = false
-is_local (request_is.ModifyTable table version) = false
 is_local (request_is.SplitRegion region key) = true
 is_local (request_is.MergeRegions regions) = true
 is_local (request_is.Move region to) = true
+is_local request = false
 
 -- any other request covers a region's row only with the table's
 pub wide_covers : (request : Request) (first : ℕ) → is_local request ≡ false → (t : TableName) (id : ℕ) → covers (args_are.Root request first) (region_key t id) ≡ covers (args_are.Root request first) (key_is.Table t)
-wide_covers (request_is.CreateNamespace ns) first h t id = refl
-wide_covers (request_is.DropNamespace ns) first h t id = refl
-wide_covers (request_is.CreateTable table keys) first h t id = refl
-wide_covers (request_is.DeleteTable table) first h t id = refl
-wide_covers (request_is.EnableTable table) first h t id = refl
-wide_covers (request_is.DisableTable table) first h t id = refl
-wide_covers (request_is.ModifyTable table version) first h t id = refl
 wide_covers (request_is.SplitRegion region key) first h t id = absurd (true≢false h)
 wide_covers (request_is.MergeRegions regions) first h t id = absurd (true≢false h)
 wide_covers (request_is.Move region to) first h t id = absurd (true≢false h)
+wide_covers request first h t id = refl
 
 abbrev EndsLate : ℕ → Type 0
 EndsLate kind = (act : Act) → is_listed kind act ≡ true → is_edit act ≡ true → is_among (2 ∷ 4 ∷ 11 ∷ 14 ∷ 18 ∷ 19 ∷ 22 ∷ 27 ∷ 30 ∷ []) (act_number act) ≡ true
@@ -148,12 +136,11 @@ late_row sheet valid [] place late leads row is = absurd (valid_end sheet valid 
 late_row sheet valid (line ∷ lines) place late leads row is = ap (λ (r : Row). r.after) (sym (same_Some leads.0 row (sym leads.1 ∙ is))) ∙ leads.2.1 ∙ late
 
 late_answer : (rows : List Row) (first next : ℕ) (answer : Answer) → GoesTo next answer → ((row : Row) → slice_get rows next ≡ Some row → row.after ≡ true) → IsPast rows first answer
-late_answer rows first next (answer_is.More n) goes late runs row is = late row (ap (slice_get rows) (sym goes) ∙ is)
-late_answer rows first next (answer_is.Wait n) goes late runs row is = late row (ap (slice_get rows) (sym goes) ∙ is)
 late_answer rows first next (answer_is.Await n) goes late runs row is = absurd goes
 late_answer rows first next (answer_is.Done told) goes late runs row is = absurd (true≢false runs)
 late_answer rows first next (answer_is.Fail c) goes late runs row is = absurd (true≢false runs)
 late_answer rows first next answer_is.Undone goes late runs row is = absurd goes
+late_answer rows first next answer goes late runs row is = late row (ap (slice_get rows) (sym goes) ∙ is)
 
 nil_is : (rows : List Row) → is_nil rows ≡ true → rows ≡ []
 nil_is [] h = refl
@@ -272,13 +259,7 @@ module _ (pid : Pid) (pick : Option Server) (out : StepOut) (J : Past) (grown : 
     by_args (args_are.Root (request_is.Move region to) first) own none may = absurd (Rattle.hm_model.proofs.ExactRows.cons_nil _ _ (ap (λ a. exact_rows (kind_of a)) (sym own) ∙ exact))
     by_args (args_are.AddRegions table first bounds) own none may = absurd (none-some table (sym none))
     by_args (args_are.DropRegions table ids) own none may = absurd (none-some table (sym none))
-    by_args (args_are.Transit region goal to) own none may = absurd (Rattle.hm_model.proofs.ExactRows.cons_nil _ _ (ap (λ a. exact_rows (kind_of a)) (sym own) ∙ exact))
-    by_args (args_are.Crash server) own none may = absurd (Rattle.hm_model.proofs.ExactRows.cons_nil _ _ (ap (λ a. exact_rows (kind_of a)) (sym own) ∙ exact))
-    by_args (args_are.AssignCall region server) own none may = absurd (Rattle.hm_model.proofs.ExactRows.cons_nil _ _ (ap (λ a. exact_rows (kind_of a)) (sym own) ∙ exact))
-    by_args (args_are.CloseCall region server) own none may = absurd (Rattle.hm_model.proofs.ExactRows.cons_nil _ _ (ap (λ a. exact_rows (kind_of a)) (sym own) ∙ exact))
-    by_args (args_are.FenceCall server) own none may = absurd (Rattle.hm_model.proofs.ExactRows.cons_nil _ _ (ap (λ a. exact_rows (kind_of a)) (sym own) ∙ exact))
-    by_args (args_are.LayoutCall root) own none may = absurd (Rattle.hm_model.proofs.ExactRows.cons_nil _ _ (ap (λ a. exact_rows (kind_of a)) (sym own) ∙ exact))
-    by_args (args_are.SweepLayout root) own none may = absurd (Rattle.hm_model.proofs.ExactRows.cons_nil _ _ (ap (λ a. exact_rows (kind_of a)) (sym own) ∙ exact))
+    by_args args own none may = absurd (Rattle.hm_model.proofs.ExactRows.cons_nil _ _ (ap (λ a. exact_rows (kind_of a)) (sym own) ∙ exact))
 
     lined_could : MayFall J' step.node.root top → MayFall J step.node.root top × EditsSpare top.args out.edits
     lined_could may = (
@@ -437,11 +418,8 @@ spared_all (entry_is.Submit nonce request ∷ J) legal r node h may =
     spared_all J legal.0 r node held (may_on (entry_is.Submit nonce request ∷ J) J r node refl refl (sym (sheets_stay (entry_is.Submit nonce request) J legal r node held.0.0)) may)
 spared_all (entry_is.Step pid pick out ∷ J) legal r node h may = step_spared pid pick out J legal (spared_all J legal.0) r node h may
 spared_all (entry_is.Undo pid row out ∷ J) legal r node h may = undo_spared pid row out J legal (spared_all J legal.0) r node h may
-spared_all (entry_is.Report call told ∷ J) legal r node h may = spared_all J legal.0 r node h may
-spared_all (entry_is.Up server ∷ J) legal r node h may = spared_all J legal.0 r node h may
 spared_all (entry_is.Down server ∷ J) legal r node h may =
     let held = held_before J (entry_is.Down server ∷ J) (down_rooted server J (grown_all J legal.0)) (grown_all J legal.0) r node refl refl refl h in
     spared_all J legal.0 r node held (may_on (entry_is.Down server ∷ J) J r node refl refl (sym (sheets_stay (entry_is.Down server) J legal r node held.0.0)) may)
-spared_all (entry_is.Abort pid ∷ J) legal r node h may = spared_all J legal.0 r node h may
-spared_all (entry_is.Adopt sheets ∷ J) legal r node h may = spared_all J legal.0 r node h may
 spared_all (entry_is.Base part ∷ J) legal r node h may = absurd (none-some node h.0.0)
+spared_all (entry ∷ J) legal r node h may = spared_all J legal.0 r node h may

@@ -162,13 +162,12 @@ module _ (u : TableName) where
   among_here r row rows own = subst (λ b. IsIn r (cond (b && true) (r ∷ all_among u rows) (all_among u rows))) (sym (ap (same_table u) own ∙ same_table-refl u)) (inl refl)
 
   among_later : (key : CatKey) (row : CatRow) (rows : Rows) (r : Region) → IsIn r (all_among u rows) → IsIn r (all_among u ((key, row) ∷ rows))
-  among_later (key_is.Ns ns) row rows r at = at
-  among_later (key_is.Table other) row rows r at = at
   among_later (key_is.Region first) row rows r at = by (same_table u first.table && true)
     where
       by : (b : Bool) → IsIn r (cond b (first ∷ all_among u rows) (all_among u rows))
       by true = inr at
       by false = at
+  among_later key row rows r at = at
 
   among_kept : (b : Bool) (key : CatKey) (o : Option CatRow) (rows : Rows) (r : Region) → IsIn r (all_among u rows) → IsIn r (all_among u (keep b key o rows))
   among_kept false key o rows r at = at

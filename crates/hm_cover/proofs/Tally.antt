@@ -23,8 +23,7 @@ use Rattle.hm_model.specs.GoingBack.{Tells}
 -- a live region with this range has the key
 abbrev pub if_live : Status → Bool → Bool
 if_live status_is.Live has = has
-if_live status_is.Split has = false
-if_live status_is.Merged has = false
+if_live status has = false
 
 -- the row is of a live region that has the key
 abbrev pub serves : List ℕ → Option CatRow → Bool
@@ -62,9 +61,8 @@ left what t (edit ∷ edits) = one_if (counts what t edit.key edit.after) + left
 
 -- the edits are of regions with ids below n, or of other rows
 abbrev pub id_below : ℕ → CatKey → Type 0
-id_below n (key_is.Ns m) = Unit {0}
-id_below n (key_is.Table u) = Unit {0}
 id_below n (key_is.Region r) = r.id < n
+id_below n key = Unit {0}
 
 abbrev pub AllBelow : ℕ → List Edit → Type 0
 AllBelow n [] = Unit {0}

@@ -28,8 +28,7 @@ use Rattle.hm_cover.proofs.Tally.{Row, Regions, total, found, left, serves, AllB
 -- a live region's range has a key
 abbrev pub if_live_filled : Status → KeyRange → Type 0
 if_live_filled status_is.Live range = HasKey range
-if_live_filled status_is.Split range = Unit {0}
-if_live_filled status_is.Merged range = Unit {0}
+if_live_filled status range = Unit {0}
 
 abbrev pub IsFilled : Option CatRow → Type 0
 IsFilled None = Unit {0}

@@ -146,12 +146,8 @@ module _ (there : Catalog) (all : (key : CatKey) → IsSettledRow (there key)) w
   of_asked (Some asked) keys = of_request asked.request asked.first keys
 
   of_answer : (answer : Answer) (whole : Deed) → AreSettled (edits_in whole) → AreSettled (edits_in (at_end answer whole))
-  of_answer (answer_is.More n) whole is = tt
-  of_answer (answer_is.Wait n) whole is = tt
-  of_answer (answer_is.Await n) whole is = tt
   of_answer (answer_is.Done told) whole is = is
-  of_answer (answer_is.Fail cause) whole is = tt
-  of_answer answer_is.Undone whole is = tt
+  of_answer answer whole is = tt
 
   of_root : (above : List ℕ) (whole : Deed) → AreSettled (edits_in whole) → AreSettled (edits_in (if_root above whole))
   of_root [] whole is = is
@@ -162,20 +158,16 @@ module _ (there : Catalog) (all : (key : CatKey) → IsSettledRow (there key)) w
   of_step (Some node) answer keys = of_root node.above _ (of_answer answer _ (of_asked (asked_of node.args) keys))
 
 settled_start : (key : CatKey) → IsSettledRow (at_start key)
-settled_start (key_is.Table table) = tt
-settled_start (key_is.Region region) = tt
 settled_start (key_is.Ns ns) = by (bytes_eq ns (codes "default") || bytes_eq ns (codes "hbase"))
   where
     by : (b : Bool) → IsSettledRow (if b then Some row_is.Ns else None)
     by true = tt
     by false = tt
+settled_start key = tt
 
 -- a part of a base
 settled_part : (part : Part) (J : Past) → PartFits part J → (key : CatKey) (row : Option CatRow) → IsSettledRow row → IsSettledRow (part_row part key row)
 settled_part (part_is.Head entries last parts sheets) J fits key row is = tt
-settled_part (part_is.Server server fenced) J fits key row is = is
-settled_part (part_is.Root pid nonce args cause) J fits key row is = is
-settled_part (part_is.Layout pid) J fits key row is = is
 settled_part (part_is.Namespace ns) J fits key row is = by (same_key key (key_is.Ns ns))
   where
     by : (b : Bool) → IsSettledRow (if b then Some row_is.Ns else row)
@@ -192,6 +184,7 @@ settled_part (part_is.Table table own state) J fits key row is = by (same_key ke
     by true None fine = tt
     by true (Some both) fine = (fine both refl).1
     by false state fine = is
+settled_part part J fits key row is = is
 
 pub settled_all : (J : Past) → IsLegal J → (key : CatKey) → IsSettledRow (serial J key)
 settled_all [] legal key = settled_start key

@@ -80,11 +80,6 @@ none_beside J server one may live there = by (nat_lt one.start server.start) ref
 -- at one address no two are live
 pub alone : (J : Past) → IsLegal J → ArePlain J → (a b : Server) → is_live J a ≡ true → is_live J b ≡ true → same_address a b ≡ true → a ≡ b
 alone [] legal plain a b on there same = absurd (true≢false (sym on))
-alone (entry_is.Start sheets ∷ J) legal plain a b on there same = alone J legal.0 plain.0 a b on there same
-alone (entry_is.Submit nonce request ∷ J) legal plain a b on there same = alone J legal.0 plain.0 a b on there same
-alone (entry_is.Step pid pick out ∷ J) legal plain a b on there same = alone J legal.0 plain.0 a b on there same
-alone (entry_is.Undo pid row out ∷ J) legal plain a b on there same = alone J legal.0 plain.0 a b on there same
-alone (entry_is.Report call told ∷ J) legal plain a b on there same = alone J legal.0 plain.0 a b on there same
 alone (entry_is.Up server ∷ J) legal plain a b on there same =
     both (or_cases (same_server a server) (is_live J a) on) (or_cases (same_server b server) (is_live J b) there) (alone J legal.0 plain.0 a b)
   where
@@ -95,9 +90,9 @@ alone (entry_is.Up server ∷ J) legal plain a b on there same =
     both (inr was) (inr were) before = before was were same
 alone (entry_is.Down server ∷ J) legal plain a b on there same =
     alone J legal.0 plain.0 a b (and_parts (not (same_server a server)) (is_live J a) on).1 (and_parts (not (same_server b server)) (is_live J b) there).1 same
-alone (entry_is.Abort pid ∷ J) legal plain a b on there same = alone J legal.0 plain.0 a b on there same
 alone (entry_is.Adopt sheets ∷ J) legal plain a b on there same = absurd plain.1
 alone (entry_is.Base part ∷ J) legal plain a b on there same = absurd plain.1
+alone (entry ∷ J) legal plain a b on there same = alone J legal.0 plain.0 a b on there same
 
 -- after the end of the one that was live at its address a newer server may come up
 pub up_behind : (J : Past) → IsLegal J → ArePlain J → (server older : Server) → IsOlder J server older → has_newer J server ≡ false → Allowed (entry_is.Down older ∷ J) (entry_is.Up server)

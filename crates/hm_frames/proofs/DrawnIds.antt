@@ -275,7 +275,6 @@ part_low (part_is.Layout pid) J legal fits was (key_is.Region r) = was (key_is.R
 -- each region that is there has an id that was drawn
 pub past_low : (J : Past) → IsLegal J → IsLowPast (drawn J) J
 past_low [] legal = record { nodes = λ p node is. absurd (none-some node is); rows = start_low (drawn []); steps = λ r. tt }
-past_low (entry_is.Start sheets ∷ J) legal = let low = past_low J legal.0 in record { nodes = low.nodes; rows = low.rows; steps = low.steps }
 past_low (entry_is.Submit given asked ∷ J) legal = submit_past J given asked (past_low J legal.0)
 past_low (entry_is.Step pid pick out ∷ J) legal =
     let low = past_low J legal.0 in
@@ -286,12 +285,9 @@ past_low (entry_is.Undo pid row out ∷ J) legal =
     let low = past_low J legal.0 in
     let now = undo_past (drawn J) J low legal.0 pid row out (evaluated_low (drawn J) J low (root_of J pid.0) None out legal.1.1.1.0) in
     record { nodes = now.nodes; rows = now.rows; steps = now.steps }
-past_low (entry_is.Report call told ∷ J) legal = let low = past_low J legal.0 in record { nodes = low.nodes; rows = low.rows; steps = low.steps }
-past_low (entry_is.Up server ∷ J) legal = let low = past_low J legal.0 in record { nodes = low.nodes; rows = low.rows; steps = low.steps }
 past_low (entry_is.Down server ∷ J) legal =
     let low = past_low J legal.0 in
     let now = down_past (drawn J) J low server in
     record { nodes = now.nodes; rows = now.rows; steps = now.steps }
-past_low (entry_is.Abort pid ∷ J) legal = let low = past_low J legal.0 in record { nodes = low.nodes; rows = low.rows; steps = low.steps }
-past_low (entry_is.Adopt sheets ∷ J) legal = let low = past_low J legal.0 in record { nodes = low.nodes; rows = low.rows; steps = low.steps }
 past_low (entry_is.Base own ∷ J) legal = record { nodes = λ p node is. absurd (none-some node is); rows = part_low own J legal.0 legal.1.0 (past_low J legal.0).rows; steps = λ r. tt }
+past_low (entry ∷ J) legal = let low = past_low J legal.0 in record { nodes = low.nodes; rows = low.rows; steps = low.steps }

@@ -294,9 +294,6 @@ part_past own J may fits was = record {
 -- each legal journal is so
 pub past_short : (J : Past) → IsLegal J → All EntryFits J → IsShortPast J
 past_short [] legal fit = nothing_short
-past_short (entry_is.Start sheets ∷ J) legal fit =
-    let was = past_short J legal.0 (All-tail EntryFits (entry_is.Start sheets) J fit) in
-    record { nodes = was.nodes; rows = was.rows; places = was.places; placed = was.placed; steps = was.steps; live = was.live }
 past_short (entry_is.Submit given asked ∷ J) legal fit =
     submit_past J legal.0 (past_short J legal.0 (All-tail EntryFits (entry_is.Submit given asked) J fit)) given asked legal.1.1.0 (All-head EntryFits (entry_is.Submit given asked) J fit).1
 past_short (entry_is.Step pid pick out ∷ J) legal fit =
@@ -309,18 +306,12 @@ past_short (entry_is.Undo pid row out ∷ J) legal fit =
     let fit' = All-tail EntryFits (entry_is.Undo pid row out) J fit in
     let was = past_short J legal.0 fit' in
     undo_past J legal.0 was pid row out (evaluated_short J legal.0 was (few_regions J legal.0) (root_of J pid.0) None out tt legal.1.1.1.0)
-past_short (entry_is.Report call told ∷ J) legal fit =
-    let was = past_short J legal.0 (All-tail EntryFits (entry_is.Report call told) J fit) in
-    record { nodes = was.nodes; rows = was.rows; places = was.places; placed = was.placed; steps = was.steps; live = was.live }
 past_short (entry_is.Up server ∷ J) legal fit =
     up_past J legal.0 (past_short J legal.0 (All-tail EntryFits (entry_is.Up server) J fit)) server (All-head EntryFits (entry_is.Up server) J fit)
 past_short (entry_is.Down server ∷ J) legal fit =
     down_past J legal.0 (past_short J legal.0 (All-tail EntryFits (entry_is.Down server) J fit)) server (All-head EntryFits (entry_is.Down server) J fit)
-past_short (entry_is.Abort pid ∷ J) legal fit =
-    let was = past_short J legal.0 (All-tail EntryFits (entry_is.Abort pid) J fit) in
-    record { nodes = was.nodes; rows = was.rows; places = was.places; placed = was.placed; steps = was.steps; live = was.live }
-past_short (entry_is.Adopt sheets ∷ J) legal fit =
-    let was = past_short J legal.0 (All-tail EntryFits (entry_is.Adopt sheets) J fit) in
-    record { nodes = was.nodes; rows = was.rows; places = was.places; placed = was.placed; steps = was.steps; live = was.live }
 past_short (entry_is.Base own ∷ J) legal fit =
     part_past own J legal.1.0 (All-head EntryFits (entry_is.Base own) J fit) (past_short J legal.0 (All-tail EntryFits (entry_is.Base own) J fit))
+past_short (entry ∷ J) legal fit =
+    let was = past_short J legal.0 (All-tail EntryFits entry J fit) in
+    record { nodes = was.nodes; rows = was.rows; places = was.places; placed = was.placed; steps = was.steps; live = was.live }

@@ -66,9 +66,8 @@ ArgsDrawn d args = Unit {0}
 
 -- a row at a key, if it is there and of a region, has an id that was drawn
 abbrev pub IsDrawnAt : (TableName → ℕ → Type 0) → CatKey → Option CatRow → Type 0
-IsDrawnAt d (key_is.Ns ns) row = Unit {0}
-IsDrawnAt d (key_is.Table table) row = Unit {0}
 IsDrawnAt d (key_is.Region region) row = row ≢ None → d region.table region.id
+IsDrawnAt d key row = Unit {0}
 
 abbrev pub AllDrawn : (TableName → ℕ → Type 0) → List Edit → Type 0
 AllDrawn d [] = Unit {0}
@@ -87,10 +86,8 @@ drawn_turned d (edit ∷ edits) all = drawn_append d (turned_round edits) (turne
 
 -- so are those of the edits that undo a step
 pub undo_drawn : (d : TableName → ℕ → Type 0) (undo : Back) (edits : List Edit) → AllDrawn d edits → AllDrawn d (undo_edits undo edits)
-undo_drawn d back_is.Nothing edits all = tt
 undo_drawn d back_is.Edits edits all = drawn_turned d edits all
-undo_drawn d back_is.Sweep edits all = tt
-undo_drawn d back_is.Reopen edits all = tt
+undo_drawn d undo edits all = tt
 
 -- what a step edits and makes
 pub record IsFine (d : TableName → ℕ → Type 0) (out : StepOut) : Type 0 where
@@ -103,54 +100,23 @@ bounds_fit_by d (request_is.CreateTable t keys) first table bounds args is bound
     let size : length keys + 1 ≡ length (keys ++ [] ∷ []) = sym (length-append keys ([] ∷ [])) in
     let whole : suc (length (keys ++ [] ∷ [])) ≡ length bounds = ap length (same_Some ([] ∷ keys ++ [] ∷ []) bounds bound) in
     args table is i low (omega (arith, high, size, whole))
-bounds_fit_by d (request_is.CreateNamespace ns) first table bounds args is bound = absurd (none-some bounds bound)
-bounds_fit_by d (request_is.DropNamespace ns) first table bounds args is bound = absurd (none-some bounds bound)
-bounds_fit_by d (request_is.DeleteTable t) first table bounds args is bound = absurd (none-some bounds bound)
-bounds_fit_by d (request_is.EnableTable t) first table bounds args is bound = absurd (none-some bounds bound)
-bounds_fit_by d (request_is.DisableTable t) first table bounds args is bound = absurd (none-some bounds bound)
-bounds_fit_by d (request_is.ModifyTable t version) first table bounds args is bound = absurd (none-some bounds bound)
-bounds_fit_by d (request_is.SplitRegion region key) first table bounds args is bound = absurd (none-some bounds bound)
-bounds_fit_by d (request_is.MergeRegions regions) first table bounds args is bound = absurd (none-some bounds bound)
-bounds_fit_by d (request_is.Move region to) first table bounds args is bound = absurd (none-some bounds bound)
+bounds_fit_by d request first table bounds args is bound = absurd (none-some bounds bound)
 
 module _ (d : TableName → ℕ → Type 0) where
   pub bounds_fit : (args : Args) (table : TableName) (bounds : List (List ℕ)) → ArgsDrawn d args → table_of args ≡ Some table → bounds_of args ≡ Some bounds → (i : ℕ) → first_id_of args ≤ i → i + 1 < first_id_of args + length bounds → d table i
   bounds_fit (args_are.Root request first) table bounds args is bound = bounds_fit_by d request first table bounds args is bound
   bounds_fit (args_are.AddRegions t first own) table bounds args is bound =
       subst (λ x. (i : ℕ) → first ≤ i → i + 1 < first + length bounds → d x i) (same_Some t table is) (subst (λ x. (i : ℕ) → first ≤ i → i + 1 < first + length x → d t i) (same_Some own bounds bound) args)
-  bounds_fit (args_are.Transit region goal to) table bounds args is bound = absurd (none-some bounds bound)
-  bounds_fit (args_are.Crash server) table bounds args is bound = absurd (none-some bounds bound)
-  bounds_fit (args_are.DropRegions t ids) table bounds args is bound = absurd (none-some bounds bound)
-  bounds_fit (args_are.AssignCall region server) table bounds args is bound = absurd (none-some bounds bound)
-  bounds_fit (args_are.CloseCall region server) table bounds args is bound = absurd (none-some bounds bound)
-  bounds_fit (args_are.FenceCall server) table bounds args is bound = absurd (none-some bounds bound)
-  bounds_fit (args_are.LayoutCall root) table bounds args is bound = absurd (none-some bounds bound)
-  bounds_fit (args_are.SweepLayout root) table bounds args is bound = absurd (none-some bounds bound)
+  bounds_fit other table bounds args is bound = absurd (none-some bounds bound)
 
   -- the daughters of a split
   cut_fit_by : (request : Request) (first : ℕ) (region : Region) (key : List ℕ) → ArgsDrawn d (args_are.Root request first) → region_of (args_are.Root request first) ≡ Some region → cut_of (asked_of (args_are.Root request first)) ≡ Some key → (i : ℕ) → first ≤ i → i < first + 2 → d region.table i
   cut_fit_by (request_is.SplitRegion own at) first region key args is cut = args region.table (ap (λ (r : Region). Some r.table) (same_Some own region is))
-  cut_fit_by (request_is.CreateNamespace ns) first region key args is cut = absurd (none-some key cut)
-  cut_fit_by (request_is.DropNamespace ns) first region key args is cut = absurd (none-some key cut)
-  cut_fit_by (request_is.CreateTable t keys) first region key args is cut = absurd (none-some key cut)
-  cut_fit_by (request_is.DeleteTable t) first region key args is cut = absurd (none-some key cut)
-  cut_fit_by (request_is.EnableTable t) first region key args is cut = absurd (none-some key cut)
-  cut_fit_by (request_is.DisableTable t) first region key args is cut = absurd (none-some key cut)
-  cut_fit_by (request_is.ModifyTable t version) first region key args is cut = absurd (none-some key cut)
-  cut_fit_by (request_is.MergeRegions regions) first region key args is cut = absurd (none-some key cut)
-  cut_fit_by (request_is.Move own to) first region key args is cut = absurd (none-some key cut)
+  cut_fit_by request first region key args is cut = absurd (none-some key cut)
 
   cut_fit : (args : Args) (region : Region) (key : List ℕ) → ArgsDrawn d args → region_of args ≡ Some region → cut_of (asked_of args) ≡ Some key → (i : ℕ) → first_id_of args ≤ i → i < first_id_of args + 2 → d region.table i
   cut_fit (args_are.Root request first) region key args is cut = cut_fit_by request first region key args is cut
-  cut_fit (args_are.AddRegions t first own) region key args is cut = absurd (none-some key cut)
-  cut_fit (args_are.Transit own goal to) region key args is cut = absurd (none-some key cut)
-  cut_fit (args_are.Crash server) region key args is cut = absurd (none-some key cut)
-  cut_fit (args_are.DropRegions t ids) region key args is cut = absurd (none-some key cut)
-  cut_fit (args_are.AssignCall own server) region key args is cut = absurd (none-some key cut)
-  cut_fit (args_are.CloseCall own server) region key args is cut = absurd (none-some key cut)
-  cut_fit (args_are.FenceCall server) region key args is cut = absurd (none-some key cut)
-  cut_fit (args_are.LayoutCall root) region key args is cut = absurd (none-some key cut)
-  cut_fit (args_are.SweepLayout root) region key args is cut = absurd (none-some key cut)
+  cut_fit other region key args is cut = absurd (none-some key cut)
 
   -- the region that others become
   abbrev pub IsFirstDrawn : ℕ → List Region → Type 0
@@ -172,22 +138,13 @@ module _ (d : TableName → ℕ → Type 0) where
   closed_fit (args_are.Root (request_is.DisableTable t) first) args = tt
   closed_fit (args_are.Root (request_is.ModifyTable t version) first) args = tt
   closed_fit (args_are.Root (request_is.Move region to) first) args = tt
-  closed_fit (args_are.AddRegions t first own) args = tt
-  closed_fit (args_are.Transit own goal to) args = tt
-  closed_fit (args_are.Crash server) args = tt
-  closed_fit (args_are.DropRegions t ids) args = tt
-  closed_fit (args_are.AssignCall own server) args = tt
-  closed_fit (args_are.CloseCall own server) args = tt
-  closed_fit (args_are.FenceCall server) args = tt
-  closed_fit (args_are.LayoutCall root) args = tt
-  closed_fit (args_are.SweepLayout root) args = tt
+  closed_fit other args = tt
 
   -- edits
   pub map_drawn : (key : CatKey) (change : CatRow → CatRow) (o : Option CatRow) → IsDrawnAt d key o → IsDrawnAt d key (option_map change o)
-  map_drawn (key_is.Ns ns) change o drawn = tt
-  map_drawn (key_is.Table table) change o drawn = tt
   map_drawn (key_is.Region region) change None drawn = λ some. absurd (some refl)
   map_drawn (key_is.Region region) change (Some row) drawn = λ some. drawn (λ e. none-some row (sym e))
+  map_drawn key change o drawn = tt
 
   module _ (seen : Catalog) (rows : SeenDrawn d seen) where
     pub add_fine : (table : TableName) (first : ℕ) (ranges : List KeyRange) → ((i : ℕ) → first ≤ i → i < first + length ranges → d table i) → AllDrawn d (add_ranges seen table first ranges)
@@ -247,10 +204,9 @@ module _ (d : TableName → ℕ → Type 0) where
   transits_fine goal regions = transit_list goal (batches (in_name_order regions))
 
   pub followers_fine : (undo : Back) (args : Args) (root : Pid) → AllMade (ArgsDrawn d) (undo_followers undo args root)
-  followers_fine back_is.Nothing args root = tt
-  followers_fine back_is.Edits args root = tt
   followers_fine back_is.Sweep args root = (tt, tt)
   followers_fine back_is.Reopen args root = transits_fine goal_is.Assign (closed_by args)
+  followers_fine undo args root = tt
 
   drops_fine : (table : TableName) (pieces : List (List ℕ)) → AllMade (ArgsDrawn d) (map (λ piece. child_is.One (args_are.DropRegions table piece)) pieces)
   drops_fine table [] = tt
@@ -300,14 +256,7 @@ module _ (d : TableName → ℕ → Type 0) where
 
   told_fine : (told : Told) → IsFine d (layout_told told)
   told_fine told_is.Nothing = nothing_done
-  told_fine told_is.Opened = nothing_done
-  told_fine told_is.FailedOpen = nothing_done
-  told_fine told_is.Closed = nothing_done
-  told_fine told_is.Gone = nothing_done
-  told_fine told_is.Fenced = nothing_done
-  told_fine told_is.LaidOut = nothing_done
-  told_fine told_is.Refused = nothing_done
-  told_fine told_is.Swept = nothing_done
+  told_fine told = nothing_done
 
   layout_fine : (told : Option Told) → IsFine d (settle_layout told)
   layout_fine None = nothing_done
@@ -359,12 +308,6 @@ module _ (d : TableName → ℕ → Type 0) where
   fine_act act_is.UpdateMergeMeta next at args seen = fine_edits next (merge_edits (row_at at.rows) (closed_by at.args) (first_id_of at.args)) (merge_fine (row_at at.rows) seen (closed_by at.args) (first_id_of at.args) (closed_fit at.args args))
   fine_act act_is.AddRegionRows next at args seen = fine_given (table_of at.args) next (λ table. given (bounds_of at.args) next (λ bounds. edits_rows next (add_ranges (row_at at.rows) table (first_id_of at.args) (ranges_between bounds)))) (λ table is. fine_given (bounds_of at.args) next (λ bounds. edits_rows next (add_ranges (row_at at.rows) table (first_id_of at.args) (ranges_between bounds))) (λ bounds bound. fine_edits next (add_ranges (row_at at.rows) table (first_id_of at.args) (ranges_between bounds)) (between_fine (row_at at.rows) seen table (first_id_of at.args) bounds (bounds_fit at.args table bounds args is bound))))
   fine_act act_is.DropRegionRows next at args seen = fine_given (table_of at.args) next (λ table. edits_rows next (remove_regions (row_at at.rows) (regions_in table (ids_of at.args)))) (λ table is. fine_edits next (remove_regions (row_at at.rows) (regions_in table (ids_of at.args))) (remove_fine (row_at at.rows) seen (regions_in table (ids_of at.args))))
-  fine_act act_is.GetAssignCandidate next at args seen = moves_fine (act_answer act_is.GetAssignCandidate next at) (move_act act_is.GetAssignCandidate refl next at)
-  fine_act act_is.Open next at args seen = moves_fine (act_answer act_is.Open next at) (move_act act_is.Open refl next at)
-  fine_act act_is.ConfirmOpened next at args seen = moves_fine (act_answer act_is.ConfirmOpened next at) (move_act act_is.ConfirmOpened refl next at)
-  fine_act act_is.Close next at args seen = moves_fine (act_answer act_is.Close next at) (move_act act_is.Close refl next at)
-  fine_act act_is.ConfirmClosed next at args seen = moves_fine (act_answer act_is.ConfirmClosed next at) (move_act act_is.ConfirmClosed refl next at)
-  fine_act act_is.CheckMove next at args seen = moves_fine (act_answer act_is.CheckMove next at) (move_act act_is.CheckMove refl next at)
   fine_act act_is.Fence next at args seen = fine_given (server_of at.args) next (λ server. spawns next (child_is.One (args_are.FenceCall server) ∷ [])) (λ server is. fine_spawns next (child_is.One (args_are.FenceCall server) ∷ []) (tt, tt))
   fine_act act_is.Reassign next at args seen = reassign_fine next (transits goal_is.Assign at.on_server) (transits_fine goal_is.Assign at.on_server)
   fine_act act_is.CallAssign next at args seen = unless_fine at.fenced (given (region_of at.args) next (λ region. calls next (verb_is.AssignRegion region))) (fine_given (region_of at.args) next (λ region. calls next (verb_is.AssignRegion region)) (λ region is. nothing_done))
@@ -374,6 +317,7 @@ module _ (d : TableName → ℕ → Type 0) where
   fine_act act_is.CallLayout next at args seen = fine_given (layout_of at.args) next (λ root. calls next (verb_is.Layout root)) (λ root is. nothing_done)
   fine_act act_is.SettleLayout next at args seen = layout_fine at.report
   fine_act act_is.CallSweep next at args seen = fine_given (layout_of at.args) next (λ root. calls next (verb_is.Sweep root)) (λ root is. nothing_done)
+  fine_act act next at args seen = moves_fine (act_answer act next at) (move_act act refl next at)
 
   -- a row's answer: cut off, or that of its act
   pub fine_row : (row : Rattle.hm_data.specs.declared.sheet.Row.Row) (at : StepIn) → ArgsDrawn d at.args → SeenDrawn d (row_at at.rows) → IsFine d (row_answer row at)

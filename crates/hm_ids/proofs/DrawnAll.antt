@@ -63,9 +63,8 @@ pub record IsDrawn (J : Past) : Type 0 where
 -- where more is drawn
 module _ (d e : TableName → ℕ → Type 0) (more : (t : TableName) (i : ℕ) → d t i → e t i) where
   pub at_more : (key : CatKey) (row : Option CatRow) → IsDrawnAt d key row → IsDrawnAt e key row
-  at_more (key_is.Ns ns) row at = tt
-  at_more (key_is.Table table) row at = tt
   at_more (key_is.Region region) row at = λ some. more region.table region.id (at some)
+  at_more key row at = tt
 
   edits_more : (edits : List Edit) → AllDrawn d edits → AllDrawn e edits
   edits_more [] all = tt
@@ -78,14 +77,7 @@ module _ (d e : TableName → ℕ → Type 0) (more : (t : TableName) (i : ℕ) 
   pub args_more : (args : Args) → ArgsDrawn d args → ArgsDrawn e args
   args_more (args_are.Root request first) fits = λ t is i low high. more t i (fits t is i low high)
   args_more (args_are.AddRegions table first bounds) fits = λ i low high. more table i (fits i low high)
-  args_more (args_are.Transit region goal to) fits = tt
-  args_more (args_are.Crash server) fits = tt
-  args_more (args_are.DropRegions table ids) fits = tt
-  args_more (args_are.AssignCall region server) fits = tt
-  args_more (args_are.CloseCall region server) fits = tt
-  args_more (args_are.FenceCall server) fits = tt
-  args_more (args_are.LayoutCall root) fits = tt
-  args_more (args_are.SweepLayout root) fits = tt
+  args_more args fits = tt
 
 module _ (d : TableName → ℕ → Type 0) where
   pub edited_drawn : (edits : List Edit) (key : CatKey) (row : Option CatRow) → AllDrawn d edits → IsDrawnAt d key row → IsDrawnAt d key (edited edits key row)
@@ -113,9 +105,8 @@ module _ (d : TableName → ℕ → Type 0) where
   either_drawn false one other h k = k
 
   none_drawn : (key : CatKey) → IsDrawnAt d key None
-  none_drawn (key_is.Ns ns) = tt
-  none_drawn (key_is.Table table) = tt
   none_drawn (key_is.Region region) = λ some. absurd (some refl)
+  none_drawn key = tt
 
   -- what is read of a catalog
   read_drawn : (asked : CatKey → Bool) (there : Catalog) (keys : List CatKey) → SeenDrawn d there → SeenDrawn d (row_at (rows_at asked there keys))
@@ -131,9 +122,8 @@ module _ (d : TableName → ℕ → Type 0) where
       ]
 
 start_drawn : SeenDrawn (DrawnIn []) at_start
-start_drawn (key_is.Ns ns) = tt
-start_drawn (key_is.Table table) = tt
 start_drawn (key_is.Region region) = λ some. absurd (some refl)
+start_drawn key = tt
 
 -- a submission
 module _ (nonce : Nonce) (request : Request) (J : Past) (kept : IsDrawn J) where
@@ -247,16 +237,12 @@ part_drawn_at (part_is.Region own range status parents place) J legal fits was (
 
 pub drawn_all : (J : Past) → IsLegal J → IsDrawn J
 drawn_all [] legal = record { rows = start_drawn; args = λ p node is. absurd (none-some node is); stacks = λ r. tt }
-drawn_all (entry_is.Start sheets ∷ J) legal = let k = drawn_all J legal.0 in record { rows = k.rows; args = k.args; stacks = k.stacks }
 drawn_all (entry_is.Submit nonce request ∷ J) legal = submit_drawn nonce request J (drawn_all J legal.0)
 drawn_all (entry_is.Step pid pick out ∷ J) legal = step_drawn pid pick out J legal (drawn_all J legal.0)
 drawn_all (entry_is.Undo pid row out ∷ J) legal = undo_drawn_all pid row out J legal (drawn_all J legal.0)
-drawn_all (entry_is.Report call told ∷ J) legal = let k = drawn_all J legal.0 in record { rows = k.rows; args = k.args; stacks = k.stacks }
-drawn_all (entry_is.Up server ∷ J) legal = let k = drawn_all J legal.0 in record { rows = k.rows; args = k.args; stacks = k.stacks }
 drawn_all (entry_is.Down server ∷ J) legal = let k = drawn_all J legal.0 in record { rows = k.rows; args = down_args server J k; stacks = k.stacks }
-drawn_all (entry_is.Abort pid ∷ J) legal = let k = drawn_all J legal.0 in record { rows = k.rows; args = k.args; stacks = k.stacks }
-drawn_all (entry_is.Adopt sheets ∷ J) legal = let k = drawn_all J legal.0 in record { rows = k.rows; args = k.args; stacks = k.stacks }
 drawn_all (entry_is.Base part ∷ J) legal = record { rows = λ key. part_drawn_at part J legal.0 legal.1.0 (drawn_all J legal.0).rows key; args = λ p node is. absurd (none-some node is); stacks = λ r. tt }
+drawn_all (entry ∷ J) legal = let k = drawn_all J legal.0 in record { rows = k.rows; args = k.args; stacks = k.stacks }
 
 pub ids_are_drawn : RegionIdsAreDrawn
 ids_are_drawn J legal table id some = (drawn_all J legal).rows (key_is.Region (record { table = table; id = id })) some

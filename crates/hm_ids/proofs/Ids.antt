@@ -98,9 +98,8 @@ Small table id = (1 ≤ id) × (id < 2 ^ 32)
 
 -- a region's key has an id
 abbrev pub IsIdAt : CatKey → Type 0
-IsIdAt (key_is.Ns ns) = Unit {0}
-IsIdAt (key_is.Table table) = Unit {0}
 IsIdAt (key_is.Region region) = 1 ≤ region.id
+IsIdAt key = Unit {0}
 
 abbrev pub RowsHaveIds : Rows → Type 0
 RowsHaveIds [] = Unit {0}
@@ -179,13 +178,12 @@ numbered table first zero one = tt
 numbered table first (suc count) one = (one, numbered table (first + 1) count (omega (arith, one)))
 
 kept_name : (table : TableName) (test : CatRow → Bool) (key : CatKey) (row : CatRow) (more : List Region) → IsIdAt key → AreRegions more → AreRegions (keep_region table test key row more)
-kept_name table test (key_is.Ns ns) row more one all = all
-kept_name table test (key_is.Table other) row more one all = all
 kept_name table test (key_is.Region region) row more one all = by (same_table table region.table && test row)
   where
     by : (b : Bool) → AreRegions (cond b (region ∷ more) more)
     by true = (one, all)
     by false = all
+kept_name table test key row more one all = all
 
 among : (table : TableName) (test : CatRow → Bool) (rows : Rows) → RowsHaveIds rows → AreRegions (regions_among table test rows)
 among table test [] all = tt
@@ -205,9 +203,8 @@ read_ids asked there [] rows = tt
 read_ids asked there (key ∷ keys) rows = by (read_ids asked there keys rows) (asked key) (there key) refl
   where
     own : (k : CatKey) → there k ≢ None → IsIdAt k
-    own (key_is.Ns ns) some = tt
-    own (key_is.Table table) some = tt
     own (key_is.Region region) some = rows region some
+    own key some = tt
 
     by : RowsHaveIds (rows_at asked there keys) → (b : Bool) (o : Option CatRow) → there key ≡ o → RowsHaveIds (keep b key o (rows_at asked there keys))
     by rest false o e = rest
@@ -237,62 +234,28 @@ adds_name (suc most) table first bounds fits =
 first_named : (args : Args) (bounds : List (List ℕ)) → NamesIds args → bounds_of args ≡ Some bounds → 1 ≤ first_id_of args
 first_named (args_are.Root request first) bounds names is = names.0.0
 first_named (args_are.AddRegions table first own) bounds names is = names.0.0
-first_named (args_are.Transit region goal to) bounds names is = absurd (none-some bounds is)
-first_named (args_are.Crash server) bounds names is = absurd (none-some bounds is)
-first_named (args_are.DropRegions table ids) bounds names is = absurd (none-some bounds is)
-first_named (args_are.AssignCall region server) bounds names is = absurd (none-some bounds is)
-first_named (args_are.CloseCall region server) bounds names is = absurd (none-some bounds is)
-first_named (args_are.FenceCall server) bounds names is = absurd (none-some bounds is)
-first_named (args_are.LayoutCall root) bounds names is = absurd (none-some bounds is)
-first_named (args_are.SweepLayout root) bounds names is = absurd (none-some bounds is)
+first_named args bounds names is = absurd (none-some bounds is)
 
 region_in : (request : Request) (region : Region) → AreIds (ids_in request) → region_of_request request ≡ Some region → 1 ≤ region.id
-region_in (request_is.CreateNamespace ns) region names is = absurd (none-some region is)
-region_in (request_is.DropNamespace ns) region names is = absurd (none-some region is)
-region_in (request_is.CreateTable table keys) region names is = absurd (none-some region is)
-region_in (request_is.DeleteTable table) region names is = absurd (none-some region is)
-region_in (request_is.EnableTable table) region names is = absurd (none-some region is)
-region_in (request_is.DisableTable table) region names is = absurd (none-some region is)
-region_in (request_is.ModifyTable table version) region names is = absurd (none-some region is)
 region_in (request_is.SplitRegion own key) region names is = subst (λ (r : Region). 1 ≤ r.id) (same_Some own region is) names.0
-region_in (request_is.MergeRegions regions) region names is = absurd (none-some region is)
 region_in (request_is.Move own to) region names is = subst (λ (r : Region). 1 ≤ r.id) (same_Some own region is) names.0
+region_in request region names is = absurd (none-some region is)
 
 pub region_named : (args : Args) (region : Region) → NamesIds args → region_of args ≡ Some region → 1 ≤ region.id
 region_named (args_are.Root request first) region names is = region_in request region names.0.1 is
 region_named (args_are.Transit own goal to) region names is = subst (λ (r : Region). 1 ≤ r.id) (same_Some own region is) names.0.0
 region_named (args_are.AssignCall own server) region names is = subst (λ (r : Region). 1 ≤ r.id) (same_Some own region is) names.0.0
 region_named (args_are.CloseCall own server) region names is = subst (λ (r : Region). 1 ≤ r.id) (same_Some own region is) names.0.0
-region_named (args_are.Crash server) region names is = absurd (none-some region is)
-region_named (args_are.AddRegions table first bounds) region names is = absurd (none-some region is)
-region_named (args_are.DropRegions table ids) region names is = absurd (none-some region is)
-region_named (args_are.FenceCall server) region names is = absurd (none-some region is)
-region_named (args_are.LayoutCall root) region names is = absurd (none-some region is)
-region_named (args_are.SweepLayout root) region names is = absurd (none-some region is)
+region_named args region names is = absurd (none-some region is)
 
 closed_in : (request : Request) → AreIds (ids_in request) → AreRegions (closed_by_request request)
-closed_in (request_is.CreateNamespace ns) names = tt
-closed_in (request_is.DropNamespace ns) names = tt
-closed_in (request_is.CreateTable table keys) names = tt
-closed_in (request_is.DeleteTable table) names = tt
-closed_in (request_is.EnableTable table) names = tt
-closed_in (request_is.DisableTable table) names = tt
-closed_in (request_is.ModifyTable table version) names = tt
 closed_in (request_is.SplitRegion region key) names = names
 closed_in (request_is.MergeRegions regions) names = regions_of_ids regions names
-closed_in (request_is.Move region to) names = tt
+closed_in request names = tt
 
 closed_named : (args : Args) → NamesIds args → AreRegions (closed_by args)
 closed_named (args_are.Root request first) names = closed_in request names.0.1
-closed_named (args_are.Transit region goal to) names = tt
-closed_named (args_are.Crash server) names = tt
-closed_named (args_are.AddRegions table first bounds) names = tt
-closed_named (args_are.DropRegions table ids) names = tt
-closed_named (args_are.AssignCall region server) names = tt
-closed_named (args_are.CloseCall region server) names = tt
-closed_named (args_are.FenceCall server) names = tt
-closed_named (args_are.LayoutCall root) names = tt
-closed_named (args_are.SweepLayout root) names = tt
+closed_named args names = tt
 
 regions_named : (table : TableName) (args : Args) (rows : Rows) → NamesIds args → RowsHaveIds rows → (o : Option (List (List ℕ))) → bounds_of args ≡ o → AreRegions (regions_for table (first_id_of args) o rows)
 regions_named table args rows names read None e = among table (λ row. is_live_status (status_in (Some row))) rows read
@@ -300,10 +263,9 @@ regions_named table args rows names read (Some bounds) e = numbered table (first
 
 -- what undoes a step
 pub followers_name : (undo : Back) (args : Args) (root : Pid) → NamesIds args → ChildrenNameIds (undo_followers undo args root)
-followers_name back_is.Nothing args root names = tt
-followers_name back_is.Edits args root names = tt
 followers_name back_is.Sweep args root names = ((tt, omega arith), tt)
 followers_name back_is.Reopen args root names = transits_name goal_is.Assign (closed_by args) (closed_named args names)
+followers_name undo args root names = tt
 
 -- forms of answers
 abbrev pub NamesAll : StepOut → Type 0
@@ -335,14 +297,7 @@ names_ends (Some told) = tt
 
 names_told : (told : Told) → NamesAll (layout_told told)
 names_told told_is.Nothing = tt
-names_told told_is.Opened = tt
-names_told told_is.FailedOpen = tt
-names_told told_is.Closed = tt
-names_told told_is.Gone = tt
-names_told told_is.Fenced = tt
-names_told told_is.LaidOut = tt
-names_told told_is.Refused = tt
-names_told told_is.Swept = tt
+names_told told = tt
 
 names_layout : (told : Option Told) → NamesAll (settle_layout told)
 names_layout None = tt
@@ -403,10 +358,8 @@ names_act act_is.CheckSplit next at sees = names_given (region_of at.args) next 
 names_act act_is.CloseParent next at sees = names_spawns next (transits goal_is.Unassign (closed_by at.args)) (transits_name goal_is.Unassign (closed_by at.args) (closed_named at.args sees.names))
 names_act act_is.UpdateSplitMeta next at sees = names_given (region_of at.args) next (λ region. given (cut_of (asked_of at.args)) next (λ key. edits_rows next (split_edits (row_at at.rows) region key (first_id_of at.args)))) (λ region region_is. names_given (cut_of (asked_of at.args)) next (λ key. edits_rows next (split_edits (row_at at.rows) region key (first_id_of at.args))) (λ key cut_is. tt))
 names_act act_is.OpenDaughters next at sees = names_given (table_of at.args) next (λ table. spawns next (transits goal_is.Assign (regions_in table (numbers_from (first_id_of at.args) 2)))) (λ table table_is. names_spawns next (transits goal_is.Assign (regions_in table (numbers_from (first_id_of at.args) 2))) (transits_name goal_is.Assign (regions_in table (numbers_from (first_id_of at.args) 2)) (numbered table (first_id_of at.args) 2 (sees.first refl))))
-names_act act_is.Finish next at sees = tt
 names_act act_is.CheckMerge next at sees = names_checked next (merge_cause (table_of_first (closed_by at.args)) at.rows (closed_by at.args))
 names_act act_is.CloseParents next at sees = names_spawns next (transits goal_is.Unassign (closed_by at.args)) (transits_name goal_is.Unassign (closed_by at.args) (closed_named at.args sees.names))
-names_act act_is.UpdateMergeMeta next at sees = tt
 names_act act_is.OpenMerged next at sees = names_given (table_of at.args) next (λ table. spawns next (transits goal_is.Assign (regions_in table (numbers_from (first_id_of at.args) 1)))) (λ table table_is. names_spawns next (transits goal_is.Assign (regions_in table (numbers_from (first_id_of at.args) 1))) (transits_name goal_is.Assign (regions_in table (numbers_from (first_id_of at.args) 1)) (numbered table (first_id_of at.args) 1 (sees.first refl))))
 names_act act_is.AddRegionRows next at sees = names_given (table_of at.args) next (λ table. given (bounds_of at.args) next (λ bounds. edits_rows next (add_ranges (row_at at.rows) table (first_id_of at.args) (ranges_between bounds)))) (λ table table_is. names_given (bounds_of at.args) next (λ bounds. edits_rows next (add_ranges (row_at at.rows) table (first_id_of at.args) (ranges_between bounds))) (λ bounds bounds_is. tt))
 names_act act_is.DropRegionRows next at sees = names_given (table_of at.args) next (λ table. edits_rows next (remove_regions (row_at at.rows) (regions_in table (ids_of at.args)))) (λ table table_is. tt)
@@ -423,8 +376,8 @@ names_act act_is.GetAssignCandidate next at sees = names_given (region_of at.arg
 names_act act_is.Open next at sees = names_given (region_of at.args) next (λ region. given ((told_place at.place).server) next (λ server. spawns next (child_is.One (args_are.AssignCall region server) ∷ []))) (λ region is. names_given ((told_place at.place).server) next (λ server. spawns next (child_is.One (args_are.AssignCall region server) ∷ [])) (λ server there. (((region_named at.args region sees.names is, tt), omega arith), tt)))
 names_act act_is.ConfirmOpened next at sees = names_opened next (told_place at.place).server (is_told told_is.Opened at.ends)
 names_act act_is.Close next at sees = names_given (region_of at.args) next (λ region. close_or_go next (goal_in at.args) region (told_place at.place) (is_open (told_place at.place) at.fenced)) (λ region is. names_close next (goal_in at.args) region (told_place at.place) (is_open (told_place at.place) at.fenced) (region_named at.args region sees.names is))
-names_act act_is.ConfirmClosed next at sees = tt
 names_act act_is.CheckMove next at sees = names_given (region_of at.args) next (λ region. checked next (region_ready (row_at at.rows (key_is.Table region.table)) (row_at at.rows (key_is.Region region)))) (λ region is. names_checked next (region_ready (row_at at.rows (key_is.Table region.table)) (row_at at.rows (key_is.Region region))))
+names_act act next at sees = tt
 
 -- and so a row
 pub row_names : (row : Row) (at : StepIn) → SeesIds row.act at → NamesAll (row_answer row at)

@@ -80,8 +80,6 @@ module _ (pid : Pid) (pick : Option Server) (out : StepOut) (J : Past) (legal : 
   listed none = (led_row (kind_of its.node.args) its.sheet its.valid (row_of J pid.0 its.node) ((grown_all J legal.0).led pid.0 its.node its.node_is none its.sheet its.sheet_is (ready_stops J pid.0 its.node (last_answer J pid.0) its.ready)) its.row its.row_is).listed
 
   first_by : (args : Args) → its.node.args ≡ args → NamesIds args → opens_new its.row.act ≡ true → 1 ≤ first_id_of args
-  first_by (args_are.Root request first) e names opens = names.0.0
-  first_by (args_are.AddRegions table first bounds) e names opens = names.0.0
   first_by (args_are.DropRegions table ids) e names opens =
       absurd (drops_no_new its.row.act (ap (λ a. is_listed (kind_of a) its.row.act) (sym e) ∙ listed (ap (λ a. exact_rows (kind_of a)) e)) opens)
   first_by (args_are.Transit region goal to) e names opens = absurd (exact_opens J pid.0 pick out its 10 (ap kind_of e) _ _ refl refl opens)
@@ -91,6 +89,7 @@ module _ (pid : Pid) (pick : Option Server) (out : StepOut) (J : Past) (legal : 
   first_by (args_are.FenceCall server) e names opens = absurd (exact_opens J pid.0 pick out its 25 (ap kind_of e) _ _ refl refl opens)
   first_by (args_are.LayoutCall root) e names opens = absurd (exact_opens J pid.0 pick out its 26 (ap kind_of e) _ _ refl refl opens)
   first_by (args_are.SweepLayout root) e names opens = absurd (exact_opens J pid.0 pick out its 27 (ap kind_of e) _ _ refl refl opens)
+  first_by args e names opens = names.0.0
 
   own : NamesIds its.node.args
   own = kept.args pid.0 its.node its.node_is
@@ -165,51 +164,27 @@ down_args server J kept p node is = elim (cases_eq p (made J + 1)) [
 ]
 
 part_ids : (part : Part) (J : Past) → PartFits part J → AreRegions (placed J) → AreRegions (part_placed part (placed J))
-part_ids (part_is.Head entries last parts sheets) J fits was = was
-part_ids (part_is.Namespace ns) J fits was = was
-part_ids (part_is.Table own ids row) J fits was = was
-part_ids (part_is.Server server fenced) J fits was = was
-part_ids (part_is.Root pid nonce args cause) J fits was = was
-part_ids (part_is.Layout pid) J fits was = was
 part_ids (part_is.Region own range status parents place) J fits was = join_one own (placed J) fits.1 was
+part_ids part J fits was = was
 
 parts_placed : (J : Past) → IsLegal J → are_parts J ≡ true → AreRegions (placed J)
 parts_placed [] legal is = tt
 parts_placed (entry_is.Base part ∷ J) legal is = part_ids part J legal.1.0 (parts_placed J legal.0 is)
-parts_placed (entry_is.Start sheets ∷ J) legal is = absurd (false≢true is)
-parts_placed (entry_is.Submit nonce request ∷ J) legal is = absurd (false≢true is)
-parts_placed (entry_is.Step pid pick out ∷ J) legal is = absurd (false≢true is)
-parts_placed (entry_is.Undo pid row out ∷ J) legal is = absurd (false≢true is)
-parts_placed (entry_is.Report call told ∷ J) legal is = absurd (false≢true is)
-parts_placed (entry_is.Up server ∷ J) legal is = absurd (false≢true is)
-parts_placed (entry_is.Down server ∷ J) legal is = absurd (false≢true is)
-parts_placed (entry_is.Abort pid ∷ J) legal is = absurd (false≢true is)
-parts_placed (entry_is.Adopt sheets ∷ J) legal is = absurd (false≢true is)
+parts_placed (entry ∷ J) legal is = absurd (false≢true is)
 
 pub ids_kept : (J : Past) → IsLegal J → AreNamed J → IdsKept J
 ids_kept [] legal named = record { args = λ p node is. absurd (none-some node is); places = tt }
-ids_kept (entry_is.Start sheets ∷ J) legal named = let k = ids_kept J legal.0 named in record { args = k.args; places = k.places }
 ids_kept (entry_is.Submit nonce request ∷ J) legal named = let k = ids_kept J legal.0 named.1 in record { args = submit_args nonce request J legal.0 named k; places = k.places }
 ids_kept (entry_is.Step pid pick out ∷ J) legal named = step_kept pid pick out J legal (ids_kept J legal.0 named)
 ids_kept (entry_is.Undo pid row out ∷ J) legal named = let k = ids_kept J legal.0 named in record { args = undo_args pid row out J legal k; places = k.places }
-ids_kept (entry_is.Report call told ∷ J) legal named = let k = ids_kept J legal.0 named in record { args = k.args; places = k.places }
-ids_kept (entry_is.Up server ∷ J) legal named = let k = ids_kept J legal.0 named in record { args = k.args; places = k.places }
 ids_kept (entry_is.Down server ∷ J) legal named = let k = ids_kept J legal.0 named in record { args = down_args server J k; places = k.places }
-ids_kept (entry_is.Abort pid ∷ J) legal named = let k = ids_kept J legal.0 named in record { args = k.args; places = k.places }
-ids_kept (entry_is.Adopt sheets ∷ J) legal named = let k = ids_kept J legal.0 named in record { args = k.args; places = k.places }
 ids_kept (entry_is.Base part ∷ J) legal named = record { args = λ p node is. absurd (none-some node is); places = parts_placed (entry_is.Base part ∷ J) legal (all_parts (entry_is.Base part ∷ J) legal refl) }
+ids_kept (entry ∷ J) legal named = let k = ids_kept J legal.0 named in record { args = k.args; places = k.places }
 
 pub ids_named : IdsAreNamed
 ids_named J legal named p node is = (ids_kept J legal named).args p node is
 
 pub none_ask : NoneAskForZero
-none_ask (entry_is.Start sheets) J legal named asks = false≢true asks
-none_ask (entry_is.Submit nonce request) J legal named asks = false≢true asks
 none_ask (entry_is.Step pid pick out) J legal named asks = false≢true (sym (none_of_none out.children (step_children pid pick out J legal (ids_kept J legal.0 named))) ∙ asks)
 none_ask (entry_is.Undo pid row out) J legal named asks = false≢true (sym (none_of_none out.followers (undo_children pid row out J legal (ids_kept J legal.0 named))) ∙ asks)
-none_ask (entry_is.Report call told) J legal named asks = false≢true asks
-none_ask (entry_is.Up server) J legal named asks = false≢true asks
-none_ask (entry_is.Down server) J legal named asks = false≢true asks
-none_ask (entry_is.Abort pid) J legal named asks = false≢true asks
-none_ask (entry_is.Adopt sheets) J legal named asks = false≢true asks
-none_ask (entry_is.Base part) J legal named asks = false≢true asks
+none_ask entry J legal named asks = false≢true asks

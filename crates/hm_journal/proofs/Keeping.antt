@@ -38,15 +38,7 @@ entry_in_is bytes entry fits is = rw (entry_read bytes entry fits is, entry_in) 
 pub entry_some : (e : Entry) → 1 ≤ length (spelling e)
 unfolding spelling
 entry_some (entry_is.Start sheets) = omega arith
-entry_some (entry_is.Submit given asked) = omega arith
-entry_some (entry_is.Step p pick o) = omega arith
-entry_some (entry_is.Undo p undone o) = omega arith
-entry_some (entry_is.Report call told) = omega arith
-entry_some (entry_is.Up s) = omega arith
-entry_some (entry_is.Down s) = omega arith
-entry_some (entry_is.Abort p) = omega arith
-entry_some (entry_is.Base part) = omega arith
-entry_some (entry_is.Adopt sheets) = omega arith
+entry_some entry = omega arith
 
 -- one frame more
 pub entries_more : (frames : List (Vec ℕ)) (frame : Vec ℕ) (entry : Entry) → EntryFits entry → frame.items ≡ spelling entry

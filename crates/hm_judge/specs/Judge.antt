@@ -10,16 +10,9 @@ use Rattle.hm_judge.specs.declared.why.NotAllowed.TheVariants as not_allowed
 
 -- the rule is that a step, or what undoes one, is as it was evaluated: to judge it takes memory
 abbrev pub IsEvaluation : Entry → ℕ → Type 0
-IsEvaluation (entry_is.Start sheets) rule = ⊥
-IsEvaluation (entry_is.Submit nonce request) rule = ⊥
 IsEvaluation (entry_is.Step pid pick out) rule = rule ≡ 8
 IsEvaluation (entry_is.Undo pid row out) rule = rule ≡ 10
-IsEvaluation (entry_is.Report call told) rule = ⊥
-IsEvaluation (entry_is.Up server) rule = ⊥
-IsEvaluation (entry_is.Down server) rule = ⊥
-IsEvaluation (entry_is.Abort pid) rule = ⊥
-IsEvaluation (entry_is.Adopt sheets) rule = ⊥
-IsEvaluation (entry_is.Base part) rule = ⊥
+IsEvaluation entry rule = ⊥
 
 -- no rule that is judged without memory refuses the entry
 abbrev pub IsUnrefused : Past → Entry → Type 0

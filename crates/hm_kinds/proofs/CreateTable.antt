@@ -78,9 +78,8 @@ set_again : (table : TableName) (split : List (List ℕ)) (first : ℕ) (state :
 set_again table split first state after row key = ap (cond (same_key key (key_is.Table table)) after) (add_effect (λ k. None) table first (bounds_for split) key (cond (same_key key (key_is.Table table)) (Some (row_is.Table state 1)) row)) ∙ by key
   where
     by : (key : CatKey) → cond (same_key key (key_is.Table table)) after (row_or (added_row table first (bounds_for split) key) (cond (same_key key (key_is.Table table)) (Some (row_is.Table state 1)) row)) ≡ row_or (added_row table first (bounds_for split) key) (cond (same_key key (key_is.Table table)) after row)
-    by (key_is.Ns ns) = refl
     by (key_is.Table other) = over (same_table other table) after (Some (row_is.Table state 1)) row
-    by (key_is.Region region) = refl
+    by key = refl
 
 table_seen : (table : TableName) (split : List (List ℕ)) (first : ℕ) (state : TableState) (row : Option CatRow) → edited (with_regions table split first state) (key_is.Table table) row ≡ Some (row_is.Table state 1)
 table_seen table split first state row =

@@ -84,13 +84,12 @@ AllOwn table [] = Unit {0}
 AllOwn table (region ∷ more) = (same_table table region.table ≡ true) × AllOwn table more
 
 own_keep : (table : TableName) (key : CatKey) (row : CatRow) (more : List Region) → AllOwn table more → AllOwn table (keep_region table (λ r. true) key row more)
-own_keep table (key_is.Ns ns) row more all = all
-own_keep table (key_is.Table other) row more all = all
 own_keep table (key_is.Region region) row more all = by (same_table table region.table) refl
   where
     by : (b : Bool) → same_table table region.table ≡ b → AllOwn table (cond (same_table table region.table && true) (region ∷ more) more)
     by true e = subst (λ b. AllOwn table (cond (b && true) (region ∷ more) more)) (sym e) (e, all)
     by false e = subst (λ b. AllOwn table (cond (b && true) (region ∷ more) more)) (sym e) all
+own_keep table key row more all = all
 
 own_among : (table : TableName) (rows : Rows) → AllOwn table (all_among table rows)
 own_among table [] = tt

@@ -73,12 +73,11 @@ has_none ns asked there [] none = refl
 has_none ns asked there (key ∷ keys) none = by (asked key) key (there key) refl (has_none ns asked there keys none)
   where
     out_of : (key : CatKey) (row : CatRow) → there key ≡ Some row → is_table_in ns key ≡ false
-    out_of (key_is.Ns other) row e = refl
-    out_of (key_is.Region region) row e = refl
     out_of (key_is.Table table) row e = elim (cases_Bool (bytes_eq ns table.ns)) [
       | inl on ↦ absurd (none-some row (sym (none table on) ∙ e))
       | inr off ↦ off
     ]
+    out_of key row e = refl
 
     by : (b : Bool) (key : CatKey) (o : Option CatRow) → there key ≡ o → has_table ns (rows_at asked there keys) ≡ false → has_table ns (keep b key o (rows_at asked there keys)) ≡ false
     by false key o e h = h

@@ -50,35 +50,22 @@ none_reassign next (child ∷ more) = refl
 
 pub none_act : (act : Act) → is_plain act ≡ true → is_edit act ≡ false → (next : ℕ) (at : StepIn) → IsEditless (act_answer act next at)
 none_act act_is.CheckNamespaceFree h c next at = none_given (namespace_of at.args) next (λ ns. checked next (namespace_free (row_at at.rows (key_is.Ns ns)))) (λ ns. none_checked next (namespace_free (row_at at.rows (key_is.Ns ns))))
-none_act act_is.AddNamespace h c next at = absurd (true≢false c)
 none_act act_is.CheckNamespaceEmpty h c next at = none_given (namespace_of at.args) next (λ ns. checked next (namespace_empty (row_at at.rows (key_is.Ns ns)) (has_table ns at.rows))) (λ ns. none_checked next (namespace_empty (row_at at.rows (key_is.Ns ns)) (has_table ns at.rows)))
-none_act act_is.DropNamespace h c next at = absurd (true≢false c)
 none_act act_is.CheckTableFree h c next at = none_given (table_of at.args) next (λ table. checked next (table_free (row_at at.rows (key_is.Ns table.ns)) (row_at at.rows (key_is.Table table)))) (λ table. none_checked next (table_free (row_at at.rows (key_is.Ns table.ns)) (row_at at.rows (key_is.Table table))))
-none_act act_is.AddTable h c next at = absurd (true≢false c)
 none_act act_is.Layout h c next at = none_spawns next (child_is.One (args_are.LayoutCall at.root) ∷ [])
 none_act act_is.AddRegions h c next at = none_given (table_of at.args) next (λ table. given (bounds_of at.args) next (λ bounds. spawns next (adding (length bounds) table (first_id_of at.args) bounds))) (λ table. none_given (bounds_of at.args) next (λ bounds. spawns next (adding (length bounds) table (first_id_of at.args) bounds)) (λ bounds. none_spawns next (adding (length bounds) table (first_id_of at.args) bounds)))
-none_act act_is.SetEnabling h c next at = absurd (true≢false c)
 none_act act_is.OpenRegions h c next at = none_given (table_of at.args) next (λ table. spawns next (transits goal_is.Assign (regions_for table (first_id_of at.args) (bounds_of at.args) at.rows))) (λ table. none_spawns next (transits goal_is.Assign (regions_for table (first_id_of at.args) (bounds_of at.args) at.rows)))
-none_act act_is.SetEnabled h c next at = absurd (true≢false c)
 none_act act_is.CheckTableDisabled h c next at = none_given (table_of at.args) next (λ table. checked next (table_disabled (row_at at.rows (key_is.Table table)))) (λ table. none_checked next (table_disabled (row_at at.rows (key_is.Table table))))
 none_act act_is.DropRegions h c next at = none_given (table_of at.args) next (λ table. spawns next (dropping table (map (λ region. region.id) (all_among table at.rows)))) (λ table. none_spawns next (dropping table (map (λ region. region.id) (all_among table at.rows))))
-none_act act_is.DropTable h c next at = absurd (true≢false c)
 none_act act_is.CheckTableEnabled h c next at = none_given (table_of at.args) next (λ table. checked next (table_enabled (row_at at.rows (key_is.Table table)))) (λ table. none_checked next (table_enabled (row_at at.rows (key_is.Table table))))
-none_act act_is.SetDisabling h c next at = absurd (true≢false c)
 none_act act_is.CloseRegions h c next at = none_given (table_of at.args) next (λ table. spawns next (transits goal_is.Unassign (regions_for table (first_id_of at.args) (bounds_of at.args) at.rows))) (λ table. none_spawns next (transits goal_is.Unassign (regions_for table (first_id_of at.args) (bounds_of at.args) at.rows)))
-none_act act_is.SetDisabled h c next at = absurd (true≢false c)
-none_act act_is.SetVersion h c next at = absurd (true≢false c)
 none_act act_is.CheckSplit h c next at = none_given (region_of at.args) next (λ region. given (cut_of (asked_of at.args)) next (λ key. checked next (can_split (row_at at.rows (key_is.Table region.table)) (row_at at.rows (key_is.Region region)) key))) (λ region. none_given (cut_of (asked_of at.args)) next (λ key. checked next (can_split (row_at at.rows (key_is.Table region.table)) (row_at at.rows (key_is.Region region)) key)) (λ key. none_checked next (can_split (row_at at.rows (key_is.Table region.table)) (row_at at.rows (key_is.Region region)) key)))
 none_act act_is.CloseParent h c next at = none_spawns next (transits goal_is.Unassign (closed_by at.args))
-none_act act_is.UpdateSplitMeta h c next at = absurd (true≢false c)
 none_act act_is.OpenDaughters h c next at = none_given (table_of at.args) next (λ table. spawns next (transits goal_is.Assign (regions_in table (numbers_from (first_id_of at.args) 2)))) (λ table. none_spawns next (transits goal_is.Assign (regions_in table (numbers_from (first_id_of at.args) 2))))
 none_act act_is.Finish h c next at = refl
 none_act act_is.CheckMerge h c next at = none_checked next (merge_cause (table_of_first (closed_by at.args)) at.rows (closed_by at.args))
 none_act act_is.CloseParents h c next at = none_spawns next (transits goal_is.Unassign (closed_by at.args))
-none_act act_is.UpdateMergeMeta h c next at = absurd (true≢false c)
 none_act act_is.OpenMerged h c next at = none_given (table_of at.args) next (λ table. spawns next (transits goal_is.Assign (regions_in table (numbers_from (first_id_of at.args) 1)))) (λ table. none_spawns next (transits goal_is.Assign (regions_in table (numbers_from (first_id_of at.args) 1))))
-none_act act_is.AddRegionRows h c next at = absurd (true≢false c)
-none_act act_is.DropRegionRows h c next at = absurd (true≢false c)
 none_act act_is.Fence h c next at = none_given (server_of at.args) next (λ server. spawns next (child_is.One (args_are.FenceCall server) ∷ [])) (λ server. none_spawns next (child_is.One (args_are.FenceCall server) ∷ []))
 none_act act_is.Reassign h c next at = none_reassign next (transits goal_is.Assign at.on_server)
 none_act act_is.GetAssignCandidate h c next at = absurd (false≢true h)
@@ -94,27 +81,12 @@ none_act act_is.CallFence h c next at = absurd (false≢true h)
 none_act act_is.CallLayout h c next at = absurd (false≢true h)
 none_act act_is.SettleLayout h c next at = absurd (false≢true h)
 none_act act_is.CallSweep h c next at = absurd (false≢true h)
+none_act act h c next at = absurd (true≢false c)
 
 pub no_adds : (request : Request) → is_listed (Rattle.hm_model.specs.Kinds.request_kind request) act_is.AddRegionRows ≡ true → ⊥
 no_adds (request_is.CreateNamespace ns) h = false≢true h
-no_adds (request_is.DropNamespace ns) h = false≢true h
-no_adds (request_is.CreateTable table keys) h = false≢true h
-no_adds (request_is.DeleteTable table) h = false≢true h
-no_adds (request_is.EnableTable table) h = false≢true h
-no_adds (request_is.DisableTable table) h = false≢true h
-no_adds (request_is.ModifyTable table version) h = false≢true h
-no_adds (request_is.SplitRegion region key) h = false≢true h
-no_adds (request_is.MergeRegions regions) h = false≢true h
-no_adds (request_is.Move region to) h = false≢true h
+no_adds request h = false≢true h
 
 pub no_drops : (request : Request) → is_listed (Rattle.hm_model.specs.Kinds.request_kind request) act_is.DropRegionRows ≡ true → ⊥
 no_drops (request_is.CreateNamespace ns) h = false≢true h
-no_drops (request_is.DropNamespace ns) h = false≢true h
-no_drops (request_is.CreateTable table keys) h = false≢true h
-no_drops (request_is.DeleteTable table) h = false≢true h
-no_drops (request_is.EnableTable table) h = false≢true h
-no_drops (request_is.DisableTable table) h = false≢true h
-no_drops (request_is.ModifyTable table version) h = false≢true h
-no_drops (request_is.SplitRegion region key) h = false≢true h
-no_drops (request_is.MergeRegions regions) h = false≢true h
-no_drops (request_is.Move region to) h = false≢true h
+no_drops request h = false≢true h

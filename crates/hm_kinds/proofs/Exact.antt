@@ -78,15 +78,7 @@ exact_settles (args_are.Root (request_is.DisableTable table) first) exact row is
 exact_settles (args_are.Root (request_is.ModifyTable table version) first) exact row is base there others keys at s fine others' keys' same = absurd (exact refl)
 exact_settles (args_are.Root (request_is.SplitRegion region key) first) exact row is base there others keys at s fine others' keys' same = absurd (exact refl)
 exact_settles (args_are.Root (request_is.MergeRegions regions) first) exact row is base there others keys at s fine others' keys' same = absurd (exact refl)
-exact_settles (args_are.Transit region goal to) exact row is base there others keys at s fine others' keys' same = refl
-exact_settles (args_are.Crash server) exact row is base there others keys at s fine others' keys' same = refl
-exact_settles (args_are.AddRegions table first bounds) exact row is base there others keys at s fine others' keys' same = refl
-exact_settles (args_are.DropRegions table ids) exact row is base there others keys at s fine others' keys' same = refl
-exact_settles (args_are.AssignCall region server) exact row is base there others keys at s fine others' keys' same = refl
-exact_settles (args_are.CloseCall region server) exact row is base there others keys at s fine others' keys' same = refl
-exact_settles (args_are.FenceCall server) exact row is base there others keys at s fine others' keys' same = refl
-exact_settles (args_are.LayoutCall root) exact row is base there others keys at s fine others' keys' same = refl
-exact_settles (args_are.SweepLayout root) exact row is base there others keys at s fine others' keys' same = refl
+exact_settles args exact row is base there others keys at s fine others' keys' same = refl
 
 is_whole : Resource → Rattle.std.proofs.Common.Bool
 is_whole (resource_is.Table t) = true
@@ -119,8 +111,4 @@ exact_asks (args_are.Crash server) exact t (Rattle.std.proofs.Common.inl e) = tr
 exact_asks (args_are.Crash server) exact t (Rattle.std.proofs.Common.inr never) = never
 exact_asks (args_are.AddRegions table first bounds) exact t among = exact refl
 exact_asks (args_are.DropRegions table ids) exact t among = exact refl
-exact_asks (args_are.AssignCall region server) exact t among = among
-exact_asks (args_are.CloseCall region server) exact t among = among
-exact_asks (args_are.FenceCall server) exact t among = among
-exact_asks (args_are.LayoutCall root) exact t among = among
-exact_asks (args_are.SweepLayout root) exact t among = among
+exact_asks args exact t among = among

@@ -175,13 +175,7 @@ founded (args_are.Root (request_is.MergeRegions regions) first) sound = merge_fo
 founded (args_are.Root (request_is.Move region to) first) sound = regions_founded region.table (exclusive (resource_is.Region region) ∷ []) (all_cons region.table region [] refl (all_none region.table))
 founded (args_are.Transit region goal to) sound = regions_founded region.table (exclusive (resource_is.Region region) ∷ []) (all_cons region.table region [] refl (all_none region.table))
 founded (args_are.Crash server) sound = server_founded server
-founded (args_are.AddRegions table first bounds) sound = λ resource never. absurd never
-founded (args_are.DropRegions table ids) sound = λ resource never. absurd never
-founded (args_are.AssignCall region server) sound = λ resource never. absurd never
-founded (args_are.CloseCall region server) sound = λ resource never. absurd never
-founded (args_are.FenceCall server) sound = λ resource never. absurd never
-founded (args_are.LayoutCall root) sound = λ resource never. absurd never
-founded (args_are.SweepLayout root) sound = λ resource never. absurd never
+founded args sound = λ resource never. absurd never
 
 pub cover_form : (args : Args) → IsRight args → (key : CatKey) → covers args key ≡ true → CoverForm (asks args) key
 cover_form args sound key c = let f = found (asks args) key c in cover_over (asks args) (founded args sound) f.0 f.1 key f.2
@@ -194,8 +188,7 @@ cover_guard list (key_is.Region region) (inr c) = inr (inr (c.1, asks_alone list
 
 ns_guard : (list : List Ask) (ns : List ℕ) → Asks list (resource_is.Ns ns) → (key : CatKey) → is_ns ns key ≡ true → GuardForm list key
 ns_guard list ns asked (key_is.Ns other) on = subst (λ n. Asks list (resource_is.Ns n)) (bytes_eq-is ns other on) asked
-ns_guard list ns asked (key_is.Table other) on = absurd (false≢true on)
-ns_guard list ns asked (key_is.Region other) on = absurd (false≢true on)
+ns_guard list ns asked key on = absurd (false≢true on)
 
 ns_tables_guard : (list : List Ask) (ns : List ℕ) → IsIn (exclusive (resource_is.Ns ns)) list → (key : CatKey) → is_ns_or_table_in ns key ≡ true → GuardForm list key
 ns_tables_guard list ns alone (key_is.Ns other) on = subst (λ n. Asks list (resource_is.Ns n)) (bytes_eq-is ns other on) (asks_alone list (resource_is.Ns ns) alone)
@@ -203,9 +196,8 @@ ns_tables_guard list ns alone (key_is.Table other) on = inr (subst (λ n. IsIn (
 ns_tables_guard list ns alone (key_is.Region other) on = absurd (false≢true on)
 
 table_guard : (list : List Ask) (table : TableName) → Asks list (resource_is.Table table) → (key : CatKey) → is_table table key ≡ true → GuardForm list key
-table_guard list table asked (key_is.Ns other) on = absurd (false≢true on)
 table_guard list table asked (key_is.Table other) on = inl (subst (λ t. Asks list (resource_is.Table t)) (same_table-is table other on) asked)
-table_guard list table asked (key_is.Region other) on = absurd (false≢true on)
+table_guard list table asked key on = absurd (false≢true on)
 
 whole_guard : (list : List Ask) (table : TableName) → IsIn (exclusive (resource_is.Table table)) list → (key : CatKey) → is_over (resource_is.Table table) key ≡ true → GuardForm list key
 whole_guard list table alone (key_is.Ns other) on = absurd (false≢true on)
@@ -213,9 +205,8 @@ whole_guard list table alone (key_is.Table other) on = inl (subst (λ t. Asks li
 whole_guard list table alone (key_is.Region other) on = inr (inl (subst (λ t. IsIn (exclusive (resource_is.Table t)) list) (same_table-is table other.table on) alone))
 
 region_guard : (list : List Ask) (region : Region) → Asks list (resource_is.Table region.table) → Asks list (resource_is.Region region) → (key : CatKey) → is_region region key ≡ true → GuardForm list key
-region_guard list region asked own (key_is.Ns other) on = absurd (false≢true on)
-region_guard list region asked own (key_is.Table other) on = absurd (false≢true on)
 region_guard list region asked own (key_is.Region other) on = inr (inr (subst (λ (r : Region). Asks list (resource_is.Table r.table) × Asks list (resource_is.Region r)) (same_region-is region other on) (asked, own)))
+region_guard list region asked own key on = absurd (false≢true on)
 
 moved_guard : (list : List Ask) (region : Region) → Asks list (resource_is.Table region.table) → Asks list (resource_is.Region region) → (key : CatKey) → (is_table region.table key || is_region region key) ≡ true → GuardForm list key
 moved_guard list region asked own key on = elim (or_cases (is_table region.table key) (is_region region key) on) [
@@ -257,14 +248,9 @@ read_form (args_are.Root (request_is.MergeRegions regions) first) none sound key
         )
 read_form (args_are.Root (request_is.Move region to) first) none sound key on = moved_guard (request_asks (request_is.Move region to) first) region (table_asked region.table (exclusive (resource_is.Region region) ∷ [])) (exclusive (resource_is.Region region), inr (inr (inl refl)), refl) key on
 read_form (args_are.Transit region goal to) none sound key on = moved_guard (asks (args_are.Transit region goal to)) region (table_asked region.table (exclusive (resource_is.Region region) ∷ [])) (exclusive (resource_is.Region region), inr (inr (inl refl)), refl) key on
-read_form (args_are.Crash server) none sound key on = absurd (false≢true on)
 read_form (args_are.AddRegions table first bounds) none sound key on = absurd (none-some table (sym none))
 read_form (args_are.DropRegions table ids) none sound key on = absurd (none-some table (sym none))
-read_form (args_are.AssignCall region server) none sound key on = absurd (false≢true on)
-read_form (args_are.CloseCall region server) none sound key on = absurd (false≢true on)
-read_form (args_are.FenceCall server) none sound key on = absurd (false≢true on)
-read_form (args_are.LayoutCall root) none sound key on = absurd (false≢true on)
-read_form (args_are.SweepLayout root) none sound key on = absurd (false≢true on)
+read_form args none sound key on = absurd (false≢true on)
 
 guard_form : (args : Args) → rows_table args ≡ None → IsRight args → (key : CatKey) → guards args key ≡ true → GuardForm (asks args) key
 guard_form args none sound key on = elim (or_cases (covers args key) (reads args key) on) [

@@ -34,10 +34,9 @@ between bounds place = row_between (slice_get bounds (suc place)) (slice_get bou
 
 -- the row of a key, if it is one of the regions between bounds, with ids from the first on
 abbrev pub added_row : TableName → ℕ → List (List ℕ) → CatKey → Option CatRow
-added_row table first bounds (key_is.Ns ns) = None
-added_row table first bounds (key_is.Table other) = None
 added_row table first bounds (key_is.Region region) =
     cond (same_table region.table table && nat_le first region.id) (between bounds (region.id - first)) None
+added_row table first bounds key = None
 
 -- a number is among others
 abbrev pub is_one_of : ℕ → List ℕ → Bool
@@ -94,8 +93,6 @@ none_between there table first bounds key row off = add_elsewhere there table (r
 
 -- what regions that are added leave of a row
 pub add_effect : (there : Catalog) (table : TableName) (first : ℕ) (bounds : List (List ℕ)) (key : CatKey) (row : Option CatRow) → edited (add_ranges there table first (ranges_between bounds)) key row ≡ row_or (added_row table first bounds key) row
-add_effect there table first bounds (key_is.Ns ns) row = none_between there table first bounds (key_is.Ns ns) row (λ id le. refl)
-add_effect there table first bounds (key_is.Table other) row = none_between there table first bounds (key_is.Table other) row (λ id le. refl)
 add_effect there table first bounds (key_is.Region region) row = elim (cases_Bool (same_table region.table table)) [
   | inr off ↦
       none_between there table first bounds (key_is.Region region) row (λ id le. and_left (same_table region.table table) (region.id == id) off)
@@ -116,6 +113,7 @@ add_effect there table first bounds (key_is.Region region) row = elim (cases_Boo
     at : (list : List (List ℕ)) → region.id ≡ first + (region.id - first) → edited (add_ranges there table first (ranges_between list)) (region_key table region.id) row ≡ row_or (between list (region.id - first)) row
     at [] e = refl
     at (start ∷ list) e = add_at there table list start first (region.id - first) region.id e row
+add_effect there table first bounds key row = none_between there table first bounds key row (λ id le. refl)
 
 -- parts of lists
 take_in : {A : Type 0} (n k : ℕ) (xs : List A) → k < n → slice_get (take n xs) k ≡ slice_get xs k
@@ -186,8 +184,6 @@ abbrev pub GivesRow : (CatKey → Option CatRow) → Args → Type 0
 GivesRow rows made = (key : CatKey) → touches made key ≡ true → rows key ≡ value made key
 
 head_gives : (table : TableName) (first : ℕ) (bounds : List (List ℕ)) → GivesRow (added_row table first bounds) (args_are.AddRegions table first (take 65 bounds))
-head_gives table first bounds (key_is.Ns ns) on = refl
-head_gives table first bounds (key_is.Table other) on = refl
 head_gives table first bounds (key_is.Region region) on =
     let a = is_added table first (take 65 bounds) region on in
     let short = some_between (take 65 bounds) (region.id - first) a.some in
@@ -199,10 +195,9 @@ head_gives table first bounds (key_is.Region region) on =
     take_length zero xs = omega arith
     take_length (suc n) [] = omega arith
     take_length (suc n) (x ∷ xs) = (let e = take_length n xs in omega (arith, e))
+head_gives table first bounds key on = refl
 
 tail_gives : (table : TableName) (first : ℕ) (bounds : List (List ℕ)) (made : Args) → GivesRow (added_row table (first + 64) (drop 64 bounds)) made → ((key : CatKey) → touches made key ≡ true → is_some (added_row table (first + 64) (drop 64 bounds) key) ≡ true) → GivesRow (added_row table first bounds) made
-tail_gives table first bounds made gives within (key_is.Ns ns) on = absurd (false≢true (within (key_is.Ns ns) on))
-tail_gives table first bounds made gives within (key_is.Table other) on = absurd (false≢true (within (key_is.Table other) on))
 tail_gives table first bounds made gives within (key_is.Region region) on =
     let a = is_added table (first + 64) (drop 64 bounds) region (within (key_is.Region region) on) in
     let low = a.low in
@@ -211,6 +206,7 @@ tail_gives table first bounds made gives within (key_is.Region region) on =
   where
     shift : (id first : ℕ) → first + 64 ≤ id → id - first ≡ 64 + (id - (first + 64))
     shift id first low = omega (arith, low)
+tail_gives table first bounds made gives within key on = absurd (false≢true (within key on))
 
 abbrev GivesIn : TableName → ℕ → List (List ℕ) → Args → Type 0
 GivesIn table first bounds made = GivesRow (added_row table first bounds) made × ((key : CatKey) → touches made key ≡ true → is_some (added_row table first bounds key) ≡ true)
@@ -352,9 +348,8 @@ pieces_touch table size (suc most) (id ∷ ids) short some region same on = elim
 ]
 
 pub dropping_touches : (table : TableName) (ids : List ℕ) (key : CatKey) → touches (args_are.DropRegions table ids) key ≡ true → Touched (args_in (dropping table ids)) key
-dropping_touches table ids (key_is.Ns ns) on = absurd (false≢true on)
-dropping_touches table ids (key_is.Table other) on = absurd (false≢true on)
 dropping_touches table ids (key_is.Region region) on = let t = touches_in table ids region on in pieces_touch table 64 (length ids) ids (omega arith) (omega arith) region t.0 t.1
+dropping_touches table ids key on = absurd (false≢true on)
 
 pieces_within : (table : TableName) (size most : ℕ) (ids : List ℕ) (i : ℕ) (made : Args) → slice_get (args_in (map (drop_child table) (pieces_of size most ids))) i ≡ Some made → (piece : List ℕ) × (made ≡ args_are.DropRegions table piece) × ((id : ℕ) → is_one_of id piece ≡ true → is_one_of id ids ≡ true)
 pieces_within table size zero ids i made is = absurd (none-some made is)
@@ -370,6 +365,5 @@ dropping_owes table ids i made is key on =
     (ap (λ a. value a key) w.1, by w.0 key (ap (λ a. touches a key) (sym w.1) ∙ on) w.2)
   where
     by : (piece : List ℕ) (key : CatKey) → touches (args_are.DropRegions table piece) key ≡ true → ((id : ℕ) → is_one_of id piece ≡ true → is_one_of id ids ≡ true) → touches (args_are.DropRegions table ids) key ≡ true
-    by piece (key_is.Ns ns) on within = absurd (false≢true on)
-    by piece (key_is.Table other) on within = absurd (false≢true on)
     by piece (key_is.Region region) on within = let t = touches_in table piece region on in and_from (same_table table region.table) (is_one_of region.id ids) t.0 (within region.id t.1)
+    by piece key on within = absurd (false≢true on)

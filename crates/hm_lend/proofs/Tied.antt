@@ -67,11 +67,4 @@ module _ {S T : Type 0} (shown : S → Whole Entry T) (editions_in : T → List 
 pub step_own : (editions : List (List Sheet)) (taken : Taken) (out : StepOut) (entry : Entry) → Answers editions taken.was out → IsStepOf taken out entry → IsOwn editions entry × (one_step entry ≤ 1)
 step_own editions taken out (entry_is.Step pid pick its) answer is = ((taken.was, answer ∙ ap (λ (o : StepOut). Some o) (sym is.2)), omega arith)
 step_own editions taken out (entry_is.Undo pid row its) answer is = ((taken.was, answer ∙ ap (λ (o : StepOut). Some o) (sym is.2)), omega arith)
-step_own editions taken out (entry_is.Start sheets) answer is = absurd is
-step_own editions taken out (entry_is.Submit nonce request) answer is = absurd is
-step_own editions taken out (entry_is.Report call told) answer is = absurd is
-step_own editions taken out (entry_is.Up server) answer is = absurd is
-step_own editions taken out (entry_is.Down server) answer is = absurd is
-step_own editions taken out (entry_is.Abort pid) answer is = absurd is
-step_own editions taken out (entry_is.Base part) answer is = absurd is
-step_own editions taken out (entry_is.Adopt sheets) answer is = absurd is
+step_own editions taken out entry answer is = absurd is

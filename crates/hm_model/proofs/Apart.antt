@@ -227,9 +227,6 @@ root_other J J' grown grown' forest forest' s other stays old new same cause_is 
     (λ q x is of. same q) cause_is stack_is was_is
 
 pub others_stay : (entry : Entry) (before : Past) → IsLegal (entry ∷ before) → (s : ℕ) (top : Node) → node_of before s ≡ Some top → top.above ≡ [] → s ≢ tree_of before entry → IsSameTree before (entry ∷ before) s
-others_stay (entry_is.Start sheets) before legal s top is at_top other =
-    same_plain before (entry_is.Start sheets ∷ before) (grown_all before legal.0) (grown_all (entry_is.Start sheets ∷ before) legal) (forest_all before legal.0) (forest_all (entry_is.Start sheets ∷ before) legal) s (λ q. refl)
-    (λ q x there of. untouched before (entry_is.Start sheets ∷ before) (λ p. refl) (λ p. refl) (λ p. refl) (λ p. refl) (λ p. refl) q) refl refl refl
 others_stay (entry_is.Submit nonce request) before legal s top is at_top other =
     root_other before (entry_is.Submit nonce request ∷ before) (grown_all before legal.0) (grown_all (entry_is.Submit nonce request ∷ before) legal) (forest_all before legal.0) (forest_all (entry_is.Submit nonce request ∷ before) legal) s other
     (nodes_stay (entry_is.Submit nonce request) before legal)
@@ -247,9 +244,6 @@ others_stay (entry_is.Report call told) before legal s top is at_top other =
       aborted = refl;
       tries = refl;
     }) refl refl refl
-others_stay (entry_is.Up server) before legal s top is at_top other =
-    same_plain before (entry_is.Up server ∷ before) (grown_all before legal.0) (grown_all (entry_is.Up server ∷ before) legal) (forest_all before legal.0) (forest_all (entry_is.Up server ∷ before) legal) s (λ q. refl)
-    (λ q x there of. untouched before (entry_is.Up server ∷ before) (λ p. refl) (λ p. refl) (λ p. refl) (λ p. refl) (λ p. refl) q) refl refl refl
 others_stay (entry_is.Down server) before legal s top is at_top other =
     root_other before (entry_is.Down server ∷ before) (grown_all before legal.0) (grown_all (entry_is.Down server ∷ before) legal) (forest_all before legal.0) (forest_all (entry_is.Down server ∷ before) legal) s other
     (nodes_stay (entry_is.Down server) before legal)
@@ -265,7 +259,7 @@ others_stay (entry_is.Abort pid) before legal s top is at_top other =
       aborted = cond-false (q == pid.0) true (is_aborted before q) (ne_eqb q pid.0 (not_own before pid.0 q x s there of other));
       tries = refl;
     }) refl refl refl
-others_stay (entry_is.Adopt sheets) before legal s top is at_top other =
-    same_plain before (entry_is.Adopt sheets ∷ before) (grown_all before legal.0) (grown_all (entry_is.Adopt sheets ∷ before) legal) (forest_all before legal.0) (forest_all (entry_is.Adopt sheets ∷ before) legal) s (λ q. refl)
-    (λ q x there of. untouched before (entry_is.Adopt sheets ∷ before) (λ p. refl) (λ p. refl) (λ p. refl) (λ p. refl) (λ p. refl) q) refl refl refl
 others_stay (entry_is.Base part) before legal s top is at_top other = absurd (none-some top (sym (no_node part before legal.1.0 s) ∙ is))
+others_stay entry before legal s top is at_top other =
+    same_plain before (entry ∷ before) (grown_all before legal.0) (grown_all (entry ∷ before) legal) (forest_all before legal.0) (forest_all (entry ∷ before) legal) s (λ q. refl)
+    (λ q x there of. untouched before (entry ∷ before) (λ p. refl) (λ p. refl) (λ p. refl) (λ p. refl) (λ p. refl) q) refl refl refl

@@ -153,8 +153,4 @@ module _ (J : Past) (p : ℕ) (pick : Option Server) (out : StepOut) (row : Row)
   caller_step (args_are.LayoutCall own) verb v (inr waits) at is =
       early_out (args_are.LayoutCall own) verb (fixed act_is.SettleLayout 255 false) (row_at 26 1 row _ (row_of J p (node_at above root (args_are.LayoutCall own) first)) (ap (row_after 0) waits.0) refl at) refl _ refl
       (λ x. laid_out J p (args_are.LayoutCall own) verb (last_answer J p) out waits.0 refl (report_of J p) refl (answered_told J p waits.1) x) is
-  caller_step (args_are.Root request f) verb v ready at is = absurd (none-some verb v)
-  caller_step (args_are.Transit region goal to) verb v ready at is = absurd (none-some verb v)
-  caller_step (args_are.Crash server) verb v ready at is = absurd (none-some verb v)
-  caller_step (args_are.AddRegions table f bounds) verb v ready at is = absurd (none-some verb v)
-  caller_step (args_are.DropRegions table ids) verb v ready at is = absurd (none-some verb v)
+  caller_step args verb v ready at is = absurd (none-some verb v)

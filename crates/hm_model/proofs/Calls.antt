@@ -23,8 +23,6 @@ calls_own J legal = (grown_all J legal).verbs
 
 -- a call stays one
 called_on : (entry : Entry) (before : Past) → IsLegal (entry ∷ before) → (p : ℕ) (verb : Verb) → verb_of before p ≡ Some verb → verb_of (entry ∷ before) p ≢ None
-called_on (entry_is.Start sheets) before legal p verb is none = none-some verb (sym none ∙ is)
-called_on (entry_is.Submit nonce request) before legal p verb is none = none-some verb (sym none ∙ is)
 called_on (entry_is.Step pid pick out) before legal p verb is none = elim (cases_eq p pid.0) [
   | inl same ↦ by out.call (sym none ∙ cond-true (p == pid.0) (option_or out.call (verb_of before p)) (verb_of before p) (eq-eqb p pid.0 same) ∙ ap (option_or out.call) is)
   | inr differs ↦ none-some verb (sym none ∙ cond-false (p == pid.0) (option_or out.call (verb_of before p)) (verb_of before p) (ne_eqb p pid.0 differs) ∙ is)
@@ -33,13 +31,8 @@ called_on (entry_is.Step pid pick out) before legal p verb is none = elim (cases
     by : (o : Option Verb) → None ≡ option_or o (Some verb) → ⊥
     by None e = none-some verb e
     by (Some x) e = none-some x e
-called_on (entry_is.Undo pid row out) before legal p verb is none = none-some verb (sym none ∙ is)
-called_on (entry_is.Report call told) before legal p verb is none = none-some verb (sym none ∙ is)
-called_on (entry_is.Up server) before legal p verb is none = none-some verb (sym none ∙ is)
-called_on (entry_is.Down server) before legal p verb is none = none-some verb (sym none ∙ is)
-called_on (entry_is.Abort pid) before legal p verb is none = none-some verb (sym none ∙ is)
-called_on (entry_is.Adopt sheets) before legal p verb is none = none-some verb (sym none ∙ is)
 called_on (entry_is.Base part) before legal p verb is none = let own = calls_own before legal.0 p verb is in none-some own.0 (sym (no_node part before legal.1.0 p) ∙ own.1)
+called_on entry before legal p verb is none = none-some verb (sym none ∙ is)
 
 -- and its verb never changes
 pub calls_stay : (entry : Entry) (before : Past) → IsLegal (entry ∷ before) → (p : ℕ) (verb : Verb) → verb_of before p ≡ Some verb → verb_of (entry ∷ before) p ≡ Some verb

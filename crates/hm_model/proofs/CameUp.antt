@@ -101,20 +101,13 @@ came_now J s = any_with (λ o. same_server s o) s (servers_of J) ∙ or_left (sa
 
 -- who is fenced stays so
 pub fenced_stays : (entry : Entry) (J : Past) (server : Server) → is_fenced J server ≡ true → is_fenced (entry ∷ J) server ≡ true
-fenced_stays (entry_is.Start sheets) J server fenced = fenced
-fenced_stays (entry_is.Submit nonce request) J server fenced = fenced
-fenced_stays (entry_is.Step pid pick out) J server fenced = fenced
-fenced_stays (entry_is.Undo pid row out) J server fenced = fenced
 fenced_stays (entry_is.Report call told) J server fenced = or_right _ (is_fenced J server) fenced
-fenced_stays (entry_is.Up other) J server fenced = fenced
-fenced_stays (entry_is.Down other) J server fenced = fenced
-fenced_stays (entry_is.Abort pid) J server fenced = fenced
-fenced_stays (entry_is.Adopt sheets) J server fenced = fenced
 fenced_stays (entry_is.Base part) J server fenced = by (part_server part)
   where
     by : (o : Option (Server × Bool)) → elim o as (λ s. Bool) [ None ↦ is_fenced J server | Some both ↦ (same_server server both.0 && both.1) || is_fenced J server ] ≡ true
     by None = fenced
     by (Some both) = or_right (same_server server both.0 && both.1) (is_fenced J server) fenced
+fenced_stays entry J server fenced = fenced
 
 -- what a part says of a server is of one that came up
 part_came : (o : Option (Server × Bool)) (J : Past) (s : Server) {was : Bool} → (was ≡ true → came_up J s ≡ true) → (test : Server × Bool → Bool) → ((both : Server × Bool) → test both ≡ true → same_server s both.0 ≡ true) → elim o as (λ x. Bool) [ None ↦ was | Some both ↦ test both || was ] ≡ true
@@ -128,19 +121,13 @@ part_came (Some both) J s {was} came test own on = elim (or_either (test both) w
 -- who is live came up
 pub live_came : (J : Past) (s : Server) → is_live J s ≡ true → came_up J s ≡ true
 live_came [] s live = absurd (true≢false (sym live))
-live_came (entry_is.Start sheets ∷ J) s live = live_came J s live
-live_came (entry_is.Submit nonce request ∷ J) s live = live_came J s live
-live_came (entry_is.Step pid pick out ∷ J) s live = live_came J s live
-live_came (entry_is.Undo pid row out ∷ J) s live = live_came J s live
-live_came (entry_is.Report call told ∷ J) s live = live_came J s live
 live_came (entry_is.Up other ∷ J) s live = elim (or_either (same_server s other) (is_live J s) live) [
   | inl same ↦ any_with (λ o. same_server s o) other (servers_of J) ∙ or_left (same_server s other) (came_up J s) same
   | inr was ↦ came_on J other s (live_came J s was)
 ]
 live_came (entry_is.Down other ∷ J) s live = live_came J s (and_right (not (same_server s other)) (is_live J s) live)
-live_came (entry_is.Abort pid ∷ J) s live = live_came J s live
-live_came (entry_is.Adopt sheets ∷ J) s live = live_came J s live
 live_came (entry_is.Base part ∷ J) s live = part_came (part_server part) J s (live_came J s) (λ both. same_server s both.0 && not both.1) (λ both on. and_left (same_server s both.0) (not both.1) on) live
+live_came (entry ∷ J) s live = live_came J s live
 
 -- the args of children
 module _ (P : Server → Type 0) where
@@ -250,40 +237,22 @@ opened_placed place on off = by place.state on off
   where
     by : (state : Rattle.hm_data.specs.declared.place.RegionState.RegionState) → is_state place_is.Opened (record place { state = state }) ≡ true → is_placed (record place { state = state }) ≡ false → ⊥
     by place_is.Opened a b = true≢false b
-    by place_is.Offline a b = false≢true a
-    by place_is.Opening a b = false≢true a
-    by place_is.Closing a b = false≢true a
-    by place_is.Closed a b = false≢true a
-    by place_is.FailedOpen a b = false≢true a
-    by place_is.AbnormallyClosed a b = false≢true a
+    by state a b = false≢true a
 
 -- in a base a region that isn't placed names no server
 part_bare : (part : Part) (J : Past) → PartFits part J → (region : Region) → (is_placed (place_of J region) ≡ false → (let place = place_of J region in place.server) ≡ None) → is_placed (part_place part region (place_of J region)) ≡ false → (let place = part_place part region (place_of J region) in place.server) ≡ None
-part_bare (part_is.Head entries last parts sheets) J fits region was off = was off
-part_bare (part_is.Namespace ns) J fits region was off = was off
-part_bare (part_is.Table table own row) J fits region was off = was off
-part_bare (part_is.Server server fenced) J fits region was off = was off
-part_bare (part_is.Root pid nonce args cause) J fits region was off = was off
-part_bare (part_is.Layout pid) J fits region was off = was off
 part_bare (part_is.Region own range status parents given) J fits region was off = by (same_region region own) off fits.4.3
   where
     by : (b : Bool) → is_placed (if b then given else place_of J region) ≡ false → MayStand given status fits.4.0 → (let place = if b then given else place_of J region in place.server) ≡ None
     by false off may = was off
     by true off (inl none) = none.2
     by true off (inr up) = absurd (opened_placed given up.0 off)
+part_bare part J fits region was off = was off
 
 bare_parts : (J : Past) → IsLegal J → ends_parted J ≡ true → (region : Region) → is_placed (place_of J region) ≡ false → (let place = place_of J region in place.server) ≡ None
 bare_parts [] legal is region off = refl
 bare_parts (entry_is.Base part ∷ J) legal is region off = part_bare part J legal.1.0 region (bare_parts J legal.0 (by_parts (λ j. ends_parted j ≡ true) refl (λ own older. refl) part J legal.1.0) region) off
-bare_parts (entry_is.Start sheets ∷ J) legal is region off = absurd (false≢true is)
-bare_parts (entry_is.Submit nonce request ∷ J) legal is region off = absurd (false≢true is)
-bare_parts (entry_is.Step pid pick out ∷ J) legal is region off = absurd (false≢true is)
-bare_parts (entry_is.Undo pid row out ∷ J) legal is region off = absurd (false≢true is)
-bare_parts (entry_is.Report call told ∷ J) legal is region off = absurd (false≢true is)
-bare_parts (entry_is.Up server ∷ J) legal is region off = absurd (false≢true is)
-bare_parts (entry_is.Down server ∷ J) legal is region off = absurd (false≢true is)
-bare_parts (entry_is.Abort pid ∷ J) legal is region off = absurd (false≢true is)
-bare_parts (entry_is.Adopt sheets ∷ J) legal is region off = absurd (false≢true is)
+bare_parts (entry ∷ J) legal is region off = absurd (false≢true is)
 
 pub named_came : (J : Past) → IsLegal J → NamedCame J
 named_came [] legal = record { args = λ p node is s e. absurd (none-some node is); places = λ now region s e. absurd now }
@@ -291,11 +260,8 @@ named_came (entry_is.Start sheets ∷ J) legal = let was = named_came J legal.0 
 named_came (entry_is.Submit nonce request ∷ J) legal = named_submit J legal.0 legal.1.0 (named_came J legal.0) nonce request
 named_came (entry_is.Step pid pick out ∷ J) legal = named_step J legal.0 legal.1.0 (named_came J legal.0) pid pick out legal
 named_came (entry_is.Undo pid row out ∷ J) legal = named_undo J legal.0 legal.1.0 (named_came J legal.0) pid row out legal
-named_came (entry_is.Report call told ∷ J) legal = let was = named_came J legal.0 in record { args = was.args; places = λ now. was.places legal.1.0 }
 named_came (entry_is.Up other ∷ J) legal = named_up J legal.0 legal.1.0 (named_came J legal.0) other
 named_came (entry_is.Down other ∷ J) legal = named_down J legal.0 legal.1.0 (named_came J legal.0) other legal.1.1.0
-named_came (entry_is.Abort pid ∷ J) legal = let was = named_came J legal.0 in record { args = was.args; places = λ now. was.places legal.1.0 }
-named_came (entry_is.Adopt sheets ∷ J) legal = let was = named_came J legal.0 in record { args = was.args; places = λ now. was.places legal.1.0 }
 named_came (entry_is.Base part ∷ J) legal = record {
   args = λ p node is s e. absurd (none-some node is);
   places = λ whole region s e. by whole region s e (is_placed (place_of (entry_is.Base part ∷ J) region)) refl;
@@ -307,19 +273,12 @@ named_came (entry_is.Base part ∷ J) legal = record {
         let same : at.0 ≡ s = same_Some at.0 s (sym (ap (λ (p : Place). p.server) at.1) ∙ e) in
         subst (Came (entry_is.Base part ∷ J)) same (live_came (entry_is.Base part ∷ J) at.0 at.2)
     by whole region s e false off = absurd (none-some s (sym (bare_parts (entry_is.Base part ∷ J) legal refl region off) ∙ e))
+named_came (entry ∷ J) legal = let was = named_came J legal.0 in record { args = was.args; places = λ now. was.places legal.1.0 }
 
 -- who is fenced came up
 fenced_server : (args : Args) (s : Server) → fences_by args s ≡ true → server_of args ≡ Some s
-fenced_server (args_are.Root request first) s e = absurd (true≢false (sym e))
-fenced_server (args_are.Transit region goal to) s e = absurd (true≢false (sym e))
-fenced_server (args_are.Crash server) s e = absurd (true≢false (sym e))
-fenced_server (args_are.AddRegions table first bounds) s e = absurd (true≢false (sym e))
-fenced_server (args_are.DropRegions table ids) s e = absurd (true≢false (sym e))
-fenced_server (args_are.AssignCall region server) s e = absurd (true≢false (sym e))
-fenced_server (args_are.CloseCall region server) s e = absurd (true≢false (sym e))
 fenced_server (args_are.FenceCall server) s e = ap Some (sym (same_server-is s server e))
-fenced_server (args_are.LayoutCall root) s e = absurd (true≢false (sym e))
-fenced_server (args_are.SweepLayout root) s e = absurd (true≢false (sym e))
+fenced_server args s e = absurd (true≢false (sym e))
 
 pub fence_names : (J : Past) → NamedCame J → (p : ℕ) (o : Option Node) → node_of J p ≡ o → (s : Server) → fences_if o s ≡ true → came_up J s ≡ true
 fence_names J came p None is s e = absurd (true≢false (sym e))
@@ -327,16 +286,10 @@ fence_names J came p (Some node) is s e = came.args p node is s (fenced_server n
 
 pub fenced_came : (J : Past) → IsLegal J → (s : Server) → is_fenced J s ≡ true → came_up J s ≡ true
 fenced_came [] legal s e = absurd (true≢false (sym e))
-fenced_came (entry_is.Start sheets ∷ J) legal s e = fenced_came J legal.0 s e
-fenced_came (entry_is.Submit nonce request ∷ J) legal s e = fenced_came J legal.0 s e
-fenced_came (entry_is.Step pid pick out ∷ J) legal s e = fenced_came J legal.0 s e
-fenced_came (entry_is.Undo pid row out ∷ J) legal s e = fenced_came J legal.0 s e
 fenced_came (entry_is.Report call told ∷ J) legal s e = elim (or_either ((told_number told == told_number told_is.Fenced) && fences_if (node_of J call.0) s) (is_fenced J s) e) [
   | inl now ↦ fence_names J (named_came J legal.0) call.0 (node_of J call.0) refl s (and_right (told_number told == told_number told_is.Fenced) (fences_if (node_of J call.0) s) now)
   | inr was ↦ fenced_came J legal.0 s was
 ]
 fenced_came (entry_is.Up other ∷ J) legal s e = came_on J other s (fenced_came J legal.0 s e)
-fenced_came (entry_is.Down other ∷ J) legal s e = fenced_came J legal.0 s e
-fenced_came (entry_is.Abort pid ∷ J) legal s e = fenced_came J legal.0 s e
-fenced_came (entry_is.Adopt sheets ∷ J) legal s e = fenced_came J legal.0 s e
 fenced_came (entry_is.Base part ∷ J) legal s e = part_came (part_server part) J s (fenced_came J legal.0 s) (λ both. same_server s both.0 && both.1) (λ both on. and_left (same_server s both.0) both.1 on) e
+fenced_came (entry ∷ J) legal s e = fenced_came J legal.0 s e

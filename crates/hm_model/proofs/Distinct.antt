@@ -115,13 +115,12 @@ among_keys table test asked there [] y h = elim h [ ]
 among_keys table test asked there (key ∷ keys) y h = by (asked key) (there key) (among_keys table test asked there keys y) h
   where
     by_keep : (key : CatKey) (b : Bool) (row : CatRow) → (IsIn y (regions_among table test (rows_at asked there keys)) → IsIn (key_is.Region y) keys) → IsIn y (keep_region table test key row (regions_among table test (rows_at asked there keys))) → IsIn (key_is.Region y) (key ∷ keys)
-    by_keep (key_is.Ns ns) b row on h = inr (on h)
-    by_keep (key_is.Table other) b row on h = inr (on h)
     by_keep (key_is.Region region) b row on h = at (same_table table region.table && test row) h
       where
         at : (b : Bool) → IsIn y (cond b (region ∷ regions_among table test (rows_at asked there keys)) (regions_among table test (rows_at asked there keys))) → IsIn (key_is.Region y) (key_is.Region region ∷ keys)
         at true h = elim h [ inl here ↦ inl (ap key_is.Region here) | inr later ↦ inr (on later) ]
         at false h = inr (on h)
+    by_keep key b row on h = inr (on h)
 
     by : (b : Bool) (o : Option CatRow) → (IsIn y (regions_among table test (rows_at asked there keys)) → IsIn (key_is.Region y) keys) → IsIn y (regions_among table test (keep b key o (rows_at asked there keys))) → IsIn (key_is.Region y) (key ∷ keys)
     by false o on h = inr (on h)
@@ -140,13 +139,12 @@ distinct_among table test asked there [] order = tt
 distinct_among table test asked there (key ∷ keys) order = by (asked key) (there key) (distinct_among table test asked there keys order.1)
   where
     by_keep : (own : CatKey) (row : CatRow) → key ≡ own → AreDistinct (regions_among table test (rows_at asked there keys)) → AreDistinct (keep_region table test own row (regions_among table test (rows_at asked there keys)))
-    by_keep (key_is.Ns ns) row e on = on
-    by_keep (key_is.Table other) row e on = on
     by_keep (key_is.Region region) row e on = at (same_table table region.table && test row)
       where
         at : (b : Bool) → AreDistinct (cond b (region ∷ regions_among table test (rows_at asked there keys)) (regions_among table test (rows_at asked there keys)))
         at true = ((λ h. key_out key keys order.0 (subst (λ k. IsIn k keys) (sym e) (among_keys table test asked there keys region h))), on)
         at false = on
+    by_keep key row e on = on
 
     by : (b : Bool) (o : Option CatRow) → AreDistinct (regions_among table test (rows_at asked there keys)) → AreDistinct (regions_among table test (keep b key o (rows_at asked there keys)))
     by false o on = on
@@ -282,16 +280,4 @@ act_one act_is.AddRegionRows h next at sees = given_one (table_of at.args) next 
 act_one act_is.DropRegionRows h next at sees = given_one (table_of at.args) next (λ table. edits_rows next (remove_regions (row_at at.rows) (regions_in table (ids_of at.args)))) (λ table. still_one [] tt)
 act_one act_is.Fence h next at sees = given_one (server_of at.args) next (λ server. spawns next (child_is.One (args_are.FenceCall server) ∷ [])) (λ server. still_one (args_are.FenceCall server ∷ []) (refl, tt))
 act_one act_is.Reassign h next at sees = reassigned_one next (transits goal_is.Assign at.on_server) (moves_one goal_is.Assign at.on_server sees.lost)
-act_one act_is.GetAssignCandidate h next at sees = absurd (false≢true h)
-act_one act_is.Open h next at sees = absurd (false≢true h)
-act_one act_is.ConfirmOpened h next at sees = absurd (false≢true h)
-act_one act_is.Close h next at sees = absurd (false≢true h)
-act_one act_is.ConfirmClosed h next at sees = absurd (false≢true h)
-act_one act_is.CheckMove h next at sees = absurd (false≢true h)
-act_one act_is.CallAssign h next at sees = absurd (false≢true h)
-act_one act_is.CallClose h next at sees = absurd (false≢true h)
-act_one act_is.Settle h next at sees = absurd (false≢true h)
-act_one act_is.CallFence h next at sees = absurd (false≢true h)
-act_one act_is.CallLayout h next at sees = absurd (false≢true h)
-act_one act_is.SettleLayout h next at sees = absurd (false≢true h)
-act_one act_is.CallSweep h next at sees = absurd (false≢true h)
+act_one act h next at sees = absurd (false≢true h)

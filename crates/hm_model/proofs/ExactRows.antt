@@ -43,12 +43,7 @@ all_valid (entry_is.Base part ∷ before) legal = by part legal.1.0 (all_valid b
   where
     by : (part : Part) → PartFits part before → AllValid (sheets_of before) → AllValid (sheets_of (entry_is.Base part ∷ before))
     by (part_is.Head entries last parts sheets) fits was = fits.1.1
-    by (part_is.Namespace ns) fits was = was
-    by (part_is.Table table own row) fits was = was
-    by (part_is.Region region range status parents place) fits was = was
-    by (part_is.Server server fenced) fits was = was
-    by (part_is.Root pid nonce args cause) fits was = was
-    by (part_is.Layout pid) fits was = was
+    by part fits was = was
 all_valid (entry ∷ before) legal = all_valid before legal.0
 
 if_valid : (new : Bool) (now was : List Sheet) → AllValid now → AllValid was → AllValid (cond new now was)
@@ -88,9 +83,7 @@ act_same a b e = same_Some a b (sym (act_of-act_number a) ∙ ap act_of e ∙ ac
 
 back_back : (undo : Back) → back_of (back_number undo) ≡ Some undo
 back_back back_is.Nothing = refl
-back_back back_is.Edits = refl
-back_back back_is.Sweep = refl
-back_back back_is.Reopen = refl
+back_back undo = refl
 
 back_same : (a b : Back) → back_number a ≡ back_number b → a ≡ b
 back_same a b e = same_Some a b (sym (back_back a) ∙ ap back_of e ∙ back_back b)

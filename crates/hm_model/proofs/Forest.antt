@@ -42,19 +42,12 @@ root_stays entry before legal p root = by (node_of before p) refl root
 -- only roots are aborted
 aborted_roots : (J : Past) → IsLegal J → (p : ℕ) → is_aborted J p ≡ true → is_root J p ≡ true
 aborted_roots [] legal p on = absurd (false≢true on)
-aborted_roots (entry_is.Start sheets ∷ before) legal p on = root_stays (entry_is.Start sheets) before legal p (aborted_roots before legal.0 p on)
-aborted_roots (entry_is.Submit nonce request ∷ before) legal p on = root_stays (entry_is.Submit nonce request) before legal p (aborted_roots before legal.0 p on)
-aborted_roots (entry_is.Step pid pick out ∷ before) legal p on = root_stays (entry_is.Step pid pick out) before legal p (aborted_roots before legal.0 p on)
-aborted_roots (entry_is.Undo pid row out ∷ before) legal p on = root_stays (entry_is.Undo pid row out) before legal p (aborted_roots before legal.0 p on)
-aborted_roots (entry_is.Report call told ∷ before) legal p on = root_stays (entry_is.Report call told) before legal p (aborted_roots before legal.0 p on)
-aborted_roots (entry_is.Up server ∷ before) legal p on = root_stays (entry_is.Up server) before legal p (aborted_roots before legal.0 p on)
-aborted_roots (entry_is.Down server ∷ before) legal p on = root_stays (entry_is.Down server) before legal p (aborted_roots before legal.0 p on)
 aborted_roots (entry_is.Abort pid ∷ before) legal p on = elim (cases_eq p pid.0) [
   | inl same ↦ ap (is_root before) same ∙ legal.1.1.0.0
   | inr differs ↦ aborted_roots before legal.0 p (sym (cond-false (p == pid.0) true (is_aborted before p) (ne_eqb p pid.0 differs)) ∙ on)
 ]
-aborted_roots (entry_is.Adopt sheets ∷ before) legal p on = root_stays (entry_is.Adopt sheets) before legal p (aborted_roots before legal.0 p on)
 aborted_roots (entry_is.Base part ∷ before) legal p on = absurd (false≢true on)
+aborted_roots (entry ∷ before) legal p on = root_stays entry before legal p (aborted_roots before legal.0 p on)
 
 stands_by : (J : Past) → Grown J → (p : ℕ) (node : Node) → node_of J p ≡ Some node → (above : List ℕ) → node.above ≡ above → Stands J p above node.root
 stands_by J grown p node is [] e = grown.tops p node is e

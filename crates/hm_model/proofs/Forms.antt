@@ -68,9 +68,8 @@ on_to_leads next = by (next == no_row)
     by false = inl refl
 
 behind_leads : (next : ℕ) (goal : Goal) (told : Told) → Leads next (behind_close goal told)
-behind_leads next goal_is.Assign told = inr (inl refl)
 behind_leads next goal_is.Unassign told = inr (inr refl)
-behind_leads next goal_is.Move told = inr (inl refl)
+behind_leads next goal told = inr (inl refl)
 
 -- no children and no call
 plainly : (next : ℕ) (answer : Answer) (edits : List Edit) (place : Option Place) → answer ≢ answer_is.Undone → Leads next answer → IsFormed next (record { answer = answer; edits = edits; children = []; call = None; place = place; followers = [] })
@@ -116,15 +115,8 @@ as_told next None = ended next told_is.Nothing
 as_told next (Some told) = ended next told
 
 by_layout : (next : ℕ) (told : Told) → IsFormed next (layout_told told)
-by_layout next told_is.Nothing = ended next told_is.Nothing
-by_layout next told_is.Opened = ended next told_is.Opened
-by_layout next told_is.FailedOpen = ended next told_is.FailedOpen
-by_layout next told_is.Closed = ended next told_is.Closed
-by_layout next told_is.Gone = ended next told_is.Gone
-by_layout next told_is.Fenced = ended next told_is.Fenced
-by_layout next told_is.LaidOut = ended next told_is.LaidOut
 by_layout next told_is.Refused = failed next cause_is.LayoutRefused
-by_layout next told_is.Swept = ended next told_is.Swept
+by_layout next told = ended next told
 
 settled_layout : (next : ℕ) (report : Option Told) → IsFormed next (settle_layout report)
 settled_layout next None = ended next told_is.Nothing
@@ -148,8 +140,7 @@ opened next server false = plainly next (answer_is.More next) [] _ (λ e. cc) (i
 
 behind_not : (goal : Goal) (told : Told) → behind_close goal told ≢ answer_is.Undone
 behind_not goal_is.Assign told e = cc
-behind_not goal_is.Unassign told e = cc
-behind_not goal_is.Move told e = cc
+behind_not goal told e = cc
 
 closed : (next : ℕ) (goal : Goal) (region : Region) (place : Place) (is : Bool) → IsFormed next (close_or_go next goal region place is)
 closed next goal region place true = with_part place.server next (close_at next region) (λ server. record { stepped = record { children = inr (next, refl); call = inl refl; followerless = refl; undoes_nothing = λ e. cc }; leads = inl refl })
@@ -288,12 +279,10 @@ act_formed act_is.CloseRegions next at = close_regions-formed next at.args at.ro
 act_formed act_is.SetDisabled next at = set_state-formed state_is.Disabled next at.args at.rows
 act_formed act_is.SetVersion next at = set_version-formed next at.args at.rows
 act_formed act_is.CheckSplit next at = check_split-formed next at.args at.rows
-act_formed act_is.CloseParent next at = close_parents-formed next at.args
 act_formed act_is.UpdateSplitMeta next at = update_split_meta-formed next at.args at.rows
 act_formed act_is.OpenDaughters next at = open_new-formed 2 next at.args
 act_formed act_is.Finish next at = ended next told_is.Nothing
 act_formed act_is.CheckMerge next at = check_merge-formed next at.args at.rows
-act_formed act_is.CloseParents next at = close_parents-formed next at.args
 act_formed act_is.UpdateMergeMeta next at = update_merge_meta-formed next at.args at.rows
 act_formed act_is.OpenMerged next at = open_new-formed 1 next at.args
 act_formed act_is.AddRegionRows next at = add_region_rows-formed next at.args at.rows
@@ -313,6 +302,7 @@ act_formed act_is.CallFence next at = call_fence-formed next at.args
 act_formed act_is.CallLayout next at = call_layout-formed next at.args
 act_formed act_is.SettleLayout next at = settled_layout next at.report
 act_formed act_is.CallSweep next at = call_sweep-formed next at.args
+act_formed act next at = close_parents-formed next at.args
 
 -- a row answers a step so
 pub row_formed : (row : Row) (at : StepIn) → IsFormed row.next (row_answer row at)

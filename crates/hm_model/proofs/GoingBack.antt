@@ -171,16 +171,10 @@ module _ (pid : Pid) (row : ℕ) (out : StepOut) (J : Past) (legal : IsLegal (en
 
 goes_back : (J : Past) → IsLegal J → (r : ℕ) → GoesBack J r
 goes_back [] legal r = record { order = refl; over = λ some. absurd (some refl) }
-goes_back (entry_is.Start sheets ∷ J) legal r = plainly J (entry_is.Start sheets ∷ J) r (goes_back J legal.0 r) refl refl refl refl (still_stopped J (entry_is.Start sheets ∷ J) r 0 0 (under_change (entry_is.Start sheets) J legal r) refl refl)
-goes_back (entry_is.Submit nonce request ∷ J) legal r = plainly J (entry_is.Submit nonce request ∷ J) r (goes_back J legal.0 r) refl refl refl refl (still_stopped J (entry_is.Submit nonce request ∷ J) r 0 0 (under_change (entry_is.Submit nonce request) J legal r) refl refl)
 goes_back (entry_is.Step pid pick out ∷ J) legal r = of_step pid pick out J legal r (goes_back J legal.0 r)
 goes_back (entry_is.Undo pid row out ∷ J) legal r = of_undo pid row out J legal r (goes_back J legal.0 r)
-goes_back (entry_is.Report call told ∷ J) legal r = plainly J (entry_is.Report call told ∷ J) r (goes_back J legal.0 r) refl refl refl refl (still_stopped J (entry_is.Report call told ∷ J) r 0 0 (under_change (entry_is.Report call told) J legal r) refl refl)
-goes_back (entry_is.Up server ∷ J) legal r = plainly J (entry_is.Up server ∷ J) r (goes_back J legal.0 r) refl refl refl refl (still_stopped J (entry_is.Up server ∷ J) r 0 0 (under_change (entry_is.Up server) J legal r) refl refl)
-goes_back (entry_is.Down server ∷ J) legal r = plainly J (entry_is.Down server ∷ J) r (goes_back J legal.0 r) refl refl refl refl (still_stopped J (entry_is.Down server ∷ J) r 0 0 (under_change (entry_is.Down server) J legal r) refl refl)
-goes_back (entry_is.Abort pid ∷ J) legal r = plainly J (entry_is.Abort pid ∷ J) r (goes_back J legal.0 r) refl refl refl refl (still_stopped J (entry_is.Abort pid ∷ J) r 0 0 (under_change (entry_is.Abort pid) J legal r) refl refl)
-goes_back (entry_is.Adopt sheets ∷ J) legal r = plainly J (entry_is.Adopt sheets ∷ J) r (goes_back J legal.0 r) refl refl refl refl (still_stopped J (entry_is.Adopt sheets ∷ J) r 0 0 (under_change (entry_is.Adopt sheets) J legal r) refl refl)
 goes_back (entry_is.Base part ∷ J) legal r = record { order = refl; over = λ some. absurd (some refl) }
+goes_back (entry ∷ J) legal r = plainly J (entry ∷ J) r (goes_back J legal.0 r) refl refl refl refl (still_stopped J (entry ∷ J) r 0 0 (under_change entry J legal r) refl refl)
 
 pub undos_go_back : (J : Past) → IsLegal J → (r : ℕ) → (left : List Reversal) × (to_undo J r ≡ undos_of J r ++ left)
 undos_go_back J legal r = (map mark (stack J r), (goes_back J legal r).order)

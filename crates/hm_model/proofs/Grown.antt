@@ -211,29 +211,23 @@ grown_abort pid before root grown = same_grown before (entry_is.Abort pid ∷ be
 
 pub grown_all : (J : Past) → IsLegal J → IsGrown J
 grown_all [] legal = grown_nothing
-grown_all (entry_is.Start sheets ∷ before) legal = same_grown before (entry_is.Start sheets ∷ before) refl refl (λ p. refl) (record { unmade = λ p h e. e; uncalled = λ p h e. e; unreported = λ p h e. e; unaborted = λ p h e. e }) (grown_all before legal.0)
 grown_all (entry_is.Submit nonce request ∷ before) legal = grown_submit nonce request before (grown_all before legal.0)
 grown_all (entry_is.Step pid pick out ∷ before) legal = let may = legal.1.1.0 in grown_step pid pick out before may.0 may.1 (grown_all before legal.0)
 grown_all (entry_is.Undo pid row out ∷ before) legal = grown_undo pid row out before (grown_all before legal.0)
 grown_all (entry_is.Report call told ∷ before) legal = grown_report call told before legal.1.1.0.0 (grown_all before legal.0)
-grown_all (entry_is.Up server ∷ before) legal = same_grown before (entry_is.Up server ∷ before) refl refl (λ p. refl) (record { unmade = λ p h e. e; uncalled = λ p h e. e; unreported = λ p h e. e; unaborted = λ p h e. e }) (grown_all before legal.0)
 grown_all (entry_is.Down server ∷ before) legal = grown_down server before (grown_all before legal.0)
 grown_all (entry_is.Abort pid ∷ before) legal = grown_abort pid before legal.1.1.0.0 (grown_all before legal.0)
-grown_all (entry_is.Adopt sheets ∷ before) legal = same_grown before (entry_is.Adopt sheets ∷ before) refl refl (λ p. refl) (record { unmade = λ p h e. e; uncalled = λ p h e. e; unreported = λ p h e. e; unaborted = λ p h e. e }) (grown_all before legal.0)
 grown_all (entry_is.Base part ∷ before) legal = record { none = refl; low = omega arith; numbered = λ p lt. refl; there = λ p ge le. absurd (omega (arith, ge, le)); unmade = λ p e. refl; uncalled = λ p e. refl; unreported = λ p e. refl; unaborted = λ p e. refl }
+grown_all (entry ∷ before) legal = same_grown before (entry ∷ before) refl refl (λ p. refl) (record { unmade = λ p h e. e; uncalled = λ p h e. e; unreported = λ p h e. e; unaborted = λ p h e. e }) (grown_all before legal.0)
 
 -- what was made stays as it is
 pub nodes_stay : (entry : Entry) (before : Past) → IsLegal (entry ∷ before) → (q : ℕ) (x : Node) → node_of before q ≡ Some x → node_of (entry ∷ before) q ≡ Some x
-nodes_stay (entry_is.Start sheets) before legal q x is = is
 nodes_stay (entry_is.Submit nonce request) before legal q x is = let few = (made_up_to before (grown_all before legal.0) q x is).1 in submit_old nonce request before q (λ e. omega (arith, e, few)) ∙ is
 nodes_stay (entry_is.Step pid pick out) before legal q x is = step_old pid pick out before q (made_up_to before (grown_all before legal.0) q x is).1 ∙ is
 nodes_stay (entry_is.Undo pid row out) before legal q x is = undo_old pid row out before q (made_up_to before (grown_all before legal.0) q x is).1 ∙ is
-nodes_stay (entry_is.Report call told) before legal q x is = is
-nodes_stay (entry_is.Up server) before legal q x is = is
 nodes_stay (entry_is.Down server) before legal q x is = let few = (made_up_to before (grown_all before legal.0) q x is).1 in down_old server before q (λ e. omega (arith, e, few)) ∙ is
-nodes_stay (entry_is.Abort pid) before legal q x is = is
-nodes_stay (entry_is.Adopt sheets) before legal q x is = is
 nodes_stay (entry_is.Base part) before legal q x is = absurd (none-some x (sym (no_node part before legal.1.0 q) ∙ is))
+nodes_stay entry before legal q x is = is
 
 -- one entry more that is neither a start nor a part
 entry_more : (entry : Entry) (before : Past) → is_start entry ≡ false → is_part entry ≡ false → sheets_in (entry ∷ before) 0 ≡ sheets_in before 0 → OriginIsOldest before → OriginIsOldest (entry ∷ before)
@@ -255,29 +249,15 @@ ends_parted (entry ∷ before) = is_part entry
 pub all_parts : (J : Past) → IsLegal J → ends_parted J ≡ true → are_parts J ≡ true
 all_parts [] legal is = refl
 all_parts (entry_is.Base part ∷ before) legal is = all_parts before legal.0 (by_parts (λ J. ends_parted J ≡ true) refl (λ own older. refl) part before legal.1.0)
-all_parts (entry_is.Start sheets ∷ before) legal is = absurd (false≢true is)
-all_parts (entry_is.Submit nonce request ∷ before) legal is = absurd (false≢true is)
-all_parts (entry_is.Step pid pick out ∷ before) legal is = absurd (false≢true is)
-all_parts (entry_is.Undo pid row out ∷ before) legal is = absurd (false≢true is)
-all_parts (entry_is.Report call told ∷ before) legal is = absurd (false≢true is)
-all_parts (entry_is.Up server ∷ before) legal is = absurd (false≢true is)
-all_parts (entry_is.Down server ∷ before) legal is = absurd (false≢true is)
-all_parts (entry_is.Abort pid ∷ before) legal is = absurd (false≢true is)
-all_parts (entry_is.Adopt sheets ∷ before) legal is = absurd (false≢true is)
+all_parts (entry ∷ before) legal is = absurd (false≢true is)
 
 -- the start comes first, and only there
 pub start_oldest : (J : Past) → IsLegal J → IsBegun J → OriginIsOldest J
 start_oldest [] legal some = absurd some
 start_oldest (entry_is.Start sheets ∷ before) legal some = inl ([], ap (λ b. entry_is.Start sheets ∷ b) legal.1.0.0, refl)
-start_oldest (entry_is.Submit nonce request ∷ before) legal some = entry_more (entry_is.Submit nonce request) before refl refl refl (start_oldest before legal.0 legal.1.0)
-start_oldest (entry_is.Step pid pick out ∷ before) legal some = entry_more (entry_is.Step pid pick out) before refl refl refl (start_oldest before legal.0 legal.1.0)
-start_oldest (entry_is.Undo pid row out ∷ before) legal some = entry_more (entry_is.Undo pid row out) before refl refl refl (start_oldest before legal.0 legal.1.0)
-start_oldest (entry_is.Report call told ∷ before) legal some = entry_more (entry_is.Report call told) before refl refl refl (start_oldest before legal.0 legal.1.0)
-start_oldest (entry_is.Up server ∷ before) legal some = entry_more (entry_is.Up server) before refl refl refl (start_oldest before legal.0 legal.1.0)
-start_oldest (entry_is.Down server ∷ before) legal some = entry_more (entry_is.Down server) before refl refl refl (start_oldest before legal.0 legal.1.0)
-start_oldest (entry_is.Abort pid ∷ before) legal some = entry_more (entry_is.Abort pid) before refl refl refl (start_oldest before legal.0 legal.1.0)
 start_oldest (entry_is.Adopt sheets ∷ before) legal some = entry_more (entry_is.Adopt sheets) before refl refl (cond-false (0 == editions before + 1) sheets (sheets_in before 0) (ne_eqb 0 (editions before + 1) (λ e. omega (arith, e)))) (start_oldest before legal.0 legal.1.0)
 start_oldest (entry_is.Base part ∷ before) legal whole = inr ([], entry_is.Base part ∷ before, refl, refl, all_parts (entry_is.Base part ∷ before) legal refl, legal, whole)
+start_oldest (entry ∷ before) legal some = entry_more entry before refl refl refl (start_oldest before legal.0 legal.1.0)
 
 -- a journal that has begun has an entry
 pub begun_some : (J : Past) → IsBegun J → J ≢ []
@@ -291,25 +271,15 @@ rises_some (entry ∷ before) part after = λ none. cc
 part_sheets_are : (part : Part) (before : Past) → PartFits part before → (before ≢ [] → AreSheets (sheets_of before)) → AreSheets (sheets_of (entry_is.Base part ∷ before))
 part_sheets_are (part_is.Head entries last parts sheets) before fits was = fits.1
 part_sheets_are (part_is.Namespace ns) before fits was = was (rises_some before (part_is.Namespace ns) fits)
-part_sheets_are (part_is.Table table own row) before fits was = was (rises_some before (part_is.Table table own row) fits.0)
-part_sheets_are (part_is.Region region range status parents place) before fits was = was (rises_some before (part_is.Region region range status parents place) fits.0)
-part_sheets_are (part_is.Server server fenced) before fits was = was (rises_some before (part_is.Server server fenced) fits.0)
-part_sheets_are (part_is.Root pid nonce args cause) before fits was = was (rises_some before (part_is.Root pid nonce args cause) fits.0)
-part_sheets_are (part_is.Layout pid) before fits was = was (rises_some before (part_is.Layout pid) fits.0)
+part_sheets_are part before fits was = was (rises_some before part fits.0)
 
 -- the sheets in force are those of all kinds
 pub sheets_are : (J : Past) → IsLegal J → J ≢ [] → AreSheets (sheets_of J)
 sheets_are [] legal some = absurd (some refl)
 sheets_are (entry_is.Start sheets ∷ before) legal some = legal.1.0.1
-sheets_are (entry_is.Submit nonce request ∷ before) legal some = sheets_are before legal.0 (begun_some before legal.1.0)
-sheets_are (entry_is.Step pid pick out ∷ before) legal some = sheets_are before legal.0 (begun_some before legal.1.0)
-sheets_are (entry_is.Undo pid row out ∷ before) legal some = sheets_are before legal.0 (begun_some before legal.1.0)
-sheets_are (entry_is.Report call told ∷ before) legal some = sheets_are before legal.0 (begun_some before legal.1.0)
-sheets_are (entry_is.Up server ∷ before) legal some = sheets_are before legal.0 (begun_some before legal.1.0)
-sheets_are (entry_is.Down server ∷ before) legal some = sheets_are before legal.0 (begun_some before legal.1.0)
-sheets_are (entry_is.Abort pid ∷ before) legal some = sheets_are before legal.0 (begun_some before legal.1.0)
 sheets_are (entry_is.Adopt sheets ∷ before) legal some = legal.1.1.0.0
 sheets_are (entry_is.Base part ∷ before) legal some = part_sheets_are part before legal.1.0 (sheets_are before legal.0)
+sheets_are (entry ∷ before) legal some = sheets_are before legal.0 (begun_some before legal.1.0)
 
 -- what stands under a nonce after one more entry that makes nothing new of it
 under_on : (entry : Entry) (J : Past) (nonce : Nonce) (p : ℕ) (under : IsUnder J nonce p) → ((node : Node) → node_of J p ≡ Some node → node_of (entry ∷ J) p ≡ Some node) → IsUnder (entry ∷ J) nonce p
@@ -335,21 +305,16 @@ older_root part before fits legal same nonce p (inr old) = record { part = old.p
 
 old_root : (part : Part) (before : Past) → IsLegal (entry_is.Base part ∷ before) → ((nonce : Nonce) (p : ℕ) → by_nonce before nonce ≡ Some p → IsUnder before nonce p ⊎ IsOld before nonce p) → (nonce : Nonce) (p : ℕ) → by_nonce (entry_is.Base part ∷ before) nonce ≡ Some p → IsOld (entry_is.Base part ∷ before) nonce p
 old_root (part_is.Head entries last parts sheets) before legal was nonce p is = absurd (none-some p (sym (ap (λ j. by_nonce j nonce) legal.1.0.0) ∙ is))
-old_root (part_is.Namespace ns) before legal was nonce p is = older_root (part_is.Namespace ns) before legal.1.0 legal.0 refl nonce p (was nonce p is)
-old_root (part_is.Table table own row) before legal was nonce p is = older_root (part_is.Table table own row) before legal.1.0 legal.0 refl nonce p (was nonce p is)
-old_root (part_is.Region region range status parents place) before legal was nonce p is = older_root (part_is.Region region range status parents place) before legal.1.0 legal.0 refl nonce p (was nonce p is)
-old_root (part_is.Server server fenced) before legal was nonce p is = older_root (part_is.Server server fenced) before legal.1.0 legal.0 refl nonce p (was nonce p is)
-old_root (part_is.Layout pid) before legal was nonce p is = older_root (part_is.Layout pid) before legal.1.0 legal.0 refl nonce p (was nonce p is)
 old_root (part_is.Root pid used args cause) before legal was nonce p is = elim (cases_Bool (is_same used nonce)) [
   | inl on ↦
       let own : pid.0 ≡ p = same_Some pid.0 p (sym (cond-true (is_same used nonce) (Some pid.0) (by_nonce before nonce) on) ∙ is) in
       record { part = part_is.Root pid used args cause; newer = []; older = before; splits = refl; used = used; root = ap (λ n. Some (used, n)) own; same = on; above = subst (λ n. 1 ≤ n) own legal.1.0.1; within = subst (λ n. n ≤ made before) own legal.1.0.2 }
   | inr off ↦ older_root (part_is.Root pid used args cause) before legal.1.0 legal.0 refl nonce p (was nonce p (sym (cond-false (is_same used nonce) (Some pid.0) (by_nonce before nonce) off) ∙ is))
 ]
+old_root part before legal was nonce p is = older_root part before legal.1.0 legal.0 refl nonce p (was nonce p is)
 
 pub by_nonce_under : (J : Past) → IsLegal J → (nonce : Nonce) (p : ℕ) → by_nonce J nonce ≡ Some p → IsUnder J nonce p ⊎ IsOld J nonce p
 by_nonce_under [] legal nonce p is = absurd (none-some p is)
-by_nonce_under (entry_is.Start sheets ∷ before) legal nonce p is = either_on (entry_is.Start sheets) before legal refl nonce p (by_nonce_under before legal.0 nonce p is)
 by_nonce_under (entry_is.Submit used request ∷ before) legal nonce p is = elim (cases_Bool (is_same used nonce)) [
   | inl on ↦
       let new : p ≡ made before + 1 = sym (same_Some (made before + 1) p (sym (cond-true (is_same used nonce) (Some (made before + 1)) (by_nonce before nonce) on) ∙ is)) in
@@ -357,14 +322,8 @@ by_nonce_under (entry_is.Submit used request ∷ before) legal nonce p is = elim
   | inr off ↦
       either_on (entry_is.Submit used request) before legal refl nonce p (by_nonce_under before legal.0 nonce p (sym (cond-false (is_same used nonce) (Some (made before + 1)) (by_nonce before nonce) off) ∙ is))
 ]
-by_nonce_under (entry_is.Step pid pick out ∷ before) legal nonce p is = either_on (entry_is.Step pid pick out) before legal refl nonce p (by_nonce_under before legal.0 nonce p is)
-by_nonce_under (entry_is.Undo pid row out ∷ before) legal nonce p is = either_on (entry_is.Undo pid row out) before legal refl nonce p (by_nonce_under before legal.0 nonce p is)
-by_nonce_under (entry_is.Report call told ∷ before) legal nonce p is = either_on (entry_is.Report call told) before legal refl nonce p (by_nonce_under before legal.0 nonce p is)
-by_nonce_under (entry_is.Up server ∷ before) legal nonce p is = either_on (entry_is.Up server) before legal refl nonce p (by_nonce_under before legal.0 nonce p is)
-by_nonce_under (entry_is.Down server ∷ before) legal nonce p is = either_on (entry_is.Down server) before legal refl nonce p (by_nonce_under before legal.0 nonce p is)
-by_nonce_under (entry_is.Abort pid ∷ before) legal nonce p is = either_on (entry_is.Abort pid) before legal refl nonce p (by_nonce_under before legal.0 nonce p is)
-by_nonce_under (entry_is.Adopt sheets ∷ before) legal nonce p is = either_on (entry_is.Adopt sheets) before legal refl nonce p (by_nonce_under before legal.0 nonce p is)
 by_nonce_under (entry_is.Base part ∷ before) legal nonce p is = inr (old_root part before legal (by_nonce_under before legal.0) nonce p is)
+by_nonce_under (entry ∷ before) legal nonce p is = either_on entry before legal refl nonce p (by_nonce_under before legal.0 nonce p is)
 
 pub by_nonce_made : (J : Past) → IsLegal J → (nonce : Nonce) (p : ℕ) → by_nonce J nonce ≡ Some p → (1 ≤ p) × (p ≤ made J)
 by_nonce_made J legal nonce p is = elim (by_nonce_under J legal nonce p is) [
@@ -376,16 +335,11 @@ pub stepper_made : (pid : Pid) (pick : Option Server) (out : StepOut) (before : 
 stepper_made pid pick out before legal = let may = legal.1.1.0 in made_up_to before (grown_all before legal.0) pid.0 may.0 may.1
 
 part_within : (part : Part) (before : Past) → PartFits part before → ((table : TableName) → drawn before table ≤ 4096) → (table : TableName) → drawn (entry_is.Base part ∷ before) table ≤ 4096
-part_within (part_is.Head entries last parts sheets) before fits was table = was table
-part_within (part_is.Namespace ns) before fits was table = was table
 part_within (part_is.Table own ids row) before fits was table = elim (cases_Bool (same_table own table)) [
   | inl on ↦ rw on fits.1
   | inr off ↦ rw off (was table)
 ]
-part_within (part_is.Region region range status parents place) before fits was table = was table
-part_within (part_is.Server server fenced) before fits was table = was table
-part_within (part_is.Root pid nonce args cause) before fits was table = was table
-part_within (part_is.Layout pid) before fits was table = was table
+part_within part before fits was table = was table
 
 -- region ids stay within their limit
 pub ids_within : (J : Past) → IsLegal J → (table : TableName) → drawn J table ≤ 4096
@@ -401,12 +355,5 @@ ids_within (entry_is.Submit nonce request ∷ before) legal table = by (ids_with
       | inl on ↦ rw on (subst (λ t. drawn before t + new_ids request ≤ 4096) (same_table-is own table on) (legal.1.1.1.1.0 own e))
       | inr off ↦ rw off (was le)
     ]
-ids_within (entry_is.Start sheets ∷ before) legal table = ids_within before legal.0 table
-ids_within (entry_is.Step pid pick out ∷ before) legal table = ids_within before legal.0 table
-ids_within (entry_is.Undo pid row out ∷ before) legal table = ids_within before legal.0 table
-ids_within (entry_is.Report call told ∷ before) legal table = ids_within before legal.0 table
-ids_within (entry_is.Up server ∷ before) legal table = ids_within before legal.0 table
-ids_within (entry_is.Down server ∷ before) legal table = ids_within before legal.0 table
-ids_within (entry_is.Abort pid ∷ before) legal table = ids_within before legal.0 table
-ids_within (entry_is.Adopt sheets ∷ before) legal table = ids_within before legal.0 table
 ids_within (entry_is.Base part ∷ before) legal table = part_within part before legal.1.0 (ids_within before legal.0) table
+ids_within (entry ∷ before) legal table = ids_within before legal.0 table

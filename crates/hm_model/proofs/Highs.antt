@@ -49,7 +49,6 @@ follower_low pid row out J legal q x lt is = by (slice_get (args_in out.follower
 
 pub own_all : (J : Past) → IsLegal J → (q : ℕ) (x : Node) → node_of J q ≡ Some x → IsOwn x
 own_all [] legal q x is = absurd (none-some x is)
-own_all (entry_is.Start sheets ∷ J) legal q x is = own_all J legal.0 q x is
 own_all (entry_is.Submit nonce request ∷ J) legal q x is = elim (one_root J (args_are.Root request (first_of J (table_of_request request))) (first_of J (table_of_request request)) (asked_distinct request (first_of J (table_of_request request)) legal.1.1.0) q x is) [
   | inl was ↦ own_all J legal.0 q x was
   | inr own ↦ own
@@ -66,12 +65,9 @@ own_all (entry_is.Undo pid row out ∷ J) legal q x is = elim (le_or_lt q (made 
   | inl le ↦ own_all J legal.0 q x (sym ((undo_rooted pid row out J (grown_all J legal.0)).old q le) ∙ is)
   | inr lt ↦ low_own x (follower_low pid row out J legal q x lt is)
 ]
-own_all (entry_is.Report call told ∷ J) legal q x is = own_all J legal.0 q x is
-own_all (entry_is.Up server ∷ J) legal q x is = own_all J legal.0 q x is
 own_all (entry_is.Down server ∷ J) legal q x is = elim (one_root J (args_are.Crash server) 1 tt q x is) [
   | inl was ↦ own_all J legal.0 q x was
   | inr own ↦ own
 ]
-own_all (entry_is.Abort pid ∷ J) legal q x is = own_all J legal.0 q x is
-own_all (entry_is.Adopt sheets ∷ J) legal q x is = own_all J legal.0 q x is
 own_all (entry_is.Base part ∷ J) legal q x is = absurd (none-some x is)
+own_all (entry ∷ J) legal q x is = own_all J legal.0 q x is

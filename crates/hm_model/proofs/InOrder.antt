@@ -55,27 +55,15 @@ order_if None (Some place) list order = order
 order_if (Some region) (Some place) list order = order_joined region list order
 
 order_part : (part : Part) (list : List Region) → InOrder list → InOrder (part_placed part list)
-order_part (part_is.Head entries last parts sheets) list order = order
-order_part (part_is.Namespace ns) list order = order
-order_part (part_is.Table table own row) list order = order
 order_part (part_is.Region region range status parents place) list order = order_joined region list order
-order_part (part_is.Server server fenced) list order = order
-order_part (part_is.Root pid nonce args cause) list order = order
-order_part (part_is.Layout pid) list order = order
+order_part part list order = order
 
 -- the regions that ever had a place are in order, each once
 placed_order : (J : Past) → InOrder (placed J)
 placed_order [] = tt
-placed_order (entry_is.Start sheets ∷ J) = placed_order J
-placed_order (entry_is.Submit nonce request ∷ J) = placed_order J
 placed_order (entry_is.Step pid pick out ∷ J) = order_if (region_if (node_of J pid.0)) out.place (placed J) (placed_order J)
-placed_order (entry_is.Undo pid row out ∷ J) = placed_order J
-placed_order (entry_is.Report call told ∷ J) = placed_order J
-placed_order (entry_is.Up server ∷ J) = placed_order J
-placed_order (entry_is.Down server ∷ J) = placed_order J
-placed_order (entry_is.Abort pid ∷ J) = placed_order J
-placed_order (entry_is.Adopt sheets ∷ J) = placed_order J
 placed_order (entry_is.Base part ∷ J) = order_part part (placed J) (placed_order J)
+placed_order (entry ∷ J) = placed_order J
 
 pub filter_if : (test : Region → Bool) (region : Region) (more : List Region) (b : Bool) → test region ≡ b → (filter test (region ∷ more) ≡ cond b (region ∷ filter test more) (filter test more))
 filter_if test region more b e = ap (λ x. cond x (region ∷ filter test more) (filter test more)) e

@@ -229,16 +229,12 @@ kin_roots entry J legal roots last kin = record { flat = flat_roots entry J lega
 
 pub kin_all : (J : Past) → IsLegal J → IsKin J
 kin_all [] legal = record { flat = λ q x u rest region is. absurd (none-some x is); apart = λ p q x y u one other region is. absurd (none-some x is) }
-kin_all (entry_is.Start sheets ∷ J) legal = kin_roots (entry_is.Start sheets) J legal (λ q x is. inl is) (λ q. refl) (kin_all J legal.0)
 kin_all (entry_is.Submit nonce request ∷ J) legal = let g = grown_all J legal.0 in kin_roots (entry_is.Submit nonce request) J legal (made_roots (entry_is.Submit nonce request) J _ refl (submit_rooted nonce request J g) g) (λ q. refl) (kin_all J legal.0)
 kin_all (entry_is.Step pid pick out ∷ J) legal = let k = kin_all J legal.0 in record { flat = flat_step pid pick out J legal k.flat; apart = apart_step pid pick out J legal k.apart }
 kin_all (entry_is.Undo pid row out ∷ J) legal = let g = grown_all J legal.0 in kin_roots (entry_is.Undo pid row out) J legal (made_roots (entry_is.Undo pid row out) J _ refl (undo_rooted pid row out J g) g) (λ q. refl) (kin_all J legal.0)
-kin_all (entry_is.Report call told ∷ J) legal = kin_roots (entry_is.Report call told) J legal (λ q x is. inl is) (λ q. refl) (kin_all J legal.0)
-kin_all (entry_is.Up server ∷ J) legal = kin_roots (entry_is.Up server) J legal (λ q x is. inl is) (λ q. refl) (kin_all J legal.0)
 kin_all (entry_is.Down server ∷ J) legal = let g = grown_all J legal.0 in kin_roots (entry_is.Down server) J legal (made_roots (entry_is.Down server) J _ refl (down_rooted server J g) g) (λ q. refl) (kin_all J legal.0)
-kin_all (entry_is.Abort pid ∷ J) legal = kin_roots (entry_is.Abort pid) J legal (λ q x is. inl is) (λ q. refl) (kin_all J legal.0)
-kin_all (entry_is.Adopt sheets ∷ J) legal = kin_roots (entry_is.Adopt sheets) J legal (λ q x is. inl is) (λ q. refl) (kin_all J legal.0)
 kin_all (entry_is.Base part ∷ J) legal = record { flat = λ q x u rest region is. absurd (none-some x is); apart = λ p q x y u one other region is. absurd (none-some x is) }
+kin_all (entry ∷ J) legal = kin_roots entry J legal (λ q x is. inl is) (λ q. refl) (kin_all J legal.0)
 
 -- a descendant that asks for anything is a transit
 asks_moves : (args : Args) → (is_high args ≡ true → ⊥) → (ask : Ask) → IsIn ask (asks args) → (region : Region) × (moved_by args ≡ Some region) × (asks args ≡ shared (resource_is.Ns region.table.ns) ∷ shared (resource_is.Table region.table) ∷ exclusive (resource_is.Region region) ∷ [])

@@ -122,15 +122,8 @@ module _ (P : Server → Type 0) where
   as_told next (Some told) = ended next told
 
   by_layout : (next : ℕ) (told : Told) → IsNamed P (layout_told told)
-  by_layout next told_is.Nothing = ended next told_is.Nothing
-  by_layout next told_is.Opened = ended next told_is.Opened
-  by_layout next told_is.FailedOpen = ended next told_is.FailedOpen
-  by_layout next told_is.Closed = ended next told_is.Closed
-  by_layout next told_is.Gone = ended next told_is.Gone
-  by_layout next told_is.Fenced = ended next told_is.Fenced
-  by_layout next told_is.LaidOut = ended next told_is.LaidOut
   by_layout next told_is.Refused = failed next cause_is.LayoutRefused
-  by_layout next told_is.Swept = ended next told_is.Swept
+  by_layout next told = ended next told
 
   settled_layout : (next : ℕ) (report : Option Told) → IsNamed P (settle_layout report)
   settled_layout next None = ended next told_is.Nothing
@@ -318,12 +311,10 @@ module _ (P : Server → Type 0) where
   act_named act_is.SetDisabled next at sees = set_state-named state_is.Disabled next at.args at.rows
   act_named act_is.SetVersion next at sees = set_version-named next at.args at.rows
   act_named act_is.CheckSplit next at sees = check_split-named next at.args at.rows
-  act_named act_is.CloseParent next at sees = close_parents-named next at.args
   act_named act_is.UpdateSplitMeta next at sees = update_split_meta-named next at.args at.rows
   act_named act_is.OpenDaughters next at sees = open_new-named 2 next at.args
   act_named act_is.Finish next at sees = ended next told_is.Nothing
   act_named act_is.CheckMerge next at sees = check_merge-named next at.args at.rows
-  act_named act_is.CloseParents next at sees = close_parents-named next at.args
   act_named act_is.UpdateMergeMeta next at sees = update_merge_meta-named next at.args at.rows
   act_named act_is.OpenMerged next at sees = open_new-named 1 next at.args
   act_named act_is.AddRegionRows next at sees = add_region_rows-named next at.args at.rows
@@ -343,6 +334,7 @@ module _ (P : Server → Type 0) where
   act_named act_is.CallLayout next at sees = call_layout-named next at.args
   act_named act_is.SettleLayout next at sees = settled_layout next at.report
   act_named act_is.CallSweep next at sees = call_sweep-named next at.args
+  act_named act next at sees = close_parents-named next at.args
 
   -- a row answers so
   pub row_named : (row : Row) (at : StepIn) → SeesNamed P at → IsNamed P (row_answer row at)
@@ -354,7 +346,6 @@ module _ (P : Server → Type 0) where
 
   -- and what undoes a step
   pub undo_named : (undo : Back) (args : Args) (root : Pid) → AreOfNamed P (undo_followers undo args root)
-  undo_named back_is.Nothing args root = tt
-  undo_named back_is.Edits args root = tt
   undo_named back_is.Sweep args root = ((λ s e. cc), tt)
   undo_named back_is.Reopen args root = transits_named goal_is.Assign (closed_by args)
+  undo_named undo args root = tt

@@ -21,42 +21,23 @@ no_nonce used nonce none = grind (arith, nat_tests)
 
 by_no_nonce : (J : Past) (nonce : Nonce) → nonce.number ≡ 0 → by_nonce J nonce ≡ None
 by_no_nonce [] nonce none = refl
-by_no_nonce (entry_is.Start sheets ∷ before) nonce none = by_no_nonce before nonce none
 by_no_nonce (entry_is.Submit used request ∷ before) nonce none = cond-false (is_same used nonce) (Some (made before + 1)) (by_nonce before nonce) (no_nonce used nonce none) ∙ by_no_nonce before nonce none
-by_no_nonce (entry_is.Step pid pick out ∷ before) nonce none = by_no_nonce before nonce none
-by_no_nonce (entry_is.Undo pid row out ∷ before) nonce none = by_no_nonce before nonce none
-by_no_nonce (entry_is.Report call told ∷ before) nonce none = by_no_nonce before nonce none
-by_no_nonce (entry_is.Up server ∷ before) nonce none = by_no_nonce before nonce none
-by_no_nonce (entry_is.Down server ∷ before) nonce none = by_no_nonce before nonce none
-by_no_nonce (entry_is.Abort pid ∷ before) nonce none = by_no_nonce before nonce none
-by_no_nonce (entry_is.Adopt sheets ∷ before) nonce none = by_no_nonce before nonce none
 by_no_nonce (entry_is.Base part ∷ before) nonce none = by (part_root part) (by_no_nonce before nonce none)
   where
     by : (o : Option (Nonce × ℕ)) → by_nonce before nonce ≡ None → elim o as (λ r. Option ℕ) [ None ↦ by_nonce before nonce | Some both ↦ if is_same both.0 nonce then Some both.1 else by_nonce before nonce ] ≡ None
     by None was = was
     by (Some both) was = cond-false (is_same both.0 nonce) (Some both.1) (by_nonce before nonce) (no_nonce both.0 nonce none) ∙ was
+by_no_nonce (entry ∷ before) nonce none = by_no_nonce before nonce none
 
 pub fresh_none : (before : Past) (nonce : Nonce) → IsFresh before nonce → by_nonce before nonce ≡ None
 fresh_none before nonce fresh = elim fresh [ inl none ↦ by_no_nonce before nonce none | inr new ↦ new ]
 
 pub nonces_once : (J : Past) → IsLegal J → NoncesActOnce J
 nonces_once [] legal = tt
-nonces_once (entry_is.Start sheets ∷ before) legal = nonces_once before legal.0
 nonces_once (entry_is.Submit nonce request ∷ before) legal = (nonces_once before legal.0, fresh_none before nonce legal.1.1.1.0)
-nonces_once (entry_is.Step pid pick out ∷ before) legal = nonces_once before legal.0
-nonces_once (entry_is.Undo pid row out ∷ before) legal = nonces_once before legal.0
-nonces_once (entry_is.Report call told ∷ before) legal = nonces_once before legal.0
-nonces_once (entry_is.Up server ∷ before) legal = nonces_once before legal.0
-nonces_once (entry_is.Down server ∷ before) legal = nonces_once before legal.0
-nonces_once (entry_is.Abort pid ∷ before) legal = nonces_once before legal.0
-nonces_once (entry_is.Adopt sheets ∷ before) legal = nonces_once before legal.0
 nonces_once (entry_is.Base part ∷ before) legal = (nonces_once before legal.0, is_new part legal.1.0)
   where
     is_new : (part : Part) → PartFits part before → IsNew part before
-    is_new (part_is.Head entries last parts sheets) fits = tt
-    is_new (part_is.Namespace ns) fits = tt
-    is_new (part_is.Table table own row) fits = tt
-    is_new (part_is.Region region range status parents place) fits = tt
-    is_new (part_is.Server server fenced) fits = tt
     is_new (part_is.Root pid nonce args cause) fits = fits.3
-    is_new (part_is.Layout pid) fits = tt
+    is_new part fits = tt
+nonces_once (entry ∷ before) legal = nonces_once before legal.0

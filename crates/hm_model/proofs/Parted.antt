@@ -13,25 +13,13 @@ module _ (P : Past → Type 0) (nothing : P []) (parted : (own : Part) (older : 
   -- a part stands right after a part
   rises_by : (before : Past) (part : Part) → Rises before part → P before
   rises_by [] part after = absurd after
-  rises_by (entry_is.Start sheets ∷ before) part after = absurd after
-  rises_by (entry_is.Submit nonce request ∷ before) part after = absurd after
-  rises_by (entry_is.Step pid pick out ∷ before) part after = absurd after
-  rises_by (entry_is.Undo pid row out ∷ before) part after = absurd after
-  rises_by (entry_is.Report call told ∷ before) part after = absurd after
-  rises_by (entry_is.Up server ∷ before) part after = absurd after
-  rises_by (entry_is.Down server ∷ before) part after = absurd after
-  rises_by (entry_is.Abort pid ∷ before) part after = absurd after
-  rises_by (entry_is.Adopt sheets ∷ before) part after = absurd after
   rises_by (entry_is.Base own ∷ before) part after = parted own before
+  rises_by (entry ∷ before) part after = absurd after
 
   pub by_parts : (part : Part) (before : Past) → PartFits part before → P before
   by_parts (part_is.Head entries last parts sheets) before fits = subst P (sym fits.0) nothing
   by_parts (part_is.Namespace ns) before fits = rises_by before (part_is.Namespace ns) fits
-  by_parts (part_is.Table table drawn own) before fits = rises_by before (part_is.Table table drawn own) fits.0
-  by_parts (part_is.Region region range status parents place) before fits = rises_by before (part_is.Region region range status parents place) fits.0
-  by_parts (part_is.Server server fenced) before fits = rises_by before (part_is.Server server fenced) fits.0
-  by_parts (part_is.Root pid nonce args cause) before fits = rises_by before (part_is.Root pid nonce args cause) fits.0
-  by_parts (part_is.Layout pid) before fits = rises_by before (part_is.Layout pid) fits.0
+  by_parts part before fits = rises_by before part fits.0
 
 -- so no procedure is there
 pub no_node : (part : Part) (before : Past) → PartFits part before → (p : ℕ) → node_of before p ≡ None

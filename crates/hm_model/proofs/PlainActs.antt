@@ -44,29 +44,15 @@ use Rattle.hm_model.specs.Tree.{args_in}
 
 -- a procedure calls a region server
 abbrev pub is_caller : Args → Bool
-is_caller (args_are.Root request first) = false
-is_caller (args_are.Transit region goal to) = false
-is_caller (args_are.Crash server) = false
-is_caller (args_are.AddRegions table first bounds) = false
-is_caller (args_are.DropRegions table ids) = false
 is_caller (args_are.AssignCall region server) = true
 is_caller (args_are.CloseCall region server) = true
-is_caller (args_are.FenceCall server) = false
-is_caller (args_are.LayoutCall root) = false
-is_caller (args_are.SweepLayout root) = false
+is_caller args = false
 
 -- only roots are such: requests and crashes
 abbrev pub is_high : Args → Bool
 is_high (args_are.Root request first) = true
-is_high (args_are.Transit region goal to) = false
 is_high (args_are.Crash server) = true
-is_high (args_are.AddRegions table first bounds) = false
-is_high (args_are.DropRegions table ids) = false
-is_high (args_are.AssignCall region server) = false
-is_high (args_are.CloseCall region server) = false
-is_high (args_are.FenceCall server) = false
-is_high (args_are.LayoutCall root) = false
-is_high (args_are.SweepLayout root) = false
+is_high args = false
 
 -- no procedure of either sort stands for the child
 abbrev pub is_quiet : Child → Bool
@@ -81,19 +67,14 @@ all_quiet (child ∷ more) = is_quiet child && all_quiet more
 abbrev pub GoesTo : ℕ → Answer → Type 0
 GoesTo next (answer_is.More n) = n ≡ next
 GoesTo next (answer_is.Wait n) = n ≡ next
-GoesTo next (answer_is.Await n) = ⊥
 GoesTo next (answer_is.Done told) = Unit {0}
 GoesTo next (answer_is.Fail cause) = Unit {0}
-GoesTo next answer_is.Undone = ⊥
+GoesTo next answer = ⊥
 
 -- where it doesn't wait there are no children
 abbrev pub ChildrenWait : Answer → List Child → Type 0
-ChildrenWait (answer_is.More n) children = children ≡ []
 ChildrenWait (answer_is.Wait n) children = Unit {0}
-ChildrenWait (answer_is.Await n) children = children ≡ []
-ChildrenWait (answer_is.Done told) children = children ≡ []
-ChildrenWait (answer_is.Fail cause) children = children ≡ []
-ChildrenWait answer_is.Undone children = children ≡ []
+ChildrenWait answer children = children ≡ []
 
 pub record IsPlainOut (next : ℕ) (out : StepOut) : Type 0 where
   pub silent : out.call ≡ None
@@ -204,19 +185,7 @@ plain_act act_is.AddRegionRows h next at = plain_given (table_of at.args) next (
 plain_act act_is.DropRegionRows h next at = plain_given (table_of at.args) next (λ table. edits_rows next (remove_regions (row_at at.rows) (regions_in table (ids_of at.args)))) (λ table. plain_on next (remove_regions (row_at at.rows) (regions_in table (ids_of at.args))))
 plain_act act_is.Fence h next at = plain_given (server_of at.args) next (λ server. spawns next (child_is.One (args_are.FenceCall server) ∷ [])) (λ server. plain_spawns next (child_is.One (args_are.FenceCall server) ∷ []) refl)
 plain_act act_is.Reassign h next at = plain_reassign next (transits goal_is.Assign at.on_server) (quiet_transits goal_is.Assign at.on_server)
-plain_act act_is.GetAssignCandidate h next at = absurd (false≢true h)
-plain_act act_is.Open h next at = absurd (false≢true h)
-plain_act act_is.ConfirmOpened h next at = absurd (false≢true h)
-plain_act act_is.Close h next at = absurd (false≢true h)
-plain_act act_is.ConfirmClosed h next at = absurd (false≢true h)
-plain_act act_is.CheckMove h next at = absurd (false≢true h)
-plain_act act_is.CallAssign h next at = absurd (false≢true h)
-plain_act act_is.CallClose h next at = absurd (false≢true h)
-plain_act act_is.Settle h next at = absurd (false≢true h)
-plain_act act_is.CallFence h next at = absurd (false≢true h)
-plain_act act_is.CallLayout h next at = absurd (false≢true h)
-plain_act act_is.SettleLayout h next at = absurd (false≢true h)
-plain_act act_is.CallSweep h next at = absurd (false≢true h)
+plain_act act h next at = absurd (false≢true h)
 
 -- an answer that is no failure
 abbrev pub IsFine : StepOut → Type 0
@@ -275,19 +244,7 @@ fine_act act_is.AddRegionRows h c next at = fine_given (table_of at.args) next (
 fine_act act_is.DropRegionRows h c next at = fine_given (table_of at.args) next (λ table. edits_rows next (remove_regions (row_at at.rows) (regions_in table (ids_of at.args)))) (λ table. fine_on next (remove_regions (row_at at.rows) (regions_in table (ids_of at.args))))
 fine_act act_is.Fence h c next at = fine_given (server_of at.args) next (λ server. spawns next (child_is.One (args_are.FenceCall server) ∷ [])) (λ server. fine_spawns next (child_is.One (args_are.FenceCall server) ∷ []))
 fine_act act_is.Reassign h c next at = fine_reassign next (transits goal_is.Assign at.on_server)
-fine_act act_is.GetAssignCandidate h c next at = absurd (false≢true h)
-fine_act act_is.Open h c next at = absurd (false≢true h)
-fine_act act_is.ConfirmOpened h c next at = absurd (false≢true h)
-fine_act act_is.Close h c next at = absurd (false≢true h)
-fine_act act_is.ConfirmClosed h c next at = absurd (false≢true h)
-fine_act act_is.CheckMove h c next at = absurd (false≢true h)
-fine_act act_is.CallAssign h c next at = absurd (false≢true h)
-fine_act act_is.CallClose h c next at = absurd (false≢true h)
-fine_act act_is.Settle h c next at = absurd (false≢true h)
-fine_act act_is.CallFence h c next at = absurd (false≢true h)
-fine_act act_is.CallLayout h c next at = absurd (false≢true h)
-fine_act act_is.SettleLayout h c next at = absurd (false≢true h)
-fine_act act_is.CallSweep h c next at = absurd (false≢true h)
+fine_act act h c next at = absurd (false≢true h)
 
 neither : (a b : Bool) → not (a || b) ≡ true → (a ≡ false) × (b ≡ false)
 neither false false h = (refl, refl)

@@ -66,22 +66,12 @@ IsPlayed (entry_is.Undo pid row out ∷ before) = IsPlayed before × IsTakenBack
 IsPlayed (entry_is.Report call told ∷ before) = IsPlayed before × Tells before call.0 told
 IsPlayed (entry_is.Up server ∷ before) = IsPlayed before × ComesUp before server
 IsPlayed (entry_is.Down server ∷ before) = IsPlayed before × (is_live before server ≡ true)
-IsPlayed (entry_is.Abort pid ∷ before) = ⊥
-IsPlayed (entry_is.Adopt sheets ∷ before) = ⊥
-IsPlayed (entry_is.Base part ∷ before) = ⊥
+IsPlayed (entry ∷ before) = ⊥
 
 played_some : (J : Past) → IsPlayed J → IsBegun J
 played_some [] played = absurd played
-played_some (entry_is.Start sheets ∷ before) played = tt
-played_some (entry_is.Submit nonce request ∷ before) played = tt
-played_some (entry_is.Step pid pick out ∷ before) played = tt
-played_some (entry_is.Undo pid row out ∷ before) played = tt
-played_some (entry_is.Report call told ∷ before) played = tt
-played_some (entry_is.Up server ∷ before) played = tt
-played_some (entry_is.Down server ∷ before) played = tt
-played_some (entry_is.Abort pid ∷ before) played = tt
-played_some (entry_is.Adopt sheets ∷ before) played = tt
 played_some (entry_is.Base part ∷ before) played = absurd played
+played_some (entry ∷ before) played = tt
 
 pub played_legal : (J : Past) → IsPlayed J → IsLegal J
 played_legal [] played = absurd played
@@ -105,6 +95,4 @@ played_legal (entry_is.Up server ∷ before) played =
     (played_legal before played.0, (played_some before played.0, (played.1.0, (played.1.1, tt))))
 played_legal (entry_is.Down server ∷ before) played =
     (played_legal before played.0, (played_some before played.0, (played.1, tt)))
-played_legal (entry_is.Abort pid ∷ before) played = absurd played
-played_legal (entry_is.Adopt sheets ∷ before) played = absurd played
-played_legal (entry_is.Base part ∷ before) played = absurd played
+played_legal (entry ∷ before) played = absurd played

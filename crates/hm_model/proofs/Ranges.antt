@@ -30,41 +30,21 @@ use Rattle.hm_data.specs.declared.place.Goal.TheVariants as goal_is
 
 request_row_low : (request : Request) → request_row request < 6
 request_row_low (request_is.CreateNamespace ns) = omega arith
-request_row_low (request_is.DropNamespace ns) = omega arith
-request_row_low (request_is.CreateTable table keys) = omega arith
-request_row_low (request_is.DeleteTable table) = omega arith
-request_row_low (request_is.EnableTable table) = omega arith
-request_row_low (request_is.DisableTable table) = omega arith
-request_row_low (request_is.ModifyTable table version) = omega arith
-request_row_low (request_is.SplitRegion region key) = omega arith
-request_row_low (request_is.MergeRegions regions) = omega arith
-request_row_low (request_is.Move region to) = omega arith
+request_row_low request = omega arith
 
 goal_row_low : (goal : Goal) → goal_row goal < 6
 goal_row_low goal_is.Assign = omega arith
-goal_row_low goal_is.Unassign = omega arith
-goal_row_low goal_is.Move = omega arith
+goal_row_low goal = omega arith
 
 first_row_low : (args : Args) → first_row_of args < 6
 first_row_low (args_are.Root request first) = request_row_low request
 first_row_low (args_are.Transit region goal to) = goal_row_low goal
-first_row_low (args_are.Crash server) = omega arith
-first_row_low (args_are.AddRegions table first bounds) = omega arith
-first_row_low (args_are.DropRegions table ids) = omega arith
-first_row_low (args_are.AssignCall region server) = omega arith
-first_row_low (args_are.CloseCall region server) = omega arith
-first_row_low (args_are.FenceCall server) = omega arith
-first_row_low (args_are.LayoutCall root) = omega arith
-first_row_low (args_are.SweepLayout root) = omega arith
+first_row_low args = omega arith
 
 -- the row after an answer doesn't hang on the first one
 row_behind : (first : ℕ) (answer : Answer) → row_after first (Some answer) ≡ row_after 0 (Some answer)
 row_behind first (answer_is.More next) = refl
-row_behind first (answer_is.Wait next) = refl
-row_behind first (answer_is.Await next) = refl
-row_behind first (answer_is.Done told) = refl
-row_behind first (answer_is.Fail cause) = refl
-row_behind first answer_is.Undone = refl
+row_behind first answer = refl
 
 -- the next row of a valid sheet's row is one of the first 32, or none
 next_low : (sheet : Sheet) → IsValid sheet → (place : ℕ) (row : Row) → slice_get sheet.rows place ≡ Some row → row.next < 256
@@ -88,21 +68,14 @@ step_low pid pick out before legal =
 
 answers_low : (J : Past) → IsLegal J → (p : ℕ) (answer : Answer) → last_answer J p ≡ Some answer → row_after 0 (Some answer) < 256
 answers_low [] legal p answer is = absurd (none-some answer is)
-answers_low (entry_is.Start sheets ∷ before) legal p answer is = answers_low before legal.0 p answer is
-answers_low (entry_is.Submit nonce request ∷ before) legal p answer is = answers_low before legal.0 p answer is
 answers_low (entry_is.Step pid pick out ∷ before) legal p answer is = elim (cases_eq p pid.0) [
   | inl same ↦
       let own : out.answer ≡ answer = same_Some out.answer answer (sym (stepped pid pick out before) ∙ ap (last_answer (entry_is.Step pid pick out ∷ before)) (sym same) ∙ is) in
       subst (λ a. row_after 0 (Some a) < 256) own (step_low pid pick out before legal)
   | inr differs ↦ answers_low before legal.0 p answer (sym (not_stepped pid pick out before p differs) ∙ is)
 ]
-answers_low (entry_is.Undo pid row out ∷ before) legal p answer is = answers_low before legal.0 p answer is
-answers_low (entry_is.Report call told ∷ before) legal p answer is = answers_low before legal.0 p answer is
-answers_low (entry_is.Up server ∷ before) legal p answer is = answers_low before legal.0 p answer is
-answers_low (entry_is.Down server ∷ before) legal p answer is = answers_low before legal.0 p answer is
-answers_low (entry_is.Abort pid ∷ before) legal p answer is = answers_low before legal.0 p answer is
-answers_low (entry_is.Adopt sheets ∷ before) legal p answer is = answers_low before legal.0 p answer is
 answers_low (entry_is.Base part ∷ before) legal p answer is = absurd (none-some answer is)
+answers_low (entry ∷ before) legal p answer is = answers_low before legal.0 p answer is
 
 -- a row is a byte
 pub row_fits : (J : Past) → IsLegal J → (p : ℕ) (node : Node) → row_of J p node < 256

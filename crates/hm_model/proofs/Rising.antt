@@ -37,9 +37,7 @@ Before (part_is.Head entries last parts sheets) key = Unit {0}
 Before (part_is.Namespace ns) key = key_cmp (key_is.Ns ns) key ≡ Less
 Before (part_is.Table table own row) key = key_cmp (key_is.Table table) key ≡ Less
 Before (part_is.Region region range status parents place) key = key_cmp (key_is.Region region) key ≡ Less
-Before (part_is.Server server fenced) key = ⊥
-Before (part_is.Root pid nonce args cause) key = ⊥
-Before (part_is.Layout pid) key = ⊥
+Before part key = ⊥
 
 abbrev Ends : Past → CatKey → Type 0
 Ends (entry_is.Base own ∷ before) key = Before own key
@@ -48,20 +46,13 @@ Ends before key = ⊥
 before_ns : (one : Part) (ns : List ℕ) → rises one (part_is.Namespace ns) ≡ true → Before one (key_is.Ns ns)
 before_ns (part_is.Head entries last parts sheets) ns up = tt
 before_ns (part_is.Namespace own) ns up = less_if (bytes_cmp own ns) up
-before_ns (part_is.Table table own row) ns up = absurd (false≢true up)
-before_ns (part_is.Region region range status parents place) ns up = absurd (false≢true up)
-before_ns (part_is.Server server fenced) ns up = absurd (false≢true up)
-before_ns (part_is.Root pid nonce args cause) ns up = absurd (false≢true up)
-before_ns (part_is.Layout pid) ns up = absurd (false≢true up)
+before_ns part ns up = absurd (false≢true up)
 
 before_table : (one : Part) (table : TableName) (more : ℕ) (state : Option (TableState × ℕ)) → rises one (part_is.Table table more state) ≡ true → Before one (key_is.Table table)
 before_table (part_is.Head entries last parts sheets) table more state up = tt
 before_table (part_is.Namespace own) table more state up = refl
 before_table (part_is.Table one own row) table more state up = less_if (table_cmp one table) up
-before_table (part_is.Region region range status parents place) table more state up = absurd (false≢true up)
-before_table (part_is.Server server fenced) table more state up = absurd (false≢true up)
-before_table (part_is.Root pid nonce args cause) table more state up = absurd (false≢true up)
-before_table (part_is.Layout pid) table more state up = absurd (false≢true up)
+before_table part table more state up = absurd (false≢true up)
 
 -- what is before a key is before those after it
 further : (one : Part) (key later : CatKey) → Before one key → key_cmp key later ≡ Less → Before one later
@@ -69,9 +60,7 @@ further (part_is.Head entries last parts sheets) key later before less = tt
 further (part_is.Namespace ns) key later before less = keys_total.trans (key_is.Ns ns) key later before less
 further (part_is.Table table own row) key later before less = keys_total.trans (key_is.Table table) key later before less
 further (part_is.Region region range status parents place) key later before less = keys_total.trans (key_is.Region region) key later before less
-further (part_is.Server server fenced) key later before less = absurd before
-further (part_is.Root pid nonce args cause) key later before less = absurd before
-further (part_is.Layout pid) key later before less = absurd before
+further part key later before less = absurd before
 
 -- the part that a namespace or a table stands after
 ends_ns : (before : Past) (ns : List ℕ) → Rises before (part_is.Namespace ns) → (later : CatKey) → key_cmp (key_is.Ns ns) later ≡ Less → Ends before later
@@ -117,9 +106,7 @@ module _ (table : TableName) where
         where
           greater : Greater ≡ Less → ⊥
           greater e = cc
-      by on (part_is.Server server fenced) fits less = absurd less
-      by on (part_is.Root pid nonce args cause) fits less = absurd less
-      by on (part_is.Layout pid) fits less = absurd less
+      by on part fits less = absurd less
   row_new before legal ends = absurd ends
 
   none_drawn : (before : Past) → IsLegal before → Ends before key → drawn before table ≡ 0
@@ -136,9 +123,7 @@ module _ (table : TableName) where
         where
           greater : Greater ≡ Less → ⊥
           greater e = cc
-      by on (part_is.Server server fenced) fits less = absurd less
-      by on (part_is.Root pid nonce args cause) fits less = absurd less
-      by on (part_is.Layout pid) fits less = absurd less
+      by on part fits less = absurd less
   none_drawn before legal ends = absurd ends
 
 pub table_new : (table : TableName) (own : ℕ) (row : Option (TableState × ℕ)) (before : Past) → IsLegal before → PartFits (part_is.Table table own row) before → (cat before (key_is.Table table) ≡ None) × (drawn before table ≡ 0)

@@ -76,7 +76,6 @@ pub record IsAbsent (J : Past) (r : ℕ) : Type 0 where
 
 pub absent_all : (J : Past) → IsLegal J → (r : ℕ) → node_of J r ≡ None → IsAbsent J r
 absent_all [] legal r none = record { caused = refl; stacked = refl; entries = refl }
-absent_all (entry_is.Start sheets ∷ J) legal r none = let a = absent_all J legal.0 r none in record { caused = a.caused; stacked = a.stacked; entries = a.entries }
 absent_all (entry_is.Submit nonce request ∷ J) legal r none =
     let a = absent_all J legal.0 r (unmade_before (entry_is.Submit nonce request) J legal r none) in
     record {
@@ -111,7 +110,6 @@ absent_all (entry_is.Report call told ∷ J) legal r none =
     let a = absent_all J legal.0 r none in
     let me = call_root call told J legal in
     record { caused = a.caused; stacked = a.stacked; entries = zero_if_false (root_of J call.0 == r) (entries_of J r) (not_of J legal.0 call.0 me.0 me.1 r none) ∙ a.entries }
-absent_all (entry_is.Up server ∷ J) legal r none = let a = absent_all J legal.0 r none in record { caused = a.caused; stacked = a.stacked; entries = a.entries }
 absent_all (entry_is.Down server ∷ J) legal r none =
     let a = absent_all J legal.0 r (unmade_before (entry_is.Down server) J legal r none) in
     record {
@@ -122,9 +120,8 @@ absent_all (entry_is.Down server ∷ J) legal r none =
         | inr old ↦ zero_if_false (r == made J + 1) (entries_of J r) (ne_eqb r (made J + 1) old) ∙ a.entries
       ];
     }
-absent_all (entry_is.Abort pid ∷ J) legal r none = let a = absent_all J legal.0 r none in record { caused = a.caused; stacked = a.stacked; entries = a.entries }
-absent_all (entry_is.Adopt sheets ∷ J) legal r none = let a = absent_all J legal.0 r none in record { caused = a.caused; stacked = a.stacked; entries = a.entries }
 absent_all (entry_is.Base part ∷ J) legal r none = record { caused = refl; stacked = refl; entries = refl }
+absent_all (entry ∷ J) legal r none = let a = absent_all J legal.0 r none in record { caused = a.caused; stacked = a.stacked; entries = a.entries }
 
 -- without a cause a root has ended where it is done
 pub ended_by : (J : Past) (r : ℕ) → cause J r ≡ None → root_ended J r ≡ is_some (done_with (last_answer J r))

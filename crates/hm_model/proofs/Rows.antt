@@ -60,8 +60,7 @@ start_has (key_is.Ns ns) some = elim (cases_Bool (bytes_eq ns (codes "default"))
     | inr second_differs ↦ absurd (some (cond-false (bytes_eq ns (codes "default") || bytes_eq ns (codes "hbase")) (Some row_is.Ns) None (or_from (bytes_eq ns (codes "default")) (bytes_eq ns (codes "hbase")) first_differs second_differs)))
   ]
 ]
-start_has (key_is.Table table) some = absurd (some refl)
-start_has (key_is.Region region) some = absurd (some refl)
+start_has key some = absurd (some refl)
 
 one_has : (q key : CatKey) (new row : Option CatRow) (keys : List CatKey) → (row ≢ None → IsIn q keys) → (if same_key q key then new else row) ≢ None → IsIn q (with_key key keys)
 one_has q key new row keys has some = elim (cases_key q key) [
@@ -74,23 +73,15 @@ part_has (part_is.Head entries last parts sheets) q row keys has some = absurd (
 part_has (part_is.Namespace ns) q row keys has some = one_has q (key_is.Ns ns) (Some row_is.Ns) row keys has some
 part_has (part_is.Table table own state) q row keys has some = one_has q (key_is.Table table) (table_row state) row keys has some
 part_has (part_is.Region region range status parents place) q row keys has some = one_has q (key_is.Region region) (Some (row_is.Region range status parents)) row keys has some
-part_has (part_is.Server server fenced) q row keys has some = has some
-part_has (part_is.Root pid nonce args cause) q row keys has some = has some
-part_has (part_is.Layout pid) q row keys has some = has some
+part_has part q row keys has some = has some
 
 -- a key with a row is listed
 pub has_key : (J : Past) (q : CatKey) → cat J q ≢ None → IsIn q (keys_of J)
 has_key [] q some = start_has q some
-has_key (entry_is.Start sheets ∷ before) q some = has_key before q some
-has_key (entry_is.Submit nonce request ∷ before) q some = has_key before q some
 has_key (entry_is.Step pid pick out ∷ before) q some = edited_has q out.edits (cat before q) (keys_of before) (has_key before q) some
 has_key (entry_is.Undo pid row out ∷ before) q some = edited_has q out.edits (cat before q) (keys_of before) (has_key before q) some
-has_key (entry_is.Report call told ∷ before) q some = has_key before q some
-has_key (entry_is.Up server ∷ before) q some = has_key before q some
-has_key (entry_is.Down server ∷ before) q some = has_key before q some
-has_key (entry_is.Abort pid ∷ before) q some = has_key before q some
-has_key (entry_is.Adopt sheets ∷ before) q some = has_key before q some
 has_key (entry_is.Base part ∷ before) q some = part_has part q (cat before q) (keys_of before) (has_key before q) some
+has_key (entry ∷ before) q some = has_key before q some
 
 behind_further : (k key : CatKey) (keys : List CatKey) → key_cmp k key ≡ Less → AllBehind key keys → AllBehind k keys
 behind_further k key [] less behind = tt
@@ -125,20 +116,14 @@ order_with_keys (edit ∷ edits) keys order = order_with_keys edits (with_key ed
 -- the keys are in order, each once
 pub keys_in_order : (J : Past) → AreInOrder (keys_of J)
 keys_in_order [] = ((refl, tt), (tt, tt))
-keys_in_order (entry_is.Start sheets ∷ before) = keys_in_order before
-keys_in_order (entry_is.Submit nonce request ∷ before) = keys_in_order before
 keys_in_order (entry_is.Step pid pick out ∷ before) = order_with_keys out.edits (keys_of before) (keys_in_order before)
 keys_in_order (entry_is.Undo pid row out ∷ before) = order_with_keys out.edits (keys_of before) (keys_in_order before)
-keys_in_order (entry_is.Report call told ∷ before) = keys_in_order before
-keys_in_order (entry_is.Up server ∷ before) = keys_in_order before
-keys_in_order (entry_is.Down server ∷ before) = keys_in_order before
-keys_in_order (entry_is.Abort pid ∷ before) = keys_in_order before
-keys_in_order (entry_is.Adopt sheets ∷ before) = keys_in_order before
 keys_in_order (entry_is.Base part ∷ before) = by (part_key part) (keys_of before) (keys_in_order before)
   where
     by : (o : Option CatKey) (keys : List CatKey) → AreInOrder keys → AreInOrder (elim o as (λ k. List CatKey) [ None ↦ keys | Some key ↦ with_key key keys ])
     by None keys order = order
     by (Some key) keys order = order_with key keys order
+keys_in_order (entry ∷ before) = keys_in_order before
 
 keep_other : (asked : Bool) (key first : CatKey) (row : Option CatRow) (more : List (CatKey × CatRow)) → same_key key first ≡ false → row_at (keep asked first row more) key ≡ row_at more key
 keep_other false key first row more differs = refl

@@ -151,14 +151,6 @@ calm_stopped J legal r q y is of differs all =
 -- a tree fails by its steps alone, and the first is its root's
 pub unfailed : (J : Past) → IsLegal J → (r : ℕ) → last_answer J r ≡ None → cause J r ≡ None
 unfailed [] legal r none = refl
-unfailed (entry_is.Start sheets ∷ before) legal r none = unfailed before legal.0 r none
-unfailed (entry_is.Submit nonce request ∷ before) legal r none = unfailed before legal.0 r none
-unfailed (entry_is.Undo pid row out ∷ before) legal r none = unfailed before legal.0 r none
-unfailed (entry_is.Report call told ∷ before) legal r none = unfailed before legal.0 r none
-unfailed (entry_is.Up server ∷ before) legal r none = unfailed before legal.0 r none
-unfailed (entry_is.Down server ∷ before) legal r none = unfailed before legal.0 r none
-unfailed (entry_is.Abort pid ∷ before) legal r none = unfailed before legal.0 r none
-unfailed (entry_is.Adopt sheets ∷ before) legal r none = unfailed before legal.0 r none
 unfailed (entry_is.Base part ∷ before) legal r none = refl
 unfailed (entry_is.Step pid pick out ∷ before) legal r none = elim (cases_eq r pid.0) [
   | inl same ↦ absurd (none-some out.answer (sym none ∙ ap (last_answer (entry_is.Step pid pick out ∷ before)) same ∙ stepped pid pick out before))
@@ -178,6 +170,7 @@ unfailed (entry_is.Step pid pick out ∷ before) legal r none = elim (cases_eq r
     other differs sound fresh (inl own) =
         let may : MayStep before pid.0 = legal.1.1.0 in
         absurd (below differs fresh may.0 may.1 (ready_runs before pid.0 may.0 may.2) (ap root_in (sym may.1) ∙ own))
+unfailed (entry ∷ before) legal r none = unfailed before legal.0 r none
 
 -- who has no step hasn't ended
 pub unstepped_open : (J : Past) → IsLegal J → (q : ℕ) → last_answer J q ≡ None → ended J q ≡ false

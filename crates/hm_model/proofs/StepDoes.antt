@@ -49,12 +49,8 @@ use Rattle.hm_model.proofs.PlainActs.{ChildrenWait, GoesTo, IsPlainOut, is_calle
 
 -- an answer that a step may give
 abbrev pub IsStepAnswer : Answer → Type 0
-IsStepAnswer (answer_is.More n) = Unit {0}
-IsStepAnswer (answer_is.Wait n) = Unit {0}
-IsStepAnswer (answer_is.Await n) = Unit {0}
-IsStepAnswer (answer_is.Done told) = Unit {0}
-IsStepAnswer (answer_is.Fail cause) = Unit {0}
 IsStepAnswer answer_is.Undone = ⊥
+IsStepAnswer answer = Unit {0}
 
 -- children are none, or one procedure that calls a region server
 abbrev pub IsOneCall : List Child → Type 0
@@ -64,10 +60,9 @@ IsOneCall children = (children ≡ []) ⊎ ((made : Args) × (children ≡ child
 abbrev pub GoesNear : ℕ → Answer → Type 0
 GoesNear next (answer_is.More n) = (n ≡ next) ⊎ (n ≡ 0)
 GoesNear next (answer_is.Wait n) = n ≡ next
-GoesNear next (answer_is.Await n) = ⊥
 GoesNear next (answer_is.Done told) = Unit {0}
 GoesNear next (answer_is.Fail cause) = Unit {0}
-GoesNear next answer_is.Undone = ⊥
+GoesNear next answer = ⊥
 
 pub record IsMoveOut (next : ℕ) (out : StepOut) : Type 0 where
   pub editless : out.edits ≡ []
@@ -113,9 +108,8 @@ move_confirm next server true = record { editless = refl; near = tt; silent = re
 move_confirm next server false = record { editless = refl; near = inl refl; silent = refl; sound = tt; waits = refl; childs = inl refl }
 
 move_behind : (next : ℕ) (goal : Goal) (told : Told) (place : Option Place) → IsMoveOut next (places (behind_close goal told) place)
-move_behind next goal_is.Assign told place = record { editless = refl; near = inr refl; silent = refl; sound = tt; waits = refl; childs = inl refl }
 move_behind next goal_is.Unassign told place = record { editless = refl; near = tt; silent = refl; sound = tt; waits = refl; childs = inl refl }
-move_behind next goal_is.Move told place = record { editless = refl; near = inr refl; silent = refl; sound = tt; waits = refl; childs = inl refl }
+move_behind next goal told place = record { editless = refl; near = inr refl; silent = refl; sound = tt; waits = refl; childs = inl refl }
 
 move_close : (next : ℕ) (goal : Goal) (region : Region) (place : Place) (b : Bool) → IsMoveOut next (close_or_go next goal region place b)
 move_close next goal region place true = move_given place.server next (close_at next region) (λ server. record { editless = refl; near = refl; silent = refl; sound = tt; waits = tt; childs = inr (args_are.CloseCall region server, refl, refl) })
@@ -142,45 +136,7 @@ move_act act_is.ConfirmOpened h next at = move_confirm next (told_place at.place
 move_act act_is.Close h next at = move_given (region_of at.args) next (λ region. close_or_go next (goal_in at.args) region (told_place at.place) (is_open (told_place at.place) at.fenced)) (λ region. move_close next (goal_in at.args) region (told_place at.place) (is_open (told_place at.place) at.fenced))
 move_act act_is.ConfirmClosed h next at = move_behind next (goal_in at.args) told_is.Closed _
 move_act act_is.CheckMove h next at = move_given (region_of at.args) next (λ region. checked next (region_ready (row_at at.rows (key_is.Table region.table)) (row_at at.rows (key_is.Region region)))) (λ region. move_checked next (region_ready (row_at at.rows (key_is.Table region.table)) (row_at at.rows (key_is.Region region))))
-move_act act_is.CheckNamespaceFree h next at = absurd (false≢true h)
-move_act act_is.AddNamespace h next at = absurd (false≢true h)
-move_act act_is.CheckNamespaceEmpty h next at = absurd (false≢true h)
-move_act act_is.DropNamespace h next at = absurd (false≢true h)
-move_act act_is.CheckTableFree h next at = absurd (false≢true h)
-move_act act_is.AddTable h next at = absurd (false≢true h)
-move_act act_is.Layout h next at = absurd (false≢true h)
-move_act act_is.AddRegions h next at = absurd (false≢true h)
-move_act act_is.SetEnabling h next at = absurd (false≢true h)
-move_act act_is.OpenRegions h next at = absurd (false≢true h)
-move_act act_is.SetEnabled h next at = absurd (false≢true h)
-move_act act_is.CheckTableDisabled h next at = absurd (false≢true h)
-move_act act_is.DropRegions h next at = absurd (false≢true h)
-move_act act_is.DropTable h next at = absurd (false≢true h)
-move_act act_is.CheckTableEnabled h next at = absurd (false≢true h)
-move_act act_is.SetDisabling h next at = absurd (false≢true h)
-move_act act_is.CloseRegions h next at = absurd (false≢true h)
-move_act act_is.SetDisabled h next at = absurd (false≢true h)
-move_act act_is.SetVersion h next at = absurd (false≢true h)
-move_act act_is.CheckSplit h next at = absurd (false≢true h)
-move_act act_is.CloseParent h next at = absurd (false≢true h)
-move_act act_is.UpdateSplitMeta h next at = absurd (false≢true h)
-move_act act_is.OpenDaughters h next at = absurd (false≢true h)
-move_act act_is.Finish h next at = absurd (false≢true h)
-move_act act_is.CheckMerge h next at = absurd (false≢true h)
-move_act act_is.CloseParents h next at = absurd (false≢true h)
-move_act act_is.UpdateMergeMeta h next at = absurd (false≢true h)
-move_act act_is.OpenMerged h next at = absurd (false≢true h)
-move_act act_is.AddRegionRows h next at = absurd (false≢true h)
-move_act act_is.DropRegionRows h next at = absurd (false≢true h)
-move_act act_is.Fence h next at = absurd (false≢true h)
-move_act act_is.Reassign h next at = absurd (false≢true h)
-move_act act_is.CallAssign h next at = absurd (false≢true h)
-move_act act_is.CallClose h next at = absurd (false≢true h)
-move_act act_is.Settle h next at = absurd (false≢true h)
-move_act act_is.CallFence h next at = absurd (false≢true h)
-move_act act_is.CallLayout h next at = absurd (false≢true h)
-move_act act_is.SettleLayout h next at = absurd (false≢true h)
-move_act act_is.CallSweep h next at = absurd (false≢true h)
+move_act act h next at = absurd (false≢true h)
 
 -- at a row whose act keeps to its shape, so does the answer
 pub row_by : (P : StepOut → Type 0) (row : Row) (at : StepIn) → ((cause : Cause) → P (fails cause)) → P (act_answer row.act row.next at) → P (row_answer row at)
@@ -225,11 +181,7 @@ part_of (args_are.Transit region goal to) = moves region refl refl refl
 part_of (args_are.Crash server) = crash refl refl refl
 part_of (args_are.AddRegions table first bounds) = lined refl refl refl
 part_of (args_are.DropRegions table ids) = lined refl refl refl
-part_of (args_are.AssignCall region server) = calls _ refl refl (_, _, refl)
-part_of (args_are.CloseCall region server) = calls _ refl refl (_, _, refl)
-part_of (args_are.FenceCall server) = calls _ refl refl (_, _, refl)
-part_of (args_are.LayoutCall root) = calls _ refl refl (_, _, refl)
-part_of (args_are.SweepLayout root) = calls _ refl refl (_, _, refl)
+part_of args = calls _ refl refl (_, _, refl)
 
 -- what a step does
 pub record Does (J : Past) (p : ℕ) (args : Args) (was : Option Answer) (rows : List Row) (out : StepOut) : Type 0 where
@@ -245,20 +197,15 @@ pub record Does (J : Past) (p : ℕ) (args : Args) (was : Option Answer) (rows :
   pub unplaced : moved_by args ≡ None → out.place ≡ None
 
 led_next : (kind : ℕ) (rows : List Row) (next first : ℕ) → IsLed kind rows next → (answer : Answer) → GoesTo next answer → is_stop answer ≡ false → IsLed kind rows (row_after first (Some answer))
-led_next kind rows next first led (answer_is.More n) goes runs = subst (IsLed kind rows) (sym goes) led
-led_next kind rows next first led (answer_is.Wait n) goes runs = subst (IsLed kind rows) (sym goes) led
 led_next kind rows next first led (answer_is.Await n) goes runs = absurd goes
 led_next kind rows next first led (answer_is.Done told) goes runs = absurd (true≢false runs)
 led_next kind rows next first led (answer_is.Fail cause) goes runs = absurd (true≢false runs)
 led_next kind rows next first led answer_is.Undone goes runs = absurd goes
+led_next kind rows next first led answer goes runs = subst (IsLed kind rows) (sym goes) led
 
 sound_goes : (next : ℕ) (answer : Answer) → GoesTo next answer → IsStepAnswer answer
-sound_goes next (answer_is.More n) goes = tt
-sound_goes next (answer_is.Wait n) goes = tt
-sound_goes next (answer_is.Await n) goes = tt
-sound_goes next (answer_is.Done told) goes = tt
-sound_goes next (answer_is.Fail cause) goes = tt
 sound_goes next answer_is.Undone goes = goes
+sound_goes next answer goes = tt
 
 no_args : (i : ℕ) (made : Args) (children : List Child) → children ≡ [] → slice_get (args_in children) i ≡ Some made → ⊥
 no_args i made children none is = none-some made (ap (λ c. slice_get (args_in c) i) (sym none) ∙ is)
@@ -340,12 +287,8 @@ module _ (J : Past) (p : ℕ) (args : Args) (was : Option Answer) (rows : List R
       listed first more e = cc
 
       none_wait : (answer : Answer) → ChildrenWait answer out.children
-      none_wait (answer_is.More n) = call.childless
       none_wait (answer_is.Wait n) = tt
-      none_wait (answer_is.Await n) = call.childless
-      none_wait (answer_is.Done told) = call.childless
-      none_wait (answer_is.Fail cause) = call.childless
-      none_wait answer_is.Undone = call.childless
+      none_wait answer = call.childless
 
 -- how far a procedure that makes a call has come
 abbrev pub CallerAt : Verb → Option Verb → Option Answer → Type 0

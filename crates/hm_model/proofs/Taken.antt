@@ -64,14 +64,6 @@ there_of J taken (lets_go left t within) p among = there_of _ _ t p (within p am
 
 -- a descendant that has ended stays so
 below_stays : (entry : Entry) (J : Past) → IsLegal (entry ∷ J) → (q : ℕ) → is_stopped (last_answer J q) ≡ true → is_stopped (last_answer (entry ∷ J) q) ≡ true
-below_stays (entry_is.Start sheets) J legal q over = over
-below_stays (entry_is.Submit nonce request) J legal q over = over
-below_stays (entry_is.Undo pid row out) J legal q over = over
-below_stays (entry_is.Report call told) J legal q over = over
-below_stays (entry_is.Up server) J legal q over = over
-below_stays (entry_is.Down server) J legal q over = over
-below_stays (entry_is.Abort pid) J legal q over = over
-below_stays (entry_is.Adopt sheets) J legal q over = over
 below_stays (entry_is.Step pid pick out) J legal q over = elim (cases_eq q pid.0) [
   | inr other ↦ ap is_stopped (other_answer pid pick out J q other) ∙ over
   | inl mine ↦
@@ -79,6 +71,7 @@ below_stays (entry_is.Step pid pick out) J legal q over = elim (cases_eq q pid.0
       absurd (true≢false (sym over ∙ ap (λ p. is_stopped (last_answer J p)) mine ∙ ready_stops J pid.0 step.node (last_answer J pid.0) step.ready))
 ]
 below_stays (entry_is.Base part) J legal q over = absurd (false≢true (sym (ap is_stopped ((grown_all J legal.0).unmade q (no_node part J legal.1.0 q))) ∙ over))
+below_stays entry J legal q over = over
 
 -- who hasn't ended hadn't
 pub open_before : (entry : Entry) (J : Past) → IsLegal (entry ∷ J) → (q : ℕ) (x : Node) → node_of J q ≡ Some x → ended (entry ∷ J) q ≡ false → ended J q ≡ false
@@ -190,16 +183,9 @@ module _ (pid : Pid) (pick : Option Server) (out : StepOut) (J : Past) (legal : 
 
 -- after an entry whose step is of one who was taken, or is free, no two conflict where none did
 pub after : (entry : Entry) (J : Past) (legal : IsLegal (entry ∷ J)) (taken : List ℕ) → ((p : ℕ) → IsIn p taken → node_of J p ≢ None) → NoneClash J taken → StepsFree J taken entry → NoneClash (entry ∷ J) taken
-after (entry_is.Start sheets) J legal taken made_all none free = calm (entry_is.Start sheets) J legal taken made_all none (λ a. refl)
-after (entry_is.Submit nonce request) J legal taken made_all none free = calm (entry_is.Submit nonce request) J legal taken made_all none (λ a. refl)
 after (entry_is.Step pid pick out) J legal taken made_all none free = steps pid pick out J legal taken made_all none free
-after (entry_is.Undo pid row out) J legal taken made_all none free = calm (entry_is.Undo pid row out) J legal taken made_all none (λ a. refl)
-after (entry_is.Report call told) J legal taken made_all none free = calm (entry_is.Report call told) J legal taken made_all none (λ a. refl)
-after (entry_is.Up server) J legal taken made_all none free = calm (entry_is.Up server) J legal taken made_all none (λ a. refl)
-after (entry_is.Down server) J legal taken made_all none free = calm (entry_is.Down server) J legal taken made_all none (λ a. refl)
-after (entry_is.Abort pid) J legal taken made_all none free = calm (entry_is.Abort pid) J legal taken made_all none (λ a. refl)
-after (entry_is.Adopt sheets) J legal taken made_all none free = calm (entry_is.Adopt sheets) J legal taken made_all none (λ a. refl)
 after (entry_is.Base part) J legal taken made_all none free = λ p q hp hq c. absurd (hp.0 refl)
+after entry J legal taken made_all none free = calm entry J legal taken made_all none (λ a. refl)
 
 pub none_conflict_is : NoneConflict
 none_conflict_is J all nobody = λ p q hp hq c. absurd (hp.0 refl)
@@ -209,16 +195,8 @@ none_conflict_is J all (lets_go {before} {taken} left t within) = clash_within b
 
 -- the step of a legal journal is of one who is free
 steps_free : (entry : Entry) (J : Past) → IsLegal (entry ∷ J) → StepsFree J [] entry
-steps_free (entry_is.Start sheets) J legal = tt
-steps_free (entry_is.Submit nonce request) J legal = tt
 steps_free (entry_is.Step pid pick out) J legal = inr (step_free pid pick out J legal)
-steps_free (entry_is.Undo pid row out) J legal = tt
-steps_free (entry_is.Report call told) J legal = tt
-steps_free (entry_is.Up server) J legal = tt
-steps_free (entry_is.Down server) J legal = tt
-steps_free (entry_is.Abort pid) J legal = tt
-steps_free (entry_is.Adopt sheets) J legal = tt
-steps_free (entry_is.Base part) J legal = tt
+steps_free entry J legal = tt
 
 -- so no two conflict that have a step and haven't ended
 pub legal_apart : NoneOfLegalConflict

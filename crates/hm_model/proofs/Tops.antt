@@ -90,11 +90,6 @@ not_next J legal s x is same = let le = is_there J (grown_all J legal) s x is in
 
 -- a root that has ended stays so
 pub root_stays : (entry : Entry) (J : Past) → IsLegal (entry ∷ J) → (s : ℕ) (x : Node) → TopIs J s x → root_ended J s ≡ true → root_ended (entry ∷ J) s ≡ true
-root_stays (entry_is.Start sheets) J legal s x top over = over
-root_stays (entry_is.Report call told) J legal s x top over = over
-root_stays (entry_is.Up server) J legal s x top over = over
-root_stays (entry_is.Abort pid) J legal s x top over = over
-root_stays (entry_is.Adopt sheets) J legal s x top over = over
 root_stays (entry_is.Base part) J legal s x top over = absurd (none-some x (sym (no_node part J legal.1.0 s) ∙ top.0))
 root_stays (entry_is.Submit nonce request) J legal s x top over = other_stays (entry_is.Submit nonce request) J legal s x top (not_next J legal.0 s x top.0) over
 root_stays (entry_is.Down server) J legal s x top over = other_stays (entry_is.Down server) J legal s x top (not_next J legal.0 s x top.0) over
@@ -106,6 +101,7 @@ root_stays (entry_is.Undo pid row out) J legal s x top over = elim (cases_eq s (
   | inr other ↦ other_stays (entry_is.Undo pid row out) J legal s x top other over
   | inl mine ↦ absurd (true≢false (sym over ∙ ap (root_ended J) mine ∙ undo_open pid row out J legal))
 ]
+root_stays entry J legal s x top over = over
 
 -- who holds after an entry, and made no step by it, held before
 pub held : (entry : Entry) (J : Past) → IsLegal (entry ∷ J) → (s : ℕ) (x : Node) → TopHolds (entry ∷ J) s x → last_answer (entry ∷ J) s ≡ last_answer J s → TopHolds J s x
@@ -146,8 +142,6 @@ root_begun J legal q x is runs below none =
 -- a root whose tree failed has a step
 pub caused_begun : (J : Past) → IsLegal J → (r : ℕ) (c : Cause) → cause J r ≡ Some c → last_answer J r ≢ None
 caused_begun [] legal r c is = absurd (none-some c is)
-caused_begun (entry_is.Start sheets ∷ J) legal r c is = caused_begun J legal.0 r c is
-caused_begun (entry_is.Submit nonce request ∷ J) legal r c is = caused_begun J legal.0 r c is
 caused_begun (entry_is.Step pid pick out ∷ J) legal r c is = elim (cases_eq r pid.0) [
   | inl mine ↦ λ none. none-some out.answer (sym none ∙ ap (last_answer (entry_is.Step pid pick out ∷ J)) mine ∙ answer_now pid pick out J)
   | inr other ↦ λ none. before (caused_begun J legal.0 r c) other (root_of J pid.0 == r) refl is (sym (other_answer pid pick out J r other) ∙ none)
@@ -159,13 +153,8 @@ caused_begun (entry_is.Step pid pick out ∷ J) legal r c is = elim (cases_eq r 
         let step = step_of pid pick out J (grown_all J legal.0) legal in
         let root : step.node.root ≡ r = ap root_in (sym step.node_is) ∙ eqb-true (root_of J pid.0) r e in
         root_begun J legal.0 pid.0 step.node step.node_is (ready_stops J pid.0 step.node (last_answer J pid.0) step.ready) (λ same. other (sym (same ∙ root))) (ap (last_answer J) root ∙ none)
-caused_begun (entry_is.Undo pid row out ∷ J) legal r c is = caused_begun J legal.0 r c is
-caused_begun (entry_is.Report call told ∷ J) legal r c is = caused_begun J legal.0 r c is
-caused_begun (entry_is.Up server ∷ J) legal r c is = caused_begun J legal.0 r c is
-caused_begun (entry_is.Down server ∷ J) legal r c is = caused_begun J legal.0 r c is
-caused_begun (entry_is.Abort pid ∷ J) legal r c is = caused_begun J legal.0 r c is
-caused_begun (entry_is.Adopt sheets ∷ J) legal r c is = caused_begun J legal.0 r c is
 caused_begun (entry_is.Base part ∷ J) legal r c is = absurd (none-some c is)
+caused_begun (entry ∷ J) legal r c is = caused_begun J legal.0 r c is
 
 -- a tree in which a step is undone is that of a root, and has failed
 pub undo_facts : (pid : Pid) (row : ℕ) (out : StepOut) (J : Past) → IsLegal (entry_is.Undo pid row out ∷ J) → (top : Node) × TopIs J (root_of J pid.0) top × (c : Cause) × (cause J (root_of J pid.0) ≡ Some c)

@@ -312,11 +312,7 @@ module _ (pid : Pid) (pick : Option Server) (out : StepOut) (J : Past) where
 
     parent_waits : (answer : Answer) (children : List Child) (i : ℕ) (args : Args) → slice_get (args_in children) i ≡ Some args → ChildrenWait answer children → IsWaiting (Some answer)
     parent_waits (answer_is.Wait n) children i args is w = tt
-    parent_waits (answer_is.More n) children i args is w = has_child children i args is w
-    parent_waits (answer_is.Await n) children i args is w = has_child children i args is w
-    parent_waits (answer_is.Done told) children i args is w = has_child children i args is w
-    parent_waits (answer_is.Fail cause) children i args is w = has_child children i args is w
-    parent_waits answer_is.Undone children i args is w = has_child children i args is w
+    parent_waits answer children i args is w = has_child children i args is w
 
     same_above : (n : Node) (args : Args) (u : ℕ) (rest : List ℕ) → n ≡ child_of pid.0 step.node args → n.above ≡ u ∷ rest → (pid.0 ≡ u) × (step.node.above ≡ rest)
     same_above n args u rest is above = heads (ap (λ (x : Node). x.above) (sym is) ∙ above)
@@ -553,18 +549,9 @@ grown_all (entry_is.Report call told ∷ J) legal =
       fits = report_fits call told J grown verb.0 verb.1 (legal.1.1.1.0 verb.0 verb.1);
       last_is = grown.last_is;
     }
-grown_all (entry_is.Up server ∷ J) legal =
-    let grown = grown_all J legal.0 in
-    record { numbered = grown.numbered; unmade = grown.unmade; tops = grown.tops; ups = grown.ups; later = grown.later; waits = grown.waits; led = grown.led; calls = grown.calls; verbs = grown.verbs; fits = grown.fits; last_is = grown.last_is }
 grown_all (entry_is.Down server ∷ J) legal =
     let grown = grown_all J legal.0 in
     grown_rooted J (entry_is.Down server ∷ J) (down_rooted server J grown) grown (valid_by (entry_is.Down server ∷ J) legal)
-grown_all (entry_is.Abort pid ∷ J) legal =
-    let grown = grown_all J legal.0 in
-    record { numbered = grown.numbered; unmade = grown.unmade; tops = grown.tops; ups = grown.ups; later = grown.later; waits = grown.waits; led = grown.led; calls = grown.calls; verbs = grown.verbs; fits = grown.fits; last_is = grown.last_is }
-grown_all (entry_is.Adopt sheets ∷ J) legal =
-    let grown = grown_all J legal.0 in
-    record { numbered = grown.numbered; unmade = grown.unmade; tops = grown.tops; ups = grown.ups; later = grown.later; waits = grown.waits; led = grown.led; calls = grown.calls; verbs = grown.verbs; fits = grown.fits; last_is = grown.last_is }
 grown_all (entry_is.Base part ∷ J) legal = record {
   numbered = λ p h. refl;
   unmade = λ p h. refl;
@@ -578,6 +565,9 @@ grown_all (entry_is.Base part ∷ J) legal = record {
   fits = λ p told is. absurd (none-some told is);
   last_is = λ r p is. absurd (none-some p is);
 }
+grown_all (entry ∷ J) legal =
+    let grown = grown_all J legal.0 in
+    record { numbered = grown.numbered; unmade = grown.unmade; tops = grown.tops; ups = grown.ups; later = grown.later; waits = grown.waits; led = grown.led; calls = grown.calls; verbs = grown.verbs; fits = grown.fits; last_is = grown.last_is }
 
 -- an entry leaves alone what a procedure runs by
 pub sheets_stay : (entry : Entry) (J : Past) → IsLegal (entry ∷ J) → (p : ℕ) (node : Node) → node_of J p ≡ Some node → sheets_by (entry ∷ J) node.root ≡ sheets_by J node.root

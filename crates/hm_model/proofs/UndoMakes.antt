@@ -77,10 +77,8 @@ stacked_all (entry_is.Base part ∷ J) legal r = tt
 stacked_all (entry ∷ J) legal r = there_later entry J legal r (stack J r) (stacked_all J legal.0 r)
 
 quiet_followers : (undo : Back) (args : Args) (root : Pid) → all_quiet (undo_followers undo args root) ≡ true
-quiet_followers back_is.Nothing args root = refl
-quiet_followers back_is.Edits args root = refl
-quiet_followers back_is.Sweep args root = refl
 quiet_followers back_is.Reopen args root = quiet_transits goal_is.Assign (closed_by args)
+quiet_followers undo args root = refl
 
 said_undone : (sheet : Option Sheet) (at : StepIn) (edits : List Edit) (out : StepOut) → at.turn ≡ turn_is.Undo edits → answer_by sheet at ≡ Some out → (undo : Back) × (undo ≡ undo_by (row_in sheet at.row)) × (out ≡ undo_out undo at.args at.root edits)
 said_undone sheet at edits out turn is = let said = said_by sheet at out is in (said.2.undo, sym (ap (λ s. undo_by (row_in s at.row)) said.1 ∙ ap undo_by said.3), said.4 ∙ ap (turn_answer said.2 at) turn)

@@ -87,9 +87,7 @@ same_act a b e = same_Some a b (sym (act_of-act_number a) ∙ ap act_of e ∙ ac
 
 back_of-back_number : (undo : Back) → back_of (back_number undo) ≡ Some undo
 back_of-back_number back_is.Nothing = refl
-back_of-back_number back_is.Edits = refl
-back_of-back_number back_is.Sweep = refl
-back_of-back_number back_is.Reopen = refl
+back_of-back_number undo = refl
 
 same_back : (a b : Back) → back_number a ≡ back_number b → a ≡ b
 same_back a b e = same_Some a b (sym (back_of-back_number a) ∙ ap back_of e ∙ back_of-back_number b)
@@ -205,27 +203,11 @@ sheet_found (sheet ∷ sheets) kind valid among = elim (cases_Bool (sheet.kind =
 -- each procedure is of one of the kinds
 request_among : (request : Request) → list_any (λ k. k == request_kind request) all_kinds ≡ true
 request_among (request_is.CreateNamespace ns) = refl
-request_among (request_is.DropNamespace ns) = refl
-request_among (request_is.CreateTable table keys) = refl
-request_among (request_is.DeleteTable table) = refl
-request_among (request_is.EnableTable table) = refl
-request_among (request_is.DisableTable table) = refl
-request_among (request_is.ModifyTable table version) = refl
-request_among (request_is.SplitRegion region key) = refl
-request_among (request_is.MergeRegions regions) = refl
-request_among (request_is.Move region to) = refl
+request_among request = refl
 
 kind_among : (args : Args) → list_any (λ k. k == kind_of args) all_kinds ≡ true
 kind_among (args_are.Root request first) = request_among request
-kind_among (args_are.Transit region goal to) = refl
-kind_among (args_are.Crash server) = refl
-kind_among (args_are.AddRegions table first bounds) = refl
-kind_among (args_are.DropRegions table ids) = refl
-kind_among (args_are.AssignCall region server) = refl
-kind_among (args_are.CloseCall region server) = refl
-kind_among (args_are.FenceCall server) = refl
-kind_among (args_are.LayoutCall root) = refl
-kind_among (args_are.SweepLayout root) = refl
+kind_among args = refl
 
 -- each procedure has its sheet
 pub sheet_there : (sheets : List Sheet) → AreSheets sheets → (args : Args) → (sheet : Sheet) × (sheet_for sheets (kind_of args) ≡ Some sheet) × IsValid sheet × (sheet.kind ≡ kind_of args)

@@ -301,25 +301,17 @@ none_open : (part : Part) (before : Past) → PartFits part before → ((p : ℕ
 none_open = by_parts (λ J. ((p : ℕ) → open_children J p ≡ 0) × ((r : ℕ) → open_under J r ≡ 0)) (λ p. refl, λ r. refl) (λ own older. (λ p. count_none (made (entry_is.Base own ∷ older) + 1), λ r. count_none (made (entry_is.Base own ∷ older) + 1)))
 
 pub children_change : (entry : Entry) (before : Past) → IsLegal (entry ∷ before) → (p : ℕ) → open_children (entry ∷ before) p + one_if (ends_one (λ q. child_in p (node_of before q)) entry) ≡ open_children before p + added (λ q. q == p) entry
-children_change (entry_is.Start sheets) before legal = (both_still before (entry_is.Start sheets ∷ before) 0 (plain_makes before (entry_is.Start sheets ∷ before) (grown_all before legal.0) refl (λ q. refl) (λ q. refl))).0
 children_change (entry_is.Submit nonce request) before legal = (both_still before (entry_is.Submit nonce request ∷ before) 1 (submit_makes nonce request before (grown_all before legal.0))).0
 children_change (entry_is.Undo pid row out) before legal = (both_still before (entry_is.Undo pid row out ∷ before) (length (args_in out.followers)) (undo_makes pid row out before)).0
-children_change (entry_is.Report call told) before legal = (both_still before (entry_is.Report call told ∷ before) 0 (plain_makes before (entry_is.Report call told ∷ before) (grown_all before legal.0) refl (λ q. refl) (λ q. refl))).0
-children_change (entry_is.Up server) before legal = (both_still before (entry_is.Up server ∷ before) 0 (plain_makes before (entry_is.Up server ∷ before) (grown_all before legal.0) refl (λ q. refl) (λ q. refl))).0
 children_change (entry_is.Down server) before legal = (both_still before (entry_is.Down server ∷ before) 1 (down_makes server before (grown_all before legal.0))).0
-children_change (entry_is.Abort pid) before legal = (both_still before (entry_is.Abort pid ∷ before) 0 (plain_makes before (entry_is.Abort pid ∷ before) (grown_all before legal.0) refl (λ q. refl) (λ q. refl))).0
-children_change (entry_is.Adopt sheets) before legal = (both_still before (entry_is.Adopt sheets ∷ before) 0 (plain_makes before (entry_is.Adopt sheets ∷ before) (grown_all before legal.0) refl (λ q. refl) (λ q. refl))).0
 children_change (entry_is.Base part) before legal = λ p. omega (arith, count_none (made (entry_is.Base part ∷ before) + 1), (none_open part before legal.1.0).0 p)
 children_change (entry_is.Step pid pick out) before legal = children_step pid pick out before legal
+children_change entry before legal = (both_still before (entry ∷ before) 0 (plain_makes before (entry ∷ before) (grown_all before legal.0) refl (λ q. refl) (λ q. refl))).0
 
 pub under_change : (entry : Entry) (before : Past) → IsLegal (entry ∷ before) → (r : ℕ) → open_under (entry ∷ before) r + one_if (ends_one (λ q. in_tree r (node_of before q) && not (q == r)) entry) ≡ open_under before r + added (λ q. in_tree r (node_of before q)) entry
-under_change (entry_is.Start sheets) before legal = (both_still before (entry_is.Start sheets ∷ before) 0 (plain_makes before (entry_is.Start sheets ∷ before) (grown_all before legal.0) refl (λ q. refl) (λ q. refl))).1
 under_change (entry_is.Submit nonce request) before legal = (both_still before (entry_is.Submit nonce request ∷ before) 1 (submit_makes nonce request before (grown_all before legal.0))).1
 under_change (entry_is.Undo pid row out) before legal = (both_still before (entry_is.Undo pid row out ∷ before) (length (args_in out.followers)) (undo_makes pid row out before)).1
-under_change (entry_is.Report call told) before legal = (both_still before (entry_is.Report call told ∷ before) 0 (plain_makes before (entry_is.Report call told ∷ before) (grown_all before legal.0) refl (λ q. refl) (λ q. refl))).1
-under_change (entry_is.Up server) before legal = (both_still before (entry_is.Up server ∷ before) 0 (plain_makes before (entry_is.Up server ∷ before) (grown_all before legal.0) refl (λ q. refl) (λ q. refl))).1
 under_change (entry_is.Down server) before legal = (both_still before (entry_is.Down server ∷ before) 1 (down_makes server before (grown_all before legal.0))).1
-under_change (entry_is.Abort pid) before legal = (both_still before (entry_is.Abort pid ∷ before) 0 (plain_makes before (entry_is.Abort pid ∷ before) (grown_all before legal.0) refl (λ q. refl) (λ q. refl))).1
-under_change (entry_is.Adopt sheets) before legal = (both_still before (entry_is.Adopt sheets ∷ before) 0 (plain_makes before (entry_is.Adopt sheets ∷ before) (grown_all before legal.0) refl (λ q. refl) (λ q. refl))).1
 under_change (entry_is.Base part) before legal = λ r. omega (arith, count_none (made (entry_is.Base part ∷ before) + 1), (none_open part before legal.1.0).1 r)
 under_change (entry_is.Step pid pick out) before legal = under_step pid pick out before legal
+under_change entry before legal = (both_still before (entry ∷ before) 0 (plain_makes before (entry ∷ before) (grown_all before legal.0) refl (λ q. refl) (λ q. refl))).1

@@ -89,9 +89,7 @@ serve_by Greater actor id region service = (behind actor id region service, Some
 abbrev pub serve_verb : Actor → Pid → Verb → Actor × Option ReportMsg
 serve_verb actor id (verb_is.AssignRegion region) = serve_by (age (actor.last region) id) actor id region (opening actor region)
 serve_verb actor id (verb_is.CloseRegion region) = serve_by (age (actor.last region) id) actor id region (closing actor)
-serve_verb actor id (verb_is.Fence server) = (actor, None)
-serve_verb actor id (verb_is.Layout root) = (actor, None)
-serve_verb actor id (verb_is.Sweep root) = (actor, None)
+serve_verb actor id verb = (actor, None)
 
 -- how a server serves a call, whoever it is for
 abbrev pub serve : Actor → Call → Actor × Option ReportMsg

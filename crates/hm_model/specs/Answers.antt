@@ -12,44 +12,23 @@ use Rattle.hm_model.specs.Tree.{Node}
 -- what the last step of a procedure answered
 abbrev pub last_answer : Past → ℕ → Option Answer
 last_answer [] p = None
-last_answer (entry_is.Start sheets ∷ before) p = last_answer before p
-last_answer (entry_is.Submit nonce request ∷ before) p = last_answer before p
 last_answer (entry_is.Step pid pick out ∷ before) p = if p == pid.0 then Some out.answer else last_answer before p
-last_answer (entry_is.Undo pid row out ∷ before) p = last_answer before p
-last_answer (entry_is.Report call told ∷ before) p = last_answer before p
-last_answer (entry_is.Up server ∷ before) p = last_answer before p
-last_answer (entry_is.Down server ∷ before) p = last_answer before p
-last_answer (entry_is.Abort pid ∷ before) p = last_answer before p
-last_answer (entry_is.Adopt sheets ∷ before) p = last_answer before p
 last_answer (entry_is.Base part ∷ before) p = None
+last_answer (entry ∷ before) p = last_answer before p
 
 -- the report of a procedure's call
 abbrev pub report_of : Past → ℕ → Option Told
 report_of [] p = None
-report_of (entry_is.Start sheets ∷ before) p = report_of before p
-report_of (entry_is.Submit nonce request ∷ before) p = report_of before p
-report_of (entry_is.Step pid pick out ∷ before) p = report_of before p
-report_of (entry_is.Undo pid row out ∷ before) p = report_of before p
 report_of (entry_is.Report call told ∷ before) p = if p == call.0 then Some told else report_of before p
-report_of (entry_is.Up server ∷ before) p = report_of before p
-report_of (entry_is.Down server ∷ before) p = report_of before p
-report_of (entry_is.Abort pid ∷ before) p = report_of before p
-report_of (entry_is.Adopt sheets ∷ before) p = report_of before p
 report_of (entry_is.Base part ∷ before) p = None
+report_of (entry ∷ before) p = report_of before p
 
 -- somebody aborted the procedure
 abbrev pub is_aborted : Past → ℕ → Bool
 is_aborted [] p = false
-is_aborted (entry_is.Start sheets ∷ before) p = is_aborted before p
-is_aborted (entry_is.Submit nonce request ∷ before) p = is_aborted before p
-is_aborted (entry_is.Step pid pick out ∷ before) p = is_aborted before p
-is_aborted (entry_is.Undo pid row out ∷ before) p = is_aborted before p
-is_aborted (entry_is.Report call told ∷ before) p = is_aborted before p
-is_aborted (entry_is.Up server ∷ before) p = is_aborted before p
-is_aborted (entry_is.Down server ∷ before) p = is_aborted before p
 is_aborted (entry_is.Abort pid ∷ before) p = if p == pid.0 then true else is_aborted before p
-is_aborted (entry_is.Adopt sheets ∷ before) p = is_aborted before p
 is_aborted (entry_is.Base part ∷ before) p = false
+is_aborted (entry ∷ before) p = is_aborted before p
 
 -- the row that follows the last one, and as `next` in a sheet the end
 abbrev pub no_row : ℕ
@@ -71,12 +50,10 @@ row_of before p node = row_after (first_row_of node.args) (last_answer before p)
 
 -- an answer that ends a procedure
 abbrev pub is_stop : Answer → Bool
-is_stop (answer_is.More next) = false
-is_stop (answer_is.Wait next) = false
-is_stop (answer_is.Await next) = false
 is_stop (answer_is.Done told) = true
 is_stop (answer_is.Fail cause) = true
 is_stop answer_is.Undone = true
+is_stop answer = false
 
 -- the last step ended the procedure
 abbrev pub is_stopped : Option Answer → Bool
@@ -95,9 +72,5 @@ done_with (Some answer_is.Undone) = None
 
 -- why an answer is a failure
 abbrev pub failing : Answer → Option Cause
-failing (answer_is.More next) = None
-failing (answer_is.Wait next) = None
-failing (answer_is.Await next) = None
-failing (answer_is.Done told) = None
 failing (answer_is.Fail cause) = Some cause
-failing answer_is.Undone = None
+failing answer = None

@@ -15,16 +15,13 @@ use Rattle.hm_model.specs.Undo.{stack}
 -- the root of the tree that an entry belongs to, 0 where it belongs to none. The followers of an undo are trees of
 -- their own.
 abbrev pub tree_of : Past → Entry → ℕ
-tree_of before (entry_is.Start sheets) = 0
 tree_of before (entry_is.Submit nonce request) = made before + 1
 tree_of before (entry_is.Step pid pick out) = root_of before pid.0
 tree_of before (entry_is.Undo pid row out) = root_of before pid.0
 tree_of before (entry_is.Report call told) = root_of before call.0
-tree_of before (entry_is.Up server) = 0
 tree_of before (entry_is.Down server) = made before + 1
 tree_of before (entry_is.Abort pid) = root_of before pid.0
-tree_of before (entry_is.Adopt sheets) = 0
-tree_of before (entry_is.Base part) = 0
+tree_of before entry = 0
 
 -- what is told of a procedure is the same
 pub record IsSame (J J' : Past) (p : ℕ) : Type 0 where

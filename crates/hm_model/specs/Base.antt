@@ -44,26 +44,13 @@ AreSheets sheets = (map (λ sheet. sheet.kind) sheets ≡ all_kinds) × AllValid
 -- how many parts the head announces, itself among them; 0 where there is no head
 abbrev pub part_count : Part → ℕ → ℕ
 part_count (part_is.Head entries last parts sheets) n = parts + 1
-part_count (part_is.Namespace ns) n = n
-part_count (part_is.Table table drawn own) n = n
-part_count (part_is.Region region range status parents place) n = n
-part_count (part_is.Server server fenced) n = n
-part_count (part_is.Root pid nonce args cause) n = n
-part_count (part_is.Layout pid) n = n
+part_count part n = n
 
 -- how many parts a base announces
 abbrev pub announced : Past → ℕ
 announced [] = 0
-announced (entry_is.Start sheets ∷ before) = 0
-announced (entry_is.Submit nonce request ∷ before) = 0
-announced (entry_is.Step pid pick out ∷ before) = 0
-announced (entry_is.Undo pid row out ∷ before) = 0
-announced (entry_is.Report call told ∷ before) = 0
-announced (entry_is.Up server ∷ before) = 0
-announced (entry_is.Down server ∷ before) = 0
-announced (entry_is.Abort pid ∷ before) = 0
-announced (entry_is.Adopt sheets ∷ before) = 0
 announced (entry_is.Base part ∷ before) = part_count part (announced before)
+announced (entry ∷ before) = 0
 
 -- the place of a part's sort among the sorts of parts
 abbrev pub part_rank : Part → ℕ
@@ -140,16 +127,8 @@ pub record IsWhole (J : Past) : Type 0 where
 -- a journal has begun: by a start, or by a whole base
 abbrev pub IsBegun : Past → Type 0
 IsBegun [] = ⊥
-IsBegun (entry_is.Start sheets ∷ before) = Unit {0}
-IsBegun (entry_is.Submit nonce request ∷ before) = Unit {0}
-IsBegun (entry_is.Step pid pick out ∷ before) = Unit {0}
-IsBegun (entry_is.Undo pid row out ∷ before) = Unit {0}
-IsBegun (entry_is.Report call told ∷ before) = Unit {0}
-IsBegun (entry_is.Up server ∷ before) = Unit {0}
-IsBegun (entry_is.Down server ∷ before) = Unit {0}
-IsBegun (entry_is.Abort pid ∷ before) = Unit {0}
-IsBegun (entry_is.Adopt sheets ∷ before) = Unit {0}
 IsBegun (entry_is.Base part ∷ before) = IsWhole (entry_is.Base part ∷ before)
+IsBegun (entry ∷ before) = Unit {0}
 
 -- no base stands unfinished: nothing is there, or the journal has begun
 abbrev pub HasNoHalfBase : Past → Type 0

@@ -44,15 +44,8 @@ call_layout next args = given (layout_of args) next (λ root. calls next (verb_i
 
 -- what a report of the layout comes to
 abbrev pub layout_told : Told → StepOut
-layout_told told_is.Nothing = ends_with told_is.Nothing
-layout_told told_is.Opened = ends_with told_is.Opened
-layout_told told_is.FailedOpen = ends_with told_is.FailedOpen
-layout_told told_is.Closed = ends_with told_is.Closed
-layout_told told_is.Gone = ends_with told_is.Gone
-layout_told told_is.Fenced = ends_with told_is.Fenced
-layout_told told_is.LaidOut = ends_with told_is.LaidOut
 layout_told told_is.Refused = fails cause_is.LayoutRefused
-layout_told told_is.Swept = ends_with told_is.Swept
+layout_told told = ends_with told
 
 -- act 44: ends with the report, and fails where the layout was refused
 abbrev pub settle_layout : Option Told → StepOut

@@ -32,37 +32,23 @@ set_to there key after = record { key = key; before = there key; after = after }
 -- the namespaces `default` and `hbase` are there from the start
 abbrev pub at_start : Catalog
 at_start (key_is.Ns ns) = if bytes_eq ns (codes "default") || bytes_eq ns (codes "hbase") then Some row_is.Ns else None
-at_start (key_is.Table table) = None
-at_start (key_is.Region region) = None
+at_start key = None
 
 -- the row of each key: what the last edit left, and before any what is there from the start
 abbrev pub cat : Past → Catalog
 cat [] key = at_start key
-cat (entry_is.Start sheets ∷ before) key = cat before key
-cat (entry_is.Submit nonce request ∷ before) key = cat before key
 cat (entry_is.Step pid pick out ∷ before) key = edited out.edits key (cat before key)
 cat (entry_is.Undo pid row out ∷ before) key = edited out.edits key (cat before key)
-cat (entry_is.Report call told ∷ before) key = cat before key
-cat (entry_is.Up server ∷ before) key = cat before key
-cat (entry_is.Down server ∷ before) key = cat before key
-cat (entry_is.Abort pid ∷ before) key = cat before key
-cat (entry_is.Adopt sheets ∷ before) key = cat before key
 cat (entry_is.Base part ∷ before) key = part_row part key (cat before key)
+cat (entry ∷ before) key = cat before key
 
 -- the catalog just before the first step of a procedure, that of the start where it has none
 abbrev pub was : Past → ℕ → Catalog
 was [] p = at_start
-was (entry_is.Start sheets ∷ before) p = was before p
-was (entry_is.Submit nonce request ∷ before) p = was before p
 was (entry_is.Step pid pick out ∷ before) p =
     if (p == pid.0) && is_none (last_answer before pid.0) then cat before else was before p
-was (entry_is.Undo pid row out ∷ before) p = was before p
-was (entry_is.Report call told ∷ before) p = was before p
-was (entry_is.Up server ∷ before) p = was before p
-was (entry_is.Down server ∷ before) p = was before p
-was (entry_is.Abort pid ∷ before) p = was before p
-was (entry_is.Adopt sheets ∷ before) p = was before p
 was (entry_is.Base part ∷ before) p = cat (entry_is.Base part ∷ before)
+was (entry ∷ before) p = was before p
 
 -- a key beside the first of some keys in key order, by how they compare, and what the rest of them is with it
 abbrev pub with_key_at : Ordering → CatKey → CatKey → List CatKey → List CatKey → List CatKey
@@ -87,16 +73,10 @@ part_keys part keys = elim (part_key part) as (λ k. List CatKey) [ None ↦ key
 -- the keys that were there at the start or were ever edited, in key order
 abbrev pub keys_of : Past → List CatKey
 keys_of [] = key_is.Ns (codes "default") ∷ key_is.Ns (codes "hbase") ∷ []
-keys_of (entry_is.Start sheets ∷ before) = keys_of before
-keys_of (entry_is.Submit nonce request ∷ before) = keys_of before
 keys_of (entry_is.Step pid pick out ∷ before) = with_keys out.edits (keys_of before)
 keys_of (entry_is.Undo pid row out ∷ before) = with_keys out.edits (keys_of before)
-keys_of (entry_is.Report call told ∷ before) = keys_of before
-keys_of (entry_is.Up server ∷ before) = keys_of before
-keys_of (entry_is.Down server ∷ before) = keys_of before
-keys_of (entry_is.Abort pid ∷ before) = keys_of before
-keys_of (entry_is.Adopt sheets ∷ before) = keys_of before
 keys_of (entry_is.Base part ∷ before) = part_keys part (keys_of before)
+keys_of (entry ∷ before) = keys_of before
 
 -- one row more in front, if it is asked for and there
 abbrev pub keep : Bool → CatKey → Option CatRow → List (CatKey × CatRow) → List (CatKey × CatRow)

@@ -32,43 +32,29 @@ region_count table keys there = length (all_among table (region_rows table keys 
 
 -- the entries that a request costs, in the catalog just before its first step
 abbrev pub request_cost : Request → List CatKey → Catalog → ℕ
-request_cost (request_is.CreateNamespace ns) keys there = 3
-request_cost (request_is.DropNamespace ns) keys there = 3
 request_cost (request_is.CreateTable table split) keys there = 11 + by_64s (length split + 1) + 6 * (length split + 1)
 request_cost (request_is.DeleteTable table) keys there = 4 + by_64s (region_count table keys there)
 request_cost (request_is.EnableTable table) keys there = 5 + 6 * live_count table keys there
 request_cost (request_is.DisableTable table) keys there = 5 + 5 * live_count table keys there
-request_cost (request_is.ModifyTable table version) keys there = 3
 request_cost (request_is.SplitRegion region key) keys there = 27
 request_cost (request_is.MergeRegions regions) keys there = 16 + 5 * length regions
 request_cost (request_is.Move region to) keys there = 13
+request_cost request keys there = 3
 
 -- how many regions were at the server of a crash when it went down
 abbrev pub regions_lost : Past → ℕ → ℕ
 regions_lost [] r = 0
-regions_lost (entry_is.Start sheets ∷ before) r = regions_lost before r
-regions_lost (entry_is.Submit nonce request ∷ before) r = regions_lost before r
-regions_lost (entry_is.Step pid pick out ∷ before) r = regions_lost before r
-regions_lost (entry_is.Undo pid row out ∷ before) r = regions_lost before r
-regions_lost (entry_is.Report call told ∷ before) r = regions_lost before r
-regions_lost (entry_is.Up server ∷ before) r = regions_lost before r
 regions_lost (entry_is.Down server ∷ before) r = if r == made before + 1 then load before server else regions_lost before r
-regions_lost (entry_is.Abort pid ∷ before) r = regions_lost before r
-regions_lost (entry_is.Adopt sheets ∷ before) r = regions_lost before r
 regions_lost (entry_is.Base part ∷ before) r = 0
+regions_lost (entry ∷ before) r = regions_lost before r
 
 -- the entries that a root costs, with the one that makes it; what is only ever a child costs none by itself
 abbrev pub cost_in : Args → ℕ → List CatKey → Catalog → ℕ
 cost_in (args_are.Root request first) lost keys there = request_cost request keys there
 cost_in (args_are.Transit region goal to) lost keys there = 7
 cost_in (args_are.Crash server) lost keys there = 6 + by_64s lost + 6 * lost
-cost_in (args_are.AddRegions table first bounds) lost keys there = 0
-cost_in (args_are.DropRegions table ids) lost keys there = 0
-cost_in (args_are.AssignCall region server) lost keys there = 0
-cost_in (args_are.CloseCall region server) lost keys there = 0
-cost_in (args_are.FenceCall server) lost keys there = 0
-cost_in (args_are.LayoutCall root) lost keys there = 0
 cost_in (args_are.SweepLayout root) lost keys there = 4
+cost_in args lost keys there = 0
 
 -- the entries that the tree of a root costs: its regions are counted just before its first step, those of a crash where
 -- the server went down

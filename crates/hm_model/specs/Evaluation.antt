@@ -83,29 +83,20 @@ picks_by sheet at = picks_at (row_in sheet at.row) at
 
 -- the ids of regions that a request names
 abbrev pub ids_in : Request → List ℕ
-ids_in (request_is.CreateNamespace ns) = []
-ids_in (request_is.DropNamespace ns) = []
-ids_in (request_is.CreateTable table keys) = []
-ids_in (request_is.DeleteTable table) = []
-ids_in (request_is.EnableTable table) = []
-ids_in (request_is.DisableTable table) = []
-ids_in (request_is.ModifyTable table version) = []
 ids_in (request_is.SplitRegion region key) = region.id ∷ []
 ids_in (request_is.MergeRegions regions) = map (λ region. region.id) regions
 ids_in (request_is.Move region to) = region.id ∷ []
+ids_in request = []
 
 -- the ids of regions that a procedure names, with the first that it drew or adds
 abbrev pub named_ids : Args → List ℕ
 named_ids (args_are.Root request first) = first ∷ ids_in request
 named_ids (args_are.Transit region goal to) = region.id ∷ []
-named_ids (args_are.Crash server) = []
 named_ids (args_are.AddRegions table first bounds) = first ∷ []
 named_ids (args_are.DropRegions table ids) = ids
 named_ids (args_are.AssignCall region server) = region.id ∷ []
 named_ids (args_are.CloseCall region server) = region.id ∷ []
-named_ids (args_are.FenceCall server) = []
-named_ids (args_are.LayoutCall root) = []
-named_ids (args_are.SweepLayout root) = []
+named_ids args = []
 
 -- an input at which a sheet can be asked: they are of one kind, the row is in the sheet, regions have their numbers, and
 -- a server is picked where that is needed

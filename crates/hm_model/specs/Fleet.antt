@@ -50,16 +50,9 @@ part_fenced part server before = elim (part_server part) as (λ s. Bool) [ None 
 -- the servers that ever came up, in name order
 abbrev pub servers_of : Past → List Server
 servers_of [] = []
-servers_of (entry_is.Start sheets ∷ before) = servers_of before
-servers_of (entry_is.Submit nonce request ∷ before) = servers_of before
-servers_of (entry_is.Step pid pick out ∷ before) = servers_of before
-servers_of (entry_is.Undo pid row out ∷ before) = servers_of before
-servers_of (entry_is.Report call told ∷ before) = servers_of before
 servers_of (entry_is.Up server ∷ before) = with_server server (servers_of before)
-servers_of (entry_is.Down server ∷ before) = servers_of before
-servers_of (entry_is.Abort pid ∷ before) = servers_of before
-servers_of (entry_is.Adopt sheets ∷ before) = servers_of before
 servers_of (entry_is.Base part ∷ before) = part_servers part (servers_of before)
+servers_of (entry ∷ before) = servers_of before
 
 -- a server ever came up
 abbrev pub came_up : Past → Server → Bool
@@ -68,29 +61,15 @@ came_up before server = list_any (λ other. same_server server other) (servers_o
 -- a server is live: it came up, and didn't go down since
 abbrev pub is_live : Past → Server → Bool
 is_live [] server = false
-is_live (entry_is.Start sheets ∷ before) server = is_live before server
-is_live (entry_is.Submit nonce request ∷ before) server = is_live before server
-is_live (entry_is.Step pid pick out ∷ before) server = is_live before server
-is_live (entry_is.Undo pid row out ∷ before) server = is_live before server
-is_live (entry_is.Report call told ∷ before) server = is_live before server
 is_live (entry_is.Up other ∷ before) server = same_server server other || is_live before server
 is_live (entry_is.Down other ∷ before) server = not (same_server server other) && is_live before server
-is_live (entry_is.Abort pid ∷ before) server = is_live before server
-is_live (entry_is.Adopt sheets ∷ before) server = is_live before server
 is_live (entry_is.Base part ∷ before) server = part_live part server (is_live before server)
+is_live (entry ∷ before) server = is_live before server
 
 -- a procedure is the call to fence a server
 abbrev pub fences_by : Args → Server → Bool
-fences_by (args_are.Root request first) server = false
-fences_by (args_are.Transit region goal to) server = false
-fences_by (args_are.Crash other) server = false
-fences_by (args_are.AddRegions table first bounds) server = false
-fences_by (args_are.DropRegions table ids) server = false
-fences_by (args_are.AssignCall region other) server = false
-fences_by (args_are.CloseCall region other) server = false
 fences_by (args_are.FenceCall other) server = same_server server other
-fences_by (args_are.LayoutCall root) server = false
-fences_by (args_are.SweepLayout root) server = false
+fences_by args server = false
 
 -- the same of one by its number, if it is there
 abbrev pub fences_if : Option Node → Server → Bool
@@ -100,17 +79,10 @@ fences_if (Some node) server = fences_by node.args server
 -- a server is fenced: there is a report that it is, of a call to fence it
 abbrev pub is_fenced : Past → Server → Bool
 is_fenced [] server = false
-is_fenced (entry_is.Start sheets ∷ before) server = is_fenced before server
-is_fenced (entry_is.Submit nonce request ∷ before) server = is_fenced before server
-is_fenced (entry_is.Step pid pick out ∷ before) server = is_fenced before server
-is_fenced (entry_is.Undo pid row out ∷ before) server = is_fenced before server
 is_fenced (entry_is.Report call told ∷ before) server =
     ((told_number told == told_number told_is.Fenced) && fences_if (node_of before call.0) server) || is_fenced before server
-is_fenced (entry_is.Up other ∷ before) server = is_fenced before server
-is_fenced (entry_is.Down other ∷ before) server = is_fenced before server
-is_fenced (entry_is.Abort pid ∷ before) server = is_fenced before server
-is_fenced (entry_is.Adopt sheets ∷ before) server = is_fenced before server
 is_fenced (entry_is.Base part ∷ before) server = part_fenced part server (is_fenced before server)
+is_fenced (entry ∷ before) server = is_fenced before server
 
 -- a server went down: it came up, and isn't live
 abbrev pub is_down : Past → Server → Bool

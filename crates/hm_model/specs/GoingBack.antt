@@ -28,9 +28,7 @@ pub record Reversal : Type 0 where
 -- a row with an undo has one reversal
 abbrev pub if_undone : Back → Reversal → List Reversal
 if_undone back_is.Nothing reversal = []
-if_undone back_is.Edits reversal = reversal ∷ []
-if_undone back_is.Sweep reversal = reversal ∷ []
-if_undone back_is.Reopen reversal = reversal ∷ []
+if_undone undo reversal = reversal ∷ []
 
 -- what takes a step back that is undone so: nothing where it failed
 abbrev pub reversal_of : Back → ℕ → ℕ → StepOut → List Reversal
@@ -40,32 +38,18 @@ reversal_of undo p row out =
 -- what takes back the steps of a root's tree, the latest first
 abbrev pub to_undo : Past → ℕ → List Reversal
 to_undo [] r = []
-to_undo (entry_is.Start sheets ∷ before) r = to_undo before r
-to_undo (entry_is.Submit nonce request ∷ before) r = to_undo before r
 to_undo (entry_is.Step pid pick out ∷ before) r =
     if root_of before pid.0 == r then reversal_of (undo_of_next before pid.0 (node_of before pid.0)) pid.0 (row_if_there before pid.0 (node_of before pid.0)) out ++ to_undo before r else to_undo before r
-to_undo (entry_is.Undo pid row out ∷ before) r = to_undo before r
-to_undo (entry_is.Report call told ∷ before) r = to_undo before r
-to_undo (entry_is.Up server ∷ before) r = to_undo before r
-to_undo (entry_is.Down server ∷ before) r = to_undo before r
-to_undo (entry_is.Abort pid ∷ before) r = to_undo before r
-to_undo (entry_is.Adopt sheets ∷ before) r = to_undo before r
 to_undo (entry_is.Base part ∷ before) r = []
+to_undo (entry ∷ before) r = to_undo before r
 
 -- the undos of a root's tree, in the order in which they were recorded
 abbrev pub undos_of : Past → ℕ → List Reversal
 undos_of [] r = []
-undos_of (entry_is.Start sheets ∷ before) r = undos_of before r
-undos_of (entry_is.Submit nonce request ∷ before) r = undos_of before r
-undos_of (entry_is.Step pid pick out ∷ before) r = undos_of before r
 undos_of (entry_is.Undo pid row out ∷ before) r =
     if root_of before pid.0 == r then undos_of before r ++ record { pid = pid.0; row = row; edits = out.edits } ∷ [] else undos_of before r
-undos_of (entry_is.Report call told ∷ before) r = undos_of before r
-undos_of (entry_is.Up server ∷ before) r = undos_of before r
-undos_of (entry_is.Down server ∷ before) r = undos_of before r
-undos_of (entry_is.Abort pid ∷ before) r = undos_of before r
-undos_of (entry_is.Adopt sheets ∷ before) r = undos_of before r
 undos_of (entry_is.Base part ∷ before) r = []
+undos_of (entry ∷ before) r = undos_of before r
 
 -- the undos of a tree take back its steps in turn, from the latest on
 abbrev pub UndosGoBack : Type 0

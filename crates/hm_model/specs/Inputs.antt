@@ -58,16 +58,9 @@ regions_on before (Some server) = on_server before server
 -- how many procedures had been made when a procedure made its last step, 0 where it made none
 abbrev pub made_at_step : Past → ℕ → ℕ
 made_at_step [] p = 0
-made_at_step (entry_is.Start sheets ∷ before) p = made_at_step before p
-made_at_step (entry_is.Submit nonce request ∷ before) p = made_at_step before p
 made_at_step (entry_is.Step pid pick out ∷ before) p = if p == pid.0 then made before else made_at_step before p
-made_at_step (entry_is.Undo pid row out ∷ before) p = made_at_step before p
-made_at_step (entry_is.Report call told ∷ before) p = made_at_step before p
-made_at_step (entry_is.Up server ∷ before) p = made_at_step before p
-made_at_step (entry_is.Down server ∷ before) p = made_at_step before p
-made_at_step (entry_is.Abort pid ∷ before) p = made_at_step before p
-made_at_step (entry_is.Adopt sheets ∷ before) p = made_at_step before p
 made_at_step (entry_is.Base part ∷ before) p = 0
+made_at_step (entry ∷ before) p = made_at_step before p
 
 -- it is a child of p that p's last step made
 abbrev pub is_new_child : Past → ℕ → ℕ → Bool

@@ -46,8 +46,6 @@ table_of_first (region ∷ more) = Some region.table
 
 -- the table of a request: its own, or its region's
 abbrev pub table_of_request : Request → Option TableName
-table_of_request (request_is.CreateNamespace ns) = None
-table_of_request (request_is.DropNamespace ns) = None
 table_of_request (request_is.CreateTable table keys) = Some table
 table_of_request (request_is.DeleteTable table) = Some table
 table_of_request (request_is.EnableTable table) = Some table
@@ -56,6 +54,7 @@ table_of_request (request_is.ModifyTable table version) = Some table
 table_of_request (request_is.SplitRegion region key) = Some region.table
 table_of_request (request_is.MergeRegions regions) = table_of_first regions
 table_of_request (request_is.Move region to) = Some region.table
+table_of_request request = None
 
 -- the row at which a transit begins
 abbrev pub goal_row : Goal → ℕ
@@ -65,26 +64,11 @@ goal_row goal_is.Move = 5
 
 -- the row at which a request begins
 abbrev pub request_row : Request → ℕ
-request_row (request_is.CreateNamespace ns) = 0
-request_row (request_is.DropNamespace ns) = 0
-request_row (request_is.CreateTable table keys) = 0
-request_row (request_is.DeleteTable table) = 0
-request_row (request_is.EnableTable table) = 0
-request_row (request_is.DisableTable table) = 0
-request_row (request_is.ModifyTable table version) = 0
-request_row (request_is.SplitRegion region key) = 0
-request_row (request_is.MergeRegions regions) = 0
 request_row (request_is.Move region to) = 5
+request_row request = 0
 
 -- the row at which a procedure begins
 abbrev pub first_row_of : Args → ℕ
 first_row_of (args_are.Root request first) = request_row request
 first_row_of (args_are.Transit region goal to) = goal_row goal
-first_row_of (args_are.Crash server) = 0
-first_row_of (args_are.AddRegions table first bounds) = 0
-first_row_of (args_are.DropRegions table ids) = 0
-first_row_of (args_are.AssignCall region server) = 0
-first_row_of (args_are.CloseCall region server) = 0
-first_row_of (args_are.FenceCall server) = 0
-first_row_of (args_are.LayoutCall root) = 0
-first_row_of (args_are.SweepLayout root) = 0
+first_row_of args = 0

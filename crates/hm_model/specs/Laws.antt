@@ -43,15 +43,7 @@ pub record IsGrown (J : Past) : Type 0 where
 -- an entry is a start
 abbrev pub is_start : Entry → Bool
 is_start (entry_is.Start sheets) = true
-is_start (entry_is.Submit nonce request) = false
-is_start (entry_is.Step pid pick out) = false
-is_start (entry_is.Undo pid row out) = false
-is_start (entry_is.Report call told) = false
-is_start (entry_is.Up server) = false
-is_start (entry_is.Down server) = false
-is_start (entry_is.Abort pid) = false
-is_start (entry_is.Adopt sheets) = false
-is_start (entry_is.Base part) = false
+is_start entry = false
 
 -- the start is the oldest entry, and no other is one; its sheets are those of edition 0
 abbrev pub StartIsOldest : Past → Type 0
@@ -60,16 +52,8 @@ StartIsOldest J =
 
 -- an entry is a part of a base
 abbrev pub is_part : Entry → Bool
-is_part (entry_is.Start sheets) = false
-is_part (entry_is.Submit nonce request) = false
-is_part (entry_is.Step pid pick out) = false
-is_part (entry_is.Undo pid row out) = false
-is_part (entry_is.Report call told) = false
-is_part (entry_is.Up server) = false
-is_part (entry_is.Down server) = false
-is_part (entry_is.Abort pid) = false
-is_part (entry_is.Adopt sheets) = false
 is_part (entry_is.Base part) = true
+is_part entry = false
 
 -- all entries are parts
 abbrev pub are_parts : Past → Bool

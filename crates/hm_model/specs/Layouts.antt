@@ -11,15 +11,9 @@ use Rattle.hm_model.specs.Parts.{part_laid}
 
 -- whether a report leaves the layout of a root there, if it is of one
 abbrev pub laid_by : Told → Option Bool
-laid_by told_is.Nothing = None
-laid_by told_is.Opened = None
-laid_by told_is.FailedOpen = None
-laid_by told_is.Closed = None
-laid_by told_is.Gone = None
-laid_by told_is.Fenced = None
 laid_by told_is.LaidOut = Some true
-laid_by told_is.Refused = None
 laid_by told_is.Swept = Some false
+laid_by told = None
 
 -- whose layout a call is about
 abbrev pub layout_called : Option Verb → Option ℕ
@@ -39,14 +33,7 @@ laid_if (Some own) (Some now) root before = if own == root then now else before
 -- the layout of a root is there: the last report about it says so
 abbrev pub is_laid : Past → ℕ → Bool
 is_laid [] root = false
-is_laid (entry_is.Start sheets ∷ before) root = is_laid before root
-is_laid (entry_is.Submit nonce request ∷ before) root = is_laid before root
-is_laid (entry_is.Step pid pick out ∷ before) root = is_laid before root
-is_laid (entry_is.Undo pid row out ∷ before) root = is_laid before root
 is_laid (entry_is.Report call told ∷ before) root =
     laid_if (layout_called (verb_of before call.0)) (laid_by told) root (is_laid before root)
-is_laid (entry_is.Up server ∷ before) root = is_laid before root
-is_laid (entry_is.Down server ∷ before) root = is_laid before root
-is_laid (entry_is.Abort pid ∷ before) root = is_laid before root
-is_laid (entry_is.Adopt sheets ∷ before) root = is_laid before root
 is_laid (entry_is.Base part ∷ before) root = part_laid part root (is_laid before root)
+is_laid (entry ∷ before) root = is_laid before root

@@ -78,13 +78,7 @@ abbrev pub asks : Args → List Ask
 asks (args_are.Root request first) = request_asks request first
 asks (args_are.Transit region goal to) = table_shared region.table ++ exclusive (resource_is.Region region) ∷ []
 asks (args_are.Crash server) = exclusive (resource_is.Server server) ∷ []
-asks (args_are.AddRegions table first bounds) = []
-asks (args_are.DropRegions table ids) = []
-asks (args_are.AssignCall region server) = []
-asks (args_are.CloseCall region server) = []
-asks (args_are.FenceCall server) = []
-asks (args_are.LayoutCall root) = []
-asks (args_are.SweepLayout root) = []
+asks args = []
 
 -- it is one of the list
 abbrev pub IsIn : {A : Type 0} → A → List A → Type 0

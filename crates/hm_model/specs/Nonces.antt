@@ -19,17 +19,10 @@ part_nonce part nonce before =
 -- the root that was made under a nonce: the latest
 abbrev pub by_nonce : Past → Nonce → Option ℕ
 by_nonce [] nonce = None
-by_nonce (entry_is.Start sheets ∷ before) nonce = by_nonce before nonce
 by_nonce (entry_is.Submit used request ∷ before) nonce =
     if is_same used nonce then Some (made before + 1) else by_nonce before nonce
-by_nonce (entry_is.Step pid pick out ∷ before) nonce = by_nonce before nonce
-by_nonce (entry_is.Undo pid row out ∷ before) nonce = by_nonce before nonce
-by_nonce (entry_is.Report call told ∷ before) nonce = by_nonce before nonce
-by_nonce (entry_is.Up server ∷ before) nonce = by_nonce before nonce
-by_nonce (entry_is.Down server ∷ before) nonce = by_nonce before nonce
-by_nonce (entry_is.Abort pid ∷ before) nonce = by_nonce before nonce
-by_nonce (entry_is.Adopt sheets ∷ before) nonce = by_nonce before nonce
 by_nonce (entry_is.Base part ∷ before) nonce = part_nonce part nonce (by_nonce before nonce)
+by_nonce (entry ∷ before) nonce = by_nonce before nonce
 
 -- the nonce of a part's root wasn't used before
 abbrev pub IsNew : Part → Past → Type 0
@@ -38,13 +31,6 @@ IsNew part before = elim (part_root part) as (λ r. Type 0) [ None ↦ Unit {0} 
 -- no nonce is used twice
 abbrev pub NoncesActOnce : Past → Type 0
 NoncesActOnce [] = Unit {0}
-NoncesActOnce (entry_is.Start sheets ∷ before) = NoncesActOnce before
 NoncesActOnce (entry_is.Submit nonce request ∷ before) = NoncesActOnce before × (by_nonce before nonce ≡ None)
-NoncesActOnce (entry_is.Step pid pick out ∷ before) = NoncesActOnce before
-NoncesActOnce (entry_is.Undo pid row out ∷ before) = NoncesActOnce before
-NoncesActOnce (entry_is.Report call told ∷ before) = NoncesActOnce before
-NoncesActOnce (entry_is.Up server ∷ before) = NoncesActOnce before
-NoncesActOnce (entry_is.Down server ∷ before) = NoncesActOnce before
-NoncesActOnce (entry_is.Abort pid ∷ before) = NoncesActOnce before
-NoncesActOnce (entry_is.Adopt sheets ∷ before) = NoncesActOnce before
 NoncesActOnce (entry_is.Base part ∷ before) = NoncesActOnce before × IsNew part before
+NoncesActOnce (entry ∷ before) = NoncesActOnce before

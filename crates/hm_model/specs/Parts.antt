@@ -27,86 +27,46 @@ part_row (part_is.Namespace ns) key row = if same_key key (key_is.Ns ns) then So
 part_row (part_is.Table table drawn own) key row = if same_key key (key_is.Table table) then table_row own else row
 part_row (part_is.Region region range status parents place) key row =
     if same_key key (key_is.Region region) then Some (row_is.Region range status parents) else row
-part_row (part_is.Server server fenced) key row = row
-part_row (part_is.Root pid nonce args cause) key row = row
-part_row (part_is.Layout pid) key row = row
+part_row part key row = row
 
 -- the key that a part is of
 abbrev pub part_key : Part → Option CatKey
-part_key (part_is.Head entries last parts sheets) = None
 part_key (part_is.Namespace ns) = Some (key_is.Ns ns)
 part_key (part_is.Table table drawn own) = Some (key_is.Table table)
 part_key (part_is.Region region range status parents place) = Some (key_is.Region region)
-part_key (part_is.Server server fenced) = None
-part_key (part_is.Root pid nonce args cause) = None
-part_key (part_is.Layout pid) = None
+part_key part = None
 
 -- how many procedures were made, with a part
 abbrev pub part_made : Part → ℕ → ℕ
 part_made (part_is.Head entries last parts sheets) n = last.0
-part_made (part_is.Namespace ns) n = n
-part_made (part_is.Table table drawn own) n = n
-part_made (part_is.Region region range status parents place) n = n
-part_made (part_is.Server server fenced) n = n
-part_made (part_is.Root pid nonce args cause) n = n
-part_made (part_is.Layout pid) n = n
+part_made part n = n
 
 -- the sheets in force, with a part
 abbrev pub part_sheets : Part → List Sheet → List Sheet
 part_sheets (part_is.Head entries last parts sheets) before = sheets
-part_sheets (part_is.Namespace ns) before = before
-part_sheets (part_is.Table table drawn own) before = before
-part_sheets (part_is.Region region range status parents place) before = before
-part_sheets (part_is.Server server fenced) before = before
-part_sheets (part_is.Root pid nonce args cause) before = before
-part_sheets (part_is.Layout pid) before = before
+part_sheets part before = before
 
 -- how many region ids were drawn for a table, with a part
 abbrev pub part_drawn : Part → TableName → ℕ → ℕ
-part_drawn (part_is.Head entries last parts sheets) table n = n
-part_drawn (part_is.Namespace ns) table n = n
 part_drawn (part_is.Table own drawn row) table n = if same_table own table then drawn else n
-part_drawn (part_is.Region region range status parents place) table n = n
-part_drawn (part_is.Server server fenced) table n = n
-part_drawn (part_is.Root pid nonce args cause) table n = n
-part_drawn (part_is.Layout pid) table n = n
+part_drawn part table n = n
 
 -- the range that a part gives a region
 abbrev pub part_range : Part → Region → Option KeyRange → Option KeyRange
-part_range (part_is.Head entries last parts sheets) region range = range
-part_range (part_is.Namespace ns) region range = range
-part_range (part_is.Table table drawn own) region range = range
 part_range (part_is.Region own given status parents place) region range = if same_region region own then Some given else range
-part_range (part_is.Server server fenced) region range = range
-part_range (part_is.Root pid nonce args cause) region range = range
-part_range (part_is.Layout pid) region range = range
+part_range part region range = range
 
 -- the server of a part, and whether it is fenced
 abbrev pub part_server : Part → Option (Server × Bool)
-part_server (part_is.Head entries last parts sheets) = None
-part_server (part_is.Namespace ns) = None
-part_server (part_is.Table table drawn own) = None
-part_server (part_is.Region region range status parents place) = None
 part_server (part_is.Server server fenced) = Some (server, fenced)
-part_server (part_is.Root pid nonce args cause) = None
-part_server (part_is.Layout pid) = None
+part_server part = None
 
 -- the layout of a root is there, with a part
 abbrev pub part_laid : Part → ℕ → Bool → Bool
-part_laid (part_is.Head entries last parts sheets) root laid = laid
-part_laid (part_is.Namespace ns) root laid = laid
-part_laid (part_is.Table table drawn own) root laid = laid
-part_laid (part_is.Region region range status parents place) root laid = laid
-part_laid (part_is.Server server fenced) root laid = laid
-part_laid (part_is.Root pid nonce args cause) root laid = laid
 part_laid (part_is.Layout pid) root laid = if pid.0 == root then true else laid
+part_laid part root laid = laid
 
 -- the nonce of a part's root, and its number
 abbrev pub part_root : Part → Option (Nonce × ℕ)
-part_root (part_is.Head entries last parts sheets) = None
-part_root (part_is.Namespace ns) = None
-part_root (part_is.Table table drawn own) = None
-part_root (part_is.Region region range status parents place) = None
-part_root (part_is.Server server fenced) = None
 part_root (part_is.Root pid nonce args cause) = Some (nonce, pid.0)
-part_root (part_is.Layout pid) = None
+part_root part = None

@@ -26,17 +26,10 @@ or_else (Some cause) later = Some cause
 -- the first failure in the tree of a root
 abbrev pub cause : Past → ℕ → Option Cause
 cause [] r = None
-cause (entry_is.Start sheets ∷ before) r = cause before r
-cause (entry_is.Submit nonce request ∷ before) r = cause before r
 cause (entry_is.Step pid pick out ∷ before) r =
     if root_of before pid.0 == r then or_else (cause before r) (failing out.answer) else cause before r
-cause (entry_is.Undo pid row out ∷ before) r = cause before r
-cause (entry_is.Report call told ∷ before) r = cause before r
-cause (entry_is.Up server ∷ before) r = cause before r
-cause (entry_is.Down server ∷ before) r = cause before r
-cause (entry_is.Abort pid ∷ before) r = cause before r
-cause (entry_is.Adopt sheets ∷ before) r = cause before r
 cause (entry_is.Base part ∷ before) r = None
+cause (entry ∷ before) r = cause before r
 
 -- it is of the tree of a root
 abbrev pub in_tree : ℕ → Option Node → Bool

@@ -31,28 +31,16 @@ placed_by region own (Some given) place = if is_the_region region own then given
 
 -- the place of a region, with a part
 abbrev pub part_place : Part → Region → Place → Place
-part_place (part_is.Head entries last parts sheets) region place = place
-part_place (part_is.Namespace ns) region place = place
-part_place (part_is.Table table drawn own) region place = place
 part_place (part_is.Region own range status parents given) region place = if same_region region own then given else place
-part_place (part_is.Server server fenced) region place = place
-part_place (part_is.Root pid nonce args cause) region place = place
-part_place (part_is.Layout pid) region place = place
+part_place part region place = place
 
 -- the place of a region: what the last step that gave it one said, and Offline before any
 abbrev pub place_of : Past → Region → Place
 place_of [] region = nowhere place_is.Offline
-place_of (entry_is.Start sheets ∷ before) region = place_of before region
-place_of (entry_is.Submit nonce request ∷ before) region = place_of before region
 place_of (entry_is.Step pid pick out ∷ before) region =
     placed_by region (region_if (node_of before pid.0)) out.place (place_of before region)
-place_of (entry_is.Undo pid row out ∷ before) region = place_of before region
-place_of (entry_is.Report call told ∷ before) region = place_of before region
-place_of (entry_is.Up server ∷ before) region = place_of before region
-place_of (entry_is.Down server ∷ before) region = place_of before region
-place_of (entry_is.Abort pid ∷ before) region = place_of before region
-place_of (entry_is.Adopt sheets ∷ before) region = place_of before region
 place_of (entry_is.Base part ∷ before) region = part_place part region (place_of before region)
+place_of (entry ∷ before) region = place_of before region
 
 -- a region beside the first of some in name order, by how they compare, and what the rest of them is with it
 abbrev pub joined_at : Ordering → Region → Region → List Region → List Region → List Region
@@ -73,27 +61,15 @@ joined_if (Some region) (Some place) regions = joined_by region regions
 
 -- regions in name order, with that of a part
 abbrev pub part_placed : Part → List Region → List Region
-part_placed (part_is.Head entries last parts sheets) regions = regions
-part_placed (part_is.Namespace ns) regions = regions
-part_placed (part_is.Table table drawn own) regions = regions
 part_placed (part_is.Region own range status parents given) regions = joined_by own regions
-part_placed (part_is.Server server fenced) regions = regions
-part_placed (part_is.Root pid nonce args cause) regions = regions
-part_placed (part_is.Layout pid) regions = regions
+part_placed part regions = regions
 
 -- the regions that were ever given a place, in name order
 abbrev pub placed : Past → List Region
 placed [] = []
-placed (entry_is.Start sheets ∷ before) = placed before
-placed (entry_is.Submit nonce request ∷ before) = placed before
 placed (entry_is.Step pid pick out ∷ before) = joined_if (region_if (node_of before pid.0)) out.place (placed before)
-placed (entry_is.Undo pid row out ∷ before) = placed before
-placed (entry_is.Report call told ∷ before) = placed before
-placed (entry_is.Up server ∷ before) = placed before
-placed (entry_is.Down server ∷ before) = placed before
-placed (entry_is.Abort pid ∷ before) = placed before
-placed (entry_is.Adopt sheets ∷ before) = placed before
 placed (entry_is.Base part ∷ before) = part_placed part (placed before)
+placed (entry ∷ before) = placed before
 
 -- it is the server
 abbrev pub is_the_server : Server → Option Server → Bool
@@ -128,14 +104,7 @@ one_more n = if nat_lt n (2 ^ 32 - 1) then (n + 1) else n
 -- how often a transit failed to open its region
 abbrev pub tries_of : Past → ℕ → ℕ
 tries_of [] p = 0
-tries_of (entry_is.Start sheets ∷ before) p = tries_of before p
-tries_of (entry_is.Submit nonce request ∷ before) p = tries_of before p
 tries_of (entry_is.Step pid pick out ∷ before) p =
     if (p == pid.0) && has_failed out.place then one_more (tries_of before p) else tries_of before p
-tries_of (entry_is.Undo pid row out ∷ before) p = tries_of before p
-tries_of (entry_is.Report call told ∷ before) p = tries_of before p
-tries_of (entry_is.Up server ∷ before) p = tries_of before p
-tries_of (entry_is.Down server ∷ before) p = tries_of before p
-tries_of (entry_is.Abort pid ∷ before) p = tries_of before p
-tries_of (entry_is.Adopt sheets ∷ before) p = tries_of before p
 tries_of (entry_is.Base part ∷ before) p = 0
+tries_of (entry ∷ before) p = tries_of before p

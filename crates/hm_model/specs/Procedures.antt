@@ -13,16 +13,8 @@ use Rattle.hm_model.specs.Undo.{Undoable, stack}
 -- the number before that of the first procedure that an entry made
 abbrev pub offset : Past → ℕ
 offset [] = 0
-offset (entry_is.Start sheets ∷ before) = offset before
-offset (entry_is.Submit nonce request ∷ before) = offset before
-offset (entry_is.Step pid pick out ∷ before) = offset before
-offset (entry_is.Undo pid row out ∷ before) = offset before
-offset (entry_is.Report call told ∷ before) = offset before
-offset (entry_is.Up server ∷ before) = offset before
-offset (entry_is.Down server ∷ before) = offset before
-offset (entry_is.Abort pid ∷ before) = offset before
-offset (entry_is.Adopt sheets ∷ before) = offset before
 offset (entry_is.Base part ∷ before) = made (entry_is.Base part ∷ before)
+offset (entry ∷ before) = offset before
 
 -- the number of the procedure at a place among those that were made, counted from 0
 abbrev pub number_at : Past → ℕ → ℕ

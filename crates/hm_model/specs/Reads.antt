@@ -47,9 +47,8 @@ is_ns_or_table_in ns (key_is.Region region) = false
 
 -- a table's row, without its regions'
 abbrev pub is_table : TableName → CatKey → Bool
-is_table table (key_is.Ns ns) = false
 is_table table (key_is.Table other) = same_table table other
-is_table table (key_is.Region region) = false
+is_table table key = false
 
 -- a region's row
 abbrev pub is_region : Region → CatKey → Bool
@@ -57,9 +56,8 @@ is_region region key = is_over (resource_is.Region region) key
 
 -- a row of a table's region with a number that passes the test
 abbrev pub is_region_in : TableName → (ℕ → Bool) → CatKey → Bool
-is_region_in table test (key_is.Ns ns) = false
-is_region_in table test (key_is.Table other) = false
 is_region_in table test (key_is.Region region) = same_table table region.table && test region.id
+is_region_in table test key = false
 
 -- the rows that the steps of a request read
 abbrev pub request_reads : Request → CatKey → Bool
@@ -79,15 +77,10 @@ request_reads (request_is.Move region to) key = is_table region.table key || is_
 abbrev pub reads : Args → CatKey → Bool
 reads (args_are.Root request first) key = request_reads request key
 reads (args_are.Transit region goal to) key = is_table region.table key || is_region region key
-reads (args_are.Crash server) key = false
 reads (args_are.AddRegions table first bounds) key =
     is_region_in table (λ id. nat_le first id && nat_lt (id + 1) (first + length bounds)) key
 reads (args_are.DropRegions table ids) key = is_region_in table (λ id. list_any (λ own. own == id) ids) key
-reads (args_are.AssignCall region server) key = false
-reads (args_are.CloseCall region server) key = false
-reads (args_are.FenceCall server) key = false
-reads (args_are.LayoutCall root) key = false
-reads (args_are.SweepLayout root) key = false
+reads args key = false
 
 -- the rows that nobody else may change while the procedure's tree holds what it asks for
 abbrev pub guards : Args → CatKey → Bool

@@ -17,16 +17,9 @@ AreIds ids = AllByRecursion (λ id. 1 ≤ id) ids
 -- each submission of a journal names regions by their ids
 abbrev pub AreNamed : Past → Type 0
 AreNamed [] = Unit {0}
-AreNamed (entry_is.Start sheets ∷ before) = AreNamed before
 AreNamed (entry_is.Submit nonce request ∷ before) = AreIds (ids_in request) × AreNamed before
-AreNamed (entry_is.Step pid pick out ∷ before) = AreNamed before
-AreNamed (entry_is.Undo pid row out ∷ before) = AreNamed before
-AreNamed (entry_is.Report call told ∷ before) = AreNamed before
-AreNamed (entry_is.Up server ∷ before) = AreNamed before
-AreNamed (entry_is.Down server ∷ before) = AreNamed before
-AreNamed (entry_is.Abort pid ∷ before) = AreNamed before
-AreNamed (entry_is.Adopt sheets ∷ before) = AreNamed before
 AreNamed (entry_is.Base part ∷ before) = Unit {0}
+AreNamed (entry ∷ before) = AreNamed before
 
 -- what a procedure works on names regions by their ids, and the first id that it draws or adds is below 2^32
 abbrev pub NamesIds : Args → Type 0
@@ -34,16 +27,9 @@ NamesIds args = AreIds (named_ids args) × (first_id_of args < 2 ^ 32)
 
 -- the children that an entry asks for
 abbrev pub children_asked : Entry → List Child
-children_asked (entry_is.Start sheets) = []
-children_asked (entry_is.Submit nonce request) = []
 children_asked (entry_is.Step pid pick out) = out.children
 children_asked (entry_is.Undo pid row out) = out.followers
-children_asked (entry_is.Report call told) = []
-children_asked (entry_is.Up server) = []
-children_asked (entry_is.Down server) = []
-children_asked (entry_is.Abort pid) = []
-children_asked (entry_is.Adopt sheets) = []
-children_asked (entry_is.Base part) = []
+children_asked entry = []
 
 -- a child is a transit of the region number 0, which no region has
 abbrev pub is_zero_transit : Child → Bool

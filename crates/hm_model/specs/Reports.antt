@@ -23,30 +23,16 @@ use Rattle.hm_model.specs.Phase.{ended}
 -- the call of a procedure: the latest that a step of it recorded. Its id is the procedure's number.
 abbrev pub verb_of : Past → ℕ → Option Verb
 verb_of [] p = None
-verb_of (entry_is.Start sheets ∷ before) p = verb_of before p
-verb_of (entry_is.Submit nonce request ∷ before) p = verb_of before p
 verb_of (entry_is.Step pid pick out ∷ before) p =
     if p == pid.0 then option_or out.call (verb_of before p) else verb_of before p
-verb_of (entry_is.Undo pid row out ∷ before) p = verb_of before p
-verb_of (entry_is.Report call told ∷ before) p = verb_of before p
-verb_of (entry_is.Up server ∷ before) p = verb_of before p
-verb_of (entry_is.Down server ∷ before) p = verb_of before p
-verb_of (entry_is.Abort pid ∷ before) p = verb_of before p
-verb_of (entry_is.Adopt sheets ∷ before) p = verb_of before p
 verb_of (entry_is.Base part ∷ before) p = None
+verb_of (entry ∷ before) p = verb_of before p
 
 -- who is called: the server of a call about a region, and the storage for all others
 abbrev pub peer_in : Args → Peer
-peer_in (args_are.Root request first) = peer_is.Storage
-peer_in (args_are.Transit region goal to) = peer_is.Storage
-peer_in (args_are.Crash server) = peer_is.Storage
-peer_in (args_are.AddRegions table first bounds) = peer_is.Storage
-peer_in (args_are.DropRegions table ids) = peer_is.Storage
 peer_in (args_are.AssignCall region server) = peer_is.Server server
 peer_in (args_are.CloseCall region server) = peer_is.Server server
-peer_in (args_are.FenceCall server) = peer_is.Storage
-peer_in (args_are.LayoutCall root) = peer_is.Storage
-peer_in (args_are.SweepLayout root) = peer_is.Storage
+peer_in args = peer_is.Storage
 
 -- whom a procedure, if there is one, calls
 abbrev pub peer_if : Option Node → Option Verb → Option Peer
@@ -80,9 +66,7 @@ is_settled before p = is_reported before p || ended before p
 abbrev pub region_called : Verb → Option Region
 region_called (verb_is.AssignRegion region) = Some region
 region_called (verb_is.CloseRegion region) = Some region
-region_called (verb_is.Fence server) = None
-region_called (verb_is.Layout root) = None
-region_called (verb_is.Sweep root) = None
+region_called verb = None
 
 -- it is the region
 abbrev pub is_the_region : Region → Option Region → Bool
@@ -97,16 +81,9 @@ is_about region (Some verb) = is_the_region region (region_called verb)
 -- the last call about a region, by its id
 abbrev pub last_call : Past → Region → Option ℕ
 last_call [] region = None
-last_call (entry_is.Start sheets ∷ before) region = last_call before region
-last_call (entry_is.Submit nonce request ∷ before) region = last_call before region
 last_call (entry_is.Step pid pick out ∷ before) region = if is_about region out.call then Some pid.0 else last_call before region
-last_call (entry_is.Undo pid row out ∷ before) region = last_call before region
-last_call (entry_is.Report call told ∷ before) region = last_call before region
-last_call (entry_is.Up server ∷ before) region = last_call before region
-last_call (entry_is.Down server ∷ before) region = last_call before region
-last_call (entry_is.Abort pid ∷ before) region = last_call before region
-last_call (entry_is.Adopt sheets ∷ before) region = last_call before region
 last_call (entry_is.Base part ∷ before) region = None
+last_call (entry ∷ before) region = last_call before region
 
 -- an answer is one of some
 abbrev pub is_one_of : Told → List Told → Bool

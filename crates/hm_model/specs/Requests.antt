@@ -42,16 +42,11 @@ wrong_keys keys = if not (rise [] keys) then Some 2 else (if nat_lt 255 (length 
 
 -- the number of what is wrong with a request by itself, the lowest
 abbrev pub wrong_in : Request → Option ℕ
-wrong_in (request_is.CreateNamespace ns) = None
 wrong_in (request_is.DropNamespace ns) = if is_fixed ns then Some 1 else None
 wrong_in (request_is.CreateTable table keys) = wrong_keys keys
-wrong_in (request_is.DeleteTable table) = None
-wrong_in (request_is.EnableTable table) = None
-wrong_in (request_is.DisableTable table) = None
-wrong_in (request_is.ModifyTable table version) = None
 wrong_in (request_is.SplitRegion region key) = if length key == 0 then Some 5 else None
 wrong_in (request_is.MergeRegions regions) = if may_merge regions then None else Some 4
-wrong_in (request_is.Move region to) = None
+wrong_in request = None
 
 -- a request that can be submitted: nothing is wrong with it
 abbrev pub MaySubmit : Request → Type 0

@@ -59,16 +59,14 @@ is_live_status (Some status) = same_status status status_is.Live
 
 -- a key of a table of the namespace
 abbrev pub is_table_in : List ℕ → CatKey → Bool
-is_table_in ns (key_is.Ns other) = false
 is_table_in ns (key_is.Table table) = bytes_eq ns table.ns
-is_table_in ns (key_is.Region region) = false
+is_table_in ns key = false
 
 -- a region in front of others, where it is of the table and its row passes the test
 abbrev pub keep_region : TableName → (CatRow → Bool) → CatKey → CatRow → List Region → List Region
-keep_region table test (key_is.Ns ns) row more = more
-keep_region table test (key_is.Table other) row more = more
 keep_region table test (key_is.Region region) row more =
     if same_table table region.table && test row then (region ∷ more) else more
+keep_region table test key row more = more
 
 -- the regions of a table among rows, in the order of the rows, whose rows pass the test
 abbrev pub regions_among : TableName → (CatRow → Bool) → Rows → List Region

@@ -18,12 +18,8 @@ edits_in (Err cause) = []
 
 -- the deed, where the answer ends a procedure well
 abbrev pub at_end : Answer → Deed → Deed
-at_end (answer_is.More next) whole = Ok []
-at_end (answer_is.Wait next) whole = Ok []
-at_end (answer_is.Await next) whole = Ok []
 at_end (answer_is.Done told) whole = whole
-at_end (answer_is.Fail cause) whole = Ok []
-at_end answer_is.Undone whole = Ok []
+at_end answer whole = Ok []
 
 -- only a root has a deed
 abbrev pub if_root : List ℕ → Deed → Deed
@@ -38,14 +34,7 @@ ended_deed (Some node) answer keys there = if_root node.above (at_end answer (de
 -- the catalog after the deeds of the roots that ended well, in the order in which they ended
 abbrev pub serial : Past → Catalog
 serial [] key = at_start key
-serial (entry_is.Start sheets ∷ before) key = serial before key
-serial (entry_is.Submit nonce request ∷ before) key = serial before key
 serial (entry_is.Step pid pick out ∷ before) key =
     edited (edits_in (ended_deed (node_of before pid.0) out.answer (keys_of before) (serial before))) key (serial before key)
-serial (entry_is.Undo pid row out ∷ before) key = serial before key
-serial (entry_is.Report call told ∷ before) key = serial before key
-serial (entry_is.Up server ∷ before) key = serial before key
-serial (entry_is.Down server ∷ before) key = serial before key
-serial (entry_is.Abort pid ∷ before) key = serial before key
-serial (entry_is.Adopt sheets ∷ before) key = serial before key
 serial (entry_is.Base part ∷ before) key = part_row part key (serial before key)
+serial (entry ∷ before) key = serial before key

@@ -15,15 +15,9 @@ use Rattle.hm_model.specs.Parts.{part_sheets}
 abbrev pub sheets_of : Past → List Sheet
 sheets_of [] = []
 sheets_of (entry_is.Start sheets ∷ before) = sheets
-sheets_of (entry_is.Submit nonce request ∷ before) = sheets_of before
-sheets_of (entry_is.Step pid pick out ∷ before) = sheets_of before
-sheets_of (entry_is.Undo pid row out ∷ before) = sheets_of before
-sheets_of (entry_is.Report call told ∷ before) = sheets_of before
-sheets_of (entry_is.Up server ∷ before) = sheets_of before
-sheets_of (entry_is.Down server ∷ before) = sheets_of before
-sheets_of (entry_is.Abort pid ∷ before) = sheets_of before
 sheets_of (entry_is.Adopt sheets ∷ before) = sheets
 sheets_of (entry_is.Base part ∷ before) = part_sheets part (sheets_of before)
+sheets_of (entry ∷ before) = sheets_of before
 
 -- the sheets that were in force when a root was made; the roots of a base have ended, and need none
 abbrev pub sheets_by : Past → ℕ → List Sheet

@@ -36,16 +36,10 @@ ranged (edit ∷ edits) region range = ranged edits region (ranged_by edit regio
 -- the range of a region: that of the last row that the journal gave it
 abbrev pub range_of : Past → Region → Option KeyRange
 range_of [] region = None
-range_of (entry_is.Start sheets ∷ before) region = range_of before region
-range_of (entry_is.Submit nonce request ∷ before) region = range_of before region
 range_of (entry_is.Step pid pick out ∷ before) region = ranged out.edits region (range_of before region)
 range_of (entry_is.Undo pid row out ∷ before) region = ranged out.edits region (range_of before region)
-range_of (entry_is.Report call told ∷ before) region = range_of before region
-range_of (entry_is.Up server ∷ before) region = range_of before region
-range_of (entry_is.Down server ∷ before) region = range_of before region
-range_of (entry_is.Abort pid ∷ before) region = range_of before region
-range_of (entry_is.Adopt sheets ∷ before) region = range_of before region
 range_of (entry_is.Base part ∷ before) region = part_range part region (range_of before region)
+range_of (entry ∷ before) region = range_of before region
 
 -- two ranges that are known overlap
 abbrev pub overlap_if : Option KeyRange → Option KeyRange → Bool
@@ -60,17 +54,10 @@ touches J a b = same_region a b || (same_table a.table b.table && overlap_if (ra
 -- how many entries stood before the one that recorded a procedure's call
 abbrev pub called_at : Past → ℕ → ℕ
 called_at [] p = 0
-called_at (entry_is.Start sheets ∷ before) p = called_at before p
-called_at (entry_is.Submit nonce request ∷ before) p = called_at before p
 called_at (entry_is.Step pid pick out ∷ before) p =
     if (p == pid.0) && is_some out.call then length before else called_at before p
-called_at (entry_is.Undo pid row out ∷ before) p = called_at before p
-called_at (entry_is.Report call told ∷ before) p = called_at before p
-called_at (entry_is.Up server ∷ before) p = called_at before p
-called_at (entry_is.Down server ∷ before) p = called_at before p
-called_at (entry_is.Abort pid ∷ before) p = called_at before p
-called_at (entry_is.Adopt sheets ∷ before) p = called_at before p
 called_at (entry_is.Base part ∷ before) p = 0
+called_at (entry ∷ before) p = called_at before p
 
 -- a later call to the same server to close the region was answered so
 abbrev pub IsClosedSince : Past → ℕ → Region → Type 0
@@ -121,13 +108,6 @@ MayCall before (Some (verb_is.Sweep root)) = Unit {0}
 -- no region is assigned while another opening of it, or of one that touches it, may still stand
 abbrev pub Single : Past → Type 0
 Single [] = Unit {0}
-Single (entry_is.Start sheets ∷ before) = Single before
-Single (entry_is.Submit nonce request ∷ before) = Single before
 Single (entry_is.Step pid pick out ∷ before) = Single before × MayCall before out.call
-Single (entry_is.Undo pid row out ∷ before) = Single before
-Single (entry_is.Report call told ∷ before) = Single before
-Single (entry_is.Up server ∷ before) = Single before
-Single (entry_is.Down server ∷ before) = Single before
-Single (entry_is.Abort pid ∷ before) = Single before
-Single (entry_is.Adopt sheets ∷ before) = Single before
 Single (entry_is.Base part ∷ before) = Unit {0}
+Single (entry ∷ before) = Single before

@@ -55,12 +55,11 @@ store_by None storage id told after = (answered id told after, Some (stored id t
 
 -- what the storage does at a call, by what is asked; opens and closes are not for it
 abbrev pub store_verb : Storage → Pid → Verb → Storage × Option ReportMsg
-store_verb storage id (verb_is.AssignRegion region) = (storage, None)
-store_verb storage id (verb_is.CloseRegion region) = (storage, None)
 store_verb storage id (verb_is.Fence server) = store_by (storage.answer id) storage id told_is.Fenced (fence_in server storage)
 store_verb storage id (verb_is.Layout root) =
     if nat_lt 0 storage.refusals then store_by (storage.answer id) storage id told_is.Refused (refuse_in storage) else store_by (storage.answer id) storage id told_is.LaidOut (lay_in root true storage)
 store_verb storage id (verb_is.Sweep root) = store_by (storage.answer id) storage id told_is.Swept (lay_in root false storage)
+store_verb storage id verb = (storage, None)
 
 -- how the storage serves a call, whoever it is for
 abbrev pub store : Storage → Call → Storage × Option ReportMsg

@@ -10,16 +10,8 @@ use Rattle.hm_model.specs.Tree.{node_of}
 
 -- a step is that of one who was taken, or who is free; other entries are of nobody
 abbrev pub StepsFree : Past → List ℕ → Entry → Type 0
-StepsFree before taken (entry_is.Start sheets) = Unit {0}
-StepsFree before taken (entry_is.Submit nonce request) = Unit {0}
 StepsFree before taken (entry_is.Step pid pick out) = IsIn pid.0 taken ⊎ IsFree before taken pid.0
-StepsFree before taken (entry_is.Undo pid row out) = Unit {0}
-StepsFree before taken (entry_is.Report call told) = Unit {0}
-StepsFree before taken (entry_is.Up server) = Unit {0}
-StepsFree before taken (entry_is.Down server) = Unit {0}
-StepsFree before taken (entry_is.Abort pid) = Unit {0}
-StepsFree before taken (entry_is.Adopt sheets) = Unit {0}
-StepsFree before taken (entry_is.Base part) = Unit {0}
+StepsFree before taken entry = Unit {0}
 
 -- a journal, and those who are taken: one was taken that was there and free, an allowed entry was recorded, or some
 -- were let go

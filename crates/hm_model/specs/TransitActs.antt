@@ -98,9 +98,8 @@ confirm_opened next ends place = opened_or_not next (told_place place).server (i
 
 -- after a close: the end for a region that is to be unassigned, and for others the way to another server
 abbrev pub behind_close : Goal → Told → Answer
-behind_close goal_is.Assign told = answer_is.More 0
 behind_close goal_is.Unassign told = answer_is.Done told
-behind_close goal_is.Move told = answer_is.More 0
+behind_close goal told = answer_is.More 0
 
 -- has a region closed at the server where it is
 abbrev pub close_at : ℕ → Region → Server → StepOut

@@ -42,29 +42,19 @@ args_in children = flat_map child_args children
 -- undos ask for
 abbrev pub made : Past → ℕ
 made [] = 0
-made (entry_is.Start sheets ∷ before) = made before
 made (entry_is.Submit nonce request ∷ before) = made before + 1
 made (entry_is.Step pid pick out ∷ before) = made before + length (args_in out.children)
 made (entry_is.Undo pid row out ∷ before) = made before + length (args_in out.followers)
-made (entry_is.Report call told ∷ before) = made before
-made (entry_is.Up server ∷ before) = made before
 made (entry_is.Down server ∷ before) = made before + 1
-made (entry_is.Abort pid ∷ before) = made before
-made (entry_is.Adopt sheets ∷ before) = made before
 made (entry_is.Base part ∷ before) = part_made part (made before)
+made (entry ∷ before) = made before
 
 -- how many region ids a request draws: one for each region of a new table, two for a split, one for a merge
 abbrev pub new_ids : Request → ℕ
-new_ids (request_is.CreateNamespace ns) = 0
-new_ids (request_is.DropNamespace ns) = 0
 new_ids (request_is.CreateTable table keys) = length keys + 1
-new_ids (request_is.DeleteTable table) = 0
-new_ids (request_is.EnableTable table) = 0
-new_ids (request_is.DisableTable table) = 0
-new_ids (request_is.ModifyTable table version) = 0
 new_ids (request_is.SplitRegion region key) = 2
 new_ids (request_is.MergeRegions regions) = 1
-new_ids (request_is.Move region to) = 0
+new_ids request = 0
 
 -- so many ids where the request is about this table, else none
 abbrev pub ids_for : Option TableName → ℕ → TableName → ℕ
@@ -74,17 +64,10 @@ ids_for (Some own) count table = if same_table own table then count else 0
 -- how many region ids were drawn for a table
 abbrev pub drawn : Past → TableName → ℕ
 drawn [] table = 0
-drawn (entry_is.Start sheets ∷ before) table = drawn before table
 drawn (entry_is.Submit nonce request ∷ before) table =
     drawn before table + ids_for (table_of_request request) (new_ids request) table
-drawn (entry_is.Step pid pick out ∷ before) table = drawn before table
-drawn (entry_is.Undo pid row out ∷ before) table = drawn before table
-drawn (entry_is.Report call told ∷ before) table = drawn before table
-drawn (entry_is.Up server ∷ before) table = drawn before table
-drawn (entry_is.Down server ∷ before) table = drawn before table
-drawn (entry_is.Abort pid ∷ before) table = drawn before table
-drawn (entry_is.Adopt sheets ∷ before) table = drawn before table
 drawn (entry_is.Base part ∷ before) table = part_drawn part table (drawn before table)
+drawn (entry ∷ before) table = drawn before table
 
 -- the lowest id not yet drawn for a table, and 1 where there is no table
 abbrev pub first_of : Past → Option TableName → ℕ
@@ -112,20 +95,16 @@ children_of pid (Some up) args = option_map (child_of pid up) args
 -- a procedure by its number
 abbrev pub node_of : Past → ℕ → Option Node
 node_of [] p = None
-node_of (entry_is.Start sheets ∷ before) p = node_of before p
 node_of (entry_is.Submit nonce request ∷ before) p =
     if p == made before + 1 then Some (submitted before request p) else node_of before p
 node_of (entry_is.Step pid pick out ∷ before) p =
     if nat_lt (made before) p then children_of pid.0 (node_of before pid.0) (slice_get (args_in out.children) (p - made before - 1)) else node_of before p
 node_of (entry_is.Undo pid row out ∷ before) p =
     if nat_lt (made before) p then option_map (λ args. root_node p args 1) (slice_get (args_in out.followers) (p - made before - 1)) else node_of before p
-node_of (entry_is.Report call told ∷ before) p = node_of before p
-node_of (entry_is.Up server ∷ before) p = node_of before p
 node_of (entry_is.Down server ∷ before) p =
     if p == made before + 1 then Some (root_node p (args_are.Crash server) 1) else node_of before p
-node_of (entry_is.Abort pid ∷ before) p = node_of before p
-node_of (entry_is.Adopt sheets ∷ before) p = node_of before p
 node_of (entry_is.Base part ∷ before) p = None
+node_of (entry ∷ before) p = node_of before p
 
 -- the root of a procedure, 0 where there is none
 abbrev pub root_in : Option Node → ℕ

@@ -14,15 +14,9 @@ HasKey (edit ∷ edits) key = (edit.key ≡ key) ⊎ HasKey edits key
 -- the tree of the root edited the key
 abbrev pub TreeEdits : Past → ℕ → CatKey → Type 0
 TreeEdits [] r key = ⊥
-TreeEdits (entry_is.Start sheets ∷ before) r key = TreeEdits before r key
-TreeEdits (entry_is.Submit nonce request ∷ before) r key = TreeEdits before r key
 TreeEdits (entry_is.Step pid pick out ∷ before) r key =
     ((root_of before pid.0 ≡ r) × HasKey out.edits key) ⊎ TreeEdits before r key
 TreeEdits (entry_is.Undo pid row out ∷ before) r key =
     ((root_of before pid.0 ≡ r) × HasKey out.edits key) ⊎ TreeEdits before r key
-TreeEdits (entry_is.Report call told ∷ before) r key = TreeEdits before r key
-TreeEdits (entry_is.Up server ∷ before) r key = TreeEdits before r key
-TreeEdits (entry_is.Down server ∷ before) r key = TreeEdits before r key
-TreeEdits (entry_is.Abort pid ∷ before) r key = TreeEdits before r key
-TreeEdits (entry_is.Adopt sheets ∷ before) r key = TreeEdits before r key
 TreeEdits (entry_is.Base part ∷ before) r key = ⊥
+TreeEdits (entry ∷ before) r key = TreeEdits before r key

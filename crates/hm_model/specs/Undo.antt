@@ -24,12 +24,8 @@ unless_failed false step below = step ∷ below
 -- what can be undone after a step: the step too, unless its row has no undo or it failed
 abbrev pub pushed : Back → Bool → ℕ → ℕ → List Edit → List Undoable → List Undoable
 pushed back_is.Nothing failed p row edits below = below
-pushed back_is.Edits failed p row edits below =
-    unless_failed failed (record { pid = p; row = row; undo = back_is.Edits; edits = edits }) below
-pushed back_is.Sweep failed p row edits below =
-    unless_failed failed (record { pid = p; row = row; undo = back_is.Sweep; edits = edits }) below
-pushed back_is.Reopen failed p row edits below =
-    unless_failed failed (record { pid = p; row = row; undo = back_is.Reopen; edits = edits }) below
+pushed other failed p row edits below =
+    unless_failed failed (record { pid = p; row = row; undo = other; edits = edits }) below
 
 -- the row that a procedure, if there is one, runs next
 abbrev pub row_if_there : Past → ℕ → Option Node → ℕ
@@ -44,18 +40,12 @@ rest_of (latest ∷ below) = below
 -- the steps of a root's tree that have an undo and aren't yet undone, the latest first
 abbrev pub stack : Past → ℕ → List Undoable
 stack [] r = []
-stack (entry_is.Start sheets ∷ before) r = stack before r
-stack (entry_is.Submit nonce request ∷ before) r = stack before r
 stack (entry_is.Step pid pick out ∷ before) r =
     if root_of before pid.0 == r then pushed (undo_of_next before pid.0 (node_of before pid.0)) (is_some (failing out.answer)) pid.0 (row_if_there before pid.0 (node_of before pid.0)) out.edits (stack before r) else stack before r
 stack (entry_is.Undo pid row out ∷ before) r =
     if root_of before pid.0 == r then rest_of (stack before r) else stack before r
-stack (entry_is.Report call told ∷ before) r = stack before r
-stack (entry_is.Up server ∷ before) r = stack before r
-stack (entry_is.Down server ∷ before) r = stack before r
-stack (entry_is.Abort pid ∷ before) r = stack before r
-stack (entry_is.Adopt sheets ∷ before) r = stack before r
 stack (entry_is.Base part ∷ before) r = []
+stack (entry ∷ before) r = stack before r
 
 -- nothing is left to undo
 abbrev pub is_empty : List Undoable → Bool

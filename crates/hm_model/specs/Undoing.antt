@@ -27,43 +27,25 @@ turned_round (edit ∷ edits) = turned_round edits ++ turned edit ∷ []
 
 -- the edits that undo a step
 abbrev pub undo_edits : Back → List Edit → List Edit
-undo_edits back_is.Nothing edits = []
 undo_edits back_is.Edits edits = turned_round edits
-undo_edits back_is.Sweep edits = []
-undo_edits back_is.Reopen edits = []
+undo_edits undo edits = []
 
 -- the regions that a request closes to change them
 abbrev pub closed_by_request : Request → List Region
-closed_by_request (request_is.CreateNamespace ns) = []
-closed_by_request (request_is.DropNamespace ns) = []
-closed_by_request (request_is.CreateTable table keys) = []
-closed_by_request (request_is.DeleteTable table) = []
-closed_by_request (request_is.EnableTable table) = []
-closed_by_request (request_is.DisableTable table) = []
-closed_by_request (request_is.ModifyTable table version) = []
 closed_by_request (request_is.SplitRegion region key) = region ∷ []
 closed_by_request (request_is.MergeRegions regions) = regions
-closed_by_request (request_is.Move region to) = []
+closed_by_request request = []
 
 -- the same of a procedure
 abbrev pub closed_by : Args → List Region
 closed_by (args_are.Root request first) = closed_by_request request
-closed_by (args_are.Transit region goal to) = []
-closed_by (args_are.Crash server) = []
-closed_by (args_are.AddRegions table first bounds) = []
-closed_by (args_are.DropRegions table ids) = []
-closed_by (args_are.AssignCall region server) = []
-closed_by (args_are.CloseCall region server) = []
-closed_by (args_are.FenceCall server) = []
-closed_by (args_are.LayoutCall root) = []
-closed_by (args_are.SweepLayout root) = []
+closed_by args = []
 
 -- the procedures that go on with undoing a step
 abbrev pub undo_followers : Back → Args → Pid → List Child
-undo_followers back_is.Nothing args root = []
-undo_followers back_is.Edits args root = []
 undo_followers back_is.Sweep args root = child_is.One (args_are.SweepLayout root) ∷ []
 undo_followers back_is.Reopen args root = transits goal_is.Assign (closed_by args)
+undo_followers undo args root = []
 
 -- what undoing a step answers and does
 abbrev pub undo_out : Back → Args → Pid → List Edit → StepOut

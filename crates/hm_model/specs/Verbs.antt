@@ -7,13 +7,9 @@ use Rattle.hm_data.specs.declared.call.Verb.TheVariants as verb_is
 
 -- the call that a procedure is for, if it is for one
 abbrev pub verb_in : Args → Option Verb
-verb_in (args_are.Root request first) = None
-verb_in (args_are.Transit region goal to) = None
-verb_in (args_are.Crash server) = None
-verb_in (args_are.AddRegions table first bounds) = None
-verb_in (args_are.DropRegions table ids) = None
 verb_in (args_are.AssignCall region server) = Some (verb_is.AssignRegion region)
 verb_in (args_are.CloseCall region server) = Some (verb_is.CloseRegion region)
 verb_in (args_are.FenceCall server) = Some (verb_is.Fence server)
 verb_in (args_are.LayoutCall root) = Some (verb_is.Layout root)
 verb_in (args_are.SweepLayout root) = Some (verb_is.Sweep root)
+verb_in args = None

@@ -16,41 +16,19 @@ pub record Asked : Type 0 where
 -- what was asked for, where anybody asked
 abbrev pub asked_of : Args → Option Asked
 asked_of (args_are.Root request first) = Some (record { request = request; first = first })
-asked_of (args_are.Transit region goal to) = None
-asked_of (args_are.Crash server) = None
-asked_of (args_are.AddRegions table first bounds) = None
-asked_of (args_are.DropRegions table ids) = None
-asked_of (args_are.AssignCall region server) = None
-asked_of (args_are.CloseCall region server) = None
-asked_of (args_are.FenceCall server) = None
-asked_of (args_are.LayoutCall root) = None
-asked_of (args_are.SweepLayout root) = None
+asked_of args = None
 
 -- the namespace that a request is about, where it reads that namespace's row
 abbrev pub namespace_of_request : Request → Option (List ℕ)
 namespace_of_request (request_is.CreateNamespace ns) = Some ns
 namespace_of_request (request_is.DropNamespace ns) = Some ns
 namespace_of_request (request_is.CreateTable table keys) = Some table.ns
-namespace_of_request (request_is.DeleteTable table) = None
-namespace_of_request (request_is.EnableTable table) = None
-namespace_of_request (request_is.DisableTable table) = None
-namespace_of_request (request_is.ModifyTable table version) = None
-namespace_of_request (request_is.SplitRegion region key) = None
-namespace_of_request (request_is.MergeRegions regions) = None
-namespace_of_request (request_is.Move region to) = None
+namespace_of_request request = None
 
 -- the same of a procedure
 abbrev pub namespace_of : Args → Option (List ℕ)
 namespace_of (args_are.Root request first) = namespace_of_request request
-namespace_of (args_are.Transit region goal to) = None
-namespace_of (args_are.Crash server) = None
-namespace_of (args_are.AddRegions table first bounds) = None
-namespace_of (args_are.DropRegions table ids) = None
-namespace_of (args_are.AssignCall region server) = None
-namespace_of (args_are.CloseCall region server) = None
-namespace_of (args_are.FenceCall server) = None
-namespace_of (args_are.LayoutCall root) = None
-namespace_of (args_are.SweepLayout root) = None
+namespace_of args = None
 
 -- the regions of one table, by their ids
 abbrev pub regions_in : TableName → List ℕ → List Region
@@ -61,76 +39,39 @@ regions_in table (id ∷ ids) = record { table = table; id = id } ∷ regions_in
 abbrev pub table_of : Args → Option TableName
 table_of (args_are.Root request first) = table_of_request request
 table_of (args_are.Transit region goal to) = Some region.table
-table_of (args_are.Crash server) = None
 table_of (args_are.AddRegions table first bounds) = Some table
 table_of (args_are.DropRegions table ids) = Some table
 table_of (args_are.AssignCall region server) = Some region.table
 table_of (args_are.CloseCall region server) = Some region.table
-table_of (args_are.FenceCall server) = None
-table_of (args_are.LayoutCall root) = None
-table_of (args_are.SweepLayout root) = None
+table_of args = None
 
 -- the region that a request splits or moves
 abbrev pub region_of_request : Request → Option Region
-region_of_request (request_is.CreateNamespace ns) = None
-region_of_request (request_is.DropNamespace ns) = None
-region_of_request (request_is.CreateTable table keys) = None
-region_of_request (request_is.DeleteTable table) = None
-region_of_request (request_is.EnableTable table) = None
-region_of_request (request_is.DisableTable table) = None
-region_of_request (request_is.ModifyTable table version) = None
 region_of_request (request_is.SplitRegion region key) = Some region
-region_of_request (request_is.MergeRegions regions) = None
 region_of_request (request_is.Move region to) = Some region
+region_of_request request = None
 
 -- the one region that a procedure works on
 abbrev pub region_of : Args → Option Region
 region_of (args_are.Root request first) = region_of_request request
 region_of (args_are.Transit region goal to) = Some region
-region_of (args_are.Crash server) = None
-region_of (args_are.AddRegions table first bounds) = None
-region_of (args_are.DropRegions table ids) = None
 region_of (args_are.AssignCall region server) = Some region
 region_of (args_are.CloseCall region server) = Some region
-region_of (args_are.FenceCall server) = None
-region_of (args_are.LayoutCall root) = None
-region_of (args_are.SweepLayout root) = None
+region_of args = None
 
 -- the bounds of a new table's regions: one more than there are regions, the first and the last empty
 abbrev pub bounds_of_request : Request → Option (List (List ℕ))
-bounds_of_request (request_is.CreateNamespace ns) = None
-bounds_of_request (request_is.DropNamespace ns) = None
 bounds_of_request (request_is.CreateTable table keys) = Some ([] ∷ keys ++ [] ∷ [])
-bounds_of_request (request_is.DeleteTable table) = None
-bounds_of_request (request_is.EnableTable table) = None
-bounds_of_request (request_is.DisableTable table) = None
-bounds_of_request (request_is.ModifyTable table version) = None
-bounds_of_request (request_is.SplitRegion region key) = None
-bounds_of_request (request_is.MergeRegions regions) = None
-bounds_of_request (request_is.Move region to) = None
+bounds_of_request request = None
 
 -- the bounds of the regions that a procedure adds
 abbrev pub bounds_of : Args → Option (List (List ℕ))
 bounds_of (args_are.Root request first) = bounds_of_request request
-bounds_of (args_are.Transit region goal to) = None
-bounds_of (args_are.Crash server) = None
 bounds_of (args_are.AddRegions table first bounds) = Some bounds
-bounds_of (args_are.DropRegions table ids) = None
-bounds_of (args_are.AssignCall region server) = None
-bounds_of (args_are.CloseCall region server) = None
-bounds_of (args_are.FenceCall server) = None
-bounds_of (args_are.LayoutCall root) = None
-bounds_of (args_are.SweepLayout root) = None
+bounds_of args = None
 
 -- the first id of the regions that a procedure adds
 abbrev pub first_id_of : Args → ℕ
 first_id_of (args_are.Root request first) = first
-first_id_of (args_are.Transit region goal to) = 0
-first_id_of (args_are.Crash server) = 0
 first_id_of (args_are.AddRegions table first bounds) = first
-first_id_of (args_are.DropRegions table ids) = 0
-first_id_of (args_are.AssignCall region server) = 0
-first_id_of (args_are.CloseCall region server) = 0
-first_id_of (args_are.FenceCall server) = 0
-first_id_of (args_are.LayoutCall root) = 0
-first_id_of (args_are.SweepLayout root) = 0
+first_id_of args = 0

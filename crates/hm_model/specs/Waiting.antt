@@ -27,42 +27,18 @@ open_under J r = count_below (is_open_under J r) (made J + 1)
 
 -- how many procedures a step makes, and none by any other entry
 abbrev pub children_made : Entry → ℕ
-children_made (entry_is.Start sheets) = 0
-children_made (entry_is.Submit nonce request) = 0
 children_made (entry_is.Step pid pick out) = length (args_in out.children)
-children_made (entry_is.Undo pid row out) = 0
-children_made (entry_is.Report call told) = 0
-children_made (entry_is.Up server) = 0
-children_made (entry_is.Down server) = 0
-children_made (entry_is.Abort pid) = 0
-children_made (entry_is.Adopt sheets) = 0
-children_made (entry_is.Base part) = 0
+children_made entry = 0
 
 -- who steps passes a test, 0 where nobody does
 abbrev pub steps_one : (ℕ → Bool) → Entry → Bool
-steps_one test (entry_is.Start sheets) = false
-steps_one test (entry_is.Submit nonce request) = false
 steps_one test (entry_is.Step pid pick out) = test pid.0
-steps_one test (entry_is.Undo pid row out) = false
-steps_one test (entry_is.Report call told) = false
-steps_one test (entry_is.Up server) = false
-steps_one test (entry_is.Down server) = false
-steps_one test (entry_is.Abort pid) = false
-steps_one test (entry_is.Adopt sheets) = false
-steps_one test (entry_is.Base part) = false
+steps_one test entry = false
 
 -- who steps passes a test and ends by it
 abbrev pub ends_one : (ℕ → Bool) → Entry → Bool
-ends_one test (entry_is.Start sheets) = false
-ends_one test (entry_is.Submit nonce request) = false
 ends_one test (entry_is.Step pid pick out) = test pid.0 && is_stop out.answer
-ends_one test (entry_is.Undo pid row out) = false
-ends_one test (entry_is.Report call told) = false
-ends_one test (entry_is.Up server) = false
-ends_one test (entry_is.Down server) = false
-ends_one test (entry_is.Abort pid) = false
-ends_one test (entry_is.Adopt sheets) = false
-ends_one test (entry_is.Base part) = false
+ends_one test entry = false
 
 -- what an entry adds to a count: the procedures that a step makes of one that passes the test
 abbrev pub added : (ℕ → Bool) → Entry → ℕ

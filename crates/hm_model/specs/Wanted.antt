@@ -11,104 +11,45 @@ use Rattle.hm_data.specs.declared.request.Request.TheVariants as request_is
 
 -- the key at which a request splits a region
 abbrev pub cut_of_request : Request → Option (List ℕ)
-cut_of_request (request_is.CreateNamespace ns) = None
-cut_of_request (request_is.DropNamespace ns) = None
-cut_of_request (request_is.CreateTable table keys) = None
-cut_of_request (request_is.DeleteTable table) = None
-cut_of_request (request_is.EnableTable table) = None
-cut_of_request (request_is.DisableTable table) = None
-cut_of_request (request_is.ModifyTable table version) = None
 cut_of_request (request_is.SplitRegion region key) = Some key
-cut_of_request (request_is.MergeRegions regions) = None
-cut_of_request (request_is.Move region to) = None
+cut_of_request request = None
 
 -- the version that a request gives a table
 abbrev pub version_of_request : Request → Option ℕ
-version_of_request (request_is.CreateNamespace ns) = None
-version_of_request (request_is.DropNamespace ns) = None
-version_of_request (request_is.CreateTable table keys) = None
-version_of_request (request_is.DeleteTable table) = None
-version_of_request (request_is.EnableTable table) = None
-version_of_request (request_is.DisableTable table) = None
 version_of_request (request_is.ModifyTable table version) = Some version
-version_of_request (request_is.SplitRegion region key) = None
-version_of_request (request_is.MergeRegions regions) = None
-version_of_request (request_is.Move region to) = None
+version_of_request request = None
 
 -- the server that a request moves a region to, where it names one
 abbrev pub wanted_by_request : Request → Option Server
-wanted_by_request (request_is.CreateNamespace ns) = None
-wanted_by_request (request_is.DropNamespace ns) = None
-wanted_by_request (request_is.CreateTable table keys) = None
-wanted_by_request (request_is.DeleteTable table) = None
-wanted_by_request (request_is.EnableTable table) = None
-wanted_by_request (request_is.DisableTable table) = None
-wanted_by_request (request_is.ModifyTable table version) = None
-wanted_by_request (request_is.SplitRegion region key) = None
-wanted_by_request (request_is.MergeRegions regions) = None
 wanted_by_request (request_is.Move region to) = to
+wanted_by_request request = None
 
 -- the server that a transit is to bring its region to, where one is named
 abbrev pub wanted_of : Args → Option Server
 wanted_of (args_are.Root request first) = wanted_by_request request
 wanted_of (args_are.Transit region goal to) = to
-wanted_of (args_are.Crash server) = None
-wanted_of (args_are.AddRegions table first bounds) = None
-wanted_of (args_are.DropRegions table ids) = None
-wanted_of (args_are.AssignCall region server) = None
-wanted_of (args_are.CloseCall region server) = None
-wanted_of (args_are.FenceCall server) = None
-wanted_of (args_are.LayoutCall root) = None
-wanted_of (args_are.SweepLayout root) = None
+wanted_of args = None
 
 -- the goal of a transit; a root's is a move
 abbrev pub goal_in : Args → Goal
-goal_in (args_are.Root request first) = goal_is.Move
 goal_in (args_are.Transit region goal to) = goal
-goal_in (args_are.Crash server) = goal_is.Move
-goal_in (args_are.AddRegions table first bounds) = goal_is.Move
-goal_in (args_are.DropRegions table ids) = goal_is.Move
-goal_in (args_are.AssignCall region server) = goal_is.Move
-goal_in (args_are.CloseCall region server) = goal_is.Move
-goal_in (args_are.FenceCall server) = goal_is.Move
-goal_in (args_are.LayoutCall root) = goal_is.Move
-goal_in (args_are.SweepLayout root) = goal_is.Move
+goal_in args = goal_is.Move
 
 -- the ids of the regions that a procedure removes
 abbrev pub ids_of : Args → List ℕ
-ids_of (args_are.Root request first) = []
-ids_of (args_are.Transit region goal to) = []
-ids_of (args_are.Crash server) = []
-ids_of (args_are.AddRegions table first bounds) = []
 ids_of (args_are.DropRegions table ids) = ids
-ids_of (args_are.AssignCall region server) = []
-ids_of (args_are.CloseCall region server) = []
-ids_of (args_are.FenceCall server) = []
-ids_of (args_are.LayoutCall root) = []
-ids_of (args_are.SweepLayout root) = []
+ids_of args = []
 
 -- the server that a procedure calls or fences
 abbrev pub server_of : Args → Option Server
-server_of (args_are.Root request first) = None
-server_of (args_are.Transit region goal to) = None
 server_of (args_are.Crash server) = Some server
-server_of (args_are.AddRegions table first bounds) = None
-server_of (args_are.DropRegions table ids) = None
 server_of (args_are.AssignCall region server) = Some server
 server_of (args_are.CloseCall region server) = Some server
 server_of (args_are.FenceCall server) = Some server
-server_of (args_are.LayoutCall root) = None
-server_of (args_are.SweepLayout root) = None
+server_of args = None
 
 -- the root whose files a call is about
 abbrev pub layout_of : Args → Option Pid
-layout_of (args_are.Root request first) = None
-layout_of (args_are.Transit region goal to) = None
-layout_of (args_are.Crash server) = None
-layout_of (args_are.AddRegions table first bounds) = None
-layout_of (args_are.DropRegions table ids) = None
-layout_of (args_are.AssignCall region server) = None
-layout_of (args_are.CloseCall region server) = None
-layout_of (args_are.FenceCall server) = None
 layout_of (args_are.LayoutCall root) = Some root
 layout_of (args_are.SweepLayout root) = Some root
+layout_of args = None

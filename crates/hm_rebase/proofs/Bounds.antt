@@ -17,7 +17,6 @@ use Rattle.hm_model.proofs.Trees.{le_or_lt}
 -- no procedure has a number up to the base's last
 pub none_below : (K : Past) → IsLegal K → (p : ℕ) → p ≤ offset K → node_of K p ≡ None
 none_below [] legal p le = refl
-none_below (entry_is.Start sheets ∷ K) legal p le = none_below K legal.0 p le
 none_below (entry_is.Submit nonce request ∷ K) legal p le =
     let low = (grown_all K legal.0).low in
     cond-false (p == made K + 1) (Some (submitted K request p)) (node_of K p) (ne_eqb p (made K + 1) (λ e. omega (arith, le, low, e))) ∙ none_below K legal.0 p le
@@ -27,14 +26,11 @@ none_below (entry_is.Step pid pick out ∷ K) legal p le =
 none_below (entry_is.Undo pid row out ∷ K) legal p le =
     let low = (grown_all K legal.0).low in
     rw (le-ltb (made K) p (omega (arith, le, low))) (none_below K legal.0 p le)
-none_below (entry_is.Report call told ∷ K) legal p le = none_below K legal.0 p le
-none_below (entry_is.Up server ∷ K) legal p le = none_below K legal.0 p le
 none_below (entry_is.Down server ∷ K) legal p le =
     let low = (grown_all K legal.0).low in
     cond-false (p == made K + 1) (Some (root_node p (args_are.Crash server) 1)) (node_of K p) (ne_eqb p (made K + 1) (λ e. omega (arith, le, low, e))) ∙ none_below K legal.0 p le
-none_below (entry_is.Abort pid ∷ K) legal p le = none_below K legal.0 p le
-none_below (entry_is.Adopt sheets ∷ K) legal p le = none_below K legal.0 p le
 none_below (entry_is.Base part ∷ K) legal p le = refl
+none_below (entry ∷ K) legal p le = none_below K legal.0 p le
 
 -- who is there stands above
 pub above_base : (K : Past) → IsLegal K → (p : ℕ) (node : Node) → node_of K p ≡ Some node → offset K < p

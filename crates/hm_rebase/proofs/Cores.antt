@@ -215,30 +215,18 @@ none_behind (part_is.Layout pid) (part_is.Region region range status parents pla
 none_behind (part_is.Layout pid) (part_is.Server server fenced) middle up = absurd (false≢true up)
 none_behind (part_is.Layout pid) (part_is.Root other used work why) middle up = absurd middle
 none_behind (part_is.Layout pid) (part_is.Layout other) middle up = absurd middle
-none_behind (part_is.Head entries last parts sheets) one middle up = tt
-none_behind (part_is.Namespace ns) one middle up = tt
-none_behind (part_is.Table table own row) one middle up = tt
-none_behind (part_is.Region region range status parents place) one middle up = tt
-none_behind (part_is.Server server fenced) one middle up = tt
+none_behind part one middle up = tt
 
 -- a part that is the head, or rises behind another
 pub rises_of : (part : Part) (own : Part) (Q : Past) → PartFits part (entry_is.Base own ∷ Q) → rises own part ≡ true
 rises_of (part_is.Head entries last parts sheets) own Q fits = (let no : entry_is.Base own ∷ Q ≡ [] = fits.0 in cc)
 rises_of (part_is.Namespace ns) own Q fits = fits
-rises_of (part_is.Table table n row) own Q fits = fits.0
-rises_of (part_is.Region region range status parents place) own Q fits = fits.0
-rises_of (part_is.Server server fenced) own Q fits = fits.0
-rises_of (part_is.Root pid nonce args cause) own Q fits = fits.0
-rises_of (part_is.Layout pid) own Q fits = fits.0
+rises_of part own Q fits = fits.0
 
 quiet_core : (part : Part) (list : List Core) → IsMiddle part → part_core part list ≡ list
-quiet_core (part_is.Head entries last parts sheets) list middle = refl
-quiet_core (part_is.Namespace ns) list middle = refl
-quiet_core (part_is.Table table n row) list middle = refl
-quiet_core (part_is.Region region range status parents place) list middle = refl
-quiet_core (part_is.Server server fenced) list middle = refl
 quiet_core (part_is.Root pid nonce args cause) list middle = absurd middle
 quiet_core (part_is.Layout pid) list middle = absurd middle
+quiet_core part list middle = refl
 
 pub middle_none : (own : Part) (Q : Past) → IsLegal (entry_is.Base own ∷ Q) → IsMiddle own → cores (entry_is.Base own ∷ Q) ≡ []
 middle_none own [] legal middle = quiet_core own [] middle
@@ -275,12 +263,6 @@ cores_all (entry_is.Down server ∷ J) legal =
     let low = has.low in
     core_more J (entry_is.Down server ∷ J) has no_nonce (args_are.Crash server) (made J + 1) (omega (arith, low)) (omega arith) (omega arith) refl (zero_none J no_nonce has refl) tt
     (λ n. sym (cond-false (is_same no_nonce n) (Some (made J + 1)) (by_nonce J n) (none_same n)))
-cores_all (entry_is.Step pid pick out ∷ J) legal = same_cores J (entry_is.Step pid pick out ∷ J) (cores_all J legal.0) refl (omega arith) (λ n. refl)
-cores_all (entry_is.Start sheets ∷ J) legal = same_cores J (entry_is.Start sheets ∷ J) (cores_all J legal.0) refl (omega arith) (λ n. refl)
-cores_all (entry_is.Report call told ∷ J) legal = same_cores J (entry_is.Report call told ∷ J) (cores_all J legal.0) refl (omega arith) (λ n. refl)
-cores_all (entry_is.Up server ∷ J) legal = same_cores J (entry_is.Up server ∷ J) (cores_all J legal.0) refl (omega arith) (λ n. refl)
-cores_all (entry_is.Abort pid ∷ J) legal = same_cores J (entry_is.Abort pid ∷ J) (cores_all J legal.0) refl (omega arith) (λ n. refl)
-cores_all (entry_is.Adopt sheets ∷ J) legal = same_cores J (entry_is.Adopt sheets ∷ J) (cores_all J legal.0) refl (omega arith) (λ n. refl)
 cores_all (entry_is.Base (part_is.Root pid nonce args cause) ∷ J) legal =
     let has = cores_all J legal.0 in
     core_more J (entry_is.Base (part_is.Root pid nonce args cause) ∷ J) has nonce args pid.0 (low_root J legal.0 pid nonce args cause legal.1.0) legal.1.0.2 (omega arith) refl (has.said nonce ∙ legal.1.0.3) legal.1.0.4 (λ n. refl)
@@ -291,3 +273,4 @@ cores_all (entry_is.Base (part_is.Table table n row) ∷ J) legal = same_cores J
 cores_all (entry_is.Base (part_is.Region region range status parents place) ∷ J) legal = same_cores J (entry_is.Base (part_is.Region region range status parents place) ∷ J) (cores_all J legal.0) refl (omega arith) (λ n. refl)
 cores_all (entry_is.Base (part_is.Server server fenced) ∷ J) legal = same_cores J (entry_is.Base (part_is.Server server fenced) ∷ J) (cores_all J legal.0) refl (omega arith) (λ n. refl)
 cores_all (entry_is.Base (part_is.Layout pid) ∷ J) legal = same_cores J (entry_is.Base (part_is.Layout pid) ∷ J) (cores_all J legal.0) refl (omega arith) (λ n. refl)
+cores_all (entry ∷ J) legal = same_cores J (entry ∷ J) (cores_all J legal.0) refl (omega arith) (λ n. refl)

@@ -108,7 +108,6 @@ same_held entry J legal places live before server region at = elim (before serve
 held_all : (J : Past) → IsLegal J → IsBegun J → AreHeld J
 held_all [] legal begun = absurd begun
 held_all (entry_is.Start sheets ∷ J) legal begun = λ server region at. absurd (false≢true (sym (ap (λ j. is_at server (place_of j region)) legal.1.0.0) ∙ at))
-held_all (entry_is.Submit nonce request ∷ J) legal begun = same_held (entry_is.Submit nonce request) J legal (λ r. refl) (λ s live. inl live) (held_all J legal.0 legal.1.0)
 held_all (entry_is.Step pid pick out ∷ J) legal begun = λ server region at. elim (cases_Bool (is_live J server)) [
   | inl live ↦ inl live
   | inr off ↦
@@ -121,20 +120,17 @@ held_all (entry_is.Step pid pick out ∷ J) legal begun = λ server region at. e
         | inr crash ↦ inr (crash_on (entry_is.Step pid pick out) J legal server crash)
       ]
 ]
-held_all (entry_is.Undo pid row out ∷ J) legal begun = same_held (entry_is.Undo pid row out) J legal (λ r. refl) (λ s live. inl live) (held_all J legal.0 legal.1.0)
-held_all (entry_is.Report call told ∷ J) legal begun = same_held (entry_is.Report call told) J legal (λ r. refl) (λ s live. inl live) (held_all J legal.0 legal.1.0)
 held_all (entry_is.Up other ∷ J) legal begun = same_held (entry_is.Up other) J legal (λ r. refl) (λ s live. inl (or_right (same_server s other) (is_live J s) live)) (held_all J legal.0 legal.1.0)
 held_all (entry_is.Down other ∷ J) legal begun = same_held (entry_is.Down other) J legal (λ r. refl) (λ s live. elim (cases_Bool (same_server s other)) [
   | inl same ↦ inr (subst (λ t. HasCrash (entry_is.Down other ∷ J) t) (sym (same_server-is s other same)) (down_crash other J))
   | inr differs ↦ inl (ap (λ b. not b && is_live J s) differs ∙ live)
 ]) (held_all J legal.0 legal.1.0)
-held_all (entry_is.Abort pid ∷ J) legal begun = same_held (entry_is.Abort pid) J legal (λ r. refl) (λ s live. inl live) (held_all J legal.0 legal.1.0)
-held_all (entry_is.Adopt sheets ∷ J) legal begun = same_held (entry_is.Adopt sheets) J legal (λ r. refl) (λ s live. inl live) (held_all J legal.0 legal.1.0)
 held_all (entry_is.Base part ∷ J) legal begun = λ server region at.
     let parts = and_parts (is_placed (place_of (entry_is.Base part ∷ J) region)) (is_the_server server (place_of (entry_is.Base part ∷ J) region).server) at in
     let open_at = begun.opened region parts.0 in
     let own : is_the_server server (Some open_at.0) ≡ true = ap (λ (p : Place). is_the_server server p.server) (sym open_at.1) ∙ parts.1 in
     inl (ap (is_live (entry_is.Base part ∷ J)) (same_server-is server open_at.0 own) ∙ open_at.2)
+held_all (entry ∷ J) legal begun = same_held entry J legal (λ r. refl) (λ s live. inl live) (held_all J legal.0 legal.1.0)
 
 module _ (J : Past) (legal : IsLegal J) (still : (p : ℕ) (node : Node) → node_of J p ≡ Some node → ended J p ≡ true) where
   -- a crash is a root, and ended

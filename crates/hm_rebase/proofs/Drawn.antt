@@ -168,7 +168,6 @@ placed_known J legal region on = let live = all_live J legal region on in ids_ar
 
 part_known : (part : Part) (J : Past) → IsLegal J → PartFits part J → (region : Region) → IsKnown J region → IsKnown (entry_is.Base part ∷ J) region
 part_known (part_is.Head entries last parts sheets) J legal fits region was = inl (ap (λ X. place_of X region) fits.0)
-part_known (part_is.Namespace ns) J legal fits region was = was
 part_known (part_is.Table own ids row) J legal fits region (inl first) = inl first
 part_known (part_is.Table own ids row) J legal fits region (inr had) = inr (elim (cases_Bool (same_table own region.table)) [
   | inl on ↦ let none : drawn J region.table ≡ 0 = ap (drawn J) (sym (same_table-is own region.table on)) ∙ (table_new own ids row J legal fits).1 in absurd (omega (arith, had.0, had.1, none))
@@ -178,9 +177,7 @@ part_known (part_is.Region own range status parents place) J legal fits region w
   | inl on ↦ inr (subst (λ (r : Region). (1 ≤ r.id) × (r.id ≤ drawn J r.table)) (sym ((same_region-Decides region own).0 on)) (fits.1, fits.2))
   | inr off ↦ elim was [ inl first ↦ inl (cond-false (same_region region own) place (place_of J region) off ∙ first) | inr had ↦ inr had ]
 ]
-part_known (part_is.Server server fenced) J legal fits region was = was
-part_known (part_is.Root pid nonce args cause) J legal fits region was = was
-part_known (part_is.Layout pid) J legal fits region was = was
+part_known part J legal fits region was = was
 
 pub known_all : (J : Past) → IsLegal J → (region : Region) → IsKnown J region
 known_all [] legal region = inl refl

@@ -49,14 +49,7 @@ was_there entry J legal q x is y before = before ∙ ap Some (same_Some y x (sym
 -- nothing else is told of a call to fence a server
 fenced_only : (server : Server) (told : Told) → fits_verb (verb_is.Fence server) told ≡ true → (told_number told == told_number told_is.Fenced) ≡ true
 fenced_only server told_is.Fenced fits = refl
-fenced_only server told_is.Nothing fits = absurd (false≢true fits)
-fenced_only server told_is.Opened fits = absurd (false≢true fits)
-fenced_only server told_is.FailedOpen fits = absurd (false≢true fits)
-fenced_only server told_is.Closed fits = absurd (false≢true fits)
-fenced_only server told_is.Gone fits = absurd (false≢true fits)
-fenced_only server told_is.LaidOut fits = absurd (false≢true fits)
-fenced_only server told_is.Refused fits = absurd (false≢true fits)
-fenced_only server told_is.Swept fits = absurd (false≢true fits)
+fenced_only server told fits = absurd (false≢true fits)
 
 -- the report of a call to fence a server says that it is fenced
 abbrev AreTold : Past → Type 0

@@ -42,8 +42,7 @@ use Rattle.hm_cover.proofs.SerialWhole.{whole_all}
 
 abbrev IsSafe : CatKey → Option CatRow → Type 0
 IsSafe (key_is.Ns ns) after = is_fixed ns ≡ true → after ≢ None
-IsSafe (key_is.Table t) after = Unit {0}
-IsSafe (key_is.Region region) after = Unit {0}
+IsSafe key after = Unit {0}
 
 abbrev AreSafe : List Edit → Type 0
 AreSafe [] = Unit {0}
@@ -122,12 +121,8 @@ module _ (there : Catalog) where
   of_asked (Some asked) keys sound = of_request asked.request asked.first keys (sound asked refl)
 
   of_answer : (answer : Answer) (whole : Deed) → AreSafe (edits_in whole) → AreSafe (edits_in (at_end answer whole))
-  of_answer (answer_is.More n) whole is = tt
-  of_answer (answer_is.Wait n) whole is = tt
-  of_answer (answer_is.Await n) whole is = tt
   of_answer (answer_is.Done told) whole is = is
-  of_answer (answer_is.Fail cause) whole is = tt
-  of_answer answer_is.Undone whole is = tt
+  of_answer answer whole is = tt
 
   of_root : (above : List ℕ) (whole : Deed) → AreSafe (edits_in whole) → AreSafe (edits_in (if_root above whole))
   of_root [] whole is = is
@@ -150,10 +145,4 @@ fixed_there (entry_is.Base part ∷ J) legal begun ns on =
       | inl one ↦ (λ none. begun.spaces.0 (ap (λ n. cat (entry_is.Base part ∷ J) (key_is.Ns n)) (sym (bytes_eq-is ns (codes "default") one)) ∙ same ∙ none))
       | inr two ↦ (λ none. begun.spaces.1 (ap (λ n. cat (entry_is.Base part ∷ J) (key_is.Ns n)) (sym (bytes_eq-is ns (codes "hbase") two)) ∙ same ∙ none))
     ]
-fixed_there (entry_is.Submit nonce request ∷ J) legal begun ns on = fixed_there J legal.0 legal.1.0 ns on
-fixed_there (entry_is.Undo pid row out ∷ J) legal begun ns on = fixed_there J legal.0 legal.1.0 ns on
-fixed_there (entry_is.Report call told ∷ J) legal begun ns on = fixed_there J legal.0 legal.1.0 ns on
-fixed_there (entry_is.Up server ∷ J) legal begun ns on = fixed_there J legal.0 legal.1.0 ns on
-fixed_there (entry_is.Down server ∷ J) legal begun ns on = fixed_there J legal.0 legal.1.0 ns on
-fixed_there (entry_is.Abort pid ∷ J) legal begun ns on = fixed_there J legal.0 legal.1.0 ns on
-fixed_there (entry_is.Adopt sheets ∷ J) legal begun ns on = fixed_there J legal.0 legal.1.0 ns on
+fixed_there (entry ∷ J) legal begun ns on = fixed_there J legal.0 legal.1.0 ns on

@@ -38,28 +38,13 @@ use Rattle.hm_rebase.specs.Alike.{ForgottenAreRowless, base_of}
 -- entries leave the base
 pub base_on : (entry : Entry) (J : Past) → is_part entry ≡ false → base_of (entry ∷ J) ≡ base_of J
 base_on (entry_is.Base part) J other = absurd (true≢false other)
-base_on (entry_is.Start sheets) J other = refl
-base_on (entry_is.Submit nonce request) J other = refl
-base_on (entry_is.Step pid pick out) J other = refl
-base_on (entry_is.Undo pid row out) J other = refl
-base_on (entry_is.Report call told) J other = refl
-base_on (entry_is.Up server) J other = refl
-base_on (entry_is.Down server) J other = refl
-base_on (entry_is.Abort pid) J other = refl
-base_on (entry_is.Adopt sheets) J other = refl
+base_on entry J other = refl
 
 drawn_base : (J : Past) (t : TableName) → drawn (base_of J) t ≤ drawn J t
 drawn_base [] t = omega arith
 drawn_base (entry_is.Submit nonce request ∷ J) t = (let le = drawn_base J t in omega (arith, le))
 drawn_base (entry_is.Base part ∷ J) t = omega arith
-drawn_base (entry_is.Start sheets ∷ J) t = drawn_base J t
-drawn_base (entry_is.Step pid pick out ∷ J) t = drawn_base J t
-drawn_base (entry_is.Undo pid row out ∷ J) t = drawn_base J t
-drawn_base (entry_is.Report call told ∷ J) t = drawn_base J t
-drawn_base (entry_is.Up server ∷ J) t = drawn_base J t
-drawn_base (entry_is.Down server ∷ J) t = drawn_base J t
-drawn_base (entry_is.Abort pid ∷ J) t = drawn_base J t
-drawn_base (entry_is.Adopt sheets ∷ J) t = drawn_base J t
+drawn_base (entry ∷ J) t = drawn_base J t
 
 -- an id is drawn behind a base, or the base has a row of it
 abbrev IsNew : Past → TableName → ℕ → Type 0
@@ -84,9 +69,8 @@ module _ (d : TableName → ℕ → Type 0) where
   either_drawn false one other h k = k
 
   none_drawn : (key : CatKey) → IsDrawnAt d key None
-  none_drawn (key_is.Ns ns) = tt
-  none_drawn (key_is.Table table) = tt
   none_drawn (key_is.Region region) = λ some. absurd (some refl)
+  none_drawn key = tt
 
   -- what is read of a catalog
   read_drawn : (asked : CatKey → Bool) (there : Catalog) (keys : List CatKey) → SeenDrawn d there → SeenDrawn d (row_at (rows_at asked there keys))
@@ -173,9 +157,8 @@ module _ (base J : Past) (kept : AreNew base J) where
     }
 
 rows_new : (base : Past) → SeenDrawn (IsNew base) (cat base)
-rows_new base (key_is.Ns ns) = tt
-rows_new base (key_is.Table table) = tt
 rows_new base (key_is.Region region) = λ some. inr some
+rows_new base key = tt
 
 new_all : (J : Past) → IsLegal J → AreNew (base_of J) J
 new_all [] legal = record { rows = rows_new []; args = λ p node is. absurd (none-some node is); stacks = λ r. tt }
@@ -184,11 +167,7 @@ new_all (entry_is.Step pid pick out ∷ J) legal = on_step (base_of J) J (new_al
 new_all (entry_is.Undo pid row out ∷ J) legal = on_undo (base_of J) J (new_all J legal.0) pid row out legal
 new_all (entry_is.Down server ∷ J) legal = let k = new_all J legal.0 in record { rows = k.rows; args = down_args (base_of J) J k server; stacks = k.stacks }
 new_all (entry_is.Base part ∷ J) legal = record { rows = rows_new (entry_is.Base part ∷ J); args = λ p node is. absurd (none-some node is); stacks = λ r. tt }
-new_all (entry_is.Start sheets ∷ J) legal = let k = new_all J legal.0 in record { rows = k.rows; args = k.args; stacks = k.stacks }
-new_all (entry_is.Report call told ∷ J) legal = let k = new_all J legal.0 in record { rows = k.rows; args = k.args; stacks = k.stacks }
-new_all (entry_is.Up server ∷ J) legal = let k = new_all J legal.0 in record { rows = k.rows; args = k.args; stacks = k.stacks }
-new_all (entry_is.Abort pid ∷ J) legal = let k = new_all J legal.0 in record { rows = k.rows; args = k.args; stacks = k.stacks }
-new_all (entry_is.Adopt sheets ∷ J) legal = let k = new_all J legal.0 in record { rows = k.rows; args = k.args; stacks = k.stacks }
+new_all (entry ∷ J) legal = let k = new_all J legal.0 in record { rows = k.rows; args = k.args; stacks = k.stacks }
 
 pub forgotten_rowless : ForgottenAreRowless
 forgotten_rowless J legal region old unbased = by (cat J (key_is.Region region)) refl

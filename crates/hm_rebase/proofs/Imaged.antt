@@ -120,21 +120,11 @@ none_behind (part_is.Layout pid) (part_is.Region region range status parents pla
 none_behind (part_is.Layout pid) (part_is.Server server fenced) early up = absurd (false≢true up)
 none_behind (part_is.Layout pid) (part_is.Root other nonce args cause) early up = absurd (false≢true up)
 none_behind (part_is.Layout pid) (part_is.Layout other) early up = absurd early
-none_behind (part_is.Head entries last parts sheets) one early up = tt
-none_behind (part_is.Namespace ns) one early up = tt
-none_behind (part_is.Table table n row) one early up = tt
-none_behind (part_is.Region region range status parents place) one early up = tt
-none_behind (part_is.Server server fenced) one early up = tt
-none_behind (part_is.Root pid nonce args cause) one early up = tt
+none_behind part one early up = tt
 
 quiet_layout : (part : Part) (list : List ℕ) → IsBeforeLayouts part → with_layout part list ≡ list
 quiet_layout (part_is.Layout pid) list early = absurd early
-quiet_layout (part_is.Head entries last parts sheets) list early = refl
-quiet_layout (part_is.Namespace ns) list early = refl
-quiet_layout (part_is.Table table n row) list early = refl
-quiet_layout (part_is.Region region range status parents place) list early = refl
-quiet_layout (part_is.Server server fenced) list early = refl
-quiet_layout (part_is.Root pid nonce args cause) list early = refl
+quiet_layout part list early = refl
 
 early_none : (own : Part) (Q : Past) → IsLegal (entry_is.Base own ∷ Q) → IsBeforeLayouts own → old_layouts (entry_is.Base own ∷ Q) ≡ []
 early_none own [] legal early = quiet_layout own [] early
@@ -169,15 +159,7 @@ old_rising (entry_is.Base (part_is.Table table n row) ∷ J) legal = subst (λ n
 old_rising (entry_is.Base (part_is.Region region range status parents place) ∷ J) legal = subst (λ n. AreRising 0 n (old_layouts J)) (offset_made J (by_parts (λ j. ends_parted j ≡ true) refl (λ o older. refl) (part_is.Region region range status parents place) J legal.1.0)) (old_rising J legal.0)
 old_rising (entry_is.Base (part_is.Server server fenced) ∷ J) legal = subst (λ n. AreRising 0 n (old_layouts J)) (offset_made J (by_parts (λ j. ends_parted j ≡ true) refl (λ o older. refl) (part_is.Server server fenced) J legal.1.0)) (old_rising J legal.0)
 old_rising (entry_is.Base (part_is.Root pid nonce args cause) ∷ J) legal = subst (λ n. AreRising 0 n (old_layouts J)) (offset_made J (by_parts (λ j. ends_parted j ≡ true) refl (λ o older. refl) (part_is.Root pid nonce args cause) J legal.1.0)) (old_rising J legal.0)
-old_rising (entry_is.Start sheets ∷ J) legal = old_rising J legal.0
-old_rising (entry_is.Submit nonce request ∷ J) legal = old_rising J legal.0
-old_rising (entry_is.Step pid pick out ∷ J) legal = old_rising J legal.0
-old_rising (entry_is.Undo pid row out ∷ J) legal = old_rising J legal.0
-old_rising (entry_is.Report call told ∷ J) legal = old_rising J legal.0
-old_rising (entry_is.Up server ∷ J) legal = old_rising J legal.0
-old_rising (entry_is.Down server ∷ J) legal = old_rising J legal.0
-old_rising (entry_is.Abort pid ∷ J) legal = old_rising J legal.0
-old_rising (entry_is.Adopt sheets ∷ J) legal = old_rising J legal.0
+old_rising (entry ∷ J) legal = old_rising J legal.0
 
 layouts_rising : (J : Past) → IsLegal J → AreRising 0 (made J) (filter (is_laid J) (old_layouts J ++ numbers_of J))
 layouts_rising J legal =

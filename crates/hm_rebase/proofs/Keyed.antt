@@ -59,36 +59,28 @@ Precedes (part_is.Head entries last parts sheets) key = Unit {0}
 Precedes (part_is.Namespace ns) key = key_cmp (key_is.Ns ns) key ≡ Less
 Precedes (part_is.Table table own row) key = key_cmp (key_is.Table table) key ≡ Less
 Precedes (part_is.Region region range status parents place) key = key_cmp (key_is.Region region) key ≡ Less
-Precedes (part_is.Server server fenced) key = ⊥
-Precedes (part_is.Root pid nonce args cause) key = ⊥
-Precedes (part_is.Layout pid) key = ⊥
+Precedes part key = ⊥
 
 rises_ns : (own : Part) (ns : List ℕ) → Precedes own (key_is.Ns ns) → rises own (part_is.Namespace ns) ≡ true
 rises_ns (part_is.Head entries last parts sheets) ns h = refl
 rises_ns (part_is.Namespace one) ns h = ap is_lt h
 rises_ns (part_is.Table table own row) ns h = absurd (cc)
 rises_ns (part_is.Region region range status parents place) ns h = absurd (cc)
-rises_ns (part_is.Server server fenced) ns h = absurd h
-rises_ns (part_is.Root pid nonce args cause) ns h = absurd h
-rises_ns (part_is.Layout pid) ns h = absurd h
+rises_ns part ns h = absurd h
 
 rises_table : (own : Part) (t : TableName) (n : ℕ) (row : Option (TableState × ℕ)) → Precedes own (key_is.Table t) → rises own (part_is.Table t n row) ≡ true
 rises_table (part_is.Head entries last parts sheets) t n row h = refl
 rises_table (part_is.Namespace one) t n row h = refl
 rises_table (part_is.Table table own state) t n row h = ap is_lt h
 rises_table (part_is.Region region range status parents place) t n row h = absurd (cc)
-rises_table (part_is.Server server fenced) t n row h = absurd h
-rises_table (part_is.Root pid nonce args cause) t n row h = absurd h
-rises_table (part_is.Layout pid) t n row h = absurd h
+rises_table part t n row h = absurd h
 
 rises_region : (own : Part) (r : Region) (range : KeyRange) (status : Status) (parents : List ℕ) (place : Place) → Precedes own (key_is.Region r) → rises own (part_is.Region r range status parents place) ≡ true
-rises_region (part_is.Head entries last more sheets) r range status parents place h = refl
-rises_region (part_is.Namespace one) r range status parents place h = refl
-rises_region (part_is.Table table own state) r range status parents place h = refl
 rises_region (part_is.Region region other was ids at) r range status parents place h = ap is_lt h
 rises_region (part_is.Server server fenced) r range status parents place h = absurd h
 rises_region (part_is.Root pid nonce args cause) r range status parents place h = absurd h
 rises_region (part_is.Layout pid) r range status parents place h = absurd h
+rises_region part r range status parents place h = refl
 
 behind_in : (key k : CatKey) (keys : List CatKey) → AllBehind key keys → IsIn k keys → key_cmp key k ≡ Less
 behind_in key k [] behind h = elim h [ ]

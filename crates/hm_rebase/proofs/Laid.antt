@@ -97,7 +97,6 @@ module _ (pid : Pid) (pick : Option Server) (out : StepOut) (J : Past) (legal : 
 -- and each of a legal journal
 all_lay : (J : Past) → IsLegal J → (q : ℕ) (x : Node) → node_of J q ≡ Some x → Lays x.root x.args
 all_lay [] legal q x is = absurd (none-some x is)
-all_lay (entry_is.Start sheets ∷ J) legal q x is = all_lay J legal.0 q x is
 all_lay (entry_is.Submit nonce request ∷ J) legal q x is = elim (cases_eq q (made J + 1)) [
   | inl same ↦ subst (λ (n : Node). Lays n.root n.args) (same_Some (submitted J request q) x (sym (submit_new nonce request J q same) ∙ is)) tt
   | inr differs ↦ all_lay J legal.0 q x (sym (cond-false (q == made J + 1) (Some (submitted J request q)) (node_of J q) (ne_eqb q (made J + 1) differs)) ∙ is)
@@ -115,15 +114,12 @@ all_lay (entry_is.Undo pid row out ∷ J) legal q x is =
       | inl old ↦ all_lay J legal.0 q x old
       | inr top ↦ follower_lays x.root x.args (follower_is pid row out J legal q x (grown.numbered q top.4) is)
     ]
-all_lay (entry_is.Report call told ∷ J) legal q x is = all_lay J legal.0 q x is
-all_lay (entry_is.Up server ∷ J) legal q x is = all_lay J legal.0 q x is
 all_lay (entry_is.Down server ∷ J) legal q x is = elim (cases_eq q (made J + 1)) [
   | inl same ↦ subst (λ (n : Node). Lays n.root n.args) (same_Some (root_node q (args_are.Crash server) 1) x (sym (down_new server J q same) ∙ is)) tt
   | inr differs ↦ all_lay J legal.0 q x (sym (cond-false (q == made J + 1) (Some (root_node q (args_are.Crash server) 1)) (node_of J q) (ne_eqb q (made J + 1) differs)) ∙ is)
 ]
-all_lay (entry_is.Abort pid ∷ J) legal q x is = all_lay J legal.0 q x is
-all_lay (entry_is.Adopt sheets ∷ J) legal q x is = all_lay J legal.0 q x is
 all_lay (entry_is.Base part ∷ J) legal q x is = absurd (none-some x is)
+all_lay (entry ∷ J) legal q x is = all_lay J legal.0 q x is
 
 -- a layout is there because it was before, or because a report now says so
 laid_or : (c : Option ℕ) (t : Option Bool) (root : ℕ) (before : Bool) → laid_if c t root before ≡ true → (before ≡ true) ⊎ ((c ≡ Some root) × (t ≡ Some true))
@@ -151,12 +147,7 @@ part_tells (part_is.Layout pid) root list before old h = elim (cases_eq pid.0 ro
   | inl same ↦ in_right root list (pid.0 ∷ []) (inl (sym same))
   | inr differs ↦ in_left root list (pid.0 ∷ []) (old (sym (cond-false (pid.0 == root) true before (ne_eqb pid.0 root differs)) ∙ h))
 ]
-part_tells (part_is.Head entries last parts sheets) root list before old h = old h
-part_tells (part_is.Namespace ns) root list before old h = old h
-part_tells (part_is.Table table n row) root list before old h = old h
-part_tells (part_is.Region region range status parents place) root list before old h = old h
-part_tells (part_is.Server server fenced) root list before old h = old h
-part_tells (part_is.Root pid nonce args cause) root list before old h = old h
+part_tells part root list before old h = old h
 
 base_tells : (J : Past) → IsLegal J → ends_parted J ≡ true → (root : ℕ) → is_laid J root ≡ true → IsIn root (old_layouts J)
 base_tells [] legal parted root h = absurd (false≢true h)
@@ -174,7 +165,6 @@ known_on J root more (inr new) = let le = new.1 in inr (new.0, omega (arith, le)
 
 laid_known : (J : Past) → IsLegal J → (root : ℕ) → is_laid J root ≡ true → IsKnown J root
 laid_known [] legal root h = absurd (false≢true h)
-laid_known (entry_is.Start sheets ∷ J) legal root h = laid_known J legal.0 root h
 laid_known (entry_is.Submit nonce request ∷ J) legal root h = known_on J root 1 (laid_known J legal.0 root h)
 laid_known (entry_is.Step pid pick out ∷ J) legal root h = known_on J root _ (laid_known J legal.0 root h)
 laid_known (entry_is.Undo pid row out ∷ J) legal root h = known_on J root _ (laid_known J legal.0 root h)
@@ -190,11 +180,9 @@ laid_known (entry_is.Report call told ∷ J) legal root h = elim (laid_or (layou
       let within = root_within J grown call.0 x.0 x.1 in
       inr (omega (arith, own, above), omega (arith, own, within))
 ]
-laid_known (entry_is.Up server ∷ J) legal root h = laid_known J legal.0 root h
 laid_known (entry_is.Down server ∷ J) legal root h = known_on J root 1 (laid_known J legal.0 root h)
-laid_known (entry_is.Abort pid ∷ J) legal root h = laid_known J legal.0 root h
-laid_known (entry_is.Adopt sheets ∷ J) legal root h = laid_known J legal.0 root h
 laid_known (entry_is.Base part ∷ J) legal root h = inl (base_tells (entry_is.Base part ∷ J) legal refl root h)
+laid_known (entry ∷ J) legal root h = laid_known J legal.0 root h
 
 -- each number behind the base is among the first so many
 first_has : (J : Past) (n q : ℕ) → offset J < q → q ≤ offset J + n → IsIn q (first_made J n)

@@ -60,14 +60,7 @@ servers_order (entry_is.Base part ∷ J) = by (part_server part) (servers_order 
     by : (o : Option (Server × Bool)) → InOrder (servers_of J) → InOrder (elim o as (λ s. List Server) [ None ↦ servers_of J | Some both ↦ with_server both.0 (servers_of J) ])
     by None order = order
     by (Some both) order = order_with both.0 (servers_of J) order
-servers_order (entry_is.Start sheets ∷ J) = servers_order J
-servers_order (entry_is.Submit nonce request ∷ J) = servers_order J
-servers_order (entry_is.Step pid pick out ∷ J) = servers_order J
-servers_order (entry_is.Undo pid row out ∷ J) = servers_order J
-servers_order (entry_is.Report call told ∷ J) = servers_order J
-servers_order (entry_is.Down server ∷ J) = servers_order J
-servers_order (entry_is.Abort pid ∷ J) = servers_order J
-servers_order (entry_is.Adopt sheets ∷ J) = servers_order J
+servers_order (entry ∷ J) = servers_order J
 
 -- what is in a list with one server more
 in_at : (q server first : Server) (more rest : List Server) → ((q ≡ server) ⊎ IsIn q more → IsIn q rest) → (o : Ordering) → server_cmp server first ≡ o → (q ≡ server) ⊎ IsIn q (first ∷ more) → IsIn q (with_server_at o server first more rest)

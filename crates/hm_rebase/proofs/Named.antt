@@ -65,12 +65,7 @@ named_order (entry_is.Submit nonce request ∷ J) = order_table (table_of_reques
 named_order (entry_is.Step pid pick out ∷ J) = order_with_keys out.edits (named_keys J) (named_order J)
 named_order (entry_is.Undo pid row out ∷ J) = order_with_keys out.edits (named_keys J) (named_order J)
 named_order (entry_is.Base part ∷ J) = order_if (part_key part) (named_keys J) (named_order J)
-named_order (entry_is.Start sheets ∷ J) = named_order J
-named_order (entry_is.Report call told ∷ J) = named_order J
-named_order (entry_is.Up server ∷ J) = named_order J
-named_order (entry_is.Down server ∷ J) = named_order J
-named_order (entry_is.Abort pid ∷ J) = named_order J
-named_order (entry_is.Adopt sheets ∷ J) = named_order J
+named_order (entry ∷ J) = named_order J
 
 -- what is in a list with one key more
 from_at : (q key first : CatKey) (more rest : List CatKey) → (IsIn q rest → (q ≡ key) ⊎ IsIn q more) → (o : Ordering) → IsIn q (with_key_at o key first more rest) → (q ≡ key) ⊎ IsIn q (first ∷ more)
@@ -107,12 +102,7 @@ named_all (entry_is.Submit nonce request ∷ J) = λ q h. table_more (table_of_r
 named_all (entry_is.Step pid pick out ∷ J) = with_all out.edits (keys_of J) (named_keys J) (named_all J)
 named_all (entry_is.Undo pid row out ∷ J) = with_all out.edits (keys_of J) (named_keys J) (named_all J)
 named_all (entry_is.Base part ∷ J) = with_if (part_key part) (keys_of J) (named_keys J) (named_all J)
-named_all (entry_is.Start sheets ∷ J) = named_all J
-named_all (entry_is.Report call told ∷ J) = named_all J
-named_all (entry_is.Up server ∷ J) = named_all J
-named_all (entry_is.Down server ∷ J) = named_all J
-named_all (entry_is.Abort pid ∷ J) = named_all J
-named_all (entry_is.Adopt sheets ∷ J) = named_all J
+named_all (entry ∷ J) = named_all J
 
 -- a key with a row is among them
 pub named_row : (J : Past) (key : CatKey) → cat J key ≢ None → IsIn key (named_keys J)
@@ -127,16 +117,13 @@ drawn_for (Some own) count t keys some = elim (cases_Bool (same_table own t)) [
 ]
 
 drawn_part : (part : Part) (t : TableName) (n : ℕ) (keys : List CatKey) → (n ≢ 0 → IsIn (key_is.Table t) keys) → part_drawn part t n ≢ 0 → IsIn (key_is.Table t) (part_keys part keys)
-drawn_part (part_is.Head entries last parts sheets) t n keys has some = has some
 drawn_part (part_is.Namespace ns) t n keys has some = in_with_key (key_is.Table t) (key_is.Ns ns) keys (inr (has some))
 drawn_part (part_is.Table own ids row) t n keys has some = elim (cases_Bool (same_table own t)) [
   | inl same ↦ in_with_key (key_is.Table t) (key_is.Table own) keys (inl (ap key_is.Table (sym (same_table-is own t same))))
   | inr differs ↦ in_with_key (key_is.Table t) (key_is.Table own) keys (inr (has (λ e. some (cond-false (same_table own t) ids n differs ∙ e))))
 ]
 drawn_part (part_is.Region region range status parents place) t n keys has some = in_with_key (key_is.Table t) (key_is.Region region) keys (inr (has some))
-drawn_part (part_is.Server server fenced) t n keys has some = has some
-drawn_part (part_is.Root pid nonce args cause) t n keys has some = has some
-drawn_part (part_is.Layout pid) t n keys has some = has some
+drawn_part part t n keys has some = has some
 
 zero_or : (n : ℕ) → (n ≡ 0) ⊎ (n ≢ 0)
 zero_or zero = inl refl
@@ -151,9 +138,4 @@ named_drawn (entry_is.Submit nonce request ∷ J) t some = elim (zero_or (drawn 
 named_drawn (entry_is.Step pid pick out ∷ J) t some = in_with_keys (key_is.Table t) out.edits (named_keys J) (named_drawn J t some)
 named_drawn (entry_is.Undo pid row out ∷ J) t some = in_with_keys (key_is.Table t) out.edits (named_keys J) (named_drawn J t some)
 named_drawn (entry_is.Base part ∷ J) t some = drawn_part part t (drawn J t) (named_keys J) (named_drawn J t) some
-named_drawn (entry_is.Start sheets ∷ J) t some = named_drawn J t some
-named_drawn (entry_is.Report call told ∷ J) t some = named_drawn J t some
-named_drawn (entry_is.Up server ∷ J) t some = named_drawn J t some
-named_drawn (entry_is.Down server ∷ J) t some = named_drawn J t some
-named_drawn (entry_is.Abort pid ∷ J) t some = named_drawn J t some
-named_drawn (entry_is.Adopt sheets ∷ J) t some = named_drawn J t some
+named_drawn (entry ∷ J) t some = named_drawn J t some

@@ -51,12 +51,9 @@ use Rattle.hm_single.proofs.Stage.{moved_region}
 
 abbrev pub IsClean : RegionState → Option Server → Type 0
 IsClean place_is.Offline server = server ≡ None
-IsClean place_is.Opening server = Unit {0}
-IsClean place_is.Opened server = Unit {0}
-IsClean place_is.Closing server = Unit {0}
 IsClean place_is.Closed server = server ≡ None
-IsClean place_is.FailedOpen server = Unit {0}
 IsClean place_is.AbnormallyClosed server = server ≡ None
+IsClean state server = Unit {0}
 
 abbrev Clean : Place → Type 0
 Clean place = IsClean place.state place.server
@@ -130,38 +127,27 @@ out_clean pid pick out J legal here e = by (moved_by (step pid pick out J legal)
 
 free_clean : (state : RegionState) (server : Option Server) → server ≡ None → IsClean state server
 free_clean place_is.Offline server none = none
-free_clean place_is.Opening server none = tt
-free_clean place_is.Opened server none = tt
-free_clean place_is.Closing server none = tt
 free_clean place_is.Closed server none = none
-free_clean place_is.FailedOpen server none = tt
 free_clean place_is.AbnormallyClosed server none = none
+free_clean state server none = tt
 
 open_clean : (state : RegionState) (server : Option Server) → is_state place_is.Opened (record { state = state; server = server }) ≡ true → IsClean state server
 open_clean place_is.Offline server on = absurd (false≢true on)
-open_clean place_is.Opening server on = tt
-open_clean place_is.Opened server on = tt
-open_clean place_is.Closing server on = tt
 open_clean place_is.Closed server on = absurd (false≢true on)
-open_clean place_is.FailedOpen server on = tt
 open_clean place_is.AbnormallyClosed server on = absurd (false≢true on)
+open_clean state server on = tt
 
 stand_clean : (place : Place) (status : Status) (state : TableState) → MayStand place status state → Clean place
 stand_clean place status state (inl free) = free_clean place.state place.server free.2
 stand_clean place status state (inr held) = open_clean place.state place.server held.0
 
 part_clean : (part : Part) (J : Past) → PartFits part J → (region : Region) → Clean (place_of J region) → Clean (part_place part region (place_of J region))
-part_clean (part_is.Head entries last parts sheets) J fits region was = was
-part_clean (part_is.Namespace ns) J fits region was = was
-part_clean (part_is.Table table own row) J fits region was = was
 part_clean (part_is.Region own range status parents place) J fits region was = by (same_region region own)
   where
     by : (b : Bool) → Clean (cond b place (place_of J region))
     by true = stand_clean place status fits.4.0 fits.4.3
     by false = was
-part_clean (part_is.Server server fenced) J fits region was = was
-part_clean (part_is.Root pid nonce args cause) J fits region was = was
-part_clean (part_is.Layout pid) J fits region was = was
+part_clean part J fits region was = was
 
 pub clean_all : (J : Past) → IsLegal J → (region : Region) → IsClean (place_of J region).state (place_of J region).server
 clean_all [] legal region = refl

@@ -51,12 +51,7 @@ image_is_base J legal begun may = ((says J legal begun may).legal_now, image_beg
 -- a head stands first; other parts count nothing
 cut_part : (part : Part) (J : Past) (r : ℕ) → PartFits part J → (nat_lt r (counted J) ≡ true → IsBegun (up_to J r) → ⊥) → nat_lt r (counted (entry_is.Base part ∷ J)) ≡ true → IsBegun (up_to J r) → ⊥
 cut_part (part_is.Head entries last parts sheets) J r fits on low begun = subst (λ X. IsBegun (up_to X r)) fits.0 begun
-cut_part (part_is.Namespace ns) J r fits on low begun = on low begun
-cut_part (part_is.Table table n row) J r fits on low begun = on low begun
-cut_part (part_is.Region region range status parents place) J r fits on low begun = on low begun
-cut_part (part_is.Server server fenced) J r fits on low begun = on low begun
-cut_part (part_is.Root pid nonce args cause) J r fits on low begun = on low begun
-cut_part (part_is.Layout pid) J r fits on low begun = on low begun
+cut_part part J r fits on low begun = on low begun
 
 -- within a base nothing can be cut off
 uncut : (J : Past) (r : ℕ) → IsLegal J → ends_parted J ≡ true → nat_lt r (counted J) ≡ true → IsBegun (up_to J r) → ⊥
@@ -76,29 +71,14 @@ more entry J K other legal begun h =
     ((h.0, allowed), by entry other, alike_stay J K legal.0 h.0 begun h.1 h.2 entry other legal.1)
   where
     by : (entry : Entry) → is_part entry ≡ false → IsBegun (entry ∷ K)
-    by (entry_is.Start sheets) other = tt
-    by (entry_is.Submit nonce request) other = tt
-    by (entry_is.Step pid pick out) other = tt
-    by (entry_is.Undo pid row out) other = tt
-    by (entry_is.Report call told) other = tt
-    by (entry_is.Up server) other = tt
-    by (entry_is.Down server) other = tt
-    by (entry_is.Abort pid) other = tt
-    by (entry_is.Adopt sheets) other = tt
     by (entry_is.Base part) other = absurd (true≢false other)
+    by entry other = tt
 
 -- behind what is kept an entry is no part, and something had begun
 behind : (entry : Entry) (J : Past) (r : ℕ) → IsLegal (entry ∷ J) → nat_lt r (counted (entry ∷ J)) ≡ true → IsBegun (up_to J r) → (is_part entry ≡ false) × IsBegun J
 behind (entry_is.Start sheets) J r legal low begun = absurd (subst (λ X. IsBegun (up_to X r)) legal.1.0.0 begun)
-behind (entry_is.Submit nonce request) J r legal low begun = (refl, legal.1.0)
-behind (entry_is.Step pid pick out) J r legal low begun = (refl, legal.1.0)
-behind (entry_is.Undo pid row out) J r legal low begun = (refl, legal.1.0)
-behind (entry_is.Report call told) J r legal low begun = (refl, legal.1.0)
-behind (entry_is.Up server) J r legal low begun = (refl, legal.1.0)
-behind (entry_is.Down server) J r legal low begun = (refl, legal.1.0)
-behind (entry_is.Abort pid) J r legal low begun = (refl, legal.1.0)
-behind (entry_is.Adopt sheets) J r legal low begun = (refl, legal.1.0)
 behind (entry_is.Base part) J r legal low begun = absurd (uncut (entry_is.Base part ∷ J) r legal refl low (subst (λ b. IsBegun (cond b (up_to J r) (entry_is.Base part ∷ J))) (sym low) begun))
+behind entry J r legal low begun = (refl, legal.1.0)
 
 pub rebased_is_alike : RebasedAreAlike
 rebased_is_alike [] r legal begun may = absurd begun

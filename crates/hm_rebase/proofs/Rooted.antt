@@ -40,20 +40,12 @@ Lower part low = Unit {0}
 rises_root : (own : Part) (low : ℕ) (pid : Pid) (nonce : Nonce) (args : Args) (cause : Option Cause) → Lower own low → low < pid.0 → rises own (part_is.Root pid nonce args cause) ≡ true
 rises_root (part_is.Root one used work why) low pid nonce args cause h lt = lt-ltb one.0 pid.0 (omega (arith, h, lt))
 rises_root (part_is.Layout one) low pid nonce args cause h lt = absurd h
-rises_root (part_is.Head entries last parts sheets) low pid nonce args cause h lt = refl
-rises_root (part_is.Namespace ns) low pid nonce args cause h lt = refl
-rises_root (part_is.Table table n row) low pid nonce args cause h lt = refl
-rises_root (part_is.Region region range status parents place) low pid nonce args cause h lt = refl
-rises_root (part_is.Server server fenced) low pid nonce args cause h lt = refl
+rises_root part low pid nonce args cause h lt = refl
 
 middle_lower : (own : Part) → IsMiddle own → Lower own 0
 middle_lower (part_is.Root one used work why) h = absurd h
 middle_lower (part_is.Layout one) h = absurd h
-middle_lower (part_is.Head entries last parts sheets) h = tt
-middle_lower (part_is.Namespace ns) h = tt
-middle_lower (part_is.Table table n row) h = tt
-middle_lower (part_is.Region region range status parents place) h = tt
-middle_lower (part_is.Server server fenced) h = tt
+middle_lower part h = tt
 
 -- a part comes before that of a layout above a number
 abbrev pub Under : Part → ℕ → Type 0
@@ -62,21 +54,11 @@ Under part low = Unit {0}
 
 rises_layout : (own : Part) (low : ℕ) (pid : Pid) → Under own low → low < pid.0 → rises own (part_is.Layout pid) ≡ true
 rises_layout (part_is.Layout one) low pid h lt = lt-ltb one.0 pid.0 (omega (arith, h, lt))
-rises_layout (part_is.Root one used work why) low pid h lt = refl
-rises_layout (part_is.Head entries last parts sheets) low pid h lt = refl
-rises_layout (part_is.Namespace ns) low pid h lt = refl
-rises_layout (part_is.Table table n row) low pid h lt = refl
-rises_layout (part_is.Region region range status parents place) low pid h lt = refl
-rises_layout (part_is.Server server fenced) low pid h lt = refl
+rises_layout part low pid h lt = refl
 
 lower_under : (own : Part) (low : ℕ) → Lower own low → Under own 0
 lower_under (part_is.Layout one) low h = absurd h
-lower_under (part_is.Root one used work why) low h = tt
-lower_under (part_is.Head entries last parts sheets) low h = tt
-lower_under (part_is.Namespace ns) low h = tt
-lower_under (part_is.Table table n row) low h = tt
-lower_under (part_is.Region region range status parents place) low h = tt
-lower_under (part_is.Server server fenced) low h = tt
+lower_under part low h = tt
 
 -- numbers that rise, from above one up to another
 abbrev pub AreRising : ℕ → ℕ → List ℕ → Type 0
@@ -177,12 +159,7 @@ module _ (J : Past) (legal : IsLegal J) (begun : IsBegun J) (none : under_way J 
   root_all (part_is.Root pid nonce args cause ∷ parts) [] tells P low used good h = absurd tells
   root_all (part_is.Root pid nonce args cause ∷ parts) (core ∷ list) tells P low used good h =
       root_all parts list tells.1 (entry_is.Base (part_is.Root pid nonce args cause) ∷ P) core.pid (λ n. cond (is_same core.nonce n) (Some core.pid) (used n)) good.1 (root_one P low used h pid nonce args cause core tells.0.0 tells.0.1 tells.0.2 good.0)
-  root_all (part_is.Head entries last more sheets ∷ parts) list tells P low used good h = absurd tells
-  root_all (part_is.Namespace ns ∷ parts) list tells P low used good h = absurd tells
-  root_all (part_is.Table table n row ∷ parts) list tells P low used good h = absurd tells
-  root_all (part_is.Region region range status parents place ∷ parts) list tells P low used good h = absurd tells
-  root_all (part_is.Server server fenced ∷ parts) list tells P low used good h = absurd tells
-  root_all (part_is.Layout pid ∷ parts) list tells P low used good h = absurd tells
+  root_all (part ∷ parts) list tells P low used good h = absurd tells
 
   -- behind the roots the layouts
   pub record HasAll (P : Past) (low : ℕ) (used : Nonce → Option ℕ) : Type 0 where

@@ -41,12 +41,7 @@ tells_append [] ys [] ds h k = k
 tells_append [] ys (c ∷ cs) ds h k = absurd h
 tells_append (part_is.Root pid nonce args cause ∷ xs) ys [] ds h k = absurd h
 tells_append (part_is.Root pid nonce args cause ∷ xs) ys (c ∷ cs) ds h k = (h.0, tells_append xs ys cs ds h.1 k)
-tells_append (part_is.Head entries last parts sheets ∷ xs) ys cs ds h k = absurd h
-tells_append (part_is.Namespace ns ∷ xs) ys cs ds h k = absurd h
-tells_append (part_is.Table table n row ∷ xs) ys cs ds h k = absurd h
-tells_append (part_is.Region region range status parents place ∷ xs) ys cs ds h k = absurd h
-tells_append (part_is.Server server fenced ∷ xs) ys cs ds h k = absurd h
-tells_append (part_is.Layout pid ∷ xs) ys cs ds h k = absurd h
+tells_append (part ∷ xs) ys cs ds h k = absurd h
 
 -- numbers behind one
 abbrev span : ℕ → ℕ → List ℕ
@@ -115,15 +110,11 @@ base_none (entry ∷ J) e legal p = absurd (false≢true e)
 pub nonce_high : (J : Past) → IsLegal J → (p : ℕ) → made J < p → nonce_of J p ≡ no_nonce
 nonce_high [] legal p lt = refl
 nonce_high (entry_is.Submit nonce request ∷ J) legal p lt = cond-false (p == made J + 1) nonce (nonce_of J p) (ne_eqb p (made J + 1) (λ e. omega (arith, lt, e))) ∙ nonce_high J legal.0 p (omega (arith, lt))
-nonce_high (entry_is.Start sheets ∷ J) legal p lt = nonce_high J legal.0 p lt
 nonce_high (entry_is.Step pid pick out ∷ J) legal p lt = nonce_high J legal.0 p (omega (arith, lt))
 nonce_high (entry_is.Undo pid row out ∷ J) legal p lt = nonce_high J legal.0 p (omega (arith, lt))
-nonce_high (entry_is.Report call told ∷ J) legal p lt = nonce_high J legal.0 p lt
-nonce_high (entry_is.Up server ∷ J) legal p lt = nonce_high J legal.0 p lt
 nonce_high (entry_is.Down server ∷ J) legal p lt = nonce_high J legal.0 p (omega (arith, lt))
-nonce_high (entry_is.Abort pid ∷ J) legal p lt = nonce_high J legal.0 p lt
-nonce_high (entry_is.Adopt sheets ∷ J) legal p lt = nonce_high J legal.0 p lt
 nonce_high (entry_is.Base part ∷ J) legal p lt = base_none J (by_parts (λ j. ends_parted j ≡ true) refl (λ o older. refl) part J legal.1.0) legal.0 p
+nonce_high (entry ∷ J) legal p lt = nonce_high J legal.0 p lt
 
 module _ (f : ℕ → Option Cause) where
   abbrev with_cause : Past → ℕ → Option Node → List Part
@@ -172,12 +163,7 @@ module _ (f : ℕ → Option Cause) where
 
   tells_part : (part : Part) (parts : List Part) (list : List Core) → Tells parts list → Tells (with_root part parts) (part_core part list)
   tells_part (part_is.Root pid nonce args why) parts list h = tells_append parts (part_is.Root pid nonce args why ∷ []) list (record { pid = pid.0; nonce = nonce; args = args } ∷ []) h ((refl, refl, refl), tt)
-  tells_part (part_is.Head entries last more sheets) parts list h = h
-  tells_part (part_is.Namespace ns) parts list h = h
-  tells_part (part_is.Table table n row) parts list h = h
-  tells_part (part_is.Region region range status parents place) parts list h = h
-  tells_part (part_is.Server server fenced) parts list h = h
-  tells_part (part_is.Layout pid) parts list h = h
+  tells_part part parts list h = h
 
   -- an entry that adds these
   tells_more : (entry : Entry) (J : Past) → is_part entry ≡ false → IsLegal J → (k : ℕ) → made (entry ∷ J) ≡ made J + k → offset (entry ∷ J) ≡ offset J → old_roots (entry ∷ J) ≡ old_roots J
@@ -245,14 +231,10 @@ module _ (f : ℕ → Option Cause) where
   tells_all (entry_is.Undo pid row out ∷ J) legal = tells_more (entry_is.Undo pid row out) J refl legal.0 (length (args_in out.followers)) refl refl refl _ refl (undo_new pid row out J legal.0 (length (args_in out.followers))) (tells_all J legal.0)
   tells_all (entry_is.Step pid pick out ∷ J) legal =
       tells_more (entry_is.Step pid pick out) J refl legal.0 (length (args_in out.children)) refl refl refl [] (cores_none (cores J)) (subst (λ l. Tells l []) (sym (step_none pid pick out J legal (length (args_in out.children)))) tt) (tells_all J legal.0)
-  tells_all (entry_is.Start sheets ∷ J) legal = tells_more (entry_is.Start sheets) J refl legal.0 0 (omega arith) refl refl [] (cores_none (cores J)) tt (tells_all J legal.0)
-  tells_all (entry_is.Report call told ∷ J) legal = tells_more (entry_is.Report call told) J refl legal.0 0 (omega arith) refl refl [] (cores_none (cores J)) tt (tells_all J legal.0)
-  tells_all (entry_is.Up server ∷ J) legal = tells_more (entry_is.Up server) J refl legal.0 0 (omega arith) refl refl [] (cores_none (cores J)) tt (tells_all J legal.0)
-  tells_all (entry_is.Abort pid ∷ J) legal = tells_more (entry_is.Abort pid) J refl legal.0 0 (omega arith) refl refl [] (cores_none (cores J)) tt (tells_all J legal.0)
-  tells_all (entry_is.Adopt sheets ∷ J) legal = tells_more (entry_is.Adopt sheets) J refl legal.0 0 (omega arith) refl refl [] (cores_none (cores J)) tt (tells_all J legal.0)
   tells_all (entry_is.Base part ∷ J) legal =
       let before = subst (λ l. Tells l (cores J)) (ap (λ l. old_roots J ++ l) (base_empty J (by_parts (λ j. ends_parted j ≡ true) refl (λ o older. refl) part J legal.1.0)) ∙ append_none (old_roots J)) (tells_all J legal.0) in
       subst (λ l. Tells l (part_core part (cores J))) (sym (ap (λ l. with_root part (old_roots J) ++ l) (base_empty (entry_is.Base part ∷ J) refl) ∙ append_none (with_root part (old_roots J)))) (tells_part part (old_roots J) (cores J) before)
+  tells_all (entry ∷ J) legal = tells_more entry J refl legal.0 0 (omega arith) refl refl [] (cores_none (cores J)) tt (tells_all J legal.0)
 
 -- the parts of the roots tell just them
 pub roots_tell : (J : Past) → IsLegal J → Tells (root_parts J) (cores J)
@@ -270,9 +252,4 @@ pub told_rooted : (parts : List Part) (list : List Core) → Tells parts list �
 told_rooted [] list tells = refl
 told_rooted (part_is.Root pid nonce args why ∷ parts) [] tells = absurd tells
 told_rooted (part_is.Root pid nonce args why ∷ parts) (core ∷ list) tells = ap (λ l. part_is.Root pid nonce args why ∷ l) (told_rooted parts list tells.1)
-told_rooted (part_is.Head entries last more sheets ∷ parts) list tells = absurd tells
-told_rooted (part_is.Namespace ns ∷ parts) list tells = absurd tells
-told_rooted (part_is.Table table n row ∷ parts) list tells = absurd tells
-told_rooted (part_is.Region region range status parents place ∷ parts) list tells = absurd tells
-told_rooted (part_is.Server server fenced ∷ parts) list tells = absurd tells
-told_rooted (part_is.Layout pid ∷ parts) list tells = absurd tells
+told_rooted (part ∷ parts) list tells = absurd tells

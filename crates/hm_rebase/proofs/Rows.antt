@@ -182,12 +182,8 @@ module _ (there : Catalog) (all : (key : CatKey) → IsFineRow key (there key)) 
   of_asked (Some asked) keys sound = of_request asked.request asked.first keys (sound asked refl)
 
   of_answer : (answer : Answer) (whole : Deed) → AreFine (edits_in whole) → AreFine (edits_in (at_end answer whole))
-  of_answer (answer_is.More n) whole is = tt
-  of_answer (answer_is.Wait n) whole is = tt
-  of_answer (answer_is.Await n) whole is = tt
   of_answer (answer_is.Done told) whole is = is
-  of_answer (answer_is.Fail cause) whole is = tt
-  of_answer answer_is.Undone whole is = tt
+  of_answer answer whole is = tt
 
   of_root : (above : List ℕ) (whole : Deed) → AreFine (edits_in whole) → AreFine (edits_in (if_root above whole))
   of_root [] whole is = is
@@ -198,20 +194,16 @@ module _ (there : Catalog) (all : (key : CatKey) → IsFineRow key (there key)) 
   of_step (Some node) answer keys sound = of_root node.above _ (of_answer answer _ (of_asked (asked_of node.args) keys (sound node refl)))
 
 fine_start : (key : CatKey) → IsFineRow key (at_start key)
-fine_start (key_is.Table table) = tt
-fine_start (key_is.Region region) = tt
 fine_start (key_is.Ns ns) = by (bytes_eq ns (codes "default") || bytes_eq ns (codes "hbase"))
   where
     by : (b : Bool) → IsFineRow (key_is.Ns ns) (if b then Some row_is.Ns else None)
     by true = tt
     by false = tt
+fine_start key = tt
 
 -- a part of a base
 fine_part : (part : Part) (J : Past) → PartFits part J → (key : CatKey) (row : Option CatRow) → IsFineRow key row → IsFineRow key (part_row part key row)
 fine_part (part_is.Head entries last parts sheets) J fits key row is = tt
-fine_part (part_is.Server server fenced) J fits key row is = is
-fine_part (part_is.Root pid nonce args cause) J fits key row is = is
-fine_part (part_is.Layout pid) J fits key row is = is
 fine_part (part_is.Namespace ns) J fits key row is = changed_fine key (key_is.Ns ns) (Some row_is.Ns) row tt is
 fine_part (part_is.Region region range status parents place) J fits key row is = changed_fine key (key_is.Region region) (Some (row_is.Region range status parents)) row fits.3 is
 fine_part (part_is.Table table own state) J fits key row is = changed_fine key (key_is.Table table) (table_row state) row (by state fits.2) is
@@ -219,6 +211,7 @@ fine_part (part_is.Table table own state) J fits key row is = changed_fine key (
     by : (o : Option (TableState × ℕ)) → ((b : TableState × ℕ) → o ≡ Some b → (cat J (key_is.Ns table.ns) ≡ None → ⊥) × IsSteady b.0) → IsFineRow (key_is.Table table) (table_row o)
     by None fine = tt
     by (Some b) fine = (fine b refl).1
+fine_part part J fits key row is = is
 
 pub fine_rows : (J : Past) → IsLegal J → (key : CatKey) → IsFineRow key (serial J key)
 fine_rows [] legal key = fine_start key

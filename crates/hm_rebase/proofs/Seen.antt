@@ -144,12 +144,10 @@ act_same act_is.CloseRegions next at to s = ap (λ x. close_regions next x at.ro
 act_same act_is.SetDisabled next at to s = ap (λ x. set_state state_is.Disabled next x at.rows) s.args ∙ ap (λ x. set_state state_is.Disabled next to.args x) s.rows
 act_same act_is.SetVersion next at to s = ap (λ x. set_version next x at.rows) s.args ∙ ap (λ x. set_version next to.args x) s.rows
 act_same act_is.CheckSplit next at to s = ap (λ x. check_split next x at.rows) s.args ∙ ap (λ x. check_split next to.args x) s.rows
-act_same act_is.CloseParent next at to s = ap (λ x. close_parents next x) s.args
 act_same act_is.UpdateSplitMeta next at to s = ap (λ x. update_split_meta next x at.rows) s.args ∙ ap (λ x. update_split_meta next to.args x) s.rows
 act_same act_is.OpenDaughters next at to s = ap (λ x. open_new 2 next x) s.args
 act_same act_is.Finish next at to s = refl
 act_same act_is.CheckMerge next at to s = ap (λ x. check_merge next x at.rows) s.args ∙ ap (λ x. check_merge next to.args x) s.rows
-act_same act_is.CloseParents next at to s = ap (λ x. close_parents next x) s.args
 act_same act_is.UpdateMergeMeta next at to s = ap (λ x. update_merge_meta next x at.rows) s.args ∙ ap (λ x. update_merge_meta next to.args x) s.rows
 act_same act_is.OpenMerged next at to s = ap (λ x. open_new 1 next x) s.args
 act_same act_is.AddRegionRows next at to s = ap (λ x. add_region_rows next x at.rows) s.args ∙ ap (λ x. add_region_rows next to.args x) s.rows
@@ -169,6 +167,7 @@ act_same act_is.CallFence next at to s = ap (λ x. call_fence next x) s.args
 act_same act_is.CallLayout next at to s = ap (λ x. call_layout next x) s.args
 act_same act_is.SettleLayout next at to s = ap (λ x. settle_layout x) s.report
 act_same act_is.CallSweep next at to s = ap (λ x. call_sweep next x) s.args
+act_same act next at to s = ap (λ x. close_parents next x) s.args
 
 cut_same : (row : Row) (at to : StepIn) → Sees at to → is_cut_off row at ≡ is_cut_off row to
 cut_same row at to s = ap (λ b. b && not row.after) s.aborted

@@ -40,31 +40,22 @@ use Rattle.hm_rebase.proofs.Still.{still}
 
 -- a part comes before that of a server
 abbrev pub Leads : Part → Server → Type 0
-Leads (part_is.Head entries last parts sheets) server = Unit {0}
-Leads (part_is.Namespace ns) server = Unit {0}
-Leads (part_is.Table table own row) server = Unit {0}
-Leads (part_is.Region region range status parents place) server = Unit {0}
 Leads (part_is.Server own fenced) server = server_cmp own server ≡ Less
 Leads (part_is.Root pid nonce args cause) server = ⊥
 Leads (part_is.Layout pid) server = ⊥
+Leads part server = Unit {0}
 
 early_leads : (own : Part) (server : Server) → IsEarly own → Leads own server
-early_leads (part_is.Head entries last parts sheets) server early = tt
-early_leads (part_is.Namespace ns) server early = tt
-early_leads (part_is.Table table own row) server early = tt
-early_leads (part_is.Region region range status parents place) server early = tt
 early_leads (part_is.Server own fenced) server early = absurd early
 early_leads (part_is.Root pid nonce args cause) server early = absurd early
 early_leads (part_is.Layout pid) server early = absurd early
+early_leads part server early = tt
 
 rises_server : (own : Part) (server : Server) (fenced : Bool) → Leads own server → rises own (part_is.Server server fenced) ≡ true
-rises_server (part_is.Head entries last parts sheets) server fenced h = refl
-rises_server (part_is.Namespace ns) server fenced h = refl
-rises_server (part_is.Table table own row) server fenced h = refl
-rises_server (part_is.Region region range status parents place) server fenced h = refl
 rises_server (part_is.Server own gone) server fenced h = ap is_lt h
 rises_server (part_is.Root pid nonce args cause) server fenced h = absurd h
 rises_server (part_is.Layout pid) server fenced h = absurd h
+rises_server part server fenced h = refl
 
 -- no root or layout
 abbrev pub IsMiddle : Part → Type 0
@@ -73,13 +64,9 @@ IsMiddle (part_is.Layout pid) = ⊥
 IsMiddle part = Unit {0}
 
 early_middle : (own : Part) → IsEarly own → IsMiddle own
-early_middle (part_is.Head entries last parts sheets) early = tt
-early_middle (part_is.Namespace ns) early = tt
-early_middle (part_is.Table table own row) early = tt
-early_middle (part_is.Region region range status parents place) early = tt
-early_middle (part_is.Server own fenced) early = tt
 early_middle (part_is.Root pid nonce args cause) early = absurd early
 early_middle (part_is.Layout pid) early = absurd early
+early_middle part early = tt
 
 twice : (b : Bool) → not (not b) ≡ b
 twice true = refl

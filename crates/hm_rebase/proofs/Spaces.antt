@@ -193,12 +193,8 @@ module _ (there : Catalog) (has : HasSpaces there) where
   of_asked (Some asked) keys listed = of_request asked.request asked.first keys listed
 
   of_answer : (answer : Answer) (whole : Deed) → HasSpaces (Then (edits_in whole)) → HasSpaces (Then (edits_in (at_end answer whole)))
-  of_answer (answer_is.More n) whole is = has
-  of_answer (answer_is.Wait n) whole is = has
-  of_answer (answer_is.Await n) whole is = has
   of_answer (answer_is.Done told) whole is = is
-  of_answer (answer_is.Fail cause) whole is = has
-  of_answer answer_is.Undone whole is = has
+  of_answer answer whole is = has
 
   of_root : (above : List ℕ) (whole : Deed) → HasSpaces (Then (edits_in whole)) → HasSpaces (Then (edits_in (if_root above whole)))
   of_root [] whole is = is
@@ -217,10 +213,6 @@ space (key_is.Region region) = []
 -- a part of a base
 table_part : (part : Part) (J : Past) → PartFits part J → (there : Catalog) → ((key : CatKey) → cat J key ≡ there key) → HasSpaces there → HasSpaces (λ key. part_row part key (there key))
 table_part (part_is.Head entries last parts sheets) J fits there same has = λ t some. absurd (some refl)
-table_part (part_is.Server server fenced) J fits there same has = has
-table_part (part_is.Root pid nonce args cause) J fits there same has = has
-table_part (part_is.Layout pid) J fits there same has = has
-table_part (part_is.Region region range status parents place) J fits there same has = has
 table_part (part_is.Namespace ns) J fits there same has = λ t some. by t (bytes_eq t.ns ns) some
   where
     by : (t : TableName) (b : Bool) → there (key_is.Table t) ≢ None → cond b (Some row_is.Ns) (there (key_is.Ns t.ns)) ≢ None
@@ -234,6 +226,7 @@ table_part (part_is.Table table own state) J fits there same has = λ t some. el
     by : (t : TableName) (o : Option (TableState × ℕ)) → ((b : TableState × ℕ) → o ≡ Some b → (cat J (key_is.Ns table.ns) ≡ None → ⊥) × ((b.0 ≡ state_is.Enabled) ⊎ (b.0 ≡ state_is.Disabled))) → there (key_is.Ns (space (key_is.Table t))) ≡ there (key_is.Ns (space (key_is.Table table))) → table_row o ≢ None → there (key_is.Ns t.ns) ≢ None
     by t None fine one h = absurd (h refl)
     by t (Some b) fine one h = λ e. (fine b refl).0 (same (key_is.Ns table.ns) ∙ sym one ∙ e)
+table_part part J fits there same has = has
 
 start_spaces : HasSpaces at_start
 start_spaces t some = absurd (some refl)

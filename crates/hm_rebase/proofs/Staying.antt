@@ -52,18 +52,14 @@ use Rattle.hm_rebase.proofs.Telling.{above, above_same, below, below_on, leaves_
 
 -- who was made stays as it is
 pub node_old : (entry : Entry) (J : Past) → is_part entry ≡ false → (p : ℕ) → p ≤ made J → node_of (entry ∷ J) p ≡ node_of J p
-node_old (entry_is.Start sheets) J other p le = refl
 node_old (entry_is.Submit nonce request) J other p le = cond-false (p == made J + 1) (Some (submitted J request p)) (node_of J p) (ne_eqb p (made J + 1) (λ e. omega (arith, le, e)))
 node_old (entry_is.Step pid pick out) J other p le =
     cond-false (nat_lt (made J) p) (children_of pid.0 (node_of J pid.0) (slice_get (args_in out.children) (p - made J - 1))) (node_of J p) (le-ltb (made J) p le)
 node_old (entry_is.Undo pid row out) J other p le =
     cond-false (nat_lt (made J) p) (option_map (λ args. root_node p args 1) (slice_get (args_in out.followers) (p - made J - 1))) (node_of J p) (le-ltb (made J) p le)
-node_old (entry_is.Report call told) J other p le = refl
-node_old (entry_is.Up server) J other p le = refl
 node_old (entry_is.Down server) J other p le = cond-false (p == made J + 1) (Some (root_node p (args_are.Crash server) 1)) (node_of J p) (ne_eqb p (made J + 1) (λ e. omega (arith, le, e)))
-node_old (entry_is.Abort pid) J other p le = refl
-node_old (entry_is.Adopt sheets) J other p le = refl
 node_old (entry_is.Base part) J other p le = absurd (true≢false other)
+node_old entry J other p le = refl
 
 -- who has ended stays so, where it makes no step
 ended_on : (entry : Entry) (J : Past) → IsLegal (entry ∷ J) → (p : ℕ) (node : Node) → node_of J p ≡ Some node → last_answer (entry ∷ J) p ≡ last_answer J p → ended J p ≡ true → ended (entry ∷ J) p ≡ true

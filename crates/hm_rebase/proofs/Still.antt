@@ -127,13 +127,8 @@ module _ (J : Past) (legal : IsLegal J) (none : under_way J ≡ 0) where
         }
       where
         opened : (state : RegionState) → is_state place_is.Opened (record { state = state; server = (place_of J region).server }) ≡ true → ◌≡◌ {A = Place} (record { state = state; server = (place_of J region).server }) (record { state = place_is.Opened; server = (place_of J region).server })
-        opened place_is.Offline on = absurd (false≢true on)
-        opened place_is.Opening on = absurd (false≢true on)
         opened place_is.Opened on = refl
-        opened place_is.Closing on = absurd (false≢true on)
-        opened place_is.Closed on = absurd (false≢true on)
-        opened place_is.FailedOpen on = absurd (false≢true on)
-        opened place_is.AbnormallyClosed on = absurd (false≢true on)
+        opened state on = absurd (false≢true on)
 
         enabled : (state : TableState) → state ≢ state_is.Disabled → (state ≡ state_is.Enabled) ⊎ (state ≡ state_is.Disabled) → state ≡ state_is.Enabled
         enabled state not_off (inl on) = on
@@ -151,13 +146,11 @@ module _ (J : Past) (legal : IsLegal J) (none : under_way J ≡ 0) where
         three a b c e f g = ap (λ x. x || (b || c)) e ∙ ap (λ x. x || c) f ∙ g
 
         by : (state : RegionState) (server : Option Server) → is_state place_is.Opening (record { state = state; server = server }) ≡ false → is_state place_is.Opened (record { state = state; server = server }) ≡ false → is_state place_is.Closing (record { state = state; server = server }) ≡ false → is_state place_is.FailedOpen (record { state = state; server = server }) ≡ false → IsClean state server → server ≡ None
-        by place_is.Offline server a b c d clean = clean
         by place_is.Opening server a b c d clean = absurd (true≢false a)
         by place_is.Opened server a b c d clean = absurd (true≢false b)
         by place_is.Closing server a b c d clean = absurd (true≢false c)
-        by place_is.Closed server a b c d clean = clean
         by place_is.FailedOpen server a b c d clean = absurd (true≢false d)
-        by place_is.AbnormallyClosed server a b c d clean = clean
+        by state server a b c d clean = clean
 
     pub place_stands : (region : Region) → IsIdle (place_of J region) ⊎ IsOpenAt region
     place_stands region = elim (cases_Bool (is_state place_is.Opened (place_of J region))) [

@@ -30,15 +30,7 @@ parts_none (x ∷ xs) = ap (λ l. x ∷ l) (parts_none xs)
 -- nonces of submissions
 pub nonce_old : (entry : Entry) (J : Past) → (p : ℕ) → p ≤ made J → nonce_of (entry ∷ J) p ≡ nonce_of J p
 nonce_old (entry_is.Submit nonce request) J p le = cond-false (p == made J + 1) nonce (nonce_of J p) (ne_eqb p (made J + 1) (λ e. omega (arith, le, e)))
-nonce_old (entry_is.Start sheets) J p le = refl
-nonce_old (entry_is.Step pid pick out) J p le = refl
-nonce_old (entry_is.Undo pid row out) J p le = refl
-nonce_old (entry_is.Report call told) J p le = refl
-nonce_old (entry_is.Up server) J p le = refl
-nonce_old (entry_is.Down server) J p le = refl
-nonce_old (entry_is.Abort pid) J p le = refl
-nonce_old (entry_is.Adopt sheets) J p le = refl
-nonce_old (entry_is.Base part) J p le = refl
+nonce_old entry J p le = refl
 
 -- an entry behind a base leaves its roots and its last number
 pub record LeavesBase (entry : Entry) (J : Past) : Type 0 where
@@ -47,16 +39,8 @@ pub record LeavesBase (entry : Entry) (J : Past) : Type 0 where
   pub grows : made J ≤ made (entry ∷ J)
 
 pub leaves_base : (entry : Entry) (J : Past) → is_part entry ≡ false → LeavesBase entry J
-leaves_base (entry_is.Start sheets) J other = record { roots = refl; base = refl; grows = omega arith }
-leaves_base (entry_is.Submit nonce request) J other = record { roots = refl; base = refl; grows = omega arith }
-leaves_base (entry_is.Step pid pick out) J other = record { roots = refl; base = refl; grows = omega arith }
-leaves_base (entry_is.Undo pid row out) J other = record { roots = refl; base = refl; grows = omega arith }
-leaves_base (entry_is.Report call told) J other = record { roots = refl; base = refl; grows = omega arith }
-leaves_base (entry_is.Up server) J other = record { roots = refl; base = refl; grows = omega arith }
-leaves_base (entry_is.Down server) J other = record { roots = refl; base = refl; grows = omega arith }
-leaves_base (entry_is.Abort pid) J other = record { roots = refl; base = refl; grows = omega arith }
-leaves_base (entry_is.Adopt sheets) J other = record { roots = refl; base = refl; grows = omega arith }
 leaves_base (entry_is.Base part) J other = absurd (true≢false other)
+leaves_base entry J other = record { roots = refl; base = refl; grows = omega arith }
 
 -- parts of the n numbers behind one
 gather : (ℕ → List Part) → ℕ → ℕ → List Part
@@ -145,12 +129,7 @@ rooted parts = flat_map (λ part. with_root part []) parts
 
 put_one : (part : Part) (roots : List Part) → with_root part roots ≡ roots ++ with_root part []
 put_one (part_is.Root pid nonce args why) roots = refl
-put_one (part_is.Head entries last more sheets) roots = sym (parts_none roots)
-put_one (part_is.Namespace ns) roots = sym (parts_none roots)
-put_one (part_is.Table table n row) roots = sym (parts_none roots)
-put_one (part_is.Region region range status parents place) roots = sym (parts_none roots)
-put_one (part_is.Server server fenced) roots = sym (parts_none roots)
-put_one (part_is.Layout pid) roots = sym (parts_none roots)
+put_one part roots = sym (parts_none roots)
 
 pub old_put : (P : Past) (parts : List Part) → old_roots (put P parts) ≡ old_roots P ++ rooted parts
 old_put P [] = sym (parts_none (old_roots P))

@@ -51,9 +51,5 @@ untold (entry_is.Undo pid row out ∷ J) legal p lt =
     record { tries = u.tries; stepped = u.stepped; failure = u.failure; left = cond-false (root_of J pid.0 == p) (rest_of (stack J p)) (stack J p) (root_low J legal.0 pid.0 p low) ∙ u.left }
 untold (entry_is.Submit nonce request ∷ J) legal p lt = let u = untold J legal.0 p (omega (arith, lt)) in record { tries = u.tries; stepped = u.stepped; failure = u.failure; left = u.left }
 untold (entry_is.Down server ∷ J) legal p lt = let u = untold J legal.0 p (omega (arith, lt)) in record { tries = u.tries; stepped = u.stepped; failure = u.failure; left = u.left }
-untold (entry_is.Start sheets ∷ J) legal p lt = let u = untold J legal.0 p lt in record { tries = u.tries; stepped = u.stepped; failure = u.failure; left = u.left }
-untold (entry_is.Report call told ∷ J) legal p lt = let u = untold J legal.0 p lt in record { tries = u.tries; stepped = u.stepped; failure = u.failure; left = u.left }
-untold (entry_is.Up server ∷ J) legal p lt = let u = untold J legal.0 p lt in record { tries = u.tries; stepped = u.stepped; failure = u.failure; left = u.left }
-untold (entry_is.Abort pid ∷ J) legal p lt = let u = untold J legal.0 p lt in record { tries = u.tries; stepped = u.stepped; failure = u.failure; left = u.left }
-untold (entry_is.Adopt sheets ∷ J) legal p lt = let u = untold J legal.0 p lt in record { tries = u.tries; stepped = u.stepped; failure = u.failure; left = u.left }
 untold (entry_is.Base part ∷ J) legal p lt = record { tries = refl; stepped = refl; failure = refl; left = refl }
+untold (entry ∷ J) legal p lt = let u = untold J legal.0 p lt in record { tries = u.tries; stepped = u.stepped; failure = u.failure; left = u.left }

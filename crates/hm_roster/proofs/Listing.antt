@@ -58,7 +58,6 @@ only_one own args (suc i) is = absurd (none-some args is)
 
 -- what an entry makes, by its place
 pub is_made : (entry : Entry) (J : Past) → IsLegal (entry ∷ J) → (i : ℕ) (args : Args) → slice_get (args_made J entry) i ≡ Some args → IsMadeOf J entry i args
-is_made (entry_is.Start sheets) J legal i args is = absurd (none-some args is)
 is_made (entry_is.Submit nonce request) J legal i args is =
     let one = only_one _ args i is in
     (submitted J request (made J + 1 + i), submit_new nonce request J (made J + 1 + i) (ap (λ k. made J + 1 + k) one.0 ∙ first_place J), one.1, refl)
@@ -75,40 +74,25 @@ is_made (entry_is.Undo pid row out) J legal i args is = (
   refl,
   refl,
 )
-is_made (entry_is.Report call told) J legal i args is = absurd (none-some args is)
-is_made (entry_is.Up server) J legal i args is = absurd (none-some args is)
 is_made (entry_is.Down server) J legal i args is =
     let one = only_one _ args i is in
     (root_node (made J + 1 + i) (args_are.Crash server) 1, down_new server J (made J + 1 + i) (ap (λ k. made J + 1 + k) one.0 ∙ first_place J), one.1, refl)
-is_made (entry_is.Abort pid) J legal i args is = absurd (none-some args is)
-is_made (entry_is.Adopt sheets) J legal i args is = absurd (none-some args is)
-is_made (entry_is.Base part) J legal i args is = absurd (none-some args is)
+is_made entry J legal i args is = absurd (none-some args is)
 
 -- how many there are after an entry
 pub made_more : (entry : Entry) (J : Past) → IsPlain entry → made (entry ∷ J) ≡ made J + length (args_made J entry)
-made_more (entry_is.Start sheets) J plain = omega arith
 made_more (entry_is.Submit nonce request) J plain = refl
 made_more (entry_is.Step pid pick out) J plain = refl
 made_more (entry_is.Undo pid row out) J plain = refl
-made_more (entry_is.Report call told) J plain = omega arith
-made_more (entry_is.Up server) J plain = omega arith
 made_more (entry_is.Down server) J plain = refl
-made_more (entry_is.Abort pid) J plain = omega arith
 made_more (entry_is.Adopt sheets) J plain = absurd plain
 made_more (entry_is.Base part) J plain = absurd plain
+made_more entry J plain = omega arith
 
 -- the parent of those that an entry makes hasn't ended
 pub made_parent : (entry : Entry) (J : Past) → IsLegal (entry ∷ J) → (pid : Pid) → parent_made entry ≡ Some pid → IsOpen J pid.0
-made_parent (entry_is.Start sheets) J legal pid is = absurd (none-some pid is)
-made_parent (entry_is.Submit nonce request) J legal pid is = absurd (none-some pid is)
 made_parent (entry_is.Step own pick out) J legal pid is = subst (λ (p : Pid). IsOpen J p.0) (same_Some own pid is) (go_open J legal.0 own.0 (inl legal.1.1.0))
-made_parent (entry_is.Undo own row out) J legal pid is = absurd (none-some pid is)
-made_parent (entry_is.Report call told) J legal pid is = absurd (none-some pid is)
-made_parent (entry_is.Up server) J legal pid is = absurd (none-some pid is)
-made_parent (entry_is.Down server) J legal pid is = absurd (none-some pid is)
-made_parent (entry_is.Abort own) J legal pid is = absurd (none-some pid is)
-made_parent (entry_is.Adopt sheets) J legal pid is = absurd (none-some pid is)
-made_parent (entry_is.Base part) J legal pid is = absurd (none-some pid is)
+made_parent entry J legal pid is = absurd (none-some pid is)
 
 -- who isn't there has no row
 no_row : (J : Past) (n : Option Server → ℕ) (roster : Roster) → IsLegal J → IsTied J n roster → (p : ℕ) → made J < p → row_of roster.rows p ≡ None

@@ -56,16 +56,8 @@ NumbersStay old new = (server : Server) (number : ℕ) → given_number old serv
 
 -- the parent of those that an entry makes
 abbrev pub parent_made : Entry → Option Pid
-parent_made (entry_is.Start sheets) = None
-parent_made (entry_is.Submit nonce request) = None
 parent_made (entry_is.Step pid pick out) = Some pid
-parent_made (entry_is.Undo pid row out) = None
-parent_made (entry_is.Report call told) = None
-parent_made (entry_is.Up server) = None
-parent_made (entry_is.Down server) = None
-parent_made (entry_is.Abort pid) = None
-parent_made (entry_is.Adopt sheets) = None
-parent_made (entry_is.Base part) = None
+parent_made entry = None
 
 -- an entry may follow that makes procedures which work on these, with this parent
 pub record Makes (before : Past) (entry : Entry) (works : List Args) (parent : Option Pid) : Type 0 where

@@ -39,7 +39,6 @@ has_within args (edit ∷ edits) key within h = elim h [ inl here ↦ ap (covers
 -- what a tree edits, its root covers
 pub edits_covered : EditsAreCovered
 edits_covered [] legal r key h = absurd h
-edits_covered (entry_is.Start sheets ∷ J) legal r key h = edits_covered J legal.0 r key h
 edits_covered (entry_is.Submit nonce request ∷ J) legal r key h =
     let c = edits_covered J legal.0 r key h in
     let grown = grown_all J legal.0 in
@@ -71,15 +70,12 @@ edits_covered (entry_is.Undo pid row out ∷ J) legal r key h =
           let c = edits_covered J legal.0 r key earlier in
           (c.0, on r c.0 c.1, c.2)
     ]
-edits_covered (entry_is.Report call told ∷ J) legal r key h = edits_covered J legal.0 r key h
-edits_covered (entry_is.Up server ∷ J) legal r key h = edits_covered J legal.0 r key h
 edits_covered (entry_is.Down server ∷ J) legal r key h =
     let c = edits_covered J legal.0 r key h in
     let grown = grown_all J legal.0 in
     (c.0, still J (entry_is.Down server ∷ J) (down_rooted server J grown) grown r c.0 c.1, c.2)
-edits_covered (entry_is.Abort pid ∷ J) legal r key h = edits_covered J legal.0 r key h
-edits_covered (entry_is.Adopt sheets ∷ J) legal r key h = edits_covered J legal.0 r key h
 edits_covered (entry_is.Base part ∷ J) legal r key h = elim h [ ]
+edits_covered (entry ∷ J) legal r key h = edits_covered J legal.0 r key h
 
 covered : (J : Past) → IsLegal J → (r : ℕ) (node : Node) → node_of J r ≡ Some node → (key : CatKey) → TreeEdits J r key ⊎ (covers node.args key ≡ true) → covers node.args key ≡ true
 covered J legal r node is key h = elim h [
@@ -116,7 +112,6 @@ other_open entry J legal r node at differs was_open ended =
     true≢false (sym ended ∙ ended_same J (entry ∷ J) r node at ((grown_all J legal.0).tops r node at.0 at.1) (others_stay entry J legal r node at.0 at.1 differs) (nodes_stay entry J legal) ∙ was_open)
 
 pub failure_leaves_all : FailureLeavesAll
-failure_leaves_all (entry_is.Start sheets) J legal r node is at_top was_open ended sick key h = absurd (true≢false (sym ended ∙ was_open))
 failure_leaves_all (entry_is.Submit nonce request) J legal r node is at_top was_open ended sick key h =
     let grown = grown_all J legal.0 in
     rooted_leaves J (entry_is.Submit nonce request ∷ J) (submit_rooted nonce request J grown) grown (falls_all J legal.0).falls r node (is, at_top) was_open sick (nothing_left (entry_is.Submit nonce request ∷ J) r ended sick) key (covered (entry_is.Submit nonce request ∷ J) legal r node is key h)
@@ -159,11 +154,8 @@ failure_leaves_all (entry_is.Undo pid row out) J legal r node is at_top was_open
       ]
       | inr new ↦ absurd (sick (a.falls.gone r (grown.numbered r new.4)).1)
     ]
-failure_leaves_all (entry_is.Report call told) J legal r node is at_top was_open ended sick key h = absurd (true≢false (sym ended ∙ was_open))
-failure_leaves_all (entry_is.Up server) J legal r node is at_top was_open ended sick key h = absurd (true≢false (sym ended ∙ was_open))
 failure_leaves_all (entry_is.Down server) J legal r node is at_top was_open ended sick key h =
     let grown = grown_all J legal.0 in
     rooted_leaves J (entry_is.Down server ∷ J) (down_rooted server J grown) grown (falls_all J legal.0).falls r node (is, at_top) was_open sick (nothing_left (entry_is.Down server ∷ J) r ended sick) key (covered (entry_is.Down server ∷ J) legal r node is key h)
-failure_leaves_all (entry_is.Abort pid) J legal r node is at_top was_open ended sick key h = absurd (true≢false (sym ended ∙ was_open))
-failure_leaves_all (entry_is.Adopt sheets) J legal r node is at_top was_open ended sick key h = absurd (true≢false (sym ended ∙ was_open))
 failure_leaves_all (entry_is.Base part) J legal r node is at_top was_open ended sick key h = absurd (none-some node is)
+failure_leaves_all entry J legal r node is at_top was_open ended sick key h = absurd (true≢false (sym ended ∙ was_open))

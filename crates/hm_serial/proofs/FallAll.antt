@@ -68,10 +68,9 @@ transits_rows goal [] = tt
 transits_rows goal (batch ∷ more) = ((λ id. refl), transits_rows goal more)
 
 followers_rows : (undo : Back) (args : Args) (root : Pid) → AllMade (λ own. rows_table own ≡ None) (undo_followers undo args root)
-followers_rows back_is.Nothing args root = tt
-followers_rows back_is.Edits args root = tt
 followers_rows back_is.Sweep args root = (refl, tt)
 followers_rows back_is.Reopen args root = transits_rows goal_is.Assign (batches (in_name_order (closed_by args)))
+followers_rows undo args root = tt
 
 module _ (pid : Pid) (row : ℕ) (out : StepOut) (J : Past) (legal : IsLegal (entry_is.Undo pid row out ∷ J)) (grown : Grown J) (falls : Falls J) where
   abbrev J' : Past
@@ -228,25 +227,16 @@ none_at J e p = ap (λ j. node_of j p) e
 
 kid_sound : (args : Args) → is_kid args ≡ true → IsRight args
 kid_sound (args_are.Root request first) k = absurd (false≢true k)
-kid_sound (args_are.Transit region goal to) k = tt
-kid_sound (args_are.Crash server) k = tt
-kid_sound (args_are.AddRegions table first bounds) k = tt
-kid_sound (args_are.DropRegions table ids) k = tt
-kid_sound (args_are.AssignCall region server) k = tt
-kid_sound (args_are.CloseCall region server) k = tt
-kid_sound (args_are.FenceCall server) k = tt
-kid_sound (args_are.LayoutCall root) k = tt
-kid_sound (args_are.SweepLayout root) k = tt
+kid_sound args k = tt
 
 transits_sound : (goal : Goal) (list : List Batch) → AllMade IsRight (map (λ batch. child_is.Transits batch.table batch.ids goal) list)
 transits_sound goal [] = tt
 transits_sound goal (batch ∷ more) = ((λ id. tt), transits_sound goal more)
 
 followers_sound : (undo : Back) (args : Args) (root : Pid) → AllMade IsRight (undo_followers undo args root)
-followers_sound back_is.Nothing args root = tt
-followers_sound back_is.Edits args root = tt
 followers_sound back_is.Sweep args root = (tt, tt)
 followers_sound back_is.Reopen args root = transits_sound goal_is.Assign (batches (in_name_order (closed_by args)))
+followers_sound undo args root = tt
 
 -- what stands aside of the tree that a step belongs to, or an undo
 pub step_aside : (pid : Pid) (pick : Option Server) (out : StepOut) (J : Past) (legal : IsLegal (entry_is.Step pid pick out ∷ J)) → All J → Aside J (step_of pid pick out J (grown_all J legal.0) legal).node.root (root_of_node J (grown_all J legal.0) pid.0 (step_of pid pick out J (grown_all J legal.0) legal).node (step_of pid pick out J (grown_all J legal.0) legal).node_is).0
@@ -349,14 +339,6 @@ falls_all (entry_is.Undo pid row out ∷ J) legal =
       apart = apart_back J (entry_is.Undo pid row out ∷ J) (undo_back pid row out J legal grown a.falls) a.apart;
       asked = asked_undo pid row out J legal a;
     }
-falls_all (entry_is.Report call told ∷ J) legal =
-    let a = falls_all J legal.0 in
-    let f = a.falls in
-    record { falls = record { fresh = f.fresh; gone = f.gone; tops = f.tops; kids = f.kids; belongs = f.belongs; near = f.near; safe = f.safe; bare = f.bare; tree = f.tree }; apart = a.apart; asked = a.asked }
-falls_all (entry_is.Up server ∷ J) legal =
-    let a = falls_all J legal.0 in
-    let f = a.falls in
-    record { falls = record { fresh = f.fresh; gone = f.gone; tops = f.tops; kids = f.kids; belongs = f.belongs; near = f.near; safe = f.safe; bare = f.bare; tree = f.tree }; apart = a.apart; asked = a.asked }
 falls_all (entry_is.Down server ∷ J) legal =
     let a = falls_all J legal.0 in
     let grown = grown_all J legal.0 in
@@ -367,14 +349,6 @@ falls_all (entry_is.Down server ∷ J) legal =
       apart = apart_back J (entry_is.Down server ∷ J) holds a.apart;
       asked = asked_down server J a.asked;
     }
-falls_all (entry_is.Abort pid ∷ J) legal =
-    let a = falls_all J legal.0 in
-    let f = a.falls in
-    record { falls = record { fresh = f.fresh; gone = f.gone; tops = f.tops; kids = f.kids; belongs = f.belongs; near = f.near; safe = f.safe; bare = f.bare; tree = f.tree }; apart = a.apart; asked = a.asked }
-falls_all (entry_is.Adopt sheets ∷ J) legal =
-    let a = falls_all J legal.0 in
-    let f = a.falls in
-    record { falls = record { fresh = f.fresh; gone = f.gone; tops = f.tops; kids = f.kids; belongs = f.belongs; near = f.near; safe = f.safe; bare = f.bare; tree = f.tree }; apart = a.apart; asked = a.asked }
 falls_all (entry_is.Base part ∷ J) legal = record {
   falls = record {
     fresh = λ r node top. absurd (none-some node top.0);
@@ -390,3 +364,7 @@ falls_all (entry_is.Base part ∷ J) legal = record {
   apart = λ s t x y h k differs clash. none-some x h.0.0;
   asked = λ q x is. absurd (none-some x is);
 }
+falls_all (entry ∷ J) legal =
+    let a = falls_all J legal.0 in
+    let f = a.falls in
+    record { falls = record { fresh = f.fresh; gone = f.gone; tops = f.tops; kids = f.kids; belongs = f.belongs; near = f.near; safe = f.safe; bare = f.bare; tree = f.tree }; apart = a.apart; asked = a.asked }

@@ -62,12 +62,7 @@ no_asks (args_are.Transit region goal to) t k (inr (inr (inr never))) = never
 no_asks (args_are.Root request first) t k among = false≢true k
 no_asks (args_are.Crash server) t k among = false≢true k
 no_asks (args_are.SweepLayout own) t k among = false≢true k
-no_asks (args_are.AddRegions table first bounds) t k among = among
-no_asks (args_are.DropRegions table ids) t k among = among
-no_asks (args_are.AssignCall region server) t k among = among
-no_asks (args_are.CloseCall region server) t k among = among
-no_asks (args_are.FenceCall server) t k among = among
-no_asks (args_are.LayoutCall own) t k among = among
+no_asks args t k among = among
 
 module _ (pid : Pid) (pick : Option Server) (out : StepOut) (J : Past) (grown : Grown J) (falls : Falls J) (step : StepFacts J pid.0 pick out) (d : Does J pid.0 step.node.args (last_answer J pid.0) step.sheet.rows out)
     (aside : Aside J step.node.root (root_of_node J grown pid.0 step.node step.node_is).0) where
@@ -284,13 +279,9 @@ module _ (pid : Pid) (pick : Option Server) (out : StepOut) (J : Past) (grown : 
   kid_twenty (args_are.AddRegions table first bounds) kid exact = inl refl
   kid_twenty (args_are.DropRegions table ids) kid exact = inr refl
   kid_twenty (args_are.Root request first) kid exact = absurd (false≢true kid)
-  kid_twenty (args_are.Transit region goal to) kid exact = cc
   kid_twenty (args_are.Crash server) kid exact = absurd (false≢true kid)
-  kid_twenty (args_are.AssignCall region server) kid exact = cc
-  kid_twenty (args_are.CloseCall region server) kid exact = cc
-  kid_twenty (args_are.FenceCall server) kid exact = cc
-  kid_twenty (args_are.LayoutCall own) kid exact = cc
   kid_twenty (args_are.SweepLayout own) kid exact = absurd (false≢true kid)
+  kid_twenty args kid exact = cc
 
   kid_could : step.node.above ≢ [] → MayFall J' step.node.root own_root.0 → MayFall J step.node.root own_root.0 × IsKept
   kid_could kid may =

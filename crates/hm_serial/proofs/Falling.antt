@@ -104,12 +104,11 @@ early_behind sheet [] place late leads = absurd (true≢false late)
 early_behind sheet (line ∷ lines) place late leads = (leads.0, leads.1, leads.2.1 ∙ late)
 
 goes_past : (rows : List Row) (first next : ℕ) (answer : Answer) → GoesTo next answer → ((row : Row) → slice_get rows next ≡ Some row → row.after ≡ true) → IsPast rows first answer
-goes_past rows first next (answer_is.More n) goes late runs row is = late row (ap (slice_get rows) (sym goes) ∙ is)
-goes_past rows first next (answer_is.Wait n) goes late runs row is = late row (ap (slice_get rows) (sym goes) ∙ is)
 goes_past rows first next (answer_is.Await n) goes late runs row is = absurd goes
 goes_past rows first next (answer_is.Done told) goes late runs row is = absurd (true≢false runs)
 goes_past rows first next (answer_is.Fail c) goes late runs row is = absurd (true≢false runs)
 goes_past rows first next answer_is.Undone goes late runs row is = absurd goes
+goes_past rows first next answer goes late runs row is = late row (ap (slice_get rows) (sym goes) ∙ is)
 
 -- what is known of the place of a row among the lines
 pub record Places (row : Row) (line : Line) (behind : List Line) : Type 0 where
@@ -185,11 +184,9 @@ edit_fine act e = absurd (false≢true e)
 
 telling_if : (act : Act) → (is_among (6 ∷ 9 ∷ 16 ∷ []) (act_number act) ≡ true) ⊎ ((act_number act == 29) ≡ true) → is_telling act ≡ true
 telling_if act_is.AddTable h = refl
-telling_if act_is.SetEnabling h = refl
-telling_if act_is.SetDisabling h = refl
-telling_if act_is.AddRegionRows h = refl
 telling_if act (inl h) = absurd (false≢true h)
 telling_if act (inr h) = absurd (false≢true h)
+telling_if act h = refl
 
 -- the only act of a procedure that adds regions' rows
 adds_only : (act : Act) → is_listed 20 act ≡ true → (act_number act == 29) ≡ true
@@ -217,12 +214,8 @@ adds_act act_is.AddRegionRows h = refl
 adds_act act h = absurd (false≢true h)
 
 waits_or_none : (answer : Answer) (children : List Rattle.hm_data.specs.declared.args.Child.Child) → Rattle.hm_model.proofs.PlainActs.ChildrenWait answer children → ((n : ℕ) × (answer ≡ answer_is.Wait n)) ⊎ (children ≡ [])
-waits_or_none (answer_is.More n) children h = inr h
 waits_or_none (answer_is.Wait n) children h = inl (n, refl)
-waits_or_none (answer_is.Await n) children h = inr h
-waits_or_none (answer_is.Done told) children h = inr h
-waits_or_none (answer_is.Fail c) children h = inr h
-waits_or_none answer_is.Undone children h = inr h
+waits_or_none answer children h = inr h
 
 module _ (J : Past) (p : ℕ) (pick : Option Server) (out : StepOut) (step : StepFacts J p pick out) (led : IsLedRow (kind_of step.node.args) step.sheet.rows step.row) (root : Args) (own : rows_table step.node.args ≡ None → root ≡ step.node.args) (belongs : (t : TableName) → rows_table step.node.args ≡ Some t → IsIn (exclusive (resource_is.Table t)) (asks root)) where
   at_row : StepIn

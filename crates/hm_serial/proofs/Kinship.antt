@@ -64,17 +64,10 @@ use Rattle.hm_kinds.proofs.Kids.{IsChildOf, made_at}
 -- a procedure that another one may have made
 abbrev pub is_kid : Args → Bool
 is_kid (args_are.Root request first) = false
-is_kid (args_are.Transit region goal_is.Assign to) = true
-is_kid (args_are.Transit region goal_is.Unassign to) = true
 is_kid (args_are.Transit region goal_is.Move to) = false
 is_kid (args_are.Crash server) = false
-is_kid (args_are.AddRegions table first bounds) = true
-is_kid (args_are.DropRegions table ids) = true
-is_kid (args_are.AssignCall region server) = true
-is_kid (args_are.CloseCall region server) = true
-is_kid (args_are.FenceCall server) = true
-is_kid (args_are.LayoutCall root) = true
 is_kid (args_are.SweepLayout root) = false
+is_kid args = true
 
 -- a descendant that may fail, and one that edits without an undo
 abbrev pub may_fail : Args → Bool
@@ -169,12 +162,7 @@ lined_kid J p root args sheet row out edits in_lines listed some (args_are.Layou
 lined_kid J p root args sheet row out edits in_lines listed some (args_are.FenceCall server) h = record { kid = refl; rows = λ t e. absurd (none-some t e); near = λ r e. absurd (none-some r e); safe = λ e. absurd (false≢true e); bare = λ e. absurd (false≢true e) }
 lined_kid J p root args sheet row out edits in_lines listed some (args_are.Transit region goal_is.Assign to) h = record { kid = refl; rows = λ t e. absurd (none-some t e); near = λ r e f. zero_five f; safe = λ e. absurd (false≢true e); bare = λ e. absurd (false≢true e) }
 lined_kid J p root args sheet row out edits in_lines listed some (args_are.Transit region goal_is.Unassign to) h = record { kid = refl; rows = λ t e. absurd (none-some t e); near = λ r e f. three_five f; safe = λ e. absurd (false≢true e); bare = λ e. absurd (false≢true e) }
-lined_kid J p root args sheet row out edits in_lines listed some (args_are.Transit region goal_is.Move to) h = absurd h
-lined_kid J p root args sheet row out edits in_lines listed some (args_are.Root request first) h = absurd h
-lined_kid J p root args sheet row out edits in_lines listed some (args_are.Crash server) h = absurd h
-lined_kid J p root args sheet row out edits in_lines listed some (args_are.AssignCall region server) h = absurd h
-lined_kid J p root args sheet row out edits in_lines listed some (args_are.CloseCall region server) h = absurd h
-lined_kid J p root args sheet row out edits in_lines listed some (args_are.SweepLayout own) h = absurd h
+lined_kid J p root args sheet row out edits in_lines listed some other h = absurd h
 
 -- a child of a crash
 crash_kid : (args : Args) (sheet : Sheet) (act : Act) (out : StepOut) → (is_among (37 ∷ 38 ∷ []) (act_number act) ≡ true) → (made : Args) → IsChildOf act args made → NewKid args sheet out made
@@ -184,25 +172,16 @@ crash_kid args sheet act out h (args_are.Transit region goal_is.Unassign to) k =
 crash_kid args sheet act out h (args_are.AddRegions table first bounds) k = absurd (false≢true (sym (ap (λ a. is_among (37 ∷ 38 ∷ []) (act_number a)) k.0) ∙ h))
 crash_kid args sheet act out h (args_are.DropRegions table ids) k = absurd (false≢true (sym (ap (λ a. is_among (37 ∷ 38 ∷ []) (act_number a)) k.0) ∙ h))
 crash_kid args sheet act out h (args_are.LayoutCall own) k = absurd (false≢true (sym (ap (λ a. is_among (37 ∷ 38 ∷ []) (act_number a)) k) ∙ h))
-crash_kid args sheet act out h (args_are.Transit region goal_is.Move to) k = absurd k
-crash_kid args sheet act out h (args_are.Root request first) k = absurd k
-crash_kid args sheet act out h (args_are.Crash server) k = absurd k
-crash_kid args sheet act out h (args_are.AssignCall region server) k = absurd k
-crash_kid args sheet act out h (args_are.CloseCall region server) k = absurd k
-crash_kid args sheet act out h (args_are.SweepLayout own) k = absurd k
+crash_kid args sheet act out h other k = absurd k
 
 -- a descendant that lists its rows adds or drops regions' rows
 pub kid_rows : (args : Args) → is_kid args ≡ true → exact_rows (kind_of args) ≡ [] → rows_table args ≡ None → ⊥
 kid_rows (args_are.AddRegions table first bounds) h e none = none-some table (sym none)
 kid_rows (args_are.DropRegions table ids) h e none = none-some table (sym none)
 kid_rows (args_are.Root request first) h e none = false≢true h
-kid_rows (args_are.Transit region goal to) h e none = cc
 kid_rows (args_are.Crash server) h e none = false≢true h
-kid_rows (args_are.AssignCall region server) h e none = cc
-kid_rows (args_are.CloseCall region server) h e none = cc
-kid_rows (args_are.FenceCall server) h e none = cc
-kid_rows (args_are.LayoutCall own) h e none = cc
 kid_rows (args_are.SweepLayout own) h e none = false≢true h
+kid_rows args h e none = cc
 
 -- rows of a transit at which it doesn't check
 late_move : (n : ℕ) (row : Row) → slice_get (exact_rows 10) n ≡ Some row → n ≢ 5 → (row.after ≡ true) × (is_check row.act ≡ false)
@@ -243,8 +222,7 @@ fine_confirm next server false = refl
 
 fine_behind : (goal : Goal) (told : Told) (place : Option Place) → IsFineOut (places (behind_close goal told) place)
 fine_behind goal_is.Assign told place = refl
-fine_behind goal_is.Unassign told place = refl
-fine_behind goal_is.Move told place = refl
+fine_behind goal told place = refl
 
 fine_close : (next : ℕ) (goal : Goal) (region : Region) (place : Place) (b : Bool) → IsFineOut (close_or_go next goal region place b)
 fine_close next goal region place true = fine_given place.server next (close_at next region) (λ server. refl)
@@ -343,29 +321,20 @@ module _ (J : Past) (p : ℕ) (pick : Option Server) (out : StepOut) (step : Ste
       let after = places.removes_late (drops_act step.row.act (ap (λ a. is_listed (kind_of a) step.row.act) (sym e) ∙ at.listed)) in
       absurd (none-some c (sym ((own_edits lined_here).late after).0 ∙ h))
   kid_lined_fails (args_are.Root request first) e kid exact c h = absurd (false≢true kid)
-  kid_lined_fails (args_are.Transit region goal to) e kid exact c h = cc
   kid_lined_fails (args_are.Crash server) e kid exact c h = absurd (false≢true kid)
-  kid_lined_fails (args_are.AssignCall region server) e kid exact c h = cc
-  kid_lined_fails (args_are.CloseCall region server) e kid exact c h = cc
-  kid_lined_fails (args_are.FenceCall server) e kid exact c h = cc
   kid_lined_fails (args_are.LayoutCall own) e kid exact c h = refl
   kid_lined_fails (args_are.SweepLayout own) e kid exact c h = absurd (false≢true kid)
+  kid_lined_fails args e kid exact c h = cc
 
   laying_fails : (args : Args) → is_laying args ≡ true → may_fail args ≡ true
   laying_fails (args_are.LayoutCall own) h = refl
   laying_fails args h = absurd (false≢true h)
 
   kid_not_crash : (args : Args) → is_kid args ≡ true → kind_of args ≡ 11 → ⊥
-  kid_not_crash (args_are.AddRegions table first bounds) h e = omega (arith, e)
-  kid_not_crash (args_are.DropRegions table ids) h e = omega (arith, e)
-  kid_not_crash (args_are.Transit region goal to) h e = omega (arith, e)
-  kid_not_crash (args_are.AssignCall region server) h e = omega (arith, e)
-  kid_not_crash (args_are.CloseCall region server) h e = omega (arith, e)
-  kid_not_crash (args_are.FenceCall server) h e = omega (arith, e)
-  kid_not_crash (args_are.LayoutCall own) h e = omega (arith, e)
   kid_not_crash (args_are.Root request first) h e = false≢true h
   kid_not_crash (args_are.Crash server) h e = false≢true h
   kid_not_crash (args_are.SweepLayout own) h e = false≢true h
+  kid_not_crash args h e = omega (arith, e)
 
   -- a descendant that fails is one that may
   pub kid_fails : is_kid step.node.args ≡ true → ((r : Region) → moved_by step.node.args ≡ Some r → row_of J p step.node ≢ 5) → (c : Cause) → failing out.answer ≡ Some c → may_fail step.node.args ≡ true
@@ -399,10 +368,9 @@ module _ (J : Past) (p : ℕ) (pick : Option Server) (out : StepOut) (step : Ste
       by (answer_is.More n) (inl same) not_five = λ e. not_five (sym same ∙ e)
       by (answer_is.More n) (inr zero_is) not_five = λ e. omega (arith, zero_is, e)
       by (answer_is.Wait n) same not_five = λ e. not_five (sym same ∙ e)
-      by (answer_is.Await n) near not_five = absurd near
       by (answer_is.Done told) near not_five = λ e. omega (arith, e)
       by (answer_is.Fail c) near not_five = λ e. omega (arith, e)
-      by answer_is.Undone near not_five = absurd near
+      by answer near not_five = absurd near
 
   adds_number : (act : Act) → is_listed 20 act ≡ true → is_among (29 ∷ 30 ∷ []) (act_number act) ≡ true
   adds_number act_is.AddRegionRows h = refl
@@ -416,13 +384,9 @@ module _ (J : Past) (p : ℕ) (pick : Option Server) (out : StepOut) (step : Ste
   kid_number (args_are.AddRegions table first bounds) act kid exact listed = adds_number act listed
   kid_number (args_are.DropRegions table ids) act kid exact listed = drops_number act listed
   kid_number (args_are.Root request first) act kid exact listed = absurd (false≢true kid)
-  kid_number (args_are.Transit region goal to) act kid exact listed = cc
   kid_number (args_are.Crash server) act kid exact listed = absurd (false≢true kid)
-  kid_number (args_are.AssignCall region server) act kid exact listed = cc
-  kid_number (args_are.CloseCall region server) act kid exact listed = cc
-  kid_number (args_are.FenceCall server) act kid exact listed = cc
-  kid_number (args_are.LayoutCall own) act kid exact listed = cc
   kid_number (args_are.SweepLayout own) act kid exact listed = absurd (false≢true kid)
+  kid_number args act kid exact listed = cc
 
   quiet_child : (act : Act) (args made : Args) → is_among (29 ∷ 30 ∷ []) (act_number act) ≡ true → IsChildOf act args made → (may_fail made ≡ false) × (is_bare made ≡ false)
   quiet_child act args (args_are.AddRegions table first bounds) h k = absurd (false≢true (sym (ap (λ a. is_among (29 ∷ 30 ∷ []) (act_number a)) k.0) ∙ h))
@@ -430,11 +394,7 @@ module _ (J : Past) (p : ℕ) (pick : Option Server) (out : StepOut) (step : Ste
   quiet_child act args (args_are.LayoutCall own) h k = absurd (false≢true (sym (ap (λ a. is_among (29 ∷ 30 ∷ []) (act_number a)) k) ∙ h))
   quiet_child act args (args_are.FenceCall server) h k = (refl, refl)
   quiet_child act args (args_are.Transit region goal to) h k = (refl, refl)
-  quiet_child act args (args_are.Root request first) h k = absurd k
-  quiet_child act args (args_are.Crash server) h k = absurd k
-  quiet_child act args (args_are.AssignCall region server) h k = absurd k
-  quiet_child act args (args_are.CloseCall region server) h k = absurd k
-  quiet_child act args (args_are.SweepLayout own) h k = absurd k
+  quiet_child act args other h k = absurd k
 
   caller_quiet : (made : Args) → is_caller made ≡ true → (may_fail made ≡ false) × (is_bare made ≡ false)
   caller_quiet (args_are.AssignCall region server) h = (refl, refl)

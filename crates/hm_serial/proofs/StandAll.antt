@@ -54,25 +54,16 @@ use Rattle.hm_serial.proofs.StandKid.{kid_here, kid_over, kid_serials}
 
 kid_sound : (args : Args) → is_kid args ≡ true → IsRight args
 kid_sound (args_are.Root request first) k = absurd (false≢true k)
-kid_sound (args_are.Transit region goal to) k = tt
-kid_sound (args_are.Crash server) k = tt
-kid_sound (args_are.AddRegions table first bounds) k = tt
-kid_sound (args_are.DropRegions table ids) k = tt
-kid_sound (args_are.AssignCall region server) k = tt
-kid_sound (args_are.CloseCall region server) k = tt
-kid_sound (args_are.FenceCall server) k = tt
-kid_sound (args_are.LayoutCall root) k = tt
-kid_sound (args_are.SweepLayout root) k = tt
+kid_sound args k = tt
 
 transits_sound : (goal : Goal) (list : List Batch) → AllMade IsRight (map (λ batch. child_is.Transits batch.table batch.ids goal) list)
 transits_sound goal [] = tt
 transits_sound goal (batch ∷ more) = ((λ id. tt), transits_sound goal more)
 
 followers_sound : (undo : Back) (args : Args) (root : Pid) → AllMade IsRight (undo_followers undo args root)
-followers_sound back_is.Nothing args root = tt
-followers_sound back_is.Edits args root = tt
 followers_sound back_is.Sweep args root = (tt, tt)
 followers_sound back_is.Reopen args root = transits_sound goal_is.Assign (batches (in_name_order (closed_by args)))
+followers_sound undo args root = tt
 
 stands_nothing : Stands []
 stands_nothing = record {
@@ -251,20 +242,11 @@ stands_all (entry_is.Start sheets ∷ J) legal =
 stands_all (entry_is.Submit nonce request ∷ J) legal = stands_submit nonce request J legal (stands_all J legal.0)
 stands_all (entry_is.Step pid pick out ∷ J) legal = stands_step pid pick out J legal (stands_all J legal.0)
 stands_all (entry_is.Undo pid row out ∷ J) legal = stands_undo pid row out J legal (stands_all J legal.0)
-stands_all (entry_is.Report call told ∷ J) legal =
-    let s = stands_all J legal.0 in
-    record { tree = λ r node h. plain_tree (entry_is.Report call told) J refl refl refl refl refl refl refl refl r node (s.tree r node h); settled = s.settled }
-stands_all (entry_is.Up server ∷ J) legal =
-    let s = stands_all J legal.0 in
-    record { tree = λ r node h. plain_tree (entry_is.Up server) J refl refl refl refl refl refl refl refl r node (s.tree r node h); settled = s.settled }
 stands_all (entry_is.Down server ∷ J) legal = stands_down server J legal (stands_all J legal.0)
-stands_all (entry_is.Abort pid ∷ J) legal =
-    let s = stands_all J legal.0 in
-    record { tree = λ r node h. plain_tree (entry_is.Abort pid) J refl refl refl refl refl refl refl refl r node (s.tree r node h); settled = s.settled }
-stands_all (entry_is.Adopt sheets ∷ J) legal =
-    let s = stands_all J legal.0 in
-    record { tree = λ r node h. plain_tree (entry_is.Adopt sheets) J refl refl refl refl refl refl refl refl r node (s.tree r node h); settled = s.settled }
 stands_all (entry_is.Base part ∷ J) legal = record {
   tree = λ r node h. absurd (none-some node h.0.0);
   settled = λ key free. ap (part_row part key) ((stands_all J legal.0).settled key (λ r node h. absurd (none-some node (sym (no_node part J legal.1.0 r) ∙ h.0.0))));
 }
+stands_all (entry ∷ J) legal =
+    let s = stands_all J legal.0 in
+    record { tree = λ r node h. plain_tree entry J refl refl refl refl refl refl refl refl r node (s.tree r node h); settled = s.settled }

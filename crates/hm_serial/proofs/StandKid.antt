@@ -116,14 +116,10 @@ module _ (pid : Pid) (pick : Option Server) (out : StepOut) (J : Past) (grown : 
   share : (args : Args) → step.node.args ≡ args → is_kid args ≡ true → failing out.answer ≡ None → DoesShare args out
   share (args_are.AddRegions table first bounds) e k fine = subst (DoesShare (args_are.AddRegions table first bounds)) (sym step.out_is) (uncut_so step.row (step_input J pid.0 step.node pick) (DoesShare (args_are.AddRegions table first bounds)) (λ f. adds_share table first bounds step.row.act (ap (λ a. Rattle.hm_model.proofs.ExactRows.is_listed (kind_of a) step.row.act) (sym e) ∙ listed_now (ap (λ a. exact_rows (kind_of a)) e)) step.row.next (step_input J pid.0 step.node pick) e) (ap (λ (o : StepOut). failing o.answer) (sym step.out_is) ∙ fine))
   share (args_are.DropRegions table ids) e k fine = subst (DoesShare (args_are.DropRegions table ids)) (sym step.out_is) (uncut_so step.row (step_input J pid.0 step.node pick) (DoesShare (args_are.DropRegions table ids)) (λ f. drops_share table ids step.row.act (ap (λ a. Rattle.hm_model.proofs.ExactRows.is_listed (kind_of a) step.row.act) (sym e) ∙ listed_now (ap (λ a. exact_rows (kind_of a)) e)) step.row.next (step_input J pid.0 step.node pick) e) (ap (λ (o : StepOut). failing o.answer) (sym step.out_is) ∙ fine))
-  share (args_are.Transit region goal to) e k fine = exact_share (args_are.Transit region goal to) e (λ h. cc) (λ key. refl)
-  share (args_are.AssignCall region server) e k fine = exact_share (args_are.AssignCall region server) e (λ h. cc) (λ key. refl)
-  share (args_are.CloseCall region server) e k fine = exact_share (args_are.CloseCall region server) e (λ h. cc) (λ key. refl)
-  share (args_are.FenceCall server) e k fine = exact_share (args_are.FenceCall server) e (λ h. cc) (λ key. refl)
-  share (args_are.LayoutCall own) e k fine = exact_share (args_are.LayoutCall own) e (λ h. cc) (λ key. refl)
   share (args_are.Root request first) e k fine = absurd (false≢true k)
   share (args_are.Crash server) e k fine = absurd (false≢true k)
   share (args_are.SweepLayout own) e k fine = absurd (false≢true k)
+  share args e k fine = exact_share args e (λ h. cc) (λ key. refl)
 
   where_now : (then : List Edit) → Where J R top (was J R) then → Where J' R top (was J' R) then
   where_now then (inl listed) = inl (record {

@@ -58,48 +58,32 @@ use Rattle.hm_serial.proofs.Stands.{At, IsListed, Pending, Stands, Tree, Where}
 
 -- a whole deed counts where the answer ends a root well
 pub at_end_none : (answer : Answer) (whole : Deed) → done_with (Some answer) ≡ None → at_end answer whole ≡ Ok []
-at_end_none (answer_is.More next) whole e = refl
-at_end_none (answer_is.Wait next) whole e = refl
-at_end_none (answer_is.Await next) whole e = refl
 at_end_none (answer_is.Done told) whole e = absurd (none-some told (sym e))
-at_end_none (answer_is.Fail c) whole e = refl
-at_end_none answer_is.Undone whole e = refl
+at_end_none answer whole e = refl
 
 at_end_done : (answer : Answer) (whole : Deed) (told : Told) → done_with (Some answer) ≡ Some told → at_end answer whole ≡ whole
-at_end_done (answer_is.More next) whole told e = absurd (none-some told e)
-at_end_done (answer_is.Wait next) whole told e = absurd (none-some told e)
-at_end_done (answer_is.Await next) whole told e = absurd (none-some told e)
 at_end_done (answer_is.Done own) whole told e = refl
-at_end_done (answer_is.Fail c) whole told e = absurd (none-some told e)
-at_end_done answer_is.Undone whole told e = absurd (none-some told e)
+at_end_done answer whole told e = absurd (none-some told e)
 
 pub done_fine : (answer : Answer) (told : Told) → done_with (Some answer) ≡ Some told → failing answer ≡ None
-done_fine (answer_is.More next) told e = refl
-done_fine (answer_is.Wait next) told e = refl
-done_fine (answer_is.Await next) told e = refl
-done_fine (answer_is.Done own) told e = refl
 done_fine (answer_is.Fail c) told e = absurd (none-some told e)
-done_fine answer_is.Undone told e = refl
+done_fine answer told e = refl
 
 stop_fine : (answer : Answer) → is_stop answer ≡ false → failing answer ≡ None
-stop_fine (answer_is.More next) e = refl
-stop_fine (answer_is.Wait next) e = refl
-stop_fine (answer_is.Await next) e = refl
 stop_fine (answer_is.Done own) e = absurd (true≢false e)
 stop_fine (answer_is.Fail c) e = absurd (true≢false e)
-stop_fine answer_is.Undone e = refl
+stop_fine answer e = refl
 
 pub some_told : (o : Option Told) → (o ≡ None) ⊎ ((told : Told) × (o ≡ Some told))
 some_told None = inl refl
 some_told (Some told) = inr (told, refl)
 
 goes_row : (next first : ℕ) (answer : Answer) → GoesTo next answer → is_stop answer ≡ false → row_after first (Some answer) ≡ next
-goes_row next first (answer_is.More n) goes runs = goes
-goes_row next first (answer_is.Wait n) goes runs = goes
 goes_row next first (answer_is.Await n) goes runs = absurd goes
 goes_row next first (answer_is.Done told) goes runs = absurd (true≢false runs)
 goes_row next first (answer_is.Fail c) goes runs = absurd (true≢false runs)
 goes_row next first answer_is.Undone goes runs = absurd goes
+goes_row next first answer goes runs = goes
 
 -- a step that isn't stopped, or is done, isn't cut off
 pub uncut_so : (row : Row) (at : StepIn) (P : StepOut → Type 0) → (failing (row_answer row at).answer ≡ None → P (act_answer row.act row.next at)) → failing (row_answer row at).answer ≡ None → P (row_answer row at)
@@ -113,14 +97,7 @@ uncut_so row at P each fine = by (is_cut_off row at) refl fine
 pub touches_rows : (args : Args) (key : CatKey) → touches args key ≡ true → (t : TableName) × (rows_table args ≡ Some t)
 touches_rows (args_are.AddRegions table first bounds) key on = (table, refl)
 touches_rows (args_are.DropRegions table ids) key on = (table, refl)
-touches_rows (args_are.Root request first) key on = absurd (false≢true on)
-touches_rows (args_are.Transit region goal to) key on = absurd (false≢true on)
-touches_rows (args_are.Crash server) key on = absurd (false≢true on)
-touches_rows (args_are.AssignCall region server) key on = absurd (false≢true on)
-touches_rows (args_are.CloseCall region server) key on = absurd (false≢true on)
-touches_rows (args_are.FenceCall server) key on = absurd (false≢true on)
-touches_rows (args_are.LayoutCall root) key on = absurd (false≢true on)
-touches_rows (args_are.SweepLayout root) key on = absurd (false≢true on)
+touches_rows args key on = absurd (false≢true on)
 
 module _ (pid : Pid) (pick : Option Server) (out : StepOut) (J : Past) (grown : Grown J) (falls : Falls J) (stands : Stands J) (step : StepFacts J pid.0 pick out) (d : Does J pid.0 step.node.args (last_answer J pid.0) step.sheet.rows out)
     (aside : Aside J step.node.root (root_of_node J grown pid.0 step.node step.node_is).0) (top : Node) (top_is : TopIs J step.node.root top) (apart : Aside J step.node.root top) where

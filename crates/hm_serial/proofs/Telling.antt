@@ -94,15 +94,12 @@ tells_all (entry_is.Undo pid row out ∷ J) legal r node h may =
           (λ key c. sym (within_others (top pid row out J legal grown a.falls).args out.edits (undo_within pid row out J legal grown a.falls) key ((undo_aside pid row out J legal a r node held differs key).0 (cover_guards node.args key c)) (cat J key)))
           (tells_all J legal.0 r node held could))
     ]
-tells_all (entry_is.Report call told ∷ J) legal r node h may = tells_all J legal.0 r node h may
-tells_all (entry_is.Up server ∷ J) legal r node h may = tells_all J legal.0 r node h may
 tells_all (entry_is.Down server ∷ J) legal r node h may =
     let grown = grown_all J legal.0 in
     let held = held_before J (entry_is.Down server ∷ J) (down_rooted server J grown) grown r node refl refl refl h in
     tells_all J legal.0 r node held (may_on (entry_is.Down server ∷ J) J r node refl refl (sym (sheets_stay (entry_is.Down server) J legal r node held.0.0)) may)
-tells_all (entry_is.Abort pid ∷ J) legal r node h may = tells_all J legal.0 r node h may
-tells_all (entry_is.Adopt sheets ∷ J) legal r node h may = tells_all J legal.0 r node h may
 tells_all (entry_is.Base part ∷ J) legal r node h may = absurd (none-some node h.0.0)
+tells_all (entry ∷ J) legal r node h may = tells_all J legal.0 r node h may
 
 pub undos_tell : UndosTell
 undos_tell pid row out J legal =

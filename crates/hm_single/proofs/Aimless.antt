@@ -75,10 +75,9 @@ module _ (pid : Pid) (pick : Option Server) (out : StepOut) (J : Past) (legal : 
 
 -- an undo
 followers_none : (undo : Back) (args : Args) (root : Pid) → AllMade NamesNone (undo_followers undo args root)
-followers_none back_is.Nothing args root = tt
-followers_none back_is.Edits args root = tt
 followers_none back_is.Sweep args root = (tt, tt)
 followers_none back_is.Reopen args root = sent_all NamesNone goal_is.Assign (λ region. refl) (batches (in_name_order (closed_by args)))
+followers_none undo args root = tt
 
 undo_aimless : (pid : Pid) (row : ℕ) (out : StepOut) (J : Past) → IsLegal (entry_is.Undo pid row out ∷ J) → AllAimless J → AllAimless (entry_is.Undo pid row out ∷ J)
 undo_aimless pid row out J legal before p x is = elim (le_or_lt p (made J)) [
@@ -106,13 +105,9 @@ root_aimless J root none before p x is = elim (cases_eq p (made J + 1)) [
 -- so it is in every legal journal
 pub aimless_all : (J : Past) → IsLegal J → AllAimless J
 aimless_all [] legal p x is = absurd (none-some x is)
-aimless_all (entry_is.Start sheets ∷ J) legal p x is = aimless_all J legal.0 p x is
 aimless_all (entry_is.Submit nonce request ∷ J) legal p x is = root_aimless J (submitted J request p) tt (aimless_all J legal.0) p x is
 aimless_all (entry_is.Step pid pick out ∷ J) legal p x is = step_aimless pid pick out J legal (aimless_all J legal.0) p x is
 aimless_all (entry_is.Undo pid row out ∷ J) legal p x is = undo_aimless pid row out J legal (aimless_all J legal.0) p x is
-aimless_all (entry_is.Report call told ∷ J) legal p x is = aimless_all J legal.0 p x is
-aimless_all (entry_is.Up server ∷ J) legal p x is = aimless_all J legal.0 p x is
 aimless_all (entry_is.Down server ∷ J) legal p x is = root_aimless J (root_node p (args_are.Crash server) 1) tt (aimless_all J legal.0) p x is
-aimless_all (entry_is.Abort pid ∷ J) legal p x is = aimless_all J legal.0 p x is
-aimless_all (entry_is.Adopt sheets ∷ J) legal p x is = aimless_all J legal.0 p x is
 aimless_all (entry_is.Base part ∷ J) legal p x is = absurd (none-some x is)
+aimless_all (entry ∷ J) legal p x is = aimless_all J legal.0 p x is

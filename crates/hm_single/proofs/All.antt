@@ -176,72 +176,51 @@ same_calm J J' made_is node last verb lasts steps places works causes stacks cal
 
 -- a place that a base may give
 abbrev pub Rested : RegionState → Option Server → Type 0
-Rested place_is.Offline server = Unit {0}
 Rested place_is.Opening server = ⊥
 Rested place_is.Opened server = (at : Server) × (server ≡ Some at)
 Rested place_is.Closing server = ⊥
-Rested place_is.Closed server = Unit {0}
 Rested place_is.FailedOpen server = ⊥
-Rested place_is.AbnormallyClosed server = Unit {0}
+Rested state server = Unit {0}
 
 may_rest : (place : Place) (status : Status) (table : TableState) → MayStand place status table → Rested place.state place.server
 may_rest place status table may = by place.state may
   where
     by : (state : RegionState) → ((is_placed (record place { state = state }) ≡ false) × (is_state place_is.FailedOpen (record place { state = state }) ≡ false) × (place.server ≡ None)) ⊎ ((is_state place_is.Opened (record place { state = state }) ≡ true) × (status ≡ status_is.Live) × (table ≡ state_is.Enabled) × (server : Server) × (place.server ≡ Some server)) → Rested state place.server
-    by place_is.Offline may = tt
-    by place_is.Closed may = tt
     by place_is.FailedOpen (inl off) = absurd (true≢false off.1)
     by place_is.FailedOpen (inr on) = absurd (false≢true on.0)
-    by place_is.AbnormallyClosed may = tt
     by place_is.Opening (inl off) = absurd (true≢false off.0)
     by place_is.Opening (inr on) = absurd (false≢true on.0)
     by place_is.Closing (inl off) = absurd (true≢false off.0)
     by place_is.Closing (inr on) = absurd (false≢true on.0)
     by place_is.Opened (inl off) = absurd (true≢false off.0)
     by place_is.Opened (inr on) = (on.3, on.4)
+    by state may = tt
 
 part_rests : (part : Part) (J : Past) → PartFits part J → (r : Region) → Rested (place_of J r).state (place_of J r).server → Rested (part_place part r (place_of J r)).state (part_place part r (place_of J r)).server
-part_rests (part_is.Head entries last parts sheets) J fits r was = was
-part_rests (part_is.Namespace ns) J fits r was = was
-part_rests (part_is.Table table own row) J fits r was = was
-part_rests (part_is.Server server fenced) J fits r was = was
-part_rests (part_is.Root pid nonce args cause) J fits r was = was
-part_rests (part_is.Layout pid) J fits r was = was
 part_rests (part_is.Region own range status parents given) J fits r was = by (same_region r own)
   where
     by : (b : Bool) → Rested (if b then given else place_of J r).state (if b then given else place_of J r).server
     by true = may_rest given status fits.4.0 fits.4.3
     by false = was
+part_rests part J fits r was = was
 
 pub base_rests : (J : Past) → IsLegal J → ends_parted J ≡ true → (r : Region) → Rested (place_of J r).state (place_of J r).server
 base_rests [] legal is r = tt
 base_rests (entry_is.Base part ∷ J) legal is r = part_rests part J legal.1.0 r (base_rests J legal.0 (by_parts (λ j. ends_parted j ≡ true) refl (λ own older. refl) part J legal.1.0) r)
-base_rests (entry_is.Start sheets ∷ J) legal is r = absurd (false≢true is)
-base_rests (entry_is.Submit nonce request ∷ J) legal is r = absurd (false≢true is)
-base_rests (entry_is.Step pid pick out ∷ J) legal is r = absurd (false≢true is)
-base_rests (entry_is.Undo pid row out ∷ J) legal is r = absurd (false≢true is)
-base_rests (entry_is.Report call told ∷ J) legal is r = absurd (false≢true is)
-base_rests (entry_is.Up server ∷ J) legal is r = absurd (false≢true is)
-base_rests (entry_is.Down server ∷ J) legal is r = absurd (false≢true is)
-base_rests (entry_is.Abort pid ∷ J) legal is r = absurd (false≢true is)
-base_rests (entry_is.Adopt sheets ∷ J) legal is r = absurd (false≢true is)
+base_rests (entry ∷ J) legal is r = absurd (false≢true is)
 
 rests : (J : Past) (r : Region) (place : Place) → based_place J r ≡ place → Rested place.state place.server → IsRest J r None place
 rests J r place based rested = by place.state place.server based rested
   where
     by : (state : RegionState) (server : Option Server) → based_place J r ≡ record { state = state; server = server } → Rested state server → AtRest J r None state server
-    by place_is.Offline server e h = λ s is. absurd (false≢true (ap (is_state place_is.Opened) (sym e ∙ is)))
     by place_is.Opening server e h = h
     by place_is.Opened server e h = (h.0, h.1, inr (refl, e ∙ ap (placed place_is.Opened) h.1))
     by place_is.Closing server e h = h
-    by place_is.Closed server e h = λ s is. absurd (false≢true (ap (is_state place_is.Opened) (sym e ∙ is)))
     by place_is.FailedOpen server e h = absurd h
-    by place_is.AbnormallyClosed server e h = λ s is. absurd (false≢true (ap (is_state place_is.Opened) (sym e ∙ is)))
+    by state server e h = λ s is. absurd (false≢true (ap (is_state place_is.Opened) (sym e ∙ is)))
 
 pub kept_all : (J : Past) → IsLegal J → Lasting J
 kept_all [] legal = kept_nothing
-kept_all (entry_is.Start sheets ∷ J) legal =
-    kept_calm J (entry_is.Start sheets ∷ J) (same_calm J (entry_is.Start sheets ∷ J) refl (λ p. refl) (λ p. refl) (λ p. refl) (λ r. refl) (λ p. refl) (λ r. refl) (λ r. refl) (λ p. refl) (λ p. refl) (λ p. refl) (omega arith) (λ p t h. h) (λ s h. h) (λ r. refl)) (grown_all J legal.0) (kept_all J legal.0)
 kept_all (entry_is.Submit nonce request ∷ J) legal =
     let grown = grown_all J legal.0 in
     kept_calm J (entry_is.Submit nonce request ∷ J) (submit_calm nonce request J grown) grown (kept_all J legal.0)
@@ -260,15 +239,9 @@ kept_all (entry_is.Report call told ∷ J) legal =
       | inl same ↦ absurd (none-some t (sym legal.1.1.0.1 ∙ ap (report_of J) (sym same) ∙ h))
       | inr differs ↦ cond-false (p == call.0) (Some told) (report_of J p) (ne_eqb p call.0 differs) ∙ h
     ]
-kept_all (entry_is.Up server ∷ J) legal =
-    kept_calm J (entry_is.Up server ∷ J) (same_calm J (entry_is.Up server ∷ J) refl (λ p. refl) (λ p. refl) (λ p. refl) (λ r. refl) (λ p. refl) (λ r. refl) (λ r. refl) (λ p. refl) (λ p. refl) (λ p. refl) (omega arith) (λ p t h. h) (λ s h. h) (λ r. refl)) (grown_all J legal.0) (kept_all J legal.0)
 kept_all (entry_is.Down server ∷ J) legal =
     let grown = grown_all J legal.0 in
     kept_calm J (entry_is.Down server ∷ J) (down_calm server J grown) grown (kept_all J legal.0)
-kept_all (entry_is.Abort pid ∷ J) legal =
-    kept_calm J (entry_is.Abort pid ∷ J) (same_calm J (entry_is.Abort pid ∷ J) refl (λ p. refl) (λ p. refl) (λ p. refl) (λ r. refl) (λ p. refl) (λ r. refl) (λ r. refl) (λ p. refl) (λ p. refl) (λ p. refl) (omega arith) (λ p t h. h) (λ s h. h) (λ r. refl)) (grown_all J legal.0) (kept_all J legal.0)
-kept_all (entry_is.Adopt sheets ∷ J) legal =
-    kept_calm J (entry_is.Adopt sheets ∷ J) (same_calm J (entry_is.Adopt sheets ∷ J) refl (λ p. refl) (λ p. refl) (λ p. refl) (λ r. refl) (λ p. refl) (λ r. refl) (λ r. refl) (λ p. refl) (λ p. refl) (λ p. refl) (omega arith) (λ p t h. h) (λ s h. h) (λ r. refl)) (grown_all J legal.0) (kept_all J legal.0)
 kept_all (entry_is.Base part ∷ J) legal = record {
   works = λ p r m going. absurd going;
   worker = λ p r is. absurd (none-some p is);
@@ -283,6 +256,8 @@ kept_all (entry_is.Base part ∷ J) legal = record {
   settled = λ r p is. absurd (none-some (verb_is.AssignRegion r) is);
   based = λ r server is. inr (inl refl);
 }
+kept_all (entry ∷ J) legal =
+    kept_calm J (entry ∷ J) (same_calm J (entry ∷ J) refl (λ p. refl) (λ p. refl) (λ p. refl) (λ r. refl) (λ p. refl) (λ r. refl) (λ r. refl) (λ p. refl) (λ p. refl) (λ p. refl) (omega arith) (λ p t h. h) (λ s h. h) (λ r. refl)) (grown_all J legal.0) (kept_all J legal.0)
 
 pub last_is_recorded : LastIsRecorded
 last_is_recorded J legal region p is = (grown_all J legal).last_is region p is

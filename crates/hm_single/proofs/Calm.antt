@@ -97,17 +97,11 @@ over false h = absurd (false≢true h)
 
 no_push : (undo : Back) (p row : ℕ) (edits : List Edit) → pushed undo true p row edits [] ≡ []
 no_push back_is.Nothing p row edits = refl
-no_push back_is.Edits p row edits = refl
-no_push back_is.Sweep p row edits = refl
-no_push back_is.Reopen p row edits = refl
+no_push undo p row edits = refl
 
 failed_rests : (answer : Answer) (c : Cause) → failing answer ≡ Some c → IsWaiting (Some answer) → ⊥
 failed_rests (answer_is.Wait n) c e w = none-some c e
-failed_rests (answer_is.More n) c e w = w
-failed_rests (answer_is.Await n) c e w = w
-failed_rests (answer_is.Done told) c e w = w
-failed_rests (answer_is.Fail cause) c e w = w
-failed_rests answer_is.Undone c e w = w
+failed_rests answer c e w = w
 
 module _ (pid : Pid) (pick : Option Server) (out : StepOut) (J : Past) (legal : IsLegal (entry_is.Step pid pick out ∷ J)) where
   abbrev J' : Past

@@ -103,8 +103,6 @@ among_table table test [] r h = elim h [ ]
 among_table table test ((key, row) ∷ rows) r h = by (λ k. among_table table test rows r k) key h
   where
     by : (IsIn r (regions_among table test rows) → r.table ≡ table) → (k : CatKey) → IsIn r (keep_region table test k row (regions_among table test rows)) → r.table ≡ table
-    by on (key_is.Ns ns) h = on h
-    by on (key_is.Table other) h = on h
     by on (key_is.Region region) h = at (same_table table region.table && test row) refl h
       where
         at : (b : Bool) → (same_table table region.table && test row) ≡ b → IsIn r (cond b (region ∷ regions_among table test rows) (regions_among table test rows)) → r.table ≡ table
@@ -113,6 +111,7 @@ among_table table test ((key, row) ∷ rows) r h = by (λ k. among_table table t
           | inl here ↦ ap (λ (x : Region). x.table) here ∙ sym (same_table-is table region.table (and_parts (same_table table region.table) (test row) e).0)
           | inr later ↦ on later
         ]
+    by on key h = on h
 
 in_numbers : (table : TableName) (r : Region) (first count : ℕ) → IsIn r (regions_in table (numbers_from first count)) → (first ≤ r.id) × (r.id < first + count)
 in_numbers table r first zero h = elim h [ ]
@@ -232,12 +231,9 @@ said_all (entry_is.Start sheets ∷ J) legal = λ root top request first at. abs
 said_all (entry_is.Submit nonce asked ∷ J) legal = let g = grown_all J legal.0 in calm_said J (entry_is.Submit nonce asked ∷ J) (submit_rooted nonce asked J g) g (grown_all (entry_is.Submit nonce asked ∷ J) legal) (said_all J legal.0)
 said_all (entry_is.Step pid pick out ∷ J) legal = step_said pid pick out J legal (said_all J legal.0)
 said_all (entry_is.Undo pid row out ∷ J) legal = let g = grown_all J legal.0 in calm_said J (entry_is.Undo pid row out ∷ J) (undo_rooted pid row out J g) g (grown_all (entry_is.Undo pid row out ∷ J) legal) (said_all J legal.0)
-said_all (entry_is.Report call told ∷ J) legal = said_all J legal.0
-said_all (entry_is.Up server ∷ J) legal = said_all J legal.0
 said_all (entry_is.Down server ∷ J) legal = let g = grown_all J legal.0 in calm_said J (entry_is.Down server ∷ J) (down_rooted server J g) g (grown_all (entry_is.Down server ∷ J) legal) (said_all J legal.0)
-said_all (entry_is.Abort pid ∷ J) legal = said_all J legal.0
-said_all (entry_is.Adopt sheets ∷ J) legal = said_all J legal.0
 said_all (entry_is.Base part ∷ J) legal = λ root top request first at. absurd (none-some top at.0)
+said_all (entry ∷ J) legal = said_all J legal.0
 
 -- a transit unassigns or assigns
 goals_differ : (region : Region) (to other : Option Server) → args_are.Transit region goal_is.Unassign to ≡ args_are.Transit region goal_is.Assign other → ⊥

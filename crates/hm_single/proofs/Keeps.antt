@@ -504,11 +504,9 @@ module _ (pid : Pid) (pick : Option Server) (out : StepOut) (J : Past) (grown : 
 
           by_wait : (a : Args) → slice_get (args_in out.children) (q - made J - 1) ≡ Some a → (answer : Answer) → Next J s (last_call J s) (set_place out.place (place_of J s)) out.children answer → IsWaiting (Some answer)
           by_wait a get (answer_is.Wait n) h = tt
-          by_wait a get (answer_is.More n) h = no_child a get h.1
           by_wait a get (answer_is.Await n) h = h
-          by_wait a get (answer_is.Done told) h = no_child a get h.1
-          by_wait a get (answer_is.Fail cause) h = no_child a get h.1
           by_wait a get answer_is.Undone h = h
+          by_wait a get answer h = no_child a get h.1
 
           the_child : (a own : Args) → slice_get (args_in out.children) (q - made J - 1) ≡ Some a → out.children ≡ child_is.One own ∷ [] → own ≡ a
           the_child a own get one = by_index (q - made J - 1) (ap (λ c. slice_get (args_in c) (q - made J - 1)) (sym one) ∙ get)
@@ -520,11 +518,9 @@ module _ (pid : Pid) (pick : Option Server) (out : StepOut) (J : Past) (grown : 
           by_next : (a : Args) → slice_get (args_in out.children) (q - made J - 1) ≡ Some a → caller_region a ≡ Some r → (answer : Answer) → Next J s (last_call J s) (set_place out.place (place_of J s)) out.children answer → s ≡ r
           by_next a get region (answer_is.Wait n) (inl h) = same_Some s r (ap caller_region (the_child a (args_are.AssignCall s h.1) get h.4) ∙ region)
           by_next a get region (answer_is.Wait n) (inr h) = same_Some s r (ap caller_region (the_child a (args_are.CloseCall s h.1) get h.4) ∙ region)
-          by_next a get region (answer_is.More n) h = absurd (no_child a get h.1)
           by_next a get region (answer_is.Await n) h = absurd h
-          by_next a get region (answer_is.Done told) h = absurd (no_child a get h.1)
-          by_next a get region (answer_is.Fail cause) h = absurd (no_child a get h.1)
           by_next a get region answer_is.Undone h = absurd h
+          by_next a get region answer h = absurd (no_child a get h.1)
 
   ran : (q : ℕ) → is_stopped (last_answer J' q) ≡ false → is_stopped (last_answer J q) ≡ false
   unfolding J'
@@ -839,9 +835,7 @@ module _ (pid : Pid) (pick : Option Server) (out : StepOut) (J : Past) (grown : 
           by_verb (verb_is.CloseRegion s) e on was =
               let same : s ≡ r = sym ((Rattle.hm_model.proofs.KeyTests.same_region-Decides r s).0 on) in
               close_settles r p (e ∙ ap (λ x. Some (verb_is.CloseRegion x)) same) was (kept.settled r p was)
-          by_verb (verb_is.Fence server) e on was = absurd (false≢true on)
-          by_verb (verb_is.Layout root) e on was = absurd (false≢true on)
-          by_verb (verb_is.Sweep root) e on was = absurd (false≢true on)
+          by_verb verb e on was = absurd (false≢true on)
 
   verbs_later : (p : ℕ) (verb : Verb) → verb_of J p ≡ Some verb → verb_of J' p ≡ Some verb
   verbs_later p verb is = (calls_later_now p verb is).0
@@ -884,9 +878,7 @@ module _ (pid : Pid) (pick : Option Server) (out : StepOut) (J : Past) (grown : 
           by_verb (verb_is.CloseRegion s) e on =
               let same : s ≡ r = sym ((Rattle.hm_model.proofs.KeyTests.same_region-Decides r s).0 on) in
               close_based r server (e ∙ ap (λ x. Some (verb_is.CloseRegion x)) same) based was
-          by_verb (verb_is.Fence peer) e on = absurd (false≢true on)
-          by_verb (verb_is.Layout root) e on = absurd (false≢true on)
-          by_verb (verb_is.Sweep root) e on = absurd (false≢true on)
+          by_verb verb e on = absurd (false≢true on)
 
   pub kept_step : Lasting (entry_is.Step pid pick out ∷ J)
   unfolding J'

@@ -266,13 +266,12 @@ module _ (u : TableName) (asked : CatKey → Bool) where
   live_here r range parents rows own = subst (λ b. IsIn r (cond (b && true) (r ∷ live_among u rows) (live_among u rows))) (sym (ap (same_table u) own ∙ same_table-refl u)) (inl refl)
 
   live_later : (key : CatKey) (row : CatRow) (rows : Rows) (r : Region) → IsIn r (live_among u rows) → IsIn r (live_among u ((key, row) ∷ rows))
-  live_later (key_is.Ns ns) row rows r at = at
-  live_later (key_is.Table other) row rows r at = at
   live_later (key_is.Region first) row rows r at = by (same_table u first.table && is_live_status (status_in (Some row)))
     where
       by : (b : Bool) → IsIn r (cond b (first ∷ live_among u rows) (live_among u rows))
       by true = inr at
       by false = at
+  live_later key row rows r at = at
 
   live_kept : (b : Bool) (key : CatKey) (o : Option CatRow) (rows : Rows) (r : Region) → IsIn r (live_among u rows) → IsIn r (live_among u (keep b key o rows))
   live_kept false key o rows r at = at
@@ -342,16 +341,8 @@ fill_late request first base line behind then h r stage late e = absurd (false�
 
 -- the first act of a request only tests
 pub first_tests : (request : Request) (act : Act) → Some act ≡ first_act (lines_of (request_kind request)) → is_edit act ≡ false
-first_tests (request_is.CreateNamespace ns) act is = ap is_edit (same_Some act _ is)
-first_tests (request_is.DropNamespace ns) act is = ap is_edit (same_Some act _ is)
-first_tests (request_is.CreateTable table keys) act is = ap is_edit (same_Some act _ is)
-first_tests (request_is.DeleteTable table) act is = ap is_edit (same_Some act _ is)
-first_tests (request_is.EnableTable table) act is = ap is_edit (same_Some act _ is)
-first_tests (request_is.DisableTable table) act is = ap is_edit (same_Some act _ is)
-first_tests (request_is.ModifyTable table version) act is = ap is_edit (same_Some act _ is)
-first_tests (request_is.SplitRegion region key) act is = ap is_edit (same_Some act _ is)
-first_tests (request_is.MergeRegions regions) act is = ap is_edit (same_Some act _ is)
 first_tests (request_is.Move region to) act is = absurd (none-some act (sym is))
+first_tests request act is = ap is_edit (same_Some act _ is)
 
 pub disable_edit : (table : TableName) (base : Catalog) (line : Line) (behind : List Line) (then : List Edit) → Disabling table base (line ∷ behind) then → is_edit line.act ≡ true → (line.act ≡ act_is.SetDisabling) ⊎ (line.act ≡ act_is.SetDisabled)
 disable_edit table base line behind then Disabling.begins e = absurd (false≢true e)
@@ -399,9 +390,8 @@ good_both region [] other g h = h
 good_both region (edit ∷ edits) other g h = (g.0, good_both region edits other g.1 h)
 
 region_in : CatKey → Option Region
-region_in (key_is.Ns ns) = None
-region_in (key_is.Table table) = None
 region_in (key_is.Region region) = Some region
+region_in key = None
 
 pub split_good : (there : Catalog) (own : Region) (key : List ℕ) (first : ℕ) (region : Region) → (region ≡ own → ⊥) → AllGood region (split_edits there own key first)
 unfolding region_in

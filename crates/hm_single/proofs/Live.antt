@@ -142,37 +142,15 @@ top_asks (args_are.Transit region goal to) t (inr (inr (inl same))) = absurd (fa
 top_asks (args_are.Transit region goal to) t (inr (inr (inr never))) = absurd never
 top_asks (args_are.Crash server) t (inl same) = absurd (false≢true (alone_over t _ same))
 top_asks (args_are.Crash server) t (inr never) = absurd never
-top_asks (args_are.AddRegions table first bounds) t among = absurd among
-top_asks (args_are.DropRegions table ids) t among = absurd among
-top_asks (args_are.AssignCall region server) t among = absurd among
-top_asks (args_are.CloseCall region server) t among = absurd among
-top_asks (args_are.FenceCall server) t among = absurd among
-top_asks (args_are.LayoutCall root) t among = absurd among
-top_asks (args_are.SweepLayout root) t among = absurd among
+top_asks args t among = absurd among
 
 pub creating_fills : (request : Request) (first : ℕ) → is_creating (args_are.Root request first) ≡ true → fills request ≡ true
 creating_fills (request_is.CreateTable table keys) first h = refl
-creating_fills (request_is.CreateNamespace ns) first h = absurd (false≢true h)
-creating_fills (request_is.DropNamespace ns) first h = absurd (false≢true h)
-creating_fills (request_is.DeleteTable table) first h = absurd (false≢true h)
-creating_fills (request_is.EnableTable table) first h = absurd (false≢true h)
-creating_fills (request_is.DisableTable table) first h = absurd (false≢true h)
-creating_fills (request_is.ModifyTable table version) first h = absurd (false≢true h)
-creating_fills (request_is.SplitRegion region key) first h = absurd (false≢true h)
-creating_fills (request_is.MergeRegions regions) first h = absurd (false≢true h)
-creating_fills (request_is.Move region to) first h = absurd (false≢true h)
+creating_fills request first h = absurd (false≢true h)
 
 pub deleting_rests : (request : Request) (first : ℕ) → is_deleting (args_are.Root request first) ≡ true → (fills request ≡ true) × (rests request ≡ true)
 deleting_rests (request_is.DeleteTable table) first h = (refl, refl)
-deleting_rests (request_is.CreateNamespace ns) first h = absurd (false≢true h)
-deleting_rests (request_is.DropNamespace ns) first h = absurd (false≢true h)
-deleting_rests (request_is.CreateTable table keys) first h = absurd (false≢true h)
-deleting_rests (request_is.EnableTable table) first h = absurd (false≢true h)
-deleting_rests (request_is.DisableTable table) first h = absurd (false≢true h)
-deleting_rests (request_is.ModifyTable table version) first h = absurd (false≢true h)
-deleting_rests (request_is.SplitRegion region key) first h = absurd (false≢true h)
-deleting_rests (request_is.MergeRegions regions) first h = absurd (false≢true h)
-deleting_rests (request_is.Move region to) first h = absurd (false≢true h)
+deleting_rests request first h = absurd (false≢true h)
 
 module _ (pid : Pid) (pick : Option Server) (out : StepOut) (J : Past) (legal : IsLegal (entry_is.Step pid pick out ∷ J)) (live : AllFine J) (calm : AllCalm J) where
   abbrev J' : Past
@@ -243,14 +221,7 @@ module _ (pid : Pid) (pick : Option Server) (out : StepOut) (J : Past) (legal : 
         by (args_are.AddRegions table from bounds) e = unless (creating_fills asked.0 asked.1 (ap is_creating (sym asked.2) ∙ tidy.adds pid.0 its.node its.node_is refl table from bounds e))
             (inl (all.falls.safe pid.0 its.node its.node_is kid (ready_stops J pid.0 its.node (last_answer J pid.0) its.ready) (ap Rattle.hm_serial.proofs.Kinship.may_fail e) node top.0))
         by (args_are.DropRegions table ids) e = (let d = deleting_rests asked.0 asked.1 (ap is_deleting (sym asked.2) ∙ tidy.drops pid.0 its.node its.node_is refl table ids e) in unless d.0 (inr d.1))
-        by (args_are.Root request first) e = absurd (none-some t (sym (ap rows_table e) ∙ rows))
-        by (args_are.Transit moved goal to) e = absurd (none-some t (sym (ap rows_table e) ∙ rows))
-        by (args_are.Crash server) e = absurd (none-some t (sym (ap rows_table e) ∙ rows))
-        by (args_are.AssignCall moved server) e = absurd (none-some t (sym (ap rows_table e) ∙ rows))
-        by (args_are.CloseCall moved server) e = absurd (none-some t (sym (ap rows_table e) ∙ rows))
-        by (args_are.FenceCall server) e = absurd (none-some t (sym (ap rows_table e) ∙ rows))
-        by (args_are.LayoutCall root) e = absurd (none-some t (sym (ap rows_table e) ∙ rows))
-        by (args_are.SweepLayout root) e = absurd (none-some t (sym (ap rows_table e) ∙ rows))
+        by args e = absurd (none-some t (sym (ap rows_table e) ∙ rows))
 
   -- a root's own edits
   module _ (e : its.node.above ≡ []) (request : Request) (first : ℕ) (args_is : its.node.args ≡ args_are.Root request first) (listed : exact_rows (request_kind request) ≡ []) (edit : is_edit its.row.act ≡ true) (acts : out ≡ act_answer its.row.act its.row.next (step_input J pid.0 its.node pick)) (region : Region) (placed : is_placed (place_of J region) ≡ true) where
@@ -347,10 +318,6 @@ module _ (pid : Pid) (pick : Option Server) (out : StepOut) (J : Past) (legal : 
     ]
 
     by_request : (q : Request) → request ≡ q → IsFine J' region
-    by_request (request_is.CreateTable table keys) is = fills_fine (ap fills is)
-    by_request (request_is.DeleteTable table) is = fills_fine (ap fills is)
-    by_request (request_is.EnableTable table) is = fills_fine (ap fills is)
-    by_request (request_is.ModifyTable table version) is = fills_fine (ap fills is)
     by_request (request_is.CreateNamespace ns) is =
         let args = args_is ∙ ap (λ x. args_are.Root x first) is in
         uncovered its.node top_here region (ap (λ a. covers a (key_is.Region region)) args) (ap (λ a. covers a (key_is.Table region.table)) args) (live region placed)
@@ -402,6 +369,7 @@ module _ (pid : Pid) (pick : Option Server) (out : StepOut) (J : Past) (legal : 
             ap is_on (same_row its.node top_here (key_is.Table region.table) (ap (λ a. covers a (key_is.Table region.table)) args ∙ local_free (args_are.Root (request_is.MergeRegions regions) first) refl region.table)) ∙ fine.1,
           )
         ]
+    by_request request is = fills_fine (ap fills is)
 
   -- a root's step
   own_fine : its.node.above ≡ [] → (region : Region) → is_placed (place_of J region) ≡ true → IsFine J' region
@@ -423,13 +391,7 @@ module _ (pid : Pid) (pick : Option Server) (out : StepOut) (J : Past) (legal : 
       by (args_are.Root request first) is lined = listed_fine request first is (ap (λ a. exact_rows (kind_of a)) (sym is) ∙ lined)
       by (args_are.AddRegions table from bounds) is lined = absurd (none-some table (sym (all.falls.tops pid.0 its.node (its.node_is, e)) ∙ ap rows_table is))
       by (args_are.DropRegions table ids) is lined = absurd (none-some table (sym (all.falls.tops pid.0 its.node (its.node_is, e)) ∙ ap rows_table is))
-      by (args_are.Transit moved goal to) is lined = absurd (cons_nil _ _ (ap (λ a. exact_rows (kind_of a)) (sym is) ∙ lined))
-      by (args_are.Crash server) is lined = absurd (cons_nil _ _ (ap (λ a. exact_rows (kind_of a)) (sym is) ∙ lined))
-      by (args_are.AssignCall moved server) is lined = absurd (cons_nil _ _ (ap (λ a. exact_rows (kind_of a)) (sym is) ∙ lined))
-      by (args_are.CloseCall moved server) is lined = absurd (cons_nil _ _ (ap (λ a. exact_rows (kind_of a)) (sym is) ∙ lined))
-      by (args_are.FenceCall server) is lined = absurd (cons_nil _ _ (ap (λ a. exact_rows (kind_of a)) (sym is) ∙ lined))
-      by (args_are.LayoutCall root) is lined = absurd (cons_nil _ _ (ap (λ a. exact_rows (kind_of a)) (sym is) ∙ lined))
-      by (args_are.SweepLayout root) is lined = absurd (cons_nil _ _ (ap (λ a. exact_rows (kind_of a)) (sym is) ∙ lined))
+      by args is lined = absurd (cons_nil _ _ (ap (λ a. exact_rows (kind_of a)) (sym is) ∙ lined))
 
   step_fine : AllFine J'
   step_fine region placed = elim (cases_Bool (is_placed (place_of J region))) [
@@ -508,15 +470,7 @@ module _ (pid : Pid) (row : ℕ) (out : StepOut) (J : Past) (legal : IsLegal (en
     undo_at on (args_are.Root (request_is.SplitRegion parent key) first) is = local_fine _ is refl
     undo_at on (args_are.Root (request_is.MergeRegions regions) first) is = local_fine _ is refl
     undo_at on (args_are.Root (request_is.Move moved to) first) is = local_fine _ is refl
-    undo_at on (args_are.Transit moved goal to) is = local_fine _ is refl
-    undo_at on (args_are.Crash server) is = local_fine _ is refl
-    undo_at on (args_are.AddRegions table from bounds) is = local_fine _ is refl
-    undo_at on (args_are.DropRegions table ids) is = local_fine _ is refl
-    undo_at on (args_are.AssignCall moved server) is = local_fine _ is refl
-    undo_at on (args_are.CloseCall moved server) is = local_fine _ is refl
-    undo_at on (args_are.FenceCall server) is = local_fine _ is refl
-    undo_at on (args_are.LayoutCall call) is = local_fine _ is refl
-    undo_at on (args_are.SweepLayout call) is = local_fine _ is refl
+    undo_at on args is = local_fine _ is refl
 
   undo_fine : AllFine K
   undo_fine region placed = elim (cases_Bool (covers root.args (key_is.Table region.table))) [
@@ -538,10 +492,6 @@ on_all J live region placed = (live region placed).1
 
 part_fine : (part : Part) (J : Past) → IsLegal J → PartFits part J → AllFine J → AllFine (entry_is.Base part ∷ J)
 part_fine (part_is.Head entries last parts sheets) J legal fits was region placed = absurd (false≢true (ap (λ j. is_placed (place_of j region)) (sym fits.0) ∙ placed))
-part_fine (part_is.Namespace ns) J legal fits was region placed = was region placed
-part_fine (part_is.Server server fenced) J legal fits was region placed = was region placed
-part_fine (part_is.Root pid nonce args cause) J legal fits was region placed = was region placed
-part_fine (part_is.Layout pid) J legal fits was region placed = was region placed
 part_fine (part_is.Table own ids row) J legal fits was region placed = by (same_table region.table own) refl (was region placed)
   where
     by : (b : Bool) → same_table region.table own ≡ b → IsFine J region → IsFine (entry_is.Base (part_is.Table own ids row) ∷ J) region
@@ -563,19 +513,12 @@ part_fine (part_is.Region own range status parents given) J legal fits was regio
         let is = opens fits.4.3 (sym (ap (λ b. is_placed (if b then given else place_of J region)) e) ∙ on) in
         let table : cat J (key_is.Table region.table) ≡ Some (row_is.Table fits.4.0 fits.4.1) = ap (λ (r : Region). cat J (key_is.Table r.table)) (same_region-is region own e) ∙ fits.4.2 in
         rw e ((range, parents, ap (λ s. Some (row_is.Region range s parents)) is.0), ap is_on table ∙ ap (λ s. is_on (Some (row_is.Table s fits.4.1))) is.1)
+part_fine part J legal fits was region placed = was region placed
 
 parts_fine : (J : Past) → IsLegal J → ends_parted J ≡ true → AllFine J
 parts_fine [] legal is = λ region placed. absurd (false≢true placed)
 parts_fine (entry_is.Base part ∷ J) legal is = part_fine part J legal.0 legal.1.0 (parts_fine J legal.0 (by_parts (λ j. ends_parted j ≡ true) refl (λ own older. refl) part J legal.1.0))
-parts_fine (entry_is.Start sheets ∷ J) legal is = absurd (false≢true is)
-parts_fine (entry_is.Submit nonce request ∷ J) legal is = absurd (false≢true is)
-parts_fine (entry_is.Step pid pick out ∷ J) legal is = absurd (false≢true is)
-parts_fine (entry_is.Undo pid row out ∷ J) legal is = absurd (false≢true is)
-parts_fine (entry_is.Report call told ∷ J) legal is = absurd (false≢true is)
-parts_fine (entry_is.Up server ∷ J) legal is = absurd (false≢true is)
-parts_fine (entry_is.Down server ∷ J) legal is = absurd (false≢true is)
-parts_fine (entry_is.Abort pid ∷ J) legal is = absurd (false≢true is)
-parts_fine (entry_is.Adopt sheets ∷ J) legal is = absurd (false≢true is)
+parts_fine (entry ∷ J) legal is = absurd (false≢true is)
 
 pub fine_all : (J : Past) → IsLegal J → BothFine J
 fine_all [] legal = ((λ region placed. absurd (false≢true placed)), (λ r node request first holds. absurd (none-some node holds.0.0)))
@@ -590,8 +533,6 @@ fine_all (entry_is.Submit nonce asked ∷ J) legal =
     )
 fine_all (entry_is.Step pid pick out ∷ J) legal = (let b = fine_all J legal.0 in (step_fine pid pick out J legal b.0 b.1, step_calm pid pick out J legal (on_all J b.0) b.1))
 fine_all (entry_is.Undo pid row out ∷ J) legal = (let b = fine_all J legal.0 in (undo_fine pid row out J legal b.0 b.1, undo_calm pid row out J legal b.0 b.1))
-fine_all (entry_is.Report call told ∷ J) legal = (let b = fine_all J legal.0 in (b.0, (λ r node request first holds own_args h falls region c. b.1 r node request first holds own_args h falls region c)))
-fine_all (entry_is.Up server ∷ J) legal = (let b = fine_all J legal.0 in (b.0, (λ r node request first holds own_args h falls region c. b.1 r node request first holds own_args h falls region c)))
 fine_all (entry_is.Down server ∷ J) legal =
     let b = fine_all J legal.0 in
     let g = grown_all J legal.0 in (
@@ -600,9 +541,8 @@ fine_all (entry_is.Down server ∷ J) legal =
           let held = held_before J (entry_is.Down server ∷ J) (down_rooted server J g) g r node refl refl refl holds in
           b.1 r node request first held own_args h (elim falls [ inl f ↦ inl (may_on (entry_is.Down server ∷ J) J r node refl refl (sym (sheets_stay (entry_is.Down server) J legal r node held.0.0)) f) | inr rest ↦ inr rest ]) region c),
     )
-fine_all (entry_is.Abort pid ∷ J) legal = (let b = fine_all J legal.0 in (b.0, (λ r node request first holds own_args h falls region c. b.1 r node request first holds own_args h falls region c)))
-fine_all (entry_is.Adopt sheets ∷ J) legal = (let b = fine_all J legal.0 in (b.0, (λ r node request first holds own_args h falls region c. b.1 r node request first holds own_args h falls region c)))
 fine_all (entry_is.Base part ∷ J) legal = (parts_fine (entry_is.Base part ∷ J) legal refl, (λ r node request first holds. absurd (none-some node holds.0.0)))
+fine_all (entry ∷ J) legal = (let b = fine_all J legal.0 in (b.0, (λ r node request first holds own_args h falls region c. b.1 r node request first holds own_args h falls region c)))
 
 -- each region with a place is live, and its table there and not disabled
 pub all_live : PlacedLive

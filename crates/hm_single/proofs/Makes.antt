@@ -53,11 +53,7 @@ GoalIs act (args_are.Transit region goal to) = (makes act ≡ Some goal) × (to 
 GoalIs act (args_are.Crash server) = ⊥
 GoalIs act (args_are.AddRegions table first bounds) = act ≡ act_is.AddRegions
 GoalIs act (args_are.DropRegions table ids) = act ≡ act_is.DropRegions
-GoalIs act (args_are.AssignCall region server) = Unit {0}
-GoalIs act (args_are.CloseCall region server) = Unit {0}
-GoalIs act (args_are.FenceCall server) = Unit {0}
-GoalIs act (args_are.LayoutCall root) = Unit {0}
-GoalIs act (args_are.SweepLayout root) = Unit {0}
+GoalIs act args = Unit {0}
 
 module _ (P : Args → Type 0) where
   checked_all : (next : ℕ) (cause : Option Cause) → AllMade P (checked next cause).children
@@ -126,16 +122,4 @@ kids_goal act_is.AddRegionRows h next at = given_all (GoalIs act_is.AddRegionRow
 kids_goal act_is.DropRegionRows h next at = given_all (GoalIs act_is.DropRegionRows) (table_of at.args) next (λ table. edits_rows next (remove_regions (row_at at.rows) (regions_in table (ids_of at.args)))) (λ table. tt)
 kids_goal act_is.Fence h next at = given_all (GoalIs act_is.Fence) (server_of at.args) next (λ server. spawns next (child_is.One (args_are.FenceCall server) ∷ [])) (λ server. spawns_all (GoalIs act_is.Fence) next (child_is.One (args_are.FenceCall server) ∷ []) (tt, tt))
 kids_goal act_is.Reassign h next at = reassign_all_made (GoalIs act_is.Reassign) next (transits goal_is.Assign at.on_server) (sent_all (GoalIs act_is.Reassign) goal_is.Assign (λ region. (refl, refl)) (batches (in_name_order at.on_server)))
-kids_goal act_is.GetAssignCandidate h next at = absurd (false≢true h)
-kids_goal act_is.Open h next at = absurd (false≢true h)
-kids_goal act_is.ConfirmOpened h next at = absurd (false≢true h)
-kids_goal act_is.Close h next at = absurd (false≢true h)
-kids_goal act_is.ConfirmClosed h next at = absurd (false≢true h)
-kids_goal act_is.CheckMove h next at = absurd (false≢true h)
-kids_goal act_is.CallAssign h next at = absurd (false≢true h)
-kids_goal act_is.CallClose h next at = absurd (false≢true h)
-kids_goal act_is.Settle h next at = absurd (false≢true h)
-kids_goal act_is.CallFence h next at = absurd (false≢true h)
-kids_goal act_is.CallLayout h next at = absurd (false≢true h)
-kids_goal act_is.SettleLayout h next at = absurd (false≢true h)
-kids_goal act_is.CallSweep h next at = absurd (false≢true h)
+kids_goal act h next at = absurd (false≢true h)

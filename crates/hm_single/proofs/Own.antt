@@ -198,6 +198,4 @@ module _ (pid : Pid) (pick : Option Server) (out : StepOut) (J : Past) (legal : 
         by acts (answer_is.More n) e g = goes acts n (placed (answer_is.More n) e) (subst (GoesTo step.row.next) e g) (at (answer_is.More n) e)
         by acts (answer_is.Wait n) e g = goes acts n (placed (answer_is.Wait n) e) (subst (GoesTo step.row.next) e g) (at (answer_is.Wait n) e)
         by acts (answer_is.Await n) e g = absurd (subst (GoesTo step.row.next) e g)
-        by acts (answer_is.Done told) e g = absurd (ended_row runs.0 (at (answer_is.Done told) e))
-        by acts (answer_is.Fail c) e g = absurd (ended_row runs.0 (at (answer_is.Fail c) e))
-        by acts answer_is.Undone e g = absurd (ended_row runs.0 (at answer_is.Undone e))
+        by acts answer e g = absurd (ended_row runs.0 (at answer e))

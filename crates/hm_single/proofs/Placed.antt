@@ -29,13 +29,10 @@ rest_opened J r last place_is.Closing server rest h = absurd rest
 rest_opened J r last state server rest h = absurd (false≢true h)
 
 rest_void : (J : Past) (r : Region) (last : Option ℕ) (state : RegionState) (server : Option Server) → AtRest J r last state server → is_placed (record { state = state; server = server }) ≡ false → IsVoid J r last
-rest_void J r last place_is.Offline server rest h = rest
-rest_void J r last place_is.Closed server rest h = rest
-rest_void J r last place_is.FailedOpen server rest h = rest
-rest_void J r last place_is.AbnormallyClosed server rest h = rest
 rest_void J r last place_is.Opening server rest h = absurd rest
 rest_void J r last place_is.Closing server rest h = absurd rest
 rest_void J r last place_is.Opened server rest h = absurd (true≢false h)
+rest_void J r last state server rest h = rest
 
 module _ (J : Past) (region : Region) where
   -- the region is being opened or closed

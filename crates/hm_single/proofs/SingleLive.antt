@@ -69,29 +69,19 @@ ranged_all (edit ∷ edits) region row told before = ranged_all edits region (co
 -- the range that a journal gave a region last is that of its row
 range_now : (J : Past) (region : Region) → IsRanged (cat J (key_is.Region region)) (range_of J region)
 range_now [] region range is = absurd (none-some range is)
-range_now (entry_is.Start sheets ∷ J) region range is = range_now J region range is
-range_now (entry_is.Submit nonce request ∷ J) region range is = range_now J region range is
 range_now (entry_is.Step pid pick out ∷ J) region range is = ranged_all out.edits region (cat J (key_is.Region region)) (range_of J region) (range_now J region) range is
 range_now (entry_is.Undo pid row out ∷ J) region range is = ranged_all out.edits region (cat J (key_is.Region region)) (range_of J region) (range_now J region) range is
-range_now (entry_is.Report call told ∷ J) region range is = range_now J region range is
-range_now (entry_is.Up server ∷ J) region range is = range_now J region range is
-range_now (entry_is.Down server ∷ J) region range is = range_now J region range is
-range_now (entry_is.Abort pid ∷ J) region range is = range_now J region range is
-range_now (entry_is.Adopt sheets ∷ J) region range is = range_now J region range is
 range_now (entry_is.Base part ∷ J) region range is = part_range_now part (cat J (key_is.Region region)) (range_of J region) (range_now J region) range is
   where
     part_range_now : (part : Part) (row : Option CatRow) (told : Option KeyRange) → IsRanged row told → IsRanged (part_row part (key_is.Region region) row) (part_range part region told)
     part_range_now (part_is.Head entries last parts sheets) row told was = λ now is. absurd (none-some now is)
-    part_range_now (part_is.Namespace ns) row told was = was
-    part_range_now (part_is.Table table own state) row told was = was
-    part_range_now (part_is.Server server fenced) row told was = was
-    part_range_now (part_is.Root pid nonce args cause) row told was = was
-    part_range_now (part_is.Layout pid) row told was = was
     part_range_now (part_is.Region own range status parents place) row told was = by (same_region region own)
       where
         by : (b : Bool) → IsRanged (if b then Some (row_is.Region range status parents) else row) (if b then Some range else told)
         by true now is = ap Some (same_Some range now is)
         by false now is = was now is
+    part_range_now part row told was = was
+range_now (entry ∷ J) region range is = range_now J region range is
 
 live_range : (J : Past) (region : Region) (range : KeyRange) → IsLiveWith (cat J) region range → range_of J region ≡ Some range
 live_range J region range live = range_now J region range (ap range_in live.1)
@@ -177,13 +167,6 @@ step_single pid pick out J legal live = by out.call refl
 
 pub single_over : SingleOverRanges
 single_over [] legal = tt
-single_over (entry_is.Start sheets ∷ J) legal = single_over J legal.0
-single_over (entry_is.Submit nonce request ∷ J) legal = single_over J legal.0
 single_over (entry_is.Step pid pick out ∷ J) legal = (single_over J legal.0, step_single pid pick out J legal (all_live J legal.0))
-single_over (entry_is.Undo pid row out ∷ J) legal = single_over J legal.0
-single_over (entry_is.Report call told ∷ J) legal = single_over J legal.0
-single_over (entry_is.Up server ∷ J) legal = single_over J legal.0
-single_over (entry_is.Down server ∷ J) legal = single_over J legal.0
-single_over (entry_is.Abort pid ∷ J) legal = single_over J legal.0
-single_over (entry_is.Adopt sheets ∷ J) legal = single_over J legal.0
 single_over (entry_is.Base part ∷ J) legal = tt
+single_over (entry ∷ J) legal = single_over J legal.0

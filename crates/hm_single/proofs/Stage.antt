@@ -50,16 +50,9 @@ worked r own p old = cond (is_the_region r own) (Some p) old
 -- the latest transit that made a step on the region
 abbrev pub work_of : Past → Region → Option ℕ
 work_of [] r = None
-work_of (entry_is.Start sheets ∷ before) r = work_of before r
-work_of (entry_is.Submit nonce request ∷ before) r = work_of before r
 work_of (entry_is.Step pid pick out ∷ before) r = worked r (moved_if (node_of before pid.0)) pid.0 (work_of before r)
-work_of (entry_is.Undo pid row out ∷ before) r = work_of before r
-work_of (entry_is.Report call told ∷ before) r = work_of before r
-work_of (entry_is.Up server ∷ before) r = work_of before r
-work_of (entry_is.Down server ∷ before) r = work_of before r
-work_of (entry_is.Abort pid ∷ before) r = work_of before r
-work_of (entry_is.Adopt sheets ∷ before) r = work_of before r
 work_of (entry_is.Base part ∷ before) r = None
+work_of (entry ∷ before) r = work_of before r
 
 -- the child that a procedure's last step made first
 abbrev pub child_of_step : Past → ℕ → ℕ
@@ -72,16 +65,9 @@ StageFor J r (Some p) =
 
 -- the region of a procedure that calls a region server
 abbrev pub caller_region : Args → Option Region
-caller_region (args_are.Root request first) = None
-caller_region (args_are.Transit region goal to) = None
-caller_region (args_are.Crash server) = None
-caller_region (args_are.AddRegions table first bounds) = None
-caller_region (args_are.DropRegions table ids) = None
 caller_region (args_are.AssignCall region server) = Some region
 caller_region (args_are.CloseCall region server) = Some region
-caller_region (args_are.FenceCall server) = None
-caller_region (args_are.LayoutCall root) = None
-caller_region (args_are.SweepLayout root) = None
+caller_region args = None
 
 pub region_caller : (args : Args) (r : Region) → caller_region args ≡ Some r → is_caller args ≡ true
 region_caller (args_are.AssignCall region server) r is = refl
@@ -145,13 +131,10 @@ module _ (J J' : Past) (later : Later J J') where
   opened_later r last server (inr h) = inr (h.0, later.based r ∙ h.1)
 
   rest_at : (r : Region) (last : Option ℕ) (state : RegionState) (server : Option Server) → AtRest J r last state server → AtRest J' r last state server
-  rest_at r last place_is.Offline server h = void_later r last h
   rest_at r last place_is.Opening server h = h
   rest_at r last place_is.Opened server h = (h.0, h.1, opened_later r last h.0 h.2)
   rest_at r last place_is.Closing server h = h
-  rest_at r last place_is.Closed server h = void_later r last h
-  rest_at r last place_is.FailedOpen server h = void_later r last h
-  rest_at r last place_is.AbnormallyClosed server h = void_later r last h
+  rest_at r last state server h = void_later r last h
 
   pub rest_later : (r : Region) (last : Option ℕ) (place : Place) → IsRest J r last place → IsRest J' r last place
   rest_later r last place h = rest_at r last place.state place.server h
@@ -212,10 +195,9 @@ row_next J J' later p r place last (answer_is.Wait n) children q made answered f
 row_next J J' later p r place last (answer_is.Wait n) children q made answered fresh above (inr h) =
     let e = fresh (args_are.CloseCall r h.1) h.4 in
     inr (h.0, h.1, h.2, e.0, rw e.1 (opened_later J J' later r last h.1 h.3, above))
-row_next J J' later p r place last (answer_is.Await n) children q made answered fresh above h = h
 row_next J J' later p r place last (answer_is.Done told) children q made answered fresh above h = rest_later J J' later r last place h.0
 row_next J J' later p r place last (answer_is.Fail cause) children q made answered fresh above h = rest_later J J' later r last place h.0
-row_next J J' later p r place last answer_is.Undone children q made answered fresh above h = h
+row_next J J' later p r place last answer children q made answered fresh above h = h
 
 -- the call's step, seen from its transit
 module _ (J J' : Past) (later : Later J J') (q : ℕ) (args : Args) (server : Server) (verb : Verb) (out : StepOut) (caller : is_caller args ≡ true) (called : called_by args ≡ Some server) (last last' : Option ℕ) (Before After : Type 0)

@@ -108,14 +108,7 @@ module _ (pid : Pid) (pick : Option Server) (out : StepOut) (J : Past) (legal : 
     rows_none (args_are.AddRegions table from bounds) e = none_moves (creating_fills lone.0 lone.1 (ap is_creating (sym lone.2) ∙ tidy.adds pid.0 its.node its.node_is refl table from bounds e))
         (inl (all.falls.safe pid.0 its.node its.node_is kid (ready_stops J pid.0 its.node (last_answer J pid.0) its.ready) (ap may_fail e) top.0 top.1.0))
     rows_none (args_are.DropRegions table ids) e = (let d = deleting_rests lone.0 lone.1 (ap is_deleting (sym lone.2) ∙ tidy.drops pid.0 its.node its.node_is refl table ids e) in none_moves d.0 (inr d.1))
-    rows_none (args_are.Root request first) e = none-some t (sym (ap rows_table e) ∙ rows)
-    rows_none (args_are.Transit moved goal to) e = none-some t (sym (ap rows_table e) ∙ rows)
-    rows_none (args_are.Crash server) e = none-some t (sym (ap rows_table e) ∙ rows)
-    rows_none (args_are.AssignCall moved server) e = none-some t (sym (ap rows_table e) ∙ rows)
-    rows_none (args_are.CloseCall moved server) e = none-some t (sym (ap rows_table e) ∙ rows)
-    rows_none (args_are.FenceCall server) e = none-some t (sym (ap rows_table e) ∙ rows)
-    rows_none (args_are.LayoutCall root) e = none-some t (sym (ap rows_table e) ∙ rows)
-    rows_none (args_are.SweepLayout root) e = none-some t (sym (ap rows_table e) ∙ rows)
+    rows_none args e = none-some t (sym (ap rows_table e) ∙ rows)
 
   same_editless : its.node.root ≡ m.0.root → out.edits ≡ []
   same_editless mine = elim (kid_or_root pid pick out J grown all.falls its (does pid pick out J legal) aside) [
@@ -179,16 +172,10 @@ module _ (pid : Pid) (row : ℕ) (out : StepOut) (J : Past) (legal : IsLegal (en
 
 -- so it is after every entry
 pub steady : (entry : Entry) (J : Past) → IsLegal (entry ∷ J) → (q : ℕ) (region : Region) (m : Moves J q region) → IsGoing (last_answer J q) → (key : CatKey) → reads m.0.args key ≡ true → cat (entry ∷ J) key ≡ cat J key
-steady (entry_is.Start sheets) J legal q region m going key reading = refl
-steady (entry_is.Submit nonce request) J legal q region m going key reading = refl
 steady (entry_is.Step pid pick out) J legal q region m going key reading = step_steady pid pick out J legal q region m going key reading
 steady (entry_is.Undo pid row out) J legal q region m going key reading = undo_steady pid row out J legal q region m going key reading
-steady (entry_is.Report call told) J legal q region m going key reading = refl
-steady (entry_is.Up server) J legal q region m going key reading = refl
-steady (entry_is.Down server) J legal q region m going key reading = refl
-steady (entry_is.Abort pid) J legal q region m going key reading = refl
-steady (entry_is.Adopt sheets) J legal q region m going key reading = refl
 steady (entry_is.Base part) J legal q region m going key reading = absurd (none-some m.0 (sym (no_node part J legal.1.0 q) ∙ m.1))
+steady entry J legal q region m going key reading = refl
 
 -- so where its region may be opened, it may be still
 pub may_stay : (entry : Entry) (J : Past) → IsLegal (entry ∷ J) → (q : ℕ) (region : Region) → Moves J q region → IsGoing (last_answer J q)

@@ -59,11 +59,7 @@ rows_quiet kind none adds drops act (args_are.AddRegions table first bounds) h g
 rows_quiet kind none adds drops act (args_are.DropRegions table ids) h g = absurd (true≢false (sym h ∙ ap (is_listed kind) g ∙ drops))
 rows_quiet kind none adds drops act (args_are.Root request first) h g = absurd g
 rows_quiet kind none adds drops act (args_are.Crash server) h g = absurd g
-rows_quiet kind none adds drops act (args_are.AssignCall region server) h g = refl
-rows_quiet kind none adds drops act (args_are.CloseCall region server) h g = refl
-rows_quiet kind none adds drops act (args_are.FenceCall server) h g = refl
-rows_quiet kind none adds drops act (args_are.LayoutCall root) h g = refl
-rows_quiet kind none adds drops act (args_are.SweepLayout root) h g = refl
+rows_quiet kind none adds drops act args h g = refl
 
 adds_none : (act : Act) → is_listed 20 act ≡ true → makes act ≡ None
 adds_none act_is.AddRegionRows h = refl
@@ -74,16 +70,8 @@ drops_none act_is.DropRegionRows h = refl
 drops_none act h = absurd (false≢true h)
 
 pub lined_unmoved : (request : Request) → exact_rows (request_kind request) ≡ [] → moved_by_request request ≡ None
-lined_unmoved (request_is.CreateNamespace ns) e = refl
-lined_unmoved (request_is.DropNamespace ns) e = refl
-lined_unmoved (request_is.CreateTable table keys) e = refl
-lined_unmoved (request_is.DeleteTable table) e = refl
-lined_unmoved (request_is.EnableTable table) e = refl
-lined_unmoved (request_is.DisableTable table) e = refl
-lined_unmoved (request_is.ModifyTable table version) e = refl
-lined_unmoved (request_is.SplitRegion region key) e = refl
-lined_unmoved (request_is.MergeRegions regions) e = refl
 lined_unmoved (request_is.Move region to) e = absurd (cons_nil _ _ e)
+lined_unmoved request e = refl
 
 -- a step
 module _ (pid : Pid) (pick : Option Server) (out : StepOut) (J : Past) (legal : IsLegal (entry_is.Step pid pick out ∷ J)) where
@@ -125,13 +113,10 @@ module _ (pid : Pid) (pick : Option Server) (out : StepOut) (J : Past) (legal : 
         by (args_are.DropRegions table ids) e h =
             let exact : exact_rows (kind_of its.node.args) ≡ [] = ap (λ a. exact_rows (kind_of a)) e in
             rows_quiet 21 drops_none refl refl its.row.act made_it (ap (λ a. is_listed (kind_of a) its.row.act) (sym e) ∙ (led_now pid pick out J legal exact).listed) (goals pid pick out J legal exact i made_it at)
-        by (args_are.AssignCall region server) e h = absurd (false≢true (borne (args_are.AssignCall region server) e))
-        by (args_are.CloseCall region server) e h = absurd (false≢true (borne (args_are.CloseCall region server) e))
-        by (args_are.FenceCall server) e h = absurd (false≢true (borne (args_are.FenceCall server) e))
-        by (args_are.LayoutCall root) e h = absurd (false≢true (borne (args_are.LayoutCall root) e))
         by (args_are.SweepLayout root) e h = absurd (false≢true h)
         by (args_are.Root request first) e h = absurd (false≢true h)
         by (args_are.Crash server) e h = absurd (false≢true h)
+        by args e h = absurd (false≢true (borne args e))
 
     -- one that neither adds nor drops regions edits nothing
     pub kid_editless : rows_table its.node.args ≡ None → out.edits ≡ []
@@ -160,14 +145,7 @@ module _ (pid : Pid) (pick : Option Server) (out : StepOut) (J : Past) (legal : 
       by : (a : Args) → its.node.args ≡ a → rows_table a ≡ None
       by (args_are.AddRegions u from bounds) is = absurd (false≢true (sym (ap is_creating args) ∙ t.adds pid.0 its.node its.node_is refl u from bounds is))
       by (args_are.DropRegions u ids) is = absurd (false≢true (sym (ap is_deleting args) ∙ t.drops pid.0 its.node its.node_is refl u ids is))
-      by (args_are.Root asked from) is = refl
-      by (args_are.Transit region goal to) is = refl
-      by (args_are.Crash server) is = refl
-      by (args_are.AssignCall region server) is = refl
-      by (args_are.CloseCall region server) is = refl
-      by (args_are.FenceCall server) is = refl
-      by (args_are.LayoutCall root) is = refl
-      by (args_are.SweepLayout root) is = refl
+      by args is = refl
 
   step_tidy : AllTidy J → AllTidy J'
   step_tidy before r node request first top own listed = elim (cases_eq r its.node.root) [
@@ -253,11 +231,8 @@ tidy_all (entry_is.Undo pid row out ∷ J) legal r node request first top args l
       | inl same ↦ subst (Mild table) (sym (Rattle.std.proofs.lemmas.Bool.cond-true _ (rest_of (stack J k)) (stack J k) (Rattle.std.proofs.lemmas.Bool.eq-eqb (root_of J pid.0) k same))) (rest_mild table (stack J k) m)
       | inr differs ↦ subst (Mild table) (sym (cond-false _ (rest_of (stack J k)) (stack J k) (Rattle.std.proofs.lemmas.Bool.ne_eqb (root_of J pid.0) k differs))) m
     ]) (λ k none. ((falls_all J legal.0).falls.gone k none).0) (tidy_all J legal.0) r node request first top args listed
-tidy_all (entry_is.Report call told ∷ J) legal r node request first top args listed = let t = tidy_all J legal.0 r node request first top args listed in record { unassigns = t.unassigns; closed = t.closed; still = t.still; adds = t.adds; drops = t.drops; mild = t.mild }
-tidy_all (entry_is.Up server ∷ J) legal r node request first top args listed = let t = tidy_all J legal.0 r node request first top args listed in record { unassigns = t.unassigns; closed = t.closed; still = t.still; adds = t.adds; drops = t.drops; mild = t.mild }
 tidy_all (entry_is.Down server ∷ J) legal r node request first top args listed =
     let g = grown_all J legal.0 in
     rooted_tidy J (entry_is.Down server ∷ J) (down_rooted server J g) g (λ k. refl) (λ k. refl) (λ table k m. m) (λ k none. ((falls_all J legal.0).falls.gone k none).0) (tidy_all J legal.0) r node request first top args listed
-tidy_all (entry_is.Abort pid ∷ J) legal r node request first top args listed = let t = tidy_all J legal.0 r node request first top args listed in record { unassigns = t.unassigns; closed = t.closed; still = t.still; adds = t.adds; drops = t.drops; mild = t.mild }
-tidy_all (entry_is.Adopt sheets ∷ J) legal r node request first top args listed = let t = tidy_all J legal.0 r node request first top args listed in record { unassigns = t.unassigns; closed = t.closed; still = t.still; adds = t.adds; drops = t.drops; mild = t.mild }
 tidy_all (entry_is.Base part ∷ J) legal r node request first top args listed = absurd (none-some node top.0)
+tidy_all (entry ∷ J) legal r node request first top args listed = let t = tidy_all J legal.0 r node request first top args listed in record { unassigns = t.unassigns; closed = t.closed; still = t.still; adds = t.adds; drops = t.drops; mild = t.mild }

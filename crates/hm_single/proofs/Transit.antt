@@ -44,13 +44,10 @@ based_one J r s t one other = same_Some s t (ap (λ (p : Place). p.server) (sym 
 
 -- the last call of a region whose transit has ended, or is about to look at its place
 abbrev pub AtRest : Past → Region → Option ℕ → RegionState → Option Server → Type 0
-AtRest J r last place_is.Offline server = IsVoid J r last
 AtRest J r last place_is.Opening server = ⊥
 AtRest J r last place_is.Opened server = (at : Server) × (server ≡ Some at) × IsOpenedBy J r last at
 AtRest J r last place_is.Closing server = ⊥
-AtRest J r last place_is.Closed server = IsVoid J r last
-AtRest J r last place_is.FailedOpen server = IsVoid J r last
-AtRest J r last place_is.AbnormallyClosed server = IsVoid J r last
+AtRest J r last state server = IsVoid J r last
 
 abbrev pub IsRest : Past → Region → Option ℕ → Place → Type 0
 IsRest J r last place = AtRest J r last place.state place.server
@@ -106,10 +103,9 @@ Next J r last place children (answer_is.Wait n) =
     × (children ≡ child_is.One (args_are.AssignCall r server) ∷ []))
     ⊎ ((n ≡ 4) × (server : Server) × (place ≡ at_place place_is.Closing server) × IsOpenedBy J r last server
     × (children ≡ child_is.One (args_are.CloseCall r server) ∷ []))
-Next J r last place children (answer_is.Await n) = ⊥
 Next J r last place children (answer_is.Done told) = IsRest J r last place × (children ≡ [])
 Next J r last place children (answer_is.Fail cause) = IsRest J r last place × (children ≡ [])
-Next J r last place children answer_is.Undone = ⊥
+Next J r last place children answer = ⊥
 
 abbrev pub set_place : Option Place → Place → Place
 set_place None old = old
@@ -144,26 +140,20 @@ module _ (J : Past) (r : Region) (last : Option ℕ) where
 
   -- a region that isn't open, or is at a fenced server
   void_at : (state : RegionState) (server : Option Server) (fenced : Bool) → (fenced_if J server || false) ≡ fenced → AtRest J r last state server → is_open (record { state = state; server = server }) fenced ≡ false → IsVoid J r last
-  void_at place_is.Offline server fenced e rest h = rest
   void_at place_is.Opening server fenced e rest h = absurd rest
   void_at place_is.Opened server true e rest h = gone_void server e rest
   void_at place_is.Opened server false e rest h = absurd (true≢false h)
   void_at place_is.Closing server fenced e rest h = absurd rest
-  void_at place_is.Closed server fenced e rest h = rest
-  void_at place_is.FailedOpen server fenced e rest h = rest
-  void_at place_is.AbnormallyClosed server fenced e rest h = rest
+  void_at state server fenced e rest h = rest
 
   -- the region's row isn't live, or its table isn't enabled
   leave_step : (state : RegionState) (server : Option Server) (fenced : Bool) → (fenced_if J server || false) ≡ fenced → AtRest J r last state server
       → Leaves J r last (record { state = state; server = server }) (places (answer_is.Done told_is.Nothing) (lost_if (is_placed (record { state = state; server = server }) && fenced)))
-  leave_step place_is.Offline server fenced e rest = leaves_places _ _ None (rest, refl)
   leave_step place_is.Opening server fenced e rest = absurd rest
   leave_step place_is.Opened server true e rest = leaves_places _ _ (Some (nowhere place_is.AbnormallyClosed)) (gone_void server e rest, refl)
   leave_step place_is.Opened server false e rest = leaves_places _ _ None (rest, refl)
   leave_step place_is.Closing server fenced e rest = absurd rest
-  leave_step place_is.Closed server fenced e rest = leaves_places _ _ None (rest, refl)
-  leave_step place_is.FailedOpen server fenced e rest = leaves_places _ _ None (rest, refl)
-  leave_step place_is.AbnormallyClosed server fenced e rest = leaves_places _ _ None (rest, refl)
+  leave_step state server fenced e rest = leaves_places _ _ None (rest, refl)
 
   place_step : (state : RegionState) (server : Option Server) (fenced : Bool) (pick : Option Server) (b : Bool)
       → (fenced_if J server || false) ≡ fenced → AtRest J r last state server
@@ -188,23 +178,19 @@ module _ (J : Past) (r : Region) (last : Option ℕ) where
       (record { silent = refl; next = inl (refl, server, refl, void, refl) })
 
   behind_rest : (goal : Goal) (told : Told) (place : Place) → IsRest J r last place → Next J r last place [] (behind_close goal told)
-  behind_rest goal_is.Assign told place rest = (inl (inl refl, rest), refl)
   behind_rest goal_is.Unassign told place rest = (rest, refl)
-  behind_rest goal_is.Move told place rest = (inl (inl refl, rest), refl)
+  behind_rest goal told place rest = (inl (inl refl, rest), refl)
 
   -- act 34
   close_step : (goal : Goal) (state : RegionState) (server : Option Server) (fenced : Bool) → (fenced_if J server || false) ≡ fenced → AtRest J r last state server
       → Leaves J r last (record { state = state; server = server }) (close_or_go 4 goal r (record { state = state; server = server }) (is_open (record { state = state; server = server }) fenced))
-  close_step goal place_is.Offline server fenced e rest = leaves_places _ _ None (behind_rest goal told_is.Nothing (placed place_is.Offline server) rest)
   close_step goal place_is.Opening server fenced e rest = absurd rest
   close_step goal place_is.Opened server true e rest = leaves_places _ _ (Some (nowhere place_is.AbnormallyClosed)) (behind_rest goal told_is.Nothing (nowhere place_is.AbnormallyClosed) (gone_void server e rest))
   close_step goal place_is.Opened server false e rest =
       subst (λ s. Leaves J r last (record { state = place_is.Opened; server = s }) (given s 4 (close_at 4 r))) (sym rest.1)
       (record { silent = refl; next = inr (refl, rest.0, refl, rest.2, refl) })
   close_step goal place_is.Closing server fenced e rest = absurd rest
-  close_step goal place_is.Closed server fenced e rest = leaves_places _ _ None (behind_rest goal told_is.Nothing (placed place_is.Closed server) rest)
-  close_step goal place_is.FailedOpen server fenced e rest = leaves_places _ _ None (behind_rest goal told_is.Nothing (placed place_is.FailedOpen server) rest)
-  close_step goal place_is.AbnormallyClosed server fenced e rest = leaves_places _ _ None (behind_rest goal told_is.Nothing (placed place_is.AbnormallyClosed server) rest)
+  close_step goal state server fenced e rest = leaves_places _ _ None (behind_rest goal told_is.Nothing (placed state server) rest)
 
   pub close_there_step : (goal : Goal) (place : Place) (fenced : Bool) → (fenced_if J place.server || false) ≡ fenced → IsRest J r last place → Leaves J r last place (close_or_go 4 goal r place (is_open place fenced))
   close_there_step goal place fenced e rest = close_step goal place.state place.server fenced e rest

@@ -259,24 +259,14 @@ untried : (place : Place) → Rested place.state place.server → is_tried place
 untried place rested trying = by place.state rested trying
   where
     by : (state : RegionState) → Rested state place.server → is_tried (record place { state = state }) ≡ true → ⊥
-    by place_is.Offline h t = false≢true t
     by place_is.Opening h t = h
-    by place_is.Opened h t = false≢true t
     by place_is.Closing h t = h
-    by place_is.Closed h t = false≢true t
     by place_is.FailedOpen h t = h
-    by place_is.AbnormallyClosed h t = false≢true t
+    by state h t = false≢true t
 
 -- so it is in every legal journal
 pub trying_all : (J : Past) → IsLegal J → AllTrying J
 trying_all [] legal region trying = absurd (false≢true trying)
-trying_all (entry_is.Start sheets ∷ J) legal region trying = calm_trying (entry_is.Start sheets) J legal (λ r. refl) (λ r. refl) (λ p. refl) (λ p. refl) (trying_all J legal.0) region trying
-trying_all (entry_is.Submit nonce request ∷ J) legal region trying = calm_trying (entry_is.Submit nonce request) J legal (λ r. refl) (λ r. refl) (λ p. refl) (λ p. refl) (trying_all J legal.0) region trying
 trying_all (entry_is.Step pid pick out ∷ J) legal region trying = step_trying pid pick out J legal (trying_all J legal.0) region trying
-trying_all (entry_is.Undo pid row out ∷ J) legal region trying = calm_trying (entry_is.Undo pid row out) J legal (λ r. refl) (λ r. refl) (λ p. refl) (λ p. refl) (trying_all J legal.0) region trying
-trying_all (entry_is.Report call told ∷ J) legal region trying = calm_trying (entry_is.Report call told) J legal (λ r. refl) (λ r. refl) (λ p. refl) (λ p. refl) (trying_all J legal.0) region trying
-trying_all (entry_is.Up server ∷ J) legal region trying = calm_trying (entry_is.Up server) J legal (λ r. refl) (λ r. refl) (λ p. refl) (λ p. refl) (trying_all J legal.0) region trying
-trying_all (entry_is.Down server ∷ J) legal region trying = calm_trying (entry_is.Down server) J legal (λ r. refl) (λ r. refl) (λ p. refl) (λ p. refl) (trying_all J legal.0) region trying
-trying_all (entry_is.Abort pid ∷ J) legal region trying = calm_trying (entry_is.Abort pid) J legal (λ r. refl) (λ r. refl) (λ p. refl) (λ p. refl) (trying_all J legal.0) region trying
-trying_all (entry_is.Adopt sheets ∷ J) legal region trying = calm_trying (entry_is.Adopt sheets) J legal (λ r. refl) (λ r. refl) (λ p. refl) (λ p. refl) (trying_all J legal.0) region trying
 trying_all (entry_is.Base part ∷ J) legal region trying = absurd (untried (place_of (entry_is.Base part ∷ J) region) (base_rests (entry_is.Base part ∷ J) legal refl region) trying)
+trying_all (entry ∷ J) legal region trying = calm_trying entry J legal (λ r. refl) (λ r. refl) (λ p. refl) (λ p. refl) (trying_all J legal.0) region trying

@@ -76,10 +76,9 @@ UnassignAt (Some answer_is.Undone) = ⊥
 abbrev UnassignAnswers : Answer → Type 0
 UnassignAnswers (answer_is.More n) = n ≡ 4
 UnassignAnswers (answer_is.Wait n) = n ≡ 4
-UnassignAnswers (answer_is.Await n) = ⊥
 UnassignAnswers (answer_is.Done told) = Unit {0}
 UnassignAnswers (answer_is.Fail cause) = Unit {0}
-UnassignAnswers answer_is.Undone = ⊥
+UnassignAnswers answer = ⊥
 
 -- and leaves where it ends: its region isn't open
 record Shuts (place : Place) (out : StepOut) : Type 0 where
@@ -120,13 +119,10 @@ confirms_so region place told = record {
 
 -- a place at rest that isn't open is none
 rest_shut : (J : Past) (r : Region) (last : Option ℕ) (state : RegionState) (server : Option Server) → AtRest J r last state server → is_state place_is.Opened (record { state = state; server = server }) ≡ false → is_placed (record { state = state; server = server }) ≡ false
-rest_shut J r last place_is.Offline server rest h = refl
-rest_shut J r last place_is.Closed server rest h = refl
-rest_shut J r last place_is.FailedOpen server rest h = refl
-rest_shut J r last place_is.AbnormallyClosed server rest h = refl
 rest_shut J r last place_is.Opening server rest h = absurd rest
 rest_shut J r last place_is.Closing server rest h = absurd rest
 rest_shut J r last place_is.Opened server rest h = absurd (true≢false h)
+rest_shut J r last state server rest h = refl
 
 -- by its stage: what is said of an Unassign's answer
 stage_answer : (J : Past) (p : ℕ) (r : Region) (place : Place) (last : Option ℕ) (answer : Answer) (q : ℕ) (made : Option Node) (other : Option Answer) → UnassignAnswers answer → AtRow J p r place last (Some answer) q made other → UnassignAt (Some answer) × (is_stop answer ≡ true → IsRest J r last place)
@@ -138,10 +134,9 @@ stage_answer J p r place last (answer_is.More n) q made other a (inl h) = absurd
     free (inr (inr five_is)) = omega (arith, a, five_is)
 stage_answer J p r place last (answer_is.More n) q made other a (inr h) = (let one = h.0 in absurd (omega (arith, a, one)))
 stage_answer J p r place last (answer_is.Wait n) q made other a h = (a, λ stops. absurd (false≢true stops))
-stage_answer J p r place last (answer_is.Await n) q made other a h = absurd a
 stage_answer J p r place last (answer_is.Done told) q made other a h = (tt, λ stops. h)
 stage_answer J p r place last (answer_is.Fail cause) q made other a h = (tt, λ stops. h)
-stage_answer J p r place last answer_is.Undone q made other a h = absurd a
+stage_answer J p r place last answer q made other a h = absurd a
 
 module _ (pid : Pid) (pick : Option Server) (out : StepOut) (J : Past) (legal : IsLegal (entry_is.Step pid pick out ∷ J)) where
   abbrev J' : Past
@@ -257,7 +252,6 @@ calm_at J J' rooted grown before p x region to is own = elim (old_or_new J J' ro
 
 pub at_all : (J : Past) → IsLegal J → AllAt J
 at_all [] legal p x region to is own = absurd (none-some x is)
-at_all (entry_is.Start sheets ∷ J) legal p x region to is own = at_all J legal.0 p x region to is own
 at_all (entry_is.Submit nonce request ∷ J) legal p x region to is own = let g = grown_all J legal.0 in calm_at J (entry_is.Submit nonce request ∷ J) (submit_rooted nonce request J g) g (at_all J legal.0) p x region to is own
 at_all (entry_is.Step pid pick out ∷ J) legal p x region to is own = elim (cases_eq p pid.0) [
   | inl same ↦
@@ -272,12 +266,9 @@ at_all (entry_is.Step pid pick out ∷ J) legal p x region to is own = elim (cas
   ])
 ]
 at_all (entry_is.Undo pid row out ∷ J) legal p x region to is own = let g = grown_all J legal.0 in calm_at J (entry_is.Undo pid row out ∷ J) (undo_rooted pid row out J g) g (at_all J legal.0) p x region to is own
-at_all (entry_is.Report call told ∷ J) legal p x region to is own = at_all J legal.0 p x region to is own
-at_all (entry_is.Up server ∷ J) legal p x region to is own = at_all J legal.0 p x region to is own
 at_all (entry_is.Down server ∷ J) legal p x region to is own = let g = grown_all J legal.0 in calm_at J (entry_is.Down server ∷ J) (down_rooted server J g) g (at_all J legal.0) p x region to is own
-at_all (entry_is.Abort pid ∷ J) legal p x region to is own = at_all J legal.0 p x region to is own
-at_all (entry_is.Adopt sheets ∷ J) legal p x region to is own = at_all J legal.0 p x region to is own
 at_all (entry_is.Base part ∷ J) legal p x region to is own = absurd (none-some x is)
+at_all (entry ∷ J) legal p x region to is own = at_all J legal.0 p x region to is own
 
 -- where an Unassign that has ended worked on a region last, the region has no place
 abbrev pub AllShut : Past → Type 0
@@ -338,16 +329,12 @@ module _ (pid : Pid) (pick : Option Server) (out : StepOut) (J : Past) (legal : 
 
 pub shut_all : (J : Past) → IsLegal J → AllShut J
 shut_all [] legal region p x to work is own stopped = absurd (none-some x is)
-shut_all (entry_is.Start sheets ∷ J) legal region p x to work is own stopped = shut_all J legal.0 region p x to work is own stopped
 shut_all (entry_is.Submit nonce request ∷ J) legal region p x to work is own stopped = let g = grown_all J legal.0 in calm_shut J (entry_is.Submit nonce request ∷ J) (submit_rooted nonce request J g) g (λ r. refl) (λ r. refl) (shut_all J legal.0) region p x to work is own stopped
 shut_all (entry_is.Step pid pick out ∷ J) legal region p x to work is own stopped = step_shut pid pick out J legal (shut_all J legal.0) region p x to work is own stopped
 shut_all (entry_is.Undo pid row out ∷ J) legal region p x to work is own stopped = let g = grown_all J legal.0 in calm_shut J (entry_is.Undo pid row out ∷ J) (undo_rooted pid row out J g) g (λ r. refl) (λ r. refl) (shut_all J legal.0) region p x to work is own stopped
-shut_all (entry_is.Report call told ∷ J) legal region p x to work is own stopped = shut_all J legal.0 region p x to work is own stopped
-shut_all (entry_is.Up server ∷ J) legal region p x to work is own stopped = shut_all J legal.0 region p x to work is own stopped
 shut_all (entry_is.Down server ∷ J) legal region p x to work is own stopped = let g = grown_all J legal.0 in calm_shut J (entry_is.Down server ∷ J) (down_rooted server J g) g (λ r. refl) (λ r. refl) (shut_all J legal.0) region p x to work is own stopped
-shut_all (entry_is.Abort pid ∷ J) legal region p x to work is own stopped = shut_all J legal.0 region p x to work is own stopped
-shut_all (entry_is.Adopt sheets ∷ J) legal region p x to work is own stopped = shut_all J legal.0 region p x to work is own stopped
 shut_all (entry_is.Base part ∷ J) legal region p x to work is own stopped = absurd (none-some x is)
+shut_all (entry ∷ J) legal region p x to work is own stopped = shut_all J legal.0 region p x to work is own stopped
 
 -- who worked on a region last while a root asks for it alone, whose tree has worked on it: one of its tree
 pub record Worked (J : Past) (root : ℕ) (region : Region) : Type 0 where
@@ -411,8 +398,6 @@ module _ (pid : Pid) (pick : Option Server) (out : StepOut) (J : Past) (legal : 
       rows_none : (args : Args) → moved_by args ≡ Some region → rows_table args ≡ None
       rows_none (args_are.Root request first) m = refl
       rows_none (args_are.Transit own goal to) m = refl
-      rows_none (args_are.AddRegions table first bounds) m = absurd (none-some region m)
-      rows_none (args_are.DropRegions table ids) m = absurd (none-some region m)
       rows_none args m = absurd (none-some region m)
 
       guarded : (args : Args) → moved_by args ≡ Some region → Rattle.hm_model.specs.Reads.guards args (key_is.Region region) ≡ true
@@ -522,19 +507,13 @@ worked_all (entry_is.Step pid pick out ∷ J) legal root top at running region c
 worked_all (entry_is.Undo pid row out ∷ J) legal root top at running region c q x moves some =
     let g = grown_all J legal.0 in
     calm_worked J (entry_is.Undo pid row out ∷ J) (undo_rooted pid row out J g) g (λ r. refl) (undo_open pid row out J legal) (worked_all J legal.0) root top at running region c q x moves some
-worked_all (entry_is.Report call told ∷ J) legal root top at running region c q x moves some =
-    let w = worked_all J legal.0 root top at running region c q x moves some in record { begun = w.begun; p = w.p; node = w.node; work = w.work; node_is = w.node_is; in_tree = w.in_tree }
-worked_all (entry_is.Up server ∷ J) legal root top at running region c q x moves some =
-    let w = worked_all J legal.0 root top at running region c q x moves some in record { begun = w.begun; p = w.p; node = w.node; work = w.work; node_is = w.node_is; in_tree = w.in_tree }
 worked_all (entry_is.Down server ∷ J) legal root top at running region c q x moves some =
     let g = grown_all J legal.0 in
     let rooted = down_rooted server J g in
     calm_worked J (entry_is.Down server ∷ J) rooted g (λ r. refl) (λ r t is h. still_open J (entry_is.Down server ∷ J) r (rooted_left J (entry_is.Down server ∷ J) rooted g r t is refl refl refl) h) (worked_all J legal.0) root top at running region c q x moves some
-worked_all (entry_is.Abort pid ∷ J) legal root top at running region c q x moves some =
-    let w = worked_all J legal.0 root top at running region c q x moves some in record { begun = w.begun; p = w.p; node = w.node; work = w.work; node_is = w.node_is; in_tree = w.in_tree }
-worked_all (entry_is.Adopt sheets ∷ J) legal root top at running region c q x moves some =
-    let w = worked_all J legal.0 root top at running region c q x moves some in record { begun = w.begun; p = w.p; node = w.node; work = w.work; node_is = w.node_is; in_tree = w.in_tree }
 worked_all (entry_is.Base part ∷ J) legal root top at running region c q x moves some = absurd (none-some x moves.0)
+worked_all (entry ∷ J) legal root top at running region c q x moves some =
+    let w = worked_all J legal.0 root top at running region c q x moves some in record { begun = w.begun; p = w.p; node = w.node; work = w.work; node_is = w.node_is; in_tree = w.in_tree }
 
 pub held_stay : HeldPlacesStay
 held_stay pid pick out J legal root top top_is nil begun running region c =

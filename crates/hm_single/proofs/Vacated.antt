@@ -144,15 +144,12 @@ out_all (entry_is.Step pid pick out ∷ J) legal root top at running region c on
 out_all (entry_is.Undo pid row out ∷ J) legal root top at running region c one =
     let g = grown_all J legal.0 in
     calm_out J (entry_is.Undo pid row out ∷ J) (undo_rooted pid row out J g) g (λ r. refl) (undo_open pid row out J legal) (out_all J legal.0) root top at running region c one
-out_all (entry_is.Report call told ∷ J) legal root top at running region c one = out_all J legal.0 root top at running region c one
-out_all (entry_is.Up server ∷ J) legal root top at running region c one = out_all J legal.0 root top at running region c one
 out_all (entry_is.Down server ∷ J) legal root top at running region c one =
     let g = grown_all J legal.0 in
     let rooted = down_rooted server J g in
     calm_out J (entry_is.Down server ∷ J) rooted g (λ r. refl) (λ r t is h. still_open J (entry_is.Down server ∷ J) r (rooted_left J (entry_is.Down server ∷ J) rooted g r t is refl refl refl) h) (out_all J legal.0) root top at running region c one
-out_all (entry_is.Abort pid ∷ J) legal root top at running region c one = out_all J legal.0 root top at running region c one
-out_all (entry_is.Adopt sheets ∷ J) legal root top at running region c one = out_all J legal.0 root top at running region c one
 out_all (entry_is.Base part ∷ J) legal root top at running region c one = absurd (none-some top at.0)
+out_all (entry ∷ J) legal root top at running region c one = out_all J legal.0 root top at running region c one
 
 pub unassigned : UnassignedAreUnplaced
 unassigned J legal root top top_is nil running region c one = out_all J legal root top (top_is, nil) running region c one

@@ -36,19 +36,12 @@ use Rattle.hm_tied.proofs.Undoing.{below_is}
 
 -- a call that has a report keeps one
 reports_stay : (entry : Entry) (J : Past) → IsLegal (entry ∷ J) → (q : ℕ) → report_of J q ≢ None → report_of (entry ∷ J) q ≢ None
-reports_stay (entry_is.Start sheets) J legal q some = some
-reports_stay (entry_is.Submit nonce request) J legal q some = some
-reports_stay (entry_is.Step pid pick out) J legal q some = some
-reports_stay (entry_is.Undo pid row out) J legal q some = some
-reports_stay (entry_is.Up server) J legal q some = some
-reports_stay (entry_is.Down server) J legal q some = some
-reports_stay (entry_is.Abort pid) J legal q some = some
-reports_stay (entry_is.Adopt sheets) J legal q some = some
 reports_stay (entry_is.Base part) J legal q some = absurd (some (by_parts (λ j. report_of j q ≡ None) refl (λ own older. refl) part J legal.1.0))
 reports_stay (entry_is.Report call told) J legal q some = λ none. elim (cases_Bool (q == call.0)) [
   | inl own ↦ none-some told (sym none ∙ ap (λ b. if b then Some told else report_of J q) own)
   | inr other ↦ some (sym (cond-false (q == call.0) (Some told) (report_of J q) other) ∙ none)
 ]
+reports_stay entry J legal q some = some
 
 -- who is answered stays so
 answered_stays : (entry : Entry) (J : Past) → IsLegal (entry ∷ J) → (q : ℕ) (x : Node) → IsAnswered J q x → IsAnswered (entry ∷ J) q x
@@ -165,16 +158,12 @@ undo_on pid row out J legal q x is differs go = elim (cases_eq x.root (root_of J
 ]
 
 pub ables_stay : AblesStay
-ables_stay (entry_is.Start sheets) J p legal go calm apart = let x = go_node J p go in go_on (entry_is.Start sheets) J legal p x.0 x.1 refl refl go
 ables_stay (entry_is.Submit nonce request) J p legal go calm apart = let x = go_node J p go in other_on (entry_is.Submit nonce request) J legal p x.0 x.1 (old_tree J legal.0 p x.0 x.1) go
 ables_stay (entry_is.Step pid pick out) J p legal go calm apart = let x = go_node J p go in step_on pid pick out J legal p apart x.0 x.1 calm go
 ables_stay (entry_is.Undo pid row out) J p legal go calm apart = let x = go_node J p go in undo_on pid row out J legal p x.0 x.1 apart go
-ables_stay (entry_is.Report call told) J p legal go calm apart = let x = go_node J p go in go_on (entry_is.Report call told) J legal p x.0 x.1 refl refl go
-ables_stay (entry_is.Up server) J p legal go calm apart = let x = go_node J p go in go_on (entry_is.Up server) J legal p x.0 x.1 refl refl go
 ables_stay (entry_is.Down server) J p legal go calm apart = let x = go_node J p go in other_on (entry_is.Down server) J legal p x.0 x.1 (old_tree J legal.0 p x.0 x.1) go
-ables_stay (entry_is.Abort pid) J p legal go calm apart = let x = go_node J p go in go_on (entry_is.Abort pid) J legal p x.0 x.1 refl refl go
-ables_stay (entry_is.Adopt sheets) J p legal go calm apart = let x = go_node J p go in go_on (entry_is.Adopt sheets) J legal p x.0 x.1 refl refl go
 ables_stay (entry_is.Base part) J p legal go calm apart = let x = go_node J p go in absurd (none-some x.0 (sym (no_node part J legal.1.0 p) ∙ x.1))
+ables_stay entry J p legal go calm apart = let x = go_node J p go in go_on entry J legal p x.0 x.1 refl refl go
 
 pub claimed_stay_able : ClaimedStayAble
 claimed_stay_able entry J number_of roster legal tied able q among = ables_stay entry J q legal (able q among) (tied.claims q among).1

@@ -50,15 +50,9 @@ unplacing act plain = refl
 exact_marked : (args : Args) → (exact_rows (kind_of args) ≡ []) ⊎ ((first : Row) × (more : List Row) × (exact_rows (kind_of args) ≡ first ∷ more) × (all_marked (first ∷ more) ≡ true))
 exact_marked (args_are.Root (request_is.Move region to) first) = inr (_, _, refl, refl)
 exact_marked (args_are.Root request first) = inl refl
-exact_marked (args_are.Transit region goal to) = inr (_, _, refl, refl)
-exact_marked (args_are.Crash server) = inr (_, _, refl, refl)
 exact_marked (args_are.AddRegions table first bounds) = inl refl
 exact_marked (args_are.DropRegions table ids) = inl refl
-exact_marked (args_are.AssignCall region server) = inr (_, _, refl, refl)
-exact_marked (args_are.CloseCall region server) = inr (_, _, refl, refl)
-exact_marked (args_are.FenceCall server) = inr (_, _, refl, refl)
-exact_marked (args_are.LayoutCall root) = inr (_, _, refl, refl)
-exact_marked (args_are.SweepLayout root) = inr (_, _, refl, refl)
+exact_marked args = inr (_, _, refl, refl)
 
 -- after the end there is no row
 at_end : (first : ℕ) (last : Option Answer) → is_stopped last ≡ true → row_after first last ≡ no_row

@@ -82,16 +82,9 @@ room_ties J number_of roster debts lists tied same = record {
     back k q e = subst (IsNode q) (same k) e
 
 called_server : (args : Args) (server : Server) → called_by args ≡ Some server → server_of args ≡ Some server
-called_server (args_are.Root request first) server e = e
-called_server (args_are.Transit region goal to) server e = e
 called_server (args_are.Crash other) server e = absurd (none-some server e)
-called_server (args_are.AddRegions table first bounds) server e = e
-called_server (args_are.DropRegions table ids) server e = e
-called_server (args_are.AssignCall region other) server e = e
-called_server (args_are.CloseCall region other) server e = e
 called_server (args_are.FenceCall other) server e = absurd (none-some server e)
-called_server (args_are.LayoutCall root) server e = e
-called_server (args_are.SweepLayout root) server e = e
+called_server args server e = e
 
 pub numbers_tie : NumbersTie
 numbers_tie J number_of more_of roster debts legal tied storage servers = record {
@@ -157,16 +150,8 @@ opening_owes J number_of lists rows book opens empty = record {
 
 -- a call that fences is one to fence
 fences_named : (args : Args) (s : Server) → fences_by args s ≡ true → args ≡ args_are.FenceCall s
-fences_named (args_are.Root request first) s e = absurd (false≢true e)
-fences_named (args_are.Transit region goal to) s e = absurd (false≢true e)
-fences_named (args_are.Crash other) s e = absurd (false≢true e)
-fences_named (args_are.AddRegions table first bounds) s e = absurd (false≢true e)
-fences_named (args_are.DropRegions table ids) s e = absurd (false≢true e)
-fences_named (args_are.AssignCall region other) s e = absurd (false≢true e)
-fences_named (args_are.CloseCall region other) s e = absurd (false≢true e)
 fences_named (args_are.FenceCall other) s e = ap (λ n. args_are.FenceCall n) (sym (same_server-is s other e))
-fences_named (args_are.LayoutCall root) s e = absurd (false≢true e)
-fences_named (args_are.SweepLayout root) s e = absurd (false≢true e)
+fences_named args s e = absurd (false≢true e)
 
 fences_there : (o : Option Node) (s : Server) → fences_if o s ≡ true → (node : Node) × (o ≡ Some node) × (node.args ≡ args_are.FenceCall s)
 fences_there None s e = absurd (false≢true e)
@@ -193,16 +178,12 @@ none_enlisted J number_of roster tied p none = (same_enlists J J number_of roste
 
 -- an entry makes none with a number of those before
 none_after : (entry : Entry) (J : Past) → IsLegal (entry ∷ J) → (p : ℕ) → node_of J p ≡ None → p ≤ made J → node_of (entry ∷ J) p ≡ None
-none_after (entry_is.Start sheets) J legal p none le = none
 none_after (entry_is.Submit nonce request) J legal p none le = (submit_rooted nonce request J (grown_of J legal.0)).old p le ∙ none
 none_after (entry_is.Step pid pick out) J legal p none le = node_same pid pick out J p le ∙ none
 none_after (entry_is.Undo pid row out) J legal p none le = (undo_rooted pid row out J (grown_of J legal.0)).old p le ∙ none
-none_after (entry_is.Report call told) J legal p none le = none
-none_after (entry_is.Up server) J legal p none le = none
 none_after (entry_is.Down server) J legal p none le = (down_rooted server J (grown_of J legal.0)).old p le ∙ none
-none_after (entry_is.Abort pid) J legal p none le = none
-none_after (entry_is.Adopt sheets) J legal p none le = none
 none_after (entry_is.Base part) J legal p none le = refl
+none_after entry J legal p none le = none
 
 pub enlisting_begins : EnlistingBegins
 enlisting_begins entry J number_of roster legal tied = record {

@@ -11,16 +11,9 @@ use Rattle.hm_tied.specs.Tied.{CanGo, IsCalm, IsTied, Roster}
 
 -- an entry is no step of a procedure, and undoes none of the tree of which it is the root
 abbrev pub IsNotBy : Past → Entry → ℕ → Type 0
-IsNotBy before (entry_is.Start sheets) p = Unit {0}
-IsNotBy before (entry_is.Submit nonce request) p = Unit {0}
 IsNotBy before (entry_is.Step pid pick out) p = p ≢ pid.0
 IsNotBy before (entry_is.Undo pid row out) p = p ≢ root_of before pid.0
-IsNotBy before (entry_is.Report call told) p = Unit {0}
-IsNotBy before (entry_is.Up server) p = Unit {0}
-IsNotBy before (entry_is.Down server) p = Unit {0}
-IsNotBy before (entry_is.Abort pid) p = Unit {0}
-IsNotBy before (entry_is.Adopt sheets) p = Unit {0}
-IsNotBy before (entry_is.Base part) p = Unit {0}
+IsNotBy before entry p = Unit {0}
 
 -- by no entry but its own step, or what undoes a step of its tree where it is the root, does who can go on cease to
 abbrev pub AblesStay : Type 0

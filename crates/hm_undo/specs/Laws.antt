@@ -66,16 +66,10 @@ UndosPop =
 
 -- neither steps, undos nor parts of a base
 abbrev pub is_other : Entry → Bool
-is_other (entry_is.Start sheets) = true
-is_other (entry_is.Submit nonce request) = true
 is_other (entry_is.Step pid pick out) = false
 is_other (entry_is.Undo pid row out) = false
-is_other (entry_is.Report call told) = true
-is_other (entry_is.Up server) = true
-is_other (entry_is.Down server) = true
-is_other (entry_is.Abort pid) = true
-is_other (entry_is.Adopt sheets) = true
 is_other (entry_is.Base part) = false
+is_other entry = true
 
 -- every other entry changes nothing
 abbrev pub OthersLeave : Type 0
