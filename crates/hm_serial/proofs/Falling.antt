@@ -184,9 +184,11 @@ edit_fine act e = absurd (false≢true e)
 
 telling_if : (act : Act) → (is_among (6 ∷ 9 ∷ 16 ∷ []) (act_number act) ≡ true) ⊎ ((act_number act == 29) ≡ true) → is_telling act ≡ true
 telling_if act_is.AddTable h = refl
+telling_if act_is.SetEnabling h = refl
+telling_if act_is.SetDisabling h = refl
+telling_if act_is.AddRegionRows h = refl
 telling_if act (inl h) = absurd (false≢true h)
 telling_if act (inr h) = absurd (false≢true h)
-telling_if act h = refl
 
 -- the only act of a procedure that adds regions' rows
 adds_only : (act : Act) → is_listed 20 act ≡ true → (act_number act == 29) ≡ true

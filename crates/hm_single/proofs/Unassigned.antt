@@ -398,6 +398,8 @@ module _ (pid : Pid) (pick : Option Server) (out : StepOut) (J : Past) (legal : 
       rows_none : (args : Args) → moved_by args ≡ Some region → rows_table args ≡ None
       rows_none (args_are.Root request first) m = refl
       rows_none (args_are.Transit own goal to) m = refl
+      rows_none (args_are.AddRegions table first bounds) m = absurd (none-some region m)
+      rows_none (args_are.DropRegions table ids) m = absurd (none-some region m)
       rows_none args m = absurd (none-some region m)
 
       guarded : (args : Args) → moved_by args ≡ Some region → Rattle.hm_model.specs.Reads.guards args (key_is.Region region) ≡ true
