@@ -1,5 +1,5 @@
 -- Parts and the frames that spell them.
-use Rattle.std.proofs.Common.{◌≡◌, ℕ, zero, suc, ◌+◌, ◌<◌, ◌≤◌, List, [], ◌∷◌, ◌++◌, length, map, take, get_or, slice_get, Some, Result, Ok, Err, All, MatchResult, refl, arith, sym, ap, ◌∙◌, subst, length-append}
+use Rattle.std.proofs.Common.{◌≡◌, ◌⊎◌, ℕ, zero, suc, ◌+◌, ◌<◌, ◌≤◌, List, [], ◌∷◌, ◌++◌, length, take, get_or, slice_get, Some, Result, Ok, Err, All, refl, inl, inr, arith, sym, ap, ◌∙◌, subst, length-append}
 use Rattle.std.proofs.lemmas.List.{take_more, map-append}
 use Rattle.std.proofs.lemmas.List.Elements.{All-head, All-push, All-tail}
 use Rattle.std.proofs.lemmas.Option.{none-some, same_Some, slice_get_within, get_or_from_slice_get}
@@ -7,13 +7,13 @@ use Rattle.hm_log.specs.Format.{IsFrame}
 use Rattle.hm_data.specs.declared.entry.Entry.{Entry}
 use Rattle.hm_data.specs.declared.entry.Entry.TheVariants as entry_is
 use Rattle.hm_data.specs.declared.part.Part.{Part}
-use Rattle.hm_entry.specs.Fits.{EntryFits, PartFits}
-use Rattle.hm_entry.specs.Reading.{Fails, all_of}
+use Rattle.hm_entry.specs.Fits.{PartFits}
+use Rattle.hm_entry.specs.Reading.{all_of}
 use Rattle.hm_entry.specs.Spelling.{byte, entry as spelling, part as part_spelling}
 use Rattle.hm_entry.specs.declared.fault.EntryFault.{EntryFault}
 use Rattle.hm_entry.specs.declared.fault.EntryFault.TheVariants as entry_fault_is
 use Rattle.hm_entry.proofs.EntryCodec.{all_again, one_entry}
-use Rattle.hm_roll.specs.Parts.{because, frame_of, frames_of, IsNoImage, IsNotRead, IsOther, IsShort, NoPartAt, Spells, SpellsAt}
+use Rattle.hm_roll.specs.Parts.{frame_of, frames_of, IsFirstWrong, IsNoImage, IsNotRead, IsShort, NoPartAt, Spells, SpellsAt}
 use Rattle.hm_roll.specs.declared.why.PartsWhy.{PartsWhy}
 use Rattle.hm_roll.specs.declared.why.PartsWhy.TheVariants as why_is
 
@@ -84,7 +84,7 @@ same_parts (part ∷ parts) (other ∷ others) fit fit_too same =
     let first : frame_of part ≡ frame_of other = cc in
     let rest : frames_of parts ≡ frames_of others = cc in
     let is : entry_is.Base part ≡ entry_is.Base other =
-      one_entry (entry_is.Base part) (entry_is.Base other) (All-head PartFits part parts fit) (All-head PartFits other others fit_too) first in
+    one_entry (entry_is.Base part) (entry_is.Base other) (All-head PartFits part parts fit) (All-head PartFits other others fit_too) first in
     let one : part ≡ other = cc in
     let more : parts ≡ others = same_parts parts others (All-tail PartFits part parts fit) (All-tail PartFits other others fit_too) rest in
     cc
@@ -99,10 +99,52 @@ some_part [] number frame fit here = absurd (none-some frame here)
 some_part (part ∷ parts) zero frame fit here = (part, All-head PartFits part parts fit, sym (same_Some (frame_of part) frame here))
 some_part (part ∷ parts) (suc number) frame fit here = some_part parts number frame (All-tail PartFits part parts fit) here
 
+-- where one frame is the first that spells no part, the frames spell no parts
+pub not_all : (frames : List (List ℕ)) (number at : ℕ) (parts : List Part) → IsFirstWrong frames number at → Spells frames parts → ⊥
+not_all frames number at parts wrong spells =
+    let some = some_part parts number wrong.frame spells.fit (ap (λ fs. slice_get fs number) spells.are ∙ wrong.there) in
+    wrong.none some.0 some.1 some.2
+
 -- where frames spell parts, only memory that runs out keeps them from being read
 pub only_memory : (frames : List (List ℕ)) (parts : List Part) (why : PartsWhy) → Spells frames parts → IsNoImage frames why → why ≡ why_is.Memory
-only_memory frames parts (why_is.Entry number at) spells wrong =
-    let some = some_part parts number wrong.frame spells.fit (ap (λ fs. slice_get fs number) spells.are ∙ wrong.there) in
-    absurd (wrong.none some.0 some.1 some.2)
+only_memory frames parts (why_is.Entry number at) spells wrong = absurd (not_all frames number at parts wrong spells)
 only_memory frames parts why_is.Memory spells wrong = refl
 
+-- what stands before a place stands in the front up to it
+slice_get_take : {A : Type 0} (xs : List A) (n i : ℕ) → i < n → slice_get (take n xs) i ≡ slice_get xs i
+slice_get_take xs zero i before = absurd (omega arith)
+slice_get_take [] (suc n) i before = refl
+slice_get_take (x ∷ xs) (suc n) zero before = refl
+slice_get_take (x ∷ xs) (suc n) (suc i) before = slice_get_take xs n i (omega arith)
+
+-- a place before which each frame spells a part is no place after the first that spells none
+not_after : (frames : List (List ℕ)) (number at other at_other : ℕ) → IsFirstWrong frames number at → IsFirstWrong frames other at_other → number < other → ⊥
+not_after frames number at other at_other wrong next before =
+    let here : slice_get (take other frames) number ≡ Some wrong.frame = slice_get_take frames other number before ∙ wrong.there in
+    let some = some_part next.parts number wrong.frame next.before.fit (ap (λ fs. slice_get fs number) next.before.are ∙ here) in
+    wrong.none some.0 some.1 some.2
+
+-- a frame shows at one byte that it spells no part
+one_byte : (read : Result Entry EntryFault) (at other : ℕ) → NoPartAt read at → NoPartAt read other → at ≡ other
+one_byte (Ok entry) at other shown too = shown.1 ∙ sym too.1
+one_byte (Err (entry_fault_is.Short place)) at other shown too = sym shown ∙ too
+one_byte (Err (entry_fault_is.Field place)) at other shown too = sym shown ∙ too
+one_byte (Err (entry_fault_is.Rest place)) at other shown too = sym shown ∙ too
+one_byte (Err entry_fault_is.Memory) at other shown too = absurd shown
+
+-- one frame alone is the first that spells no part
+one_wrong : (frames : List (List ℕ)) (number at other at_other : ℕ) → IsFirstWrong frames number at → IsFirstWrong frames other at_other → (number ≡ other) × (at ≡ at_other)
+one_wrong frames number at other at_other wrong too =
+    let not_less : number < other → ⊥ = not_after frames number at other at_other wrong too in
+    let not_more : other < number → ⊥ = not_after frames other at_other number at too wrong in
+    let same : number ≡ other = omega arith in
+    let one : wrong.frame ≡ too.frame = same_Some wrong.frame too.frame (sym wrong.there ∙ ap (slice_get frames) same ∙ too.there) in
+    let P : List ℕ → Type 0 = λ f. NoPartAt (all_of f) at in
+    (same, one_byte (all_of too.frame) at at_other (subst P one wrong.shown) too.shown)
+
+-- what is told where a frame is the first that spells no part
+pub told_wrong : (frames : List (List ℕ)) (number at : ℕ) (why : PartsWhy) → IsFirstWrong frames number at → IsNoImage frames why → (why ≡ why_is.Entry number at) ⊎ (why ≡ why_is.Memory)
+told_wrong frames number at (why_is.Entry other at_other) wrong told =
+    let same = one_wrong frames number at other at_other wrong told in
+    inl (ap (λ n. why_is.Entry n at_other) (sym same.0) ∙ ap (λ a. why_is.Entry number a) (sym same.1))
+told_wrong frames number at why_is.Memory wrong told = inr refl

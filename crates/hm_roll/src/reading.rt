@@ -1,8 +1,8 @@
 //! Frames as parts.
-ghost use Rattle.std.specs.Prelude.{◌≡◌, ◌<◌, ◌++◌, ◌∷◌, [], List as PlainList, length, IfOk, IfErr, OnOk, MatchResult};
+ghost use Rattle.std.specs.Prelude.{◌≡◌, ◌⊎◌, ◌<◌, ◌++◌, ◌∷◌, [], ℕ, List as PlainList, length, IfOk, IfErr, OnOk, MatchResult};
 ghost use Rattle.hm_data.specs.declared.part.Part.{Part as PartValue};
 ghost use Rattle.hm_data.specs.declared.entry.Entry.TheVariants as entry_is;
-ghost use Rattle.hm_roll.specs.Parts.{because, IsNoImage, IsNotRead, IsOther, Spells, SpellsAt};
+ghost use Rattle.hm_roll.specs.Parts.{because, IsFirstWrong, IsNoImage, IsNotRead, IsOther, Spells, SpellsAt};
 
 use crate::why::PartsWhy;
 use hm_data::{Entry, Part};
@@ -86,7 +86,9 @@ pub fn parts_of(alloc: Global, frames: &Frames) -> Result<List<Part>, PartsWhy>
     // What is spelled by the frames is read, unless memory runs out: so it gives back what `frames_of` was given.
     ensures inverse { (parts : PlainList PartValue) → Spells frames.now parts →
         MatchResult result (λ found. found ≡ parts) (λ why. why ≡ PartsWhy.Memory) }
-    // Which frame is the first that spells no part.
+    // Where a frame spells no part, the first such frame is told, unless memory runs out, and nothing else is.
+    ensures wrong { (number at : ℕ) → IsFirstWrong frames.now number at →
+        MatchResult result (λ _. ⊥) (λ why. (why ≡ PartsWhy.Entry number at) ⊎ (why ≡ PartsWhy.Memory)) }
     ensures why { IfErr result (IsNoImage frames.now) }
 {
     let mut parts = Vec::new(alloc);
