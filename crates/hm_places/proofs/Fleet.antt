@@ -13,6 +13,7 @@ use Rattle.hm_data.specs.declared.call.Told.{Told}
 use Rattle.hm_data.specs.declared.call.Told.TheVariants as told_is
 use Rattle.hm_data.specs.declared.entry.Entry.TheVariants as entry_is
 use Rattle.hm_data.specs.declared.part.Part.{Part}
+use Rattle.hm_data.specs.declared.part.Part.TheVariants as part_is
 use Rattle.hm_index.specs.Index.{changed, find}
 use Rattle.hm_model.specs.Fleet.{came_up, fences_by, fences_if, has_live, has_newer, has_older_live, has_other_live, is_fenced, is_live, part_servers, same_address, same_server, servers_of, with_server, with_server_at}
 use Rattle.hm_model.specs.Journal.{Past}
@@ -24,8 +25,8 @@ use Rattle.hm_model.proofs.CameUp.{fence_names, fenced_came, live_came, named_ca
 use Rattle.hm_model.proofs.NameTies.{same_server-is, same_server-refl, server_cmp-is, servers_total}
 use Rattle.hm_model.specs.declared.standing.Standing.{Standing}
 use Rattle.hm_places.specs.Chosen.{Rises, has}
-use Rattle.hm_places.specs.Laws.{AllStandingsTell, EntriesStand, FencedCameUp, fence_of, shown_fenced, with_fence}
-use Rattle.hm_places.specs.Servers.{has_live_in, has_newer_in, has_older_in, has_other_live_in, fenced_if, fresh}
+use Rattle.hm_places.specs.Laws.{AllStandingsTell, EntriesStand, FencedCameUp, fence_of, shown_fenced, with_fence, with_told}
+use Rattle.hm_places.specs.Servers.{as_told, has_live_in, has_newer_in, has_older_in, has_other_live_in, fenced_if, fresh}
 use Rattle.hm_places.proofs.ByKey.{IsSetAt, Joins, changed_by, find_by, placed_by, rises_join, rows_by}
 use Rattle.hm_places.proofs.NameOrder.{server_ties_back}
 
@@ -196,6 +197,21 @@ down_set J server other = elim (cases_Bool (same_server other server)) [
   | inr differs ↦ rw (same_tie server other, differs) refl
 ]
 
+-- one that a part tells
+or_never : (a b : Bool) → b ≡ false → (a || b) ≡ a
+or_never true b off = refl
+or_never false b off = off
+
+told_set : (J : Past) (server : Server) (fence : Bool) → is_live J server ≡ false → is_fenced J server ≡ false
+    → IsSetAt server_cmp (standing_of J) (standing_of (entry_is.Base (part_is.Server server fence) ∷ J)) server (as_told fence)
+told_set J server fence off unfenced other = elim (cases_Bool (same_server other server)) [
+  | inl same ↦ rw (same_tie server other, same)
+      (ap (λ s. stands (not fence || is_live J s) (fence || is_fenced J s)) (same_server-is other server same)
+      ∙ ap (λ b. stands b (fence || is_fenced J server)) (or_never (not fence) (is_live J server) off)
+      ∙ ap (stands (not fence)) (or_never fence (is_fenced J server) unfenced))
+  | inr differs ↦ rw (same_tie server other, differs) refl
+]
+
 -- a report that shows a server fenced, and any other
 fence_is : (args : Args) (server : Server) → fence_of args ≡ Some server → (s : Server) → fences_by args s ≡ same_server s server
 fence_is (args_are.Root request first) server e s = absurd (none-some server e)
@@ -260,17 +276,25 @@ reported J p told (Some server) is =
     ap (λ b. changed server_cmp (standings_of J) server (stands b true)) (live_told J server)
     ∙ changed_by server_cmp servers_total server_cmp-is (standing_of J) _ server (stands (is_live J server) true) (servers_of J) (fence_set J server _ (λ s. shows (node_of J p) told server s is)) (servers_rise J)
 
+parts_stand : (J : Past) (part : Part) → IsLegal (entry_is.Base part ∷ J) → with_told (standings_of J) (part_server part) ≡ standings_of (entry_is.Base part ∷ J)
+parts_stand J (part_is.Server server fence) legal =
+    let none : came_up J server ≡ false = newer_not_came J server legal.1.0.1 in
+    placed_by server_cmp servers_total server_cmp-is with_server joins (standing_of J) (standing_of (entry_is.Base (part_is.Server server fence) ∷ J)) server (as_told fence) (servers_of J)
+    (told_set J server fence (not_came (came_up J server) (is_live J server) (live_came J server) none) (not_came (came_up J server) (is_fenced J server) (fenced_came J legal.0 server) none))
+    (servers_rise J)
+parts_stand J part legal = refl
+
 pub entries_stand : EntriesStand
-entries_stand (entry_is.Report call told) J legal plain = reported J call.0 told (shown_fenced (node_of J call.0) told) refl
-entries_stand (entry_is.Up server) J legal plain =
+entries_stand (entry_is.Report call told) J legal = reported J call.0 told (shown_fenced (node_of J call.0) told) refl
+entries_stand (entry_is.Up server) J legal =
     let none : came_up J server ≡ false = newer_not_came J server legal.1.1.0 in
     placed_by server_cmp servers_total server_cmp-is with_server joins (standing_of J) (standing_of (entry_is.Up server ∷ J)) server fresh (servers_of J)
     (up_set J server (not_came (came_up J server) (is_fenced J server) (fenced_came J legal.0 server) none)) (servers_rise J)
-entries_stand (entry_is.Down server) J legal plain =
+entries_stand (entry_is.Down server) J legal =
     ap (λ f. changed server_cmp (standings_of J) server (stands false f)) (fenced_told J legal.0 server)
     ∙ changed_by server_cmp servers_total server_cmp-is (standing_of J) (standing_of (entry_is.Down server ∷ J)) server (stands false (is_fenced J server)) (servers_of J) (down_set J server) (servers_rise J)
-entries_stand (entry_is.Base part) J legal plain = absurd plain
-entries_stand entry J legal plain = refl
+entries_stand (entry_is.Base part) J legal = parts_stand J part legal
+entries_stand entry J legal = refl
 
 pub fenced_came_up : FencedCameUp
 fenced_came_up J legal p told server is = fence_names J (named_came J legal) p (node_of J p) refl server (by (node_of J p) is)

@@ -1,9 +1,9 @@
 -- What a change of a server's standing and a server more do to those that are live.
-use Rattle.std.proofs.Common.{◌≡◌, ℕ, ◌<◌, ◌≤◌, List, [], ◌∷◌, map, max, Option, Some, None, IfSome, Bool, true, false, ◌&&◌, ◌||◌, ◌==◌, ◌⊎◌, if◌then◌else◌, nat_lt, slice_get, refl, inl, inr, arith, ap, sym, ◌∙◌}
+use Rattle.std.proofs.Common.{◌≡◌, ℕ, ◌<◌, List, [], ◌∷◌, map, max, Option, Some, None, IfSome, Bool, true, false, not, ◌&&◌, ◌||◌, ◌==◌, ◌⊎◌, if◌then◌else◌, nat_lt, slice_get, refl, inl, inr, arith, ap, sym, ◌∙◌}
 use Rattle.std.specs.List.{insert, list_any}
 use Rattle.std.specs.Ordering.{is_eq}
 use Rattle.std.specs.declared.cmp.Ordering.TheVariants.{Equal}
-use Rattle.std.proofs.lemmas.Bool.{cases_Bool, lt-ltb}
+use Rattle.std.proofs.lemmas.Bool.{cases_Bool, lt-ltb, ltb-true}
 use Rattle.std.proofs.lemmas.Cmp.{tied_itself, tied_back}
 use Rattle.hm_names.specs.Order.{server_cmp}
 use Rattle.hm_names.specs.Server.{Server}
@@ -11,10 +11,10 @@ use Rattle.hm_index.specs.Index.{IsRising, find, changed, key_if, PutAt}
 use Rattle.hm_model.specs.Fleet.{same_address}
 use Rattle.hm_model.specs.Standings.{MayComeUp, greatest_start, is_live_in, live_if, live_servers}
 use Rattle.hm_places.specs.Chosen.{cmp_if, AreChosen, HasGap, has}
-use Rattle.hm_places.specs.Servers.{address_cmp, fresh, has_older_in, first_there, name_of, is_live_key, is_live_but, AreLiveBut, AreServers}
+use Rattle.hm_places.specs.Servers.{address_cmp, has_newer_in, has_older_in, first_there, name_of, is_live_key, is_live_but, AreLiveBut, AreServers}
 use Rattle.hm_model.specs.declared.standing.Standing.{Standing}
 use Rattle.hm_places.proofs.Addresses.{addresses_total, address_ties}
-use Rattle.hm_places.proofs.Choice.{rewanted, added}
+use Rattle.hm_places.proofs.Choice.{rewanted, rekeyed, added}
 use Rattle.hm_places.proofs.Kept.{kept_has}
 use Rattle.hm_places.proofs.Live.{test_live}
 use Rattle.hm_model.proofs.NameTies.{servers_total, server_cmp-is}
@@ -209,48 +209,89 @@ module _ (came servers after : List (Server × Standing)) (numbers : List ℕ) (
     newest = rw (is, greatest_changed servers server other standing) may.newest;
   }
 
--- the start code of one that came up at an address is no greater than the greatest there
-start_le : (servers : List (Server × Standing)) (server other : Server) → is_live_in servers other ≡ true → same_address server other ≡ true → other.start ≤ greatest_start servers server
-start_le [] server other live there = cc
-start_le (row ∷ servers) server other live there = elim (cases_Bool (is_eq (server_cmp row.0 other))) [
-  | inl on ↦ (let same : other ≡ row.0 = sym (server_cmp-is row.0 other (is_equal (server_cmp row.0 other) on)) in
-      let at : same_address server row.0 ≡ true = ap (same_address server) (sym same) ∙ there in
-      rw (at, ap (λ (s : Server). s.start) same) (omega arith))
-  | inr off ↦ (let more = start_le servers server other (skip off) there in
-      elim (cases_Bool (same_address server row.0)) [ inl on ↦ rw on (omega (arith, more)) | inr far ↦ rw far more ])
+or_false : (a b : Bool) → (a || b) ≡ false → (a ≡ false) × (b ≡ false)
+or_false true b e = cc
+or_false false b e = (refl, e)
+
+-- a live one of the address has a lesser start code, where none is newer
+start_lt : (servers : List (Server × Standing)) (server other : Server) → has_newer_in servers server ≡ false → is_live_in servers other ≡ true → same_address server other ≡ true → other.start < server.start
+start_lt [] server other none live there = cc
+start_lt (row ∷ servers) server other none live there = elim (cases_Bool (is_eq (server_cmp row.0 other))) [
+  | inl on ↦ (let same : row.0 ≡ other = server_cmp-is row.0 other (is_equal (server_cmp row.0 other) on) in
+      here (nat_lt other.start server.start) refl (ap (λ b. b && not (nat_lt other.start server.start)) (sym there) ∙ ap (λ (s : Server). same_address server s && not (nat_lt s.start server.start)) (sym same) ∙ parts.0))
+  | inr off ↦ start_lt servers server other parts.1 (skip off) there
 ]
   where
+    parts : ((same_address server row.0 && not (nat_lt row.0.start server.start)) ≡ false) × (has_newer_in servers server ≡ false)
+    parts = or_false (same_address server row.0 && not (nat_lt row.0.start server.start)) (has_newer_in servers server) none
+
     skip : is_eq (server_cmp row.0 other) ≡ false → is_live_in servers other ≡ true
     skip off = rw off at live
 
-module _ (came servers came' after : List (Server × Standing)) (numbers : List ℕ) (server : Server) (number at : ℕ) (may : MayComeUp servers server) (alone : has_older_in servers server ≡ false) (are : AreServers came servers numbers)
-    (put : PutAt number (server, fresh) came came') (tied : IfSome (slice_get came number) (λ row. server_cmp row.0 server ≡ Equal))
-    (finds : (other : Server) → find server_cmp after other ≡ (if is_eq (server_cmp server other) then Some fresh else find server_cmp servers other)) (rising : IsRising server_cmp after)
-    (gap : HasGap (cmp_if server_cmp) (map (name_of came) numbers) (Some server) at) where
+    here : (b : Bool) → nat_lt other.start server.start ≡ b → not (nat_lt other.start server.start) ≡ false → other.start < server.start
+    here true e off = ltb-true other.start server.start e
+    here false e off = let on : true ≡ false = ap not (sym e) ∙ off in cc
+
+-- and so the server itself isn't live
+pub newest_unknown : (servers : List (Server × Standing)) (server : Server) → has_newer_in servers server ≡ false → is_live_in servers server ≡ false
+newest_unknown servers server none = not_true (is_live_in servers server) (λ live.
+    let itself : same_address server server ≡ true = address_ties server server ∙ ap is_eq (tied_itself addresses_total server) in
+    let lower = start_lt servers server server none live itself in
+    omega (arith, lower))
+
+-- none is newer than one that may come up
+pub newest_of : (servers : List (Server × Standing)) (server : Server) → greatest_start servers server < server.start → has_newer_in servers server ≡ false
+newest_of [] server most = refl
+newest_of (row ∷ servers) server most = elim (cases_Bool (same_address server row.0)) [
+  | inl on ↦ (let above : max row.0.start (greatest_start servers server) < server.start = rw on at most in
+      let low : row.0.start < server.start = omega (arith, above) in
+      rw (on, lt-ltb row.0.start server.start low) (newest_of servers server (omega (arith, above))))
+  | inr off ↦ rw off (newest_of servers server (rw off at most))
+]
+
+module _ (came servers came' after : List (Server × Standing)) (numbers : List ℕ) (server : Server) (standing : Standing) (number : ℕ) (newest : has_newer_in servers server ≡ false) (are : AreServers came servers numbers)
+    (put : PutAt number (server, standing) came came') (tied : IfSome (slice_get came number) (λ row. server_cmp row.0 server ≡ Equal))
+    (finds : (other : Server) → find server_cmp after other ≡ (if is_eq (server_cmp server other) then Some standing else find server_cmp servers other)) (rising : IsRising server_cmp after) where
   gone_by : (row : Option (Server × Standing)) → IfSome row (λ r. server_cmp r.0 server ≡ Equal) → is_live_key servers (key_if row) ≡ false
   gone_by None ties = refl
-  gone_by (Some row) ties = ap (is_live_in servers) (server_cmp-is row.0 server ties) ∙ may.unknown
+  gone_by (Some row) ties = ap (is_live_in servers) (server_cmp-is row.0 server ties) ∙ newest_unknown servers server newest
 
   keyed : (m : ℕ) → name_of came' m ≡ (if m == number then Some server else name_of came m)
   keyed m = ap key_if (put m) ∙ by (m == number)
     where
-      by : (b : Bool) → key_if (if b then Some (server, fresh) else slice_get came m) ≡ (if b then Some server else name_of came m)
+      by : (b : Bool) → key_if (if b then Some (server, standing) else slice_get came m) ≡ (if b then Some server else name_of came m)
       by true = refl
       by false = refl
 
-  wanted : (key : Option Server) → (is_eq (cmp_if server_cmp (Some server) key) || is_live_key servers key) ≡ is_live_key after key
-  wanted None = refl
-  wanted (Some other) = elim (cases_Bool (is_eq (server_cmp server other))) [ inl on ↦ rw (finds other, on) refl | inr off ↦ rw (finds other, off) refl ]
+  -- one that is told to be down leaves the live ones as they are
+  pub told_down : standing.live ≡ false → AreServers came' after numbers
+  told_down down = record {
+    rising = rising;
+    live = rewanted server_cmp servers_total (name_of came') (is_live_key servers) (is_live_key after) numbers
+        (rekeyed server_cmp servers_total (name_of came) (is_live_key servers) numbers (name_of came') number (Some server) are.live (gone_by (slice_get came number) tied) keyed) wanted_still;
+    alone = λ a b on on'. are.alone a b (less_live servers after server standing finds down a on).1 (less_live servers after server standing finds down b on').1;
+  }
+    where
+      wanted_still : (key : Option Server) → is_live_key servers key ≡ is_live_key after key
+      wanted_still None = refl
+      wanted_still (Some other) = elim (cases_Bool (is_eq (server_cmp server other))) [
+        | inl on ↦ rw (finds other, on) (ap (is_live_in servers) (sym (server_cmp-is server other (is_equal (server_cmp server other) on))) ∙ newest_unknown servers server newest ∙ sym down)
+        | inr off ↦ rw (finds other, off) refl
+      ]
+
+  wanted : standing.live ≡ true → (key : Option Server) → (is_eq (cmp_if server_cmp (Some server) key) || is_live_key servers key) ≡ is_live_key after key
+  wanted live None = refl
+  wanted live (Some other) = elim (cases_Bool (is_eq (server_cmp server other))) [ inl on ↦ rw (finds other, on) (sym live) | inr off ↦ rw (finds other, off) refl ]
 
   -- a live one is the new one, or was live before and isn't at its address
-  live_one : (a : Server) → is_live_in after a ≡ true → (server ≡ a) ⊎ ((is_live_in servers a ≡ true) × (same_address server a ≡ false))
-  live_one a on = elim (cases_Bool (is_eq (server_cmp server a))) [
+  live_one : has_older_in servers server ≡ false → (a : Server) → is_live_in after a ≡ true → (server ≡ a) ⊎ ((is_live_in servers a ≡ true) × (same_address server a ≡ false))
+  live_one alone a on = elim (cases_Bool (is_eq (server_cmp server a))) [
     | inl ties ↦ inl (server_cmp-is server a (is_equal (server_cmp server a) ties))
-    | inr off ↦ (let live : is_live_in servers a ≡ true = ap live_if (sym (finds a ∙ ap (λ b. if b then Some fresh else find server_cmp servers a) off)) ∙ on in
+    | inr off ↦ (let live : is_live_in servers a ≡ true = ap live_if (sym (finds a ∙ ap (λ b. if b then Some standing else find server_cmp servers a) off)) ∙ on in
         inr (
           live,
           not_true (same_address server a) (λ there.
-              let low : a.start < server.start = omega (arith, start_le servers server a live there, may.newest) in
+              let low : a.start < server.start = start_lt servers server a newest live there in
               let any : has_older_in servers server ≡ true = passes (live_servers servers) a (live_there_is servers are.rising a ∙ live) (rw (there, lt-ltb a.start server.start low) refl) in
               let e : true ≡ false = sym any ∙ alone in
               cc),
@@ -269,12 +310,13 @@ module _ (came servers came' after : List (Server × Standing)) (numbers : List 
         | inr off ↦ or_there (same_address server name && nat_lt name.start server.start) (list_any (λ other. same_address server other && nat_lt other.start server.start) names) (passes names one (later (is_eq (server_cmp name one)) (has server_cmp names one) off there) on)
       ]
 
-  pub add_keeps : AreServers came' after (insert numbers at number)
-  add_keeps = record {
+  -- one that is live goes among them at its gap
+  pub told_live : (at : ℕ) → standing.live ≡ true → has_older_in servers server ≡ false → HasGap (cmp_if server_cmp) (map (name_of came) numbers) (Some server) at → AreServers came' after (insert numbers at number)
+  told_live at live alone gap = record {
     rising = rising;
     live = rewanted server_cmp servers_total (name_of came') (λ other. is_eq (cmp_if server_cmp (Some server) other) || is_live_key servers other) (is_live_key after) (insert numbers at number)
-        (added server_cmp servers_total (name_of came) (is_live_key servers) numbers (name_of came') number server at are.live (gone_by (slice_get came number) tied) keyed gap) wanted;
-    alone = λ a b on on' there. both a b there (live_one a on) (live_one b on');
+        (added server_cmp servers_total (name_of came) (is_live_key servers) numbers (name_of came') number server at are.live (gone_by (slice_get came number) tied) keyed gap) (wanted live);
+    alone = λ a b on on' there. both a b there (live_one alone a on) (live_one alone b on');
   }
     where
       both : (a b : Server) → same_address a b ≡ true → (server ≡ a) ⊎ ((is_live_in servers a ≡ true) × (same_address server a ≡ false)) → (server ≡ b) ⊎ ((is_live_in servers b ≡ true) × (same_address server b ≡ false)) → a ≡ b

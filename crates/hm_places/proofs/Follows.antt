@@ -22,7 +22,7 @@ use Rattle.hm_model.specs.Tree.{node_of}
 use Rattle.hm_model.proofs.KeyTests.{region_cmp-is}
 use Rattle.hm_model.proofs.NameTies.{region_ties, regions_total}
 use Rattle.hm_places.specs.Chosen.{Rises, has}
-use Rattle.hm_places.specs.Laws.{EntriesPlace, PlacesTell, given_to, with_place}
+use Rattle.hm_places.specs.Laws.{EntriesPlace, PlacesTell, given_to, part_places, with_place}
 use Rattle.hm_places.specs.Places.{place_in}
 use Rattle.hm_places.proofs.ByKey.{IsSetAt, Joins, find_by, has_join, placed_by, rises_join, rows_by}
 
@@ -78,10 +78,15 @@ places_by J (Some region) (Some place) =
     set : IsSetAt region_cmp (place_of J) (λ other. place_given other (Some region) (Some place) (place_of J other)) region place
     set other = ap (λ b. if b then place else place_of J other) (sym (ties_turned region other))
 
+-- and a part
+parts_place : (J : Past) (part : Part) → with_place (places_of J) (part_places part) ≡ places_of (entry_is.Base part ∷ J)
+parts_place J (part_is.Region own range status parents given) = places_by J (Some own) (Some given)
+parts_place J part = refl
+
 pub entries_place : EntriesPlace
-entries_place (entry_is.Step pid pick out) J plain = places_by J (region_if (node_of J pid.0)) out.place
-entries_place (entry_is.Base part) J plain = absurd plain
-entries_place entry J plain = refl
+entries_place (entry_is.Step pid pick out) J = places_by J (region_if (node_of J pid.0)) out.place
+entries_place (entry_is.Base part) J = parts_place J part
+entries_place entry J = refl
 
 -- a region that was given no place is offline
 or_false : (a b : Bool) → (a || b) ≡ false → (a ≡ false) × (b ≡ false)

@@ -25,6 +25,10 @@ pub record ServersView : Type 0 where
 abbrev pub fresh : Standing
 fresh = record { live = true; fenced = false }
 
+-- one that a part of a base tells: live unless it is fenced
+abbrev pub as_told : Bool → Standing
+as_told fence = record { live = not fence; fenced = fence }
+
 -- it is there, and fenced
 abbrev pub fenced_if : Option Standing → Bool
 fenced_if None = false

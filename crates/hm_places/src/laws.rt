@@ -8,8 +8,8 @@ pub fn places_follow()
     ensures tell { PlacesTell }
 {}
 
-/// Where the servers are those of a legal journal, an entry that brings one up or down or shows one fenced leads to those of
-/// the longer journal; and they tell which came up, are live and are fenced. Who is fenced came up.
+/// Where the servers are those of a legal journal, an entry that brings one up or down, shows one fenced or tells one as a part
+/// of a base leads to those of the longer journal; and they tell which came up, are live and are fenced. Who is fenced came up.
 pub fn servers_follow()
     ensures entries { EntriesStand }
     ensures tell { AllStandingsTell }

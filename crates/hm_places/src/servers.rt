@@ -7,7 +7,7 @@ ghost use Rattle.hm_index.specs.Index.{placed};
 ghost use Rattle.hm_model.specs.Loads.{load_in};
 ghost use Rattle.hm_model.specs.Standings.{MayComeUp, greatest_start, is_live_in, live_servers};
 ghost use Rattle.hm_model.specs.Choice.{lowest, or_else, without};
-ghost use Rattle.hm_places.specs.Servers.{fresh, is_fenced_in, came_up_in, has_live_in, has_newer_in, has_older_in, has_other_live_in, CannotComeUp, CameUp, CannotGoDown, WentDown, put_down, first_there, fenced};
+ghost use Rattle.hm_places.specs.Servers.{as_told, fresh, is_fenced_in, came_up_in, has_live_in, has_newer_in, has_older_in, has_other_live_in, CannotComeUp, CameUp, CannotGoDown, WentDown, put_down, first_there, fenced};
 
 use crate::picking::lowest_of;
 use crate::places::Places;
@@ -71,15 +71,24 @@ impl Servers {
         ensures spare { self.old.spare ≤ self.new.spare + 1 }
         ensures room { self.new.room ≡ self.old.room }
     {
+        self.tell(server, false);
+    }
+
+    /// Takes in a server as a part of a base tells it, live unless it is fenced, in the room that was made for it.
+    pub fn tell(&mut self, server: ServerName, fenced: bool)
+        requires room { 1 ≤ self.old.spare }
+        requires newest { has_newer_in self.old.servers server ≡ false }
+        requires alone { has_older_in self.old.servers server ≡ false }
+        ensures servers { self.new.servers ≡ placed server_cmp self.old.servers server (as_told fenced) }
+        ensures spare { self.old.spare ≤ self.new.spare + 1 }
+        ensures room { self.new.room ≡ self.old.room }
+    {
         let at = spot_for(&self.rows, &self.live, &server);
-        let number = self.rows.put(
-            server,
-            Standing {
-                live: true,
-                fenced: false,
-            },
-        );
-        put_at(&mut self.live, at, number);
+        let live = !fenced;
+        let number = self.rows.put(server, Standing { live, fenced });
+        if live {
+            put_at(&mut self.live, at, number);
+        }
     }
 
     /// Makes a server live that comes up, and answers the older one of its host and port that it put down.
