@@ -13,6 +13,10 @@ use Rattle.hm_data.specs.declared.catalog.Edit.{Edit}
 use Rattle.hm_data.specs.declared.request.Request.{Request}
 use Rattle.hm_data.specs.declared.request.Request.TheVariants as request_is
 use Rattle.hm_data.specs.declared.catalog.CatKey.TheVariants as key_is
+use Rattle.hm_data.specs.declared.catalog.CatRow.TheVariants as row_is
+use Rattle.hm_data.specs.declared.entry.Entry.TheVariants as entry_is
+use Rattle.hm_data.specs.declared.part.Part.{Part}
+use Rattle.hm_data.specs.declared.part.Part.TheVariants as part_is
 use Rattle.hm_model.specs.Catalog.{Catalog, cat, edited, keep, keys_of, rows_at, set_to, with_key, with_key_at, with_keys}
 use Rattle.hm_model.specs.Changes.{remove_regions}
 use Rattle.hm_model.specs.Checks.{namespace_empty, table_disabled}
@@ -22,11 +26,12 @@ use Rattle.hm_model.specs.Keys.{same_key}
 use Rattle.hm_model.specs.RowLaws.{AllBehind, AreInOrder}
 use Rattle.hm_model.specs.Reads.{is_ns_or_table_in, is_region_in}
 use Rattle.hm_model.specs.NamespaceActs.{has_table}
+use Rattle.hm_model.specs.Parts.{table_row}
 use Rattle.hm_model.specs.RowsSaid.{Rows, all_among}
 use Rattle.hm_model.proofs.KeyTests.{cases_key, key_cmp-is, key_cmp-same, same_key-refl}
 use Rattle.hm_model.proofs.Rows.{has_key, keys_in_order, row_at-rows}
-use Rattle.hm_catalog.specs.Laws.{DeedsTell, RowsAreAsked, RowsTell, StepsLead, UndosLead}
-use Rattle.hm_catalog.specs.Rows.{keys_in, rows_in, with_edits, with_row}
+use Rattle.hm_catalog.specs.Laws.{DeedsTell, EntriesLead, RowsAreAsked, RowsTell, StepsLead, UndosLead}
+use Rattle.hm_catalog.specs.Rows.{keys_in, rows_in, with_edits, with_part, with_row}
 use Rattle.hm_catalog.proofs.Asked.{Has, asked_of_keys, asked_of_rows}
 use Rattle.hm_catalog.proofs.Order.{after_first, behind_keep, behind_further, over_first, with_behind}
 
@@ -117,6 +122,25 @@ steps_lead before pid pick out = edits_lead out.edits (cat before) (keys_of befo
 
 pub undos_lead : UndosLead
 undos_lead before pid row out = edits_lead out.edits (cat before) (keys_of before) (keys_in_order before)
+
+-- and a part of a base
+none_there : (keys : List CatKey) → rows_at every (λ key. None) keys ≡ []
+none_there [] = refl
+none_there (key ∷ keys) = none_there keys
+
+parts_lead : (part : Part) (before : Past) → with_part part (rows_in before) ≡ rows_in (entry_is.Base part ∷ before)
+parts_lead (part_is.Head entries last parts sheets) before = sym (none_there (keys_of before))
+parts_lead (part_is.Namespace ns) before = row_leads (cat before) (key_is.Ns ns) (Some row_is.Ns) (keys_of before) (keys_in_order before)
+parts_lead (part_is.Table table drawn own) before = row_leads (cat before) (key_is.Table table) (table_row own) (keys_of before) (keys_in_order before)
+parts_lead (part_is.Region region range status parents place) before =
+    row_leads (cat before) (key_is.Region region) (Some (row_is.Region range status parents)) (keys_of before) (keys_in_order before)
+parts_lead part before = refl
+
+pub entries_lead : EntriesLead
+entries_lead (entry_is.Step pid pick out) before = steps_lead before pid pick out
+entries_lead (entry_is.Undo pid row out) before = undos_lead before pid row out
+entries_lead (entry_is.Base part) before = parts_lead part before
+entries_lead entry before = refl
 
 pub rows_tell : RowsTell
 rows_tell J = fun_ext (λ key. row_at-rows every (cat J) (keys_of J) key refl (has_key J key))

@@ -3,13 +3,14 @@ use Rattle.std.specs.Prelude.{◌≡◌, ℕ, ◌∷◌, Option, filter, Bool}
 use Rattle.hm_names.specs.Server.{Server}
 use Rattle.hm_names.specs.declared.pid.Pid.{Pid}
 use Rattle.hm_data.specs.declared.catalog.CatKey.{CatKey}
+use Rattle.hm_data.specs.declared.entry.Entry.{Entry}
 use Rattle.hm_data.specs.declared.entry.Entry.TheVariants as entry_is
 use Rattle.hm_data.specs.declared.request.Request.{Request}
 use Rattle.hm_data.specs.declared.step.StepOut.{StepOut}
 use Rattle.hm_model.specs.Catalog.{cat, keys_of, row_at, rows_at}
 use Rattle.hm_model.specs.Deeds.{deed}
 use Rattle.hm_model.specs.Journal.{Past}
-use Rattle.hm_catalog.specs.Rows.{keys_in, rows_in, with_edits}
+use Rattle.hm_catalog.specs.Rows.{keys_in, rows_in, with_edits, with_entry}
 
 -- the edits of a step lead from the rows of a journal to those of the longer one
 abbrev pub StepsLead : Type 0
@@ -20,6 +21,10 @@ StepsLead =
 abbrev pub UndosLead : Type 0
 UndosLead =
     (before : Past) (pid : Pid) (row : ℕ) (out : StepOut) → with_edits out.edits (rows_in before) ≡ rows_in (entry_is.Undo pid row out ∷ before)
+
+-- so that each entry leads from the rows of a journal to those of the longer one
+abbrev pub EntriesLead : Type 0
+EntriesLead = (entry : Entry) (before : Past) → with_entry entry (rows_in before) ≡ rows_in (entry ∷ before)
 
 -- the row of each key among them is that of the journal's catalog
 abbrev pub RowsTell : Type 0

@@ -46,14 +46,21 @@ impl Model for Catalog {
 }
 
 impl Catalog {
+    /// No row: so a base begins.
+    pub fn empty(alloc: Global) -> Result<Catalog, AllocError>
+        ensures { IfOk result (λ catalog. catalog.rows ≡ []) }
+    {
+        Ok(Catalog {
+            pairs: Index::new(alloc)?,
+            count: 0,
+        })
+    }
+
     /// The namespaces that are there from the start.
     pub fn start(alloc: Global) -> Result<Catalog, AllocError>
         ensures { IfOk result (λ catalog. catalog.rows ≡ rows_in []) }
     {
-        let mut catalog = Catalog {
-            pairs: Index::new(alloc)?,
-            count: 0,
-        };
+        let mut catalog = Catalog::empty(alloc)?;
         catalog.reserve(alloc, 1)?;
         catalog.set(first_ns(alloc, b"default")?, Some(CatRow::Ns));
         catalog.reserve(alloc, 1)?;
