@@ -50,22 +50,14 @@ with_part (part_is.Namespace ns) rows = with_row (key_is.Ns ns) (Some row_is.Ns)
 with_part (part_is.Table table drawn own) rows = with_row (key_is.Table table) (table_row own) rows
 with_part (part_is.Region region range status parents place) rows =
     with_row (key_is.Region region) (Some (row_is.Region range status parents)) rows
-with_part (part_is.Server server fenced) rows = rows
-with_part (part_is.Root pid nonce args cause) rows = rows
-with_part (part_is.Layout pid) rows = rows
+with_part part rows = rows
 
 -- rows in key order, with what an entry does to them
 abbrev pub with_entry : Entry → Rows → Rows
-with_entry (entry_is.Start sheets) rows = rows
-with_entry (entry_is.Submit nonce request) rows = rows
 with_entry (entry_is.Step pid pick out) rows = with_edits out.edits rows
 with_entry (entry_is.Undo pid row out) rows = with_edits out.edits rows
-with_entry (entry_is.Report call told) rows = rows
-with_entry (entry_is.Up server) rows = rows
-with_entry (entry_is.Down server) rows = rows
-with_entry (entry_is.Abort pid) rows = rows
-with_entry (entry_is.Adopt sheets) rows = rows
 with_entry (entry_is.Base part) rows = with_part part rows
+with_entry entry rows = rows
 
 -- the rows of the catalog of a journal
 abbrev pub rows_in : Past → Rows

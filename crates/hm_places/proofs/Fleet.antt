@@ -47,16 +47,9 @@ rises_part part servers rises = by (part_server part)
 
 servers_rise : (J : Past) → Rises server_cmp (servers_of J)
 servers_rise [] = tt
-servers_rise (entry_is.Start sheets ∷ J) = servers_rise J
-servers_rise (entry_is.Submit nonce request ∷ J) = servers_rise J
-servers_rise (entry_is.Step pid pick out ∷ J) = servers_rise J
-servers_rise (entry_is.Undo pid row out ∷ J) = servers_rise J
-servers_rise (entry_is.Report call told ∷ J) = servers_rise J
 servers_rise (entry_is.Up server ∷ J) = rises_join server_cmp servers_total with_server joins server (servers_of J) (servers_rise J)
-servers_rise (entry_is.Down server ∷ J) = servers_rise J
-servers_rise (entry_is.Abort pid ∷ J) = servers_rise J
-servers_rise (entry_is.Adopt sheets ∷ J) = servers_rise J
 servers_rise (entry_is.Base part ∷ J) = rises_part part (servers_of J) (servers_rise J)
+servers_rise (entry ∷ J) = servers_rise J
 
 -- who came up is among them
 came_has : (server : Server) (servers : List Server) → has server_cmp servers server ≡ list_any (λ other. same_server server other) servers
@@ -214,28 +207,12 @@ told_set J server fence off unfenced other = elim (cases_Bool (same_server other
 
 -- a report that shows a server fenced, and any other
 fence_is : (args : Args) (server : Server) → fence_of args ≡ Some server → (s : Server) → fences_by args s ≡ same_server s server
-fence_is (args_are.Root request first) server e s = absurd (none-some server e)
-fence_is (args_are.Transit region goal to) server e s = absurd (none-some server e)
-fence_is (args_are.Crash other) server e s = absurd (none-some server e)
-fence_is (args_are.AddRegions table first bounds) server e s = absurd (none-some server e)
-fence_is (args_are.DropRegions table ids) server e s = absurd (none-some server e)
-fence_is (args_are.AssignCall region other) server e s = absurd (none-some server e)
-fence_is (args_are.CloseCall region other) server e s = absurd (none-some server e)
 fence_is (args_are.FenceCall other) server e s = ap (same_server s) (same_Some other server e)
-fence_is (args_are.LayoutCall root) server e s = absurd (none-some server e)
-fence_is (args_are.SweepLayout root) server e s = absurd (none-some server e)
+fence_is args server e s = absurd (none-some server e)
 
 fence_none : (args : Args) → fence_of args ≡ None → (s : Server) → fences_by args s ≡ false
-fence_none (args_are.Root request first) e s = refl
-fence_none (args_are.Transit region goal to) e s = refl
-fence_none (args_are.Crash other) e s = refl
-fence_none (args_are.AddRegions table first bounds) e s = refl
-fence_none (args_are.DropRegions table ids) e s = refl
-fence_none (args_are.AssignCall region other) e s = refl
-fence_none (args_are.CloseCall region other) e s = refl
 fence_none (args_are.FenceCall other) e s = absurd (none-some other (sym e))
-fence_none (args_are.LayoutCall root) e s = refl
-fence_none (args_are.SweepLayout root) e s = refl
+fence_none args e s = refl
 
 -- what a report says of each server
 shows : (o : Option Node) (told : Told) (server s : Server) → shown_fenced o told ≡ Some server → ((told_number told == told_number told_is.Fenced) && fences_if o s) ≡ same_server s server

@@ -47,16 +47,9 @@ rises_part part regions rises = rises
 -- the regions that were given a place stand in name order
 placed_rises : (J : Past) → Rises region_cmp (placed J)
 placed_rises [] = tt
-placed_rises (entry_is.Start sheets ∷ J) = placed_rises J
-placed_rises (entry_is.Submit nonce request ∷ J) = placed_rises J
 placed_rises (entry_is.Step pid pick out ∷ J) = rises_if (region_if (node_of J pid.0)) out.place (placed J) (placed_rises J)
-placed_rises (entry_is.Undo pid row out ∷ J) = placed_rises J
-placed_rises (entry_is.Report call told ∷ J) = placed_rises J
-placed_rises (entry_is.Up server ∷ J) = placed_rises J
-placed_rises (entry_is.Down server ∷ J) = placed_rises J
-placed_rises (entry_is.Abort pid ∷ J) = placed_rises J
-placed_rises (entry_is.Adopt sheets ∷ J) = placed_rises J
 placed_rises (entry_is.Base part ∷ J) = rises_part part (placed J) (placed_rises J)
+placed_rises (entry ∷ J) = placed_rises J
 
 reversed : (r : Ordering) → is_eq (ordering_reverse r) ≡ is_eq r
 reversed Less = refl
@@ -110,16 +103,9 @@ part_unplaced J region was part none = was none
 
 unplaced : (J : Past) (region : Region) → has region_cmp (placed J) region ≡ false → place_of J region ≡ nowhere place_is.Offline
 unplaced [] region none = refl
-unplaced (entry_is.Start sheets ∷ J) region none = unplaced J region none
-unplaced (entry_is.Submit nonce request ∷ J) region none = unplaced J region none
 unplaced (entry_is.Step pid pick out ∷ J) region none = step_unplaced J region (unplaced J region) (region_if (node_of J pid.0)) out.place none
-unplaced (entry_is.Undo pid row out ∷ J) region none = unplaced J region none
-unplaced (entry_is.Report call told ∷ J) region none = unplaced J region none
-unplaced (entry_is.Up server ∷ J) region none = unplaced J region none
-unplaced (entry_is.Down server ∷ J) region none = unplaced J region none
-unplaced (entry_is.Abort pid ∷ J) region none = unplaced J region none
-unplaced (entry_is.Adopt sheets ∷ J) region none = unplaced J region none
 unplaced (entry_is.Base part ∷ J) region none = part_unplaced J region (unplaced J region) part none
+unplaced (entry ∷ J) region none = unplaced J region none
 
 place_told : (J : Past) (region : Region) → place_in (places_of J) region ≡ place_of J region
 place_told J region = ap told_place (find_by region_cmp regions_total region_cmp-is (place_of J) (placed J) region) ∙ by (has region_cmp (placed J) region) refl

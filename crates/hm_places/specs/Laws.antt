@@ -34,26 +34,14 @@ given_to (Some region) (Some place) = Some (region, place)
 
 -- the place that a part of a base gives its region
 abbrev pub part_places : Part → Option (Region × Place)
-part_places (part_is.Head entries last parts sheets) = None
-part_places (part_is.Namespace ns) = None
-part_places (part_is.Table table drawn own) = None
 part_places (part_is.Region region range status parents place) = Some (region, place)
-part_places (part_is.Server server fence) = None
-part_places (part_is.Root pid nonce args cause) = None
-part_places (part_is.Layout pid) = None
+part_places part = None
 
 -- the place that an entry gives a region
 abbrev pub placed_now : Past → Entry → Option (Region × Place)
-placed_now before (entry_is.Start sheets) = None
-placed_now before (entry_is.Submit nonce request) = None
 placed_now before (entry_is.Step pid pick out) = given_to (region_if (node_of before pid.0)) out.place
-placed_now before (entry_is.Undo pid row out) = None
-placed_now before (entry_is.Report call told) = None
-placed_now before (entry_is.Up server) = None
-placed_now before (entry_is.Down server) = None
-placed_now before (entry_is.Abort pid) = None
-placed_now before (entry_is.Adopt sheets) = None
 placed_now before (entry_is.Base part) = part_places part
+placed_now before entry = None
 
 -- the rows with one more, if there is one
 abbrev pub with_place : List (Region × Place) → Option (Region × Place) → List (Region × Place)
@@ -74,16 +62,8 @@ PlacesTell =
 
 -- the server that a procedure, if there is one, is the call to fence
 abbrev pub fence_of : Args → Option Server
-fence_of (args_are.Root request first) = None
-fence_of (args_are.Transit region goal to) = None
-fence_of (args_are.Crash server) = None
-fence_of (args_are.AddRegions table first bounds) = None
-fence_of (args_are.DropRegions table ids) = None
-fence_of (args_are.AssignCall region server) = None
-fence_of (args_are.CloseCall region server) = None
 fence_of (args_are.FenceCall server) = Some server
-fence_of (args_are.LayoutCall root) = None
-fence_of (args_are.SweepLayout root) = None
+fence_of args = None
 
 -- the server that a report of a procedure's call shows to be fenced
 abbrev pub shown_fenced : Option Node → Told → Option Server
@@ -102,16 +82,11 @@ with_told servers (Some both) = placed_in server_cmp servers both.0 (as_told bot
 
 -- how the servers stand after an entry
 abbrev pub stand_behind : Past → Entry → List (Server × Standing) → List (Server × Standing)
-stand_behind before (entry_is.Start sheets) servers = servers
-stand_behind before (entry_is.Submit nonce request) servers = servers
-stand_behind before (entry_is.Step pid pick out) servers = servers
-stand_behind before (entry_is.Undo pid row out) servers = servers
 stand_behind before (entry_is.Report call told) servers = with_fence servers (shown_fenced (node_of before call.0) told)
 stand_behind before (entry_is.Up server) servers = placed_in server_cmp servers server fresh
 stand_behind before (entry_is.Down server) servers = put_down servers (Some server)
-stand_behind before (entry_is.Abort pid) servers = servers
-stand_behind before (entry_is.Adopt sheets) servers = servers
 stand_behind before (entry_is.Base part) servers = with_told servers (part_server part)
+stand_behind before entry servers = servers
 
 -- an entry of a legal journal leads from the servers of the journal before it to those of the longer one
 abbrev pub EntriesStand : Type 0
