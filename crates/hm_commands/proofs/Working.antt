@@ -45,7 +45,7 @@ bytes_push before entry = let all = sum_by-append (λ (entry : Entry). length (s
 
 -- how much is left to carry by what counts
 abbrev left_of : Past → Outside → List Call → List ReportMsg → ℕ
-left_of J o wire waiting = left_to_carry (record { past = J; tail = None; durable = 0; taken = []; claimed = []; wire = wire; waiting = waiting; outside = o; halted = None })
+left_of J o wire waiting = left_to_carry (record { past = J; tail = None; durable = 0; taken = []; claimed = []; wire = wire; waiting = waiting; outside = o; halted = None; rolled = None })
 
 one_call : (b : Bool) → one_if b ≤ 1
 one_call true = omega arith

@@ -1,22 +1,25 @@
 -- What the laws of worlds want is kept.
-use Rattle.std.proofs.Common.{◌≡◌, ◌≢◌, ℕ, zero, suc, List, ◌+◌, ◌≤◌, ◌∷◌, drop, length, None, Option, Some, ap, refl, sym, ◌∙◌, inl, inr, arith}
+use Rattle.std.proofs.Common.{◌≡◌, ◌≢◌, ℕ, zero, suc, List, ◌+◌, ◌≤◌, ◌∷◌, drop, length, false, None, Option, Some, ap, refl, sym, ◌∙◌, inl, inr, arith}
 use Rattle.std.specs.Option.{option_map}
 use Rattle.std.proofs.lemmas.Option.{none-some}
 use Rattle.hm_data.specs.declared.entry.Entry.{Entry}
+use Rattle.hm_data.specs.declared.entry.Entry.TheVariants as entry_is
 use Rattle.hm_hall.specs.Recording.{Recording}
 use Rattle.hm_hall.specs.declared.fault.Halt.{Halt}
 use Rattle.hm_hall.specs.declared.fault.Halt.TheVariants as halt_is
 use Rattle.hm_model.specs.Holding.{NoneClash}
 use Rattle.hm_model.specs.Journal.{Past, back}
+use Rattle.hm_model.specs.Laws.{is_part}
 use Rattle.hm_model.specs.Locks.{IsIn}
 use Rattle.hm_model.specs.Plain.{ArePlain, IsPlain}
 use Rattle.hm_model.specs.Tree.{node_of}
 use Rattle.hm_tied.specs.Tied.{CanGo}
 use Rattle.hm_fleet.specs.Fleet.{FleetView, outside_of}
 use Rattle.hm_world_model.specs.Outside.{Outside}
-use Rattle.hm_world_model.specs.Safe.{IsKept, Safe}
+use Rattle.hm_world_model.specs.Safe.{IsKept, IsPlainBehind, Safe}
 use Rattle.hm_world_model.specs.World as model
 use Rattle.hm_world_model.specs.World.{with_tail}
+use Rattle.hm_world_model.proofs.Rolling.{plain_opened, plain_pushed}
 use Rattle.hm_world.specs.Scene.{halted_by, scene_with, world_of}
 use Rattle.hm_world.specs.Sound.{IsSound}
 
@@ -42,6 +45,16 @@ pub plain_whole : (tail : Option Entry) (past : Past) → ArePlain past → ((en
 plain_whole None past plain tailed = plain
 plain_whole (Some entry) past plain tailed = (plain, tailed entry refl)
 
+-- a plain entry is no part of a base
+plain_other : (entry : Entry) → IsPlain entry → is_part entry ≡ false
+plain_other (entry_is.Base part) plain = absurd plain
+plain_other entry plain = refl
+
+-- so a plain tail stands behind what is durable
+plain_tailed : (tail : Option Entry) (past : Past) → ((entry : Entry) → tail ≡ Some entry → IsPlain entry) → IsPlainBehind (length past) (with_tail tail past)
+plain_tailed None past plain = plain_opened past
+plain_tailed (Some entry) past plain = plain_pushed entry past (length past) (plain_other entry (plain entry refl)) (plain_opened past)
+
 pub kept_of : (kept : Recording) (claimed : List ℕ) (fleet : FleetView) (numbers : List ℕ) → IsSound kept fleet numbers → NoneClash (back kept.entries) claimed → ((p : ℕ) → IsIn p claimed → CanGo (back kept.entries) p) → IsKept (world_of (scene_with kept claimed fleet))
 kept_of kept claimed fleet numbers sound apart able = record {
   within = omega arith;
@@ -50,4 +63,6 @@ kept_of kept claimed fleet numbers sound apart able = record {
   waiting_is = sound.sent.waiting_is;
   apart = record { once = tt; among = λ p none. absurd none; there = λ p there. goes_there (back kept.entries) p (able p there); none_clash = apart };
   tails = tails_safe kept.tail (back kept.entries) (outside_of fleet) sound.safe.safe sound.safe.tailed;
+  plain = plain_tailed kept.tail (back kept.entries) sound.safe.plain;
+  rolls = λ r is. absurd (none-some r is);
 }

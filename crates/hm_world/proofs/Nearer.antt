@@ -33,7 +33,7 @@ use Rattle.hm_world.specs.Scene.{GoesOn, Scene, halted_by, past_in, world_of}
 
 -- how much is left by what counts
 abbrev left_of : Past → Outside → List Call → List ReportMsg → ℕ
-left_of J o wire waiting = left_to_carry (record { past = J; tail = None; durable = 0; taken = []; claimed = []; wire = wire; waiting = waiting; outside = o; halted = None })
+left_of J o wire waiting = left_to_carry (record { past = J; tail = None; durable = 0; taken = []; claimed = []; wire = wire; waiting = waiting; outside = o; halted = None; rolled = None })
 
 module _ (old new : Scene) (kept : IsKept (world_of old)) where
   -- it goes on as the world that the laws speak of

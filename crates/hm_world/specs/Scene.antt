@@ -1,5 +1,5 @@
 -- A world as a call finds it, and as it leaves it.
-use Rattle.std.specs.Prelude.{ℕ, List, [], length}
+use Rattle.std.specs.Prelude.{ℕ, List, [], length, None}
 use Rattle.std.specs.Option.{option_map}
 use Rattle.hm_names.specs.declared.pid.Pid.{Pid}
 use Rattle.hm_data.specs.declared.call.Call.{Call}
@@ -77,4 +77,5 @@ world_of at =
       waiting = at.waiting;
       outside = at.outside;
       halted = option_map halted_by kept.halted;
+      rolled = None;
     })

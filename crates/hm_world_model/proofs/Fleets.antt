@@ -1,5 +1,5 @@
 -- Fleets that live on.
-use Rattle.std.proofs.Common.{◌≡◌, ℕ, ◌-◌, ◌≤◌, List, [], ◌∷◌, ◌++◌, length, take, drop, length-drop, refl, ap, sym, ◌∙◌, subst, arith}
+use Rattle.std.proofs.Common.{◌≡◌, ℕ, ◌-◌, ◌≤◌, List, [], ◌∷◌, ◌++◌, length, take, drop, length-drop, refl, ap, sym, ◌∙◌, subst, inl, arith}
 use Rattle.std.proofs.lemmas.List.{length-reverse, reverse-reverse}
 use Rattle.hm_data.specs.declared.entry.Entry.{Entry}
 use Rattle.hm_model.specs.Journal.{Past, back}
@@ -8,10 +8,8 @@ use Rattle.hm_world_model.specs.Events.{Ends, Stop, stopped}
 use Rattle.hm_world_model.specs.Fleets.{FitsTheFirst, ResumedIsKept, ResumedIsStopped}
 use Rattle.hm_world_model.specs.Safe.{IsKept}
 use Rattle.hm_world_model.specs.World.{first, whole}
+use Rattle.hm_world_model.proofs.Fronts.{first_length}
 use Rattle.hm_world_model.proofs.Tails.{event_keeps}
-
-first_length : (k : ℕ) (past : Past) → k ≤ length past → length (first k past) ≡ k
-first_length k past h = omega (arith, h, length-drop (length past - k) past)
 
 -- the first k entries, back from the newest of them
 drop_front : (front rest : Past) → drop (length front) (front ++ rest) ≡ rest
@@ -44,9 +42,9 @@ fits_first lived all journal is = (
 pub resumed_stopped : ResumedIsStopped
 resumed_stopped w past f =
     let e : length past ≡ f.0 = ap length f.3 ∙ first_length f.0 (whole w) f.2 in
-    rw e (ap (λ p. record (stopped w f.0) { past = p }) f.3)
+    rw e (ap (λ p. record (stopped w f.0 w.rolled) { past = p }) f.3)
 
 pub resumed_kept : ResumedIsKept
 resumed_kept w past kept f =
     let e : length past ≡ f.0 = ap length f.3 ∙ first_length f.0 (whole w) f.2 in
-    subst IsKept (sym (resumed_stopped w past f)) (subst (λ k. IsKept (stopped w k)) (sym e) (event_keeps w (Ends (Stop f.0)) kept (f.1, f.2)))
+    subst IsKept (sym (resumed_stopped w past f)) (subst (λ k. IsKept (stopped w k w.rolled)) (sym e) (event_keeps w (Ends (Stop f.0 w.rolled)) kept (f.1, f.2, inl refl)))

@@ -9,6 +9,8 @@ pub mod From
 pub mod Serving
 pub mod Storing
 pub mod Appending
+pub mod Fronts
+pub mod Rolling
 pub mod Tails
 pub mod Opening
 pub mod Keeping

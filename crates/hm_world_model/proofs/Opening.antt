@@ -33,6 +33,7 @@ use Rattle.hm_world_model.specs.Twice.{HeldByOne, Holds, IsHeldByTwo, KeptIsHeld
 use Rattle.hm_world_model.specs.World.{World, opened, shown_storage, whole}
 use Rattle.hm_world_model.proofs.Facts.{node_called, one_server, same_verb, verb_now}
 use Rattle.hm_world_model.proofs.Apart.{apart_opened}
+use Rattle.hm_world_model.proofs.Rolling.{plain_opened}
 use Rattle.hm_world_model.proofs.Tails.{event_keeps, within_whole}
 
 fence_told : (s : Server) (t : Told) → fits_verb (verb_is.Fence s) t ≡ true → (told_number t == told_number told_is.Fenced) ≡ true
@@ -126,6 +127,8 @@ opened_kept J legal = record {
   waiting_is = λ report h. absurd h;
   apart = apart_opened J legal;
   tails = λ n h. let zero_is : n ≡ 0 = omega (arith, h) in rw zero_is (safe_opened J legal);
+  plain = plain_opened J;
+  rolls = λ r is. absurd (none-some r is);
 }
 
 pub events_keep : EventsKeep

@@ -1,41 +1,24 @@
 -- What a deposed master does is what may happen to the other's world.
-use Rattle.std.proofs.Common.{◌≡◌, ℕ, ◌+◌, ◌-◌, ◌≤◌, [], ◌∷◌, length, length-drop, drop, Option, Some, None, refl, ap, sym, ◌∙◌, subst, arith}
+use Rattle.std.proofs.Common.{◌≡◌, ℕ, ◌+◌, ◌-◌, ◌≤◌, [], ◌∷◌, length, drop, Option, Some, None, refl, ap, sym, ◌∙◌, subst, arith}
 use Rattle.hm_data.specs.declared.entry.Entry.{Entry}
 use Rattle.hm_data.specs.declared.entry.Entry.TheVariants as entry_is
-use Rattle.hm_model.specs.Journal.{Past}
 use Rattle.hm_model.specs.Reports.{call_of}
 use Rattle.hm_model.specs.Rules.{IsLegal}
-use Rattle.hm_world_model.specs.Events.{Abort, Adopt, Arm, Claim, Commit, Deliver, DeliverAgain, DeliverOld, Die, Ends, Event, Expire, Fault, Flush, Full, GiveUp, Hear, HearAgain, Ignore, Lives, Lose, Miss, Repeat, Send, SendOld, Start, Stop, Submit, Travels, Works, happens, stopped}
+use Rattle.hm_world_model.specs.Events.{Abort, Adopt, Arm, Claim, Commit, Deliver, DeliverAgain, DeliverOld, Die, Ends, Event, Expire, Fault, Flush, Full, GiveUp, Hear, HearAgain, Ignore, Lives, Lose, Miss, Repeat, Roll, Send, SendOld, Start, Stop, Submit, Travels, Works, happens, stopped}
 use Rattle.hm_world_model.specs.Pairs.{Deposed, Delivers, MayMeddle, Meddling, Old, Own, PairsKeep, PairsNeverTwice, Precedes, Sends, Takes, TakenOver, event_of, pair_after}
 use Rattle.hm_world_model.specs.Runs.{May}
 use Rattle.hm_world_model.specs.Safe.{IsKept}
-use Rattle.hm_world_model.specs.World.{World, durable_part, first, whole, with_tail}
+use Rattle.hm_world_model.specs.World.{World, durable_part, whole, with_tail}
+use Rattle.hm_world_model.proofs.Fronts.{drop_again, durable_whole, one_more, shorter, whole_front}
 use Rattle.hm_world_model.proofs.Points.{kept_never_twice, safe_first}
-use Rattle.hm_world_model.proofs.Tails.{calls_grow, drop_again, durable_whole, event_keeps}
+use Rattle.hm_world_model.proofs.Tails.{calls_grow, event_keeps}
 
 -- what is durable in a world is a front of what is durable in another
 abbrev Grows : World → World → Type 0
 Grows w v = (n : ℕ) × (durable_part w ≡ drop n (durable_part v))
 
-one_more : (entry : Entry) (past : Past) (d : ℕ) → d ≤ length past → first d past ≡ first d (entry ∷ past)
-one_more entry past d within = durable_whole (Some entry) past d within
-
--- a shorter front of a front
-shorter : (past : Past) (d k : ℕ) → d ≤ k → k ≤ length past → first d past ≡ drop (k - d) (first k past)
-shorter past d k low high = sym (drop_again (k - d) (length past - k) past ∙ ap (λ n. drop n past) same)
-  where
-    same : (length past - k) + (k - d) ≡ length past - d
-    same = omega (arith, low, high)
-
--- a front of so many is all of it
-whole_front : (past : Past) (k : ℕ) → k ≤ length past → first k (first k past) ≡ first k past
-whole_front past k high = ap (λ n. drop n (first k past)) same
-  where
-    same : length (first k past) - k ≡ 0
-    same = omega (arith, high, length-drop (length past - k) past)
-
-stop_grows : (w : World) (k : ℕ) → w.durable ≤ length w.past → w.durable ≤ k → k ≤ length (whole w) → Grows w (stopped w k)
-stop_grows w k within low high = (
+stop_grows : (w : World) (k : ℕ) (rolled : Option ℕ) → w.durable ≤ length w.past → w.durable ≤ k → k ≤ length (whole w) → Grows w (stopped w k rolled)
+stop_grows w k rolled within low high = (
   k - w.durable,
   durable_whole w.tail w.past w.durable within
       ∙ shorter (whole w) w.durable k low high
@@ -51,6 +34,7 @@ grows w (Works (Flush n)) k may = (n - w.durable, shorter w.past w.durable n may
 grows w (Works (Expire server)) k may = (0, one_more (entry_is.Down server) w.past w.durable k.within)
 grows w (Works (Abort pid)) k may = (0, one_more (entry_is.Abort pid) w.past w.durable k.within)
 grows w (Works (Adopt sheets)) k may = (0, one_more (entry_is.Adopt sheets) w.past w.durable k.within)
+grows w (Works Roll) k may = (0, refl)
 grows w (Travels (Send call)) k may = (0, refl)
 grows w (Travels (Deliver call)) k may = (0, refl)
 grows w (Travels (DeliverAgain call)) k may = (0, refl)
@@ -71,7 +55,7 @@ grows w (Lives (Die server)) k may = (0, refl)
 grows w (Lives (Arm peer count)) k may = (0, refl)
 grows w (Ends (Fault tail)) k may = (0, refl)
 grows w (Ends Full) k may = (0, refl)
-grows w (Ends (Stop n)) k may = stop_grows w n k.within may.0 may.1
+grows w (Ends (Stop n rolled)) k may = stop_grows w n rolled k.within may.0 may.1
 
 precedes_on : (old : Deposed) (w v : World) → Precedes old w → Grows w v → Precedes old v
 precedes_on old w v before more =
@@ -94,7 +78,7 @@ meddles old w kept before (Delivers call) may = may
 meddles old w kept before (Takes report) may = may
 
 pub taken_over : TakenOver
-taken_over w k kept low high = stop_grows w k kept.within low high
+taken_over w k rolled kept low high = stop_grows w k rolled kept.within low high
 
 pub pairs_keep : PairsKeep
 pairs_keep old w kept before [] run = (kept, before)

@@ -1,7 +1,7 @@
 -- Every event keeps what is kept, for each length of the journal that a stop may leave.
-use Rattle.std.proofs.Common.{◌≡◌, ◌≢◌, ℕ, zero, suc, ◌+◌, ◌-◌, ◌≤◌, List, [], ◌∷◌, ◌++◌, length, drop, length-drop, true, false, Option, Some, None, refl, ap, sym, ◌∙◌, subst, inl, inr, arith}
+use Rattle.std.proofs.Common.{◌≡◌, ◌≢◌, ℕ, zero, suc, ◌+◌, ◌-◌, ◌≤◌, List, [], ◌∷◌, ◌++◌, length, drop, length-drop, true, false, Option, Some, None, refl, sym, ◌∙◌, subst, inl, inr, arith}
 use Rattle.std.proofs.lemmas.Bool.{false_from_ne_true, true≢false}
-use Rattle.std.proofs.lemmas.Option.{none-some}
+use Rattle.std.proofs.lemmas.Option.{none-some, same_Some}
 use Rattle.hm_names.specs.Server.{Server}
 use Rattle.hm_data.specs.declared.call.Call.{Call}
 use Rattle.hm_data.specs.declared.call.Peer.{Peer}
@@ -10,21 +10,25 @@ use Rattle.hm_data.specs.declared.call.ReportMsg.{ReportMsg}
 use Rattle.hm_data.specs.declared.entry.Entry.{Entry}
 use Rattle.hm_data.specs.declared.entry.Entry.TheVariants as entry_is
 use Rattle.hm_model.specs.Fleet.{came_up, has_newer}
+use Rattle.hm_model.specs.Image.{counted}
 use Rattle.hm_model.specs.Journal.{Past}
+use Rattle.hm_model.specs.Laws.{is_part}
 use Rattle.hm_model.specs.Locks.{IsIn}
 use Rattle.hm_model.specs.Reports.{call_of}
 use Rattle.hm_model.specs.Rules.{Allowed, IsLegal}
-use Rattle.hm_world_model.specs.Events.{Abort, Adopt, Arm, Claim, Commit, Deliver, DeliverAgain, Die, Ends, Event, Expire, Fault, Flush, Full, GiveUp, Hear, HearAgain, Ignore, Lives, Lose, Repeat, SendOld, DeliverOld, Miss, Send, Start, Stop, Submit, Travels, Works, happens, with_older_down}
+use Rattle.hm_world_model.specs.Events.{Abort, Adopt, Arm, Claim, Commit, Deliver, DeliverAgain, Die, Ends, Event, Expire, Fault, Flush, Full, GiveUp, Hear, HearAgain, Ignore, Lives, Lose, Repeat, SendOld, DeliverOld, Miss, Send, Start, Stop, Submit, Travels, Works, happens, with_older_down, Roll}
 use Rattle.hm_world_model.specs.Outside.{Outside, answer_by, deliver_by, delivered, report_to, started, with_report, with_sent, armed}
-use Rattle.hm_world_model.specs.Runs.{CanWrite, GoesOn, IsTrueReport, IsWork, May, MayEnter, MayStart}
-use Rattle.hm_world_model.specs.Safe.{IsKept, Safe}
-use Rattle.hm_world_model.specs.World.{Claimed, LogFault, World, claimed_pids, first, whole, with_tail}
+use Rattle.hm_world_model.specs.Runs.{CanWrite, GoesOn, IsRolledIn, IsTrueReport, IsWork, May, MayBeRolled, MayEnter, MayStart}
+use Rattle.hm_world_model.specs.Safe.{IsKept, IsPlainBehind, Safe}
+use Rattle.hm_world_model.specs.World.{Claimed, LogFault, World, claimed_pids, durable_part, first, whole, with_tail}
 use Rattle.hm_world_model.specs.Claims.{IsApart}
 use Rattle.hm_world_model.proofs.Apart.{apart_on, apart_opened}
 use Rattle.hm_world_model.proofs.Appending.{safe_append}
 use Rattle.hm_world_model.proofs.Claiming.{apart_claim, apart_commit, apart_give_up, apart_plain}
 use Rattle.hm_world_model.proofs.Facts.{call_now, in_both, in_pushed, pushed_new, pushed_old}
 use Rattle.hm_world_model.proofs.From.{safe_arm, safe_die, safe_send, safe_start}
+use Rattle.hm_world_model.proofs.Fronts.{all_front, drop_again, durable_whole, one_more, whole_front}
+use Rattle.hm_world_model.proofs.Rolling.{plain_dropped, plain_later, plain_pushed, plain_within, rolled_all, rolled_first, true_plain}
 use Rattle.hm_world_model.proofs.Servers.{not_up, up_stays}
 use Rattle.hm_world_model.proofs.Storing.{safe_deliver}
 
@@ -33,15 +37,6 @@ abbrev pub AllTails : Option Entry → Past → ℕ → Outside → Type 0
 AllTails tail past d o = (n : ℕ) → n + d ≤ length (with_tail tail past) → Safe (drop n (with_tail tail past)) o
 
 -- the parts of lists
-drop_nothing : (n : ℕ) → drop {A = Entry} n [] ≡ []
-drop_nothing zero = refl
-drop_nothing (suc n) = refl
-
-pub drop_again : (m n : ℕ) (past : Past) → drop m (drop n past) ≡ drop (n + m) past
-drop_again m zero past = let e : 0 + m ≡ m = omega arith in rw e refl
-drop_again m (suc n) [] = let e : suc n + m ≡ suc (n + m) = omega arith in rw e (drop_nothing m)
-drop_again m (suc n) (x ∷ past) = let e : suc n + m ≡ suc (n + m) = omega arith in rw e (drop_again m n past)
-
 in_dropped : {A : Type 0} (x : A) (xs : List A) → IsIn x (drop 1 xs) → IsIn x xs
 in_dropped x [] h = absurd h
 in_dropped x (y ∷ xs) h = inr h
@@ -103,14 +98,6 @@ sent_tail past d o all call is n h = calls_grow (drop n past) (all n h).legal (l
   where
     same_place : n + (length past - d - n) ≡ length past - d
     same_place = omega (arith, h)
-
--- what is durable is a front of the journal with its tail
-pub durable_whole : (tail : Option Entry) (past : Past) (d : ℕ) → d ≤ length past → first d past ≡ first d (with_tail tail past)
-durable_whole None past d within = refl
-durable_whole (Some entry) past d within = ap (λ n. drop n (entry ∷ past)) (sym longer_by)
-  where
-    longer_by : length (entry ∷ past) - d ≡ suc (length past - d)
-    longer_by = omega (arith, within)
 
 -- the work of a claim is no report
 work_true : (past : Past) (claim : Claimed) (o : Outside) (entry : Entry) → IsWork past claim entry → IsTrueReport o entry
@@ -210,14 +197,46 @@ module _ (w : World) (kept : IsKept w) where
   apart_stopped : (k : ℕ) → d ≤ k → k ≤ length (whole w) → IsApart (first k (whole w)) [] []
   apart_stopped k low high = apart_opened (first k (whole w)) (kept.tails (length (whole w) - k) (omega (arith, low, high))).legal
 
+  -- an entry that is recorded is no part, and leaves what was rolled
+  plain_with : (past : Past) → GoesOn w → IsPlainBehind d past → IsPlainBehind d (with_tail w.tail past)
+  plain_with past going plain = subst (λ t. IsPlainBehind d (with_tail t past)) (sym (kept.tailless (can_write going))) plain
+
+  plain_past : IsPlainBehind d w.past
+  plain_past = plain_within w.tail w.past d kept.plain
+
+  entered_plain : (entry : Entry) → GoesOn w → is_part entry ≡ false → IsPlainBehind d (with_tail w.tail (entry ∷ w.past))
+  entered_plain entry going other = plain_with (entry ∷ w.past) going (plain_pushed entry w.past d other plain_past)
+
+  entered_rolls : (entry : Entry) (r : ℕ) → w.rolled ≡ Some r → IsRolledIn (first d (entry ∷ w.past)) r
+  entered_rolls entry r is = subst (λ J. IsRolledIn J r) (one_more entry w.past d kept.within) (kept.rolls r is)
+
+  -- a stop leaves what was rolled, and what a later roll may have
+  stop_plain : (k : ℕ) → d ≤ k → IsPlainBehind k (first k (whole w))
+  stop_plain k low = plain_dropped (length (whole w) - k) k (whole w) (plain_later (whole w) d k low kept.plain)
+
+  was_rolled : (rolled : Option ℕ) → MayBeRolled w rolled → (r : ℕ) → rolled ≡ Some r → IsRolledIn (first d w.past) r
+  was_rolled rolled (inl same) r is = kept.rolls r (sym same ∙ is)
+  was_rolled rolled (inr later) r is = subst (λ n. IsRolledIn (first d w.past) n) (same_Some later.0 r (sym later.1 ∙ is)) later.2.0
+
+  stop_rolls : (k : ℕ) → d ≤ k → k ≤ length (whole w) → (rolled : Option ℕ) → MayBeRolled w rolled → (r : ℕ) → rolled ≡ Some r → IsRolledIn (first k (first k (whole w))) r
+  stop_rolls k low high rolled may r is =
+      subst (λ J. IsRolledIn J r) (sym (whole_front (whole w) k high))
+      (rolled_first (whole w) d k r low high kept.plain (subst (λ J. IsRolledIn J r) (durable_whole w.tail w.past d kept.within) (was_rolled rolled may r is)))
+
+  -- all that is recorded is rolled
+  all_rolled : May w (Works Roll) → (r : ℕ) → Some (counted w.past) ≡ Some r → IsRolledIn (first d w.past) r
+  all_rolled may r is =
+      subst (λ n. IsRolledIn (first d w.past) n) (same_Some (counted w.past) r is)
+      (subst (λ J. IsRolledIn J (counted w.past)) (sym (all_front w.past d may.2)) (rolled_all w.past may.3 may.4))
+
 one_longer : (entry : Entry) (past : Past) (d : ℕ) → d ≤ length past → d ≤ length (entry ∷ past)
 one_longer entry past d h = omega (arith, h)
 
 pub event_keeps : (w : World) (event : Event) → IsKept w → May w event → IsKept (happens w event)
-event_keeps w (Works (Submit nonce request)) k may = record { within = one_longer (entry_is.Submit nonce request) w.past w.durable k.within; tailless = k.tailless; wire_is = k.wire_is; waiting_is = k.waiting_is; apart = apart_plain w k.apart (legal_here w k) (entry_is.Submit nonce request) (legal_next w k (entry_is.Submit nonce request) may) tt; tails = entered w k (entry_is.Submit nonce request) may tt }
-event_keeps w (Works (Claim claim)) k may = record { within = k.within; tailless = k.tailless; wire_is = k.wire_is; waiting_is = k.waiting_is; apart = apart_claim w k.apart (legal_here w k) claim may; tails = k.tails }
-event_keeps w (Works (Commit claim entry)) k may = record { within = one_longer entry w.past w.durable k.within; tailless = k.tailless; wire_is = k.wire_is; waiting_is = k.waiting_is; apart = apart_commit w k.apart (legal_here w k) claim entry (legal_next w k entry may.2) may; tails = entered w k entry may.2 (work_true w.past claim w.outside entry may.1) }
-event_keeps w (Works (GiveUp claim)) k may = record { within = k.within; tailless = k.tailless; wire_is = k.wire_is; waiting_is = k.waiting_is; apart = apart_give_up w k.apart (legal_here w k) claim; tails = k.tails }
+event_keeps w (Works (Submit nonce request)) k may = record { within = one_longer (entry_is.Submit nonce request) w.past w.durable k.within; tailless = k.tailless; wire_is = k.wire_is; waiting_is = k.waiting_is; apart = apart_plain w k.apart (legal_here w k) (entry_is.Submit nonce request) (legal_next w k (entry_is.Submit nonce request) may) tt; tails = entered w k (entry_is.Submit nonce request) may tt; plain = entered_plain w k (entry_is.Submit nonce request) may.0 refl; rolls = entered_rolls w k (entry_is.Submit nonce request) }
+event_keeps w (Works (Claim claim)) k may = record { within = k.within; tailless = k.tailless; wire_is = k.wire_is; waiting_is = k.waiting_is; apart = apart_claim w k.apart (legal_here w k) claim may; tails = k.tails; plain = k.plain; rolls = k.rolls }
+event_keeps w (Works (Commit claim entry)) k may = record { within = one_longer entry w.past w.durable k.within; tailless = k.tailless; wire_is = k.wire_is; waiting_is = k.waiting_is; apart = apart_commit w k.apart (legal_here w k) claim entry (legal_next w k entry may.2) may; tails = entered w k entry may.2 (work_true w.past claim w.outside entry may.1); plain = entered_plain w k entry may.2.0 (true_plain entry w.outside (work_true w.past claim w.outside entry may.1)); rolls = entered_rolls w k entry }
+event_keeps w (Works (GiveUp claim)) k may = record { within = k.within; tailless = k.tailless; wire_is = k.wire_is; waiting_is = k.waiting_is; apart = apart_give_up w k.apart (legal_here w k) claim; tails = k.tails; plain = k.plain; rolls = k.rolls }
 event_keeps w (Works (Flush n)) k may = record {
   within = may.2;
   tailless = k.tailless;
@@ -225,6 +244,8 @@ event_keeps w (Works (Flush n)) k may = record {
   waiting_is = k.waiting_is;
   apart = k.apart;
   tails = λ m h. k.tails m (let a = may.1 in omega (arith, h, a));
+  plain = plain_later (whole w) w.durable n may.1 k.plain;
+  rolls = λ r is. rolled_first w.past w.durable n r may.1 may.2 (plain_past w k) (k.rolls r is);
 }
 event_keeps w (Travels (Send call)) k may = record {
   within = k.within;
@@ -233,6 +254,8 @@ event_keeps w (Travels (Send call)) k may = record {
   waiting_is = k.waiting_is;
   apart = k.apart;
   tails = with_tails w k w.past (with_sent w.outside call) may.0 (λ n h. safe_send (drop n w.past) w.outside call (calm_tails w k may.0 n h) (sent_tail w.past w.durable w.outside (calm_tails w k may.0) call may.1 n h));
+  plain = k.plain;
+  rolls = k.rolls;
 }
 event_keeps w (Travels (Deliver call)) k may = record {
   within = k.within;
@@ -241,8 +264,10 @@ event_keeps w (Travels (Deliver call)) k may = record {
   waiting_is = deliver_waiting w k call;
   apart = k.apart;
   tails = deliver_tails w k call (k.wire_is call (in_first call w.wire may.1.0 may.1.1));
+  plain = k.plain;
+  rolls = k.rolls;
 }
-event_keeps w (Travels (DeliverAgain call)) k may = record { within = k.within; tailless = k.tailless; wire_is = deliver_wire w k call; waiting_is = deliver_waiting w k call; apart = k.apart; tails = deliver_tails w k call may.1 }
+event_keeps w (Travels (DeliverAgain call)) k may = record { within = k.within; tailless = k.tailless; wire_is = deliver_wire w k call; waiting_is = deliver_waiting w k call; apart = k.apart; tails = deliver_tails w k call may.1; plain = k.plain; rolls = k.rolls }
 event_keeps w (Travels (Hear report)) k may = record {
   within = one_longer (entry_is.Report report.call report.told) w.past w.durable k.within;
   tailless = k.tailless;
@@ -250,9 +275,11 @@ event_keeps w (Travels (Hear report)) k may = record {
   waiting_is = λ r h. k.waiting_is r (in_dropped r w.waiting h);
   apart = apart_plain w k.apart (legal_here w k) (entry_is.Report report.call report.told) (legal_next w k (entry_is.Report report.call report.told) may.0.0) tt;
   tails = heard w k report may.0.0 (k.waiting_is report (in_first report w.waiting may.1.0 may.1.1));
+  plain = entered_plain w k (entry_is.Report report.call report.told) may.0.0.0 refl;
+  rolls = entered_rolls w k (entry_is.Report report.call report.told);
 }
-event_keeps w (Travels (Ignore report)) k may = record { within = k.within; tailless = k.tailless; wire_is = k.wire_is; waiting_is = λ r h. k.waiting_is r (in_dropped r w.waiting h); apart = k.apart; tails = k.tails }
-event_keeps w (Travels (HearAgain report)) k may = record { within = one_longer (entry_is.Report report.call report.told) w.past w.durable k.within; tailless = k.tailless; wire_is = k.wire_is; waiting_is = k.waiting_is; apart = apart_plain w k.apart (legal_here w k) (entry_is.Report report.call report.told) (legal_next w k (entry_is.Report report.call report.told) may.0.0) tt; tails = heard w k report may.0.0 may.1 }
+event_keeps w (Travels (Ignore report)) k may = record { within = k.within; tailless = k.tailless; wire_is = k.wire_is; waiting_is = λ r h. k.waiting_is r (in_dropped r w.waiting h); apart = k.apart; tails = k.tails; plain = k.plain; rolls = k.rolls }
+event_keeps w (Travels (HearAgain report)) k may = record { within = one_longer (entry_is.Report report.call report.told) w.past w.durable k.within; tailless = k.tailless; wire_is = k.wire_is; waiting_is = k.waiting_is; apart = apart_plain w k.apart (legal_here w k) (entry_is.Report report.call report.told) (legal_next w k (entry_is.Report report.call report.told) may.0.0) tt; tails = heard w k report may.0.0 may.1; plain = entered_plain w k (entry_is.Report report.call report.told) may.0.0.0 refl; rolls = entered_rolls w k (entry_is.Report report.call report.told) }
 event_keeps w (Travels (SendOld call)) k may = record {
   within = k.within;
   tailless = k.tailless;
@@ -260,6 +287,8 @@ event_keeps w (Travels (SendOld call)) k may = record {
   waiting_is = k.waiting_is;
   apart = k.apart;
   tails = λ n h. safe_send (drop n (whole w)) w.outside call (k.tails n h) (sent_tail (whole w) w.durable w.outside k.tails call (subst (λ p. call_of p call.id.0 ≡ Some call) (durable_whole w.tail w.past w.durable k.within) may.0) n h);
+  plain = k.plain;
+  rolls = k.rolls;
 }
 event_keeps w (Travels (DeliverOld call)) k may = record {
   within = k.within;
@@ -268,9 +297,11 @@ event_keeps w (Travels (DeliverOld call)) k may = record {
   waiting_is = deliver_waiting w k call;
   apart = k.apart;
   tails = deliver_tails w k call (k.wire_is call (in_first call w.wire may.0 may.1));
+  plain = k.plain;
+  rolls = k.rolls;
 }
-event_keeps w (Travels (Miss report)) k may = record { within = k.within; tailless = k.tailless; wire_is = k.wire_is; waiting_is = λ r h. k.waiting_is r (in_dropped r w.waiting h); apart = k.apart; tails = k.tails }
-event_keeps w (Travels Lose) k may = record { within = k.within; tailless = k.tailless; wire_is = λ c h. absurd h; waiting_is = λ r h. absurd h; apart = k.apart; tails = k.tails }
+event_keeps w (Travels (Miss report)) k may = record { within = k.within; tailless = k.tailless; wire_is = k.wire_is; waiting_is = λ r h. k.waiting_is r (in_dropped r w.waiting h); apart = k.apart; tails = k.tails; plain = k.plain; rolls = k.rolls }
+event_keeps w (Travels Lose) k may = record { within = k.within; tailless = k.tailless; wire_is = λ c h. absurd h; waiting_is = λ r h. absurd h; apart = k.apart; tails = k.tails; plain = k.plain; rolls = k.rolls }
 event_keeps w (Travels Repeat) k may = record {
   within = k.within;
   tailless = k.tailless;
@@ -278,8 +309,10 @@ event_keeps w (Travels Repeat) k may = record {
   waiting_is = λ r h. elim (in_both r w.waiting w.outside.reports h) [ inl old ↦ k.waiting_is r old | inr again ↦ again ];
   apart = k.apart;
   tails = k.tails;
+  plain = k.plain;
+  rolls = k.rolls;
 }
-event_keeps w (Lives (Start server older)) k may = record { within = up_within older; tailless = tailless_of older; wire_is = wire_of older; waiting_is = waiting_of older; apart = apart_of older may; tails = tails_of older may }
+event_keeps w (Lives (Start server older)) k may = record { within = up_within older; tailless = tailless_of older; wire_is = wire_of older; waiting_is = waiting_of older; apart = apart_of older may; tails = tails_of older may; plain = plain_of older may; rolls = rolls_of older }
   where
     up_within : (x : Option Server) → (happens w (Lives (Start server x))).durable ≤ length (happens w (Lives (Start server x))).past
     up_within None = one_longer (entry_is.Up server) w.past w.durable k.within
@@ -306,11 +339,24 @@ event_keeps w (Lives (Start server older)) k may = record { within = up_within o
     tails_of : (x : Option Server) → MayStart w server x → (n : ℕ) → n + (happens w (Lives (Start server x))).durable ≤ length (whole (happens w (Lives (Start server x)))) → Safe (drop n (whole (happens w (Lives (Start server x))))) (started w.outside server)
     tails_of None m = start_tails w k server None m
     tails_of (Some o) m = start_tails w k server (Some o) m
-event_keeps w (Lives (Die server)) k may = record { within = k.within; tailless = k.tailless; wire_is = k.wire_is; waiting_is = k.waiting_is; apart = k.apart; tails = λ n h. safe_die (drop n (whole w)) w.outside server (k.tails n h) }
-event_keeps w (Works (Expire server)) k may = record { within = one_longer (entry_is.Down server) w.past w.durable k.within; tailless = k.tailless; wire_is = k.wire_is; waiting_is = k.waiting_is; apart = apart_plain w k.apart (legal_here w k) (entry_is.Down server) (legal_next w k (entry_is.Down server) may) tt; tails = entered w k (entry_is.Down server) may tt }
-event_keeps w (Works (Abort pid)) k may = record { within = one_longer (entry_is.Abort pid) w.past w.durable k.within; tailless = k.tailless; wire_is = k.wire_is; waiting_is = k.waiting_is; apart = apart_plain w k.apart (legal_here w k) (entry_is.Abort pid) (legal_next w k (entry_is.Abort pid) may) tt; tails = entered w k (entry_is.Abort pid) may tt }
-event_keeps w (Works (Adopt sheets)) k may = record { within = one_longer (entry_is.Adopt sheets) w.past w.durable k.within; tailless = k.tailless; wire_is = k.wire_is; waiting_is = k.waiting_is; apart = apart_plain w k.apart (legal_here w k) (entry_is.Adopt sheets) (legal_next w k (entry_is.Adopt sheets) may) tt; tails = entered w k (entry_is.Adopt sheets) may tt }
-event_keeps w (Lives (Arm peer count)) k may = record { within = k.within; tailless = k.tailless; wire_is = armed_wire peer; waiting_is = armed_waiting peer; apart = k.apart; tails = λ n h. safe_arm (drop n (whole w)) w.outside peer count (k.tails n h) }
+
+    plain_of : (x : Option Server) → MayStart w server x → IsPlainBehind (happens w (Lives (Start server x))).durable (whole (happens w (Lives (Start server x))))
+    plain_of None m = entered_plain w k (entry_is.Up server) m.0 refl
+    plain_of (Some o) m =
+        plain_with w k (entry_is.Up server ∷ entry_is.Down o ∷ w.past) m.1.0
+        (plain_pushed (entry_is.Up server) (entry_is.Down o ∷ w.past) w.durable refl (plain_pushed (entry_is.Down o) w.past w.durable refl (plain_past w k)))
+
+    rolls_of : (x : Option Server) (r : ℕ) → (happens w (Lives (Start server x))).rolled ≡ Some r → IsRolledIn (durable_part (happens w (Lives (Start server x)))) r
+    rolls_of None r is = entered_rolls w k (entry_is.Up server) r is
+    rolls_of (Some o) r is =
+        subst (λ J. IsRolledIn J r) (one_more (entry_is.Up server) (entry_is.Down o ∷ w.past) w.durable (one_longer (entry_is.Down o) w.past w.durable k.within))
+        (entered_rolls w k (entry_is.Down o) r is)
+event_keeps w (Lives (Die server)) k may = record { within = k.within; tailless = k.tailless; wire_is = k.wire_is; waiting_is = k.waiting_is; apart = k.apart; tails = λ n h. safe_die (drop n (whole w)) w.outside server (k.tails n h); plain = k.plain; rolls = k.rolls }
+event_keeps w (Works (Expire server)) k may = record { within = one_longer (entry_is.Down server) w.past w.durable k.within; tailless = k.tailless; wire_is = k.wire_is; waiting_is = k.waiting_is; apart = apart_plain w k.apart (legal_here w k) (entry_is.Down server) (legal_next w k (entry_is.Down server) may) tt; tails = entered w k (entry_is.Down server) may tt; plain = entered_plain w k (entry_is.Down server) may.0 refl; rolls = entered_rolls w k (entry_is.Down server) }
+event_keeps w (Works (Abort pid)) k may = record { within = one_longer (entry_is.Abort pid) w.past w.durable k.within; tailless = k.tailless; wire_is = k.wire_is; waiting_is = k.waiting_is; apart = apart_plain w k.apart (legal_here w k) (entry_is.Abort pid) (legal_next w k (entry_is.Abort pid) may) tt; tails = entered w k (entry_is.Abort pid) may tt; plain = entered_plain w k (entry_is.Abort pid) may.0 refl; rolls = entered_rolls w k (entry_is.Abort pid) }
+event_keeps w (Works (Adopt sheets)) k may = record { within = one_longer (entry_is.Adopt sheets) w.past w.durable k.within; tailless = k.tailless; wire_is = k.wire_is; waiting_is = k.waiting_is; apart = apart_plain w k.apart (legal_here w k) (entry_is.Adopt sheets) (legal_next w k (entry_is.Adopt sheets) may) tt; tails = entered w k (entry_is.Adopt sheets) may tt; plain = entered_plain w k (entry_is.Adopt sheets) may.0 refl; rolls = entered_rolls w k (entry_is.Adopt sheets) }
+event_keeps w (Works Roll) k may = record { within = k.within; tailless = k.tailless; wire_is = k.wire_is; waiting_is = k.waiting_is; apart = k.apart; tails = k.tails; plain = k.plain; rolls = all_rolled w k may }
+event_keeps w (Lives (Arm peer count)) k may = record { within = k.within; tailless = k.tailless; wire_is = armed_wire peer; waiting_is = armed_waiting peer; apart = k.apart; tails = λ n h. safe_arm (drop n (whole w)) w.outside peer count (k.tails n h); plain = k.plain; rolls = k.rolls }
   where
     armed_wire : (p : Peer) (c : Call) → IsIn c w.wire → IsIn c (armed w.outside p count).sent
     armed_wire (peer_is.Server s) c h = k.wire_is c h
@@ -319,7 +365,7 @@ event_keeps w (Lives (Arm peer count)) k may = record { within = k.within; taill
     armed_waiting : (p : Peer) (r : ReportMsg) → IsIn r w.waiting → IsIn r (armed w.outside p count).reports
     armed_waiting (peer_is.Server s) r h = k.waiting_is r h
     armed_waiting peer_is.Storage r h = k.waiting_is r h
-event_keeps w (Ends (Fault None)) k may = record { within = k.within; tailless = λ e. absurd (e refl); wire_is = k.wire_is; apart = k.apart; waiting_is = k.waiting_is; tails = writing_tails w k may }
+event_keeps w (Ends (Fault None)) k may = record { within = k.within; tailless = λ e. absurd (e refl); wire_is = k.wire_is; apart = k.apart; waiting_is = k.waiting_is; tails = writing_tails w k may; plain = plain_past w k; rolls = k.rolls }
 event_keeps w (Ends (Fault (Some entry))) k may = record {
   within = k.within;
   tailless = λ e. absurd (e refl);
@@ -327,6 +373,8 @@ event_keeps w (Ends (Fault (Some entry))) k may = record {
   waiting_is = k.waiting_is;
   apart = k.apart;
   tails = recorded w.past w.durable w.outside k.within (calm_tails w k may.0.0) entry may.0.1 may.1;
+  plain = plain_pushed entry w.past w.durable (true_plain entry w.outside may.1) (plain_past w k);
+  rolls = k.rolls;
 }
-event_keeps w (Ends Full) k may = record { within = k.within; tailless = λ e. k.tailless (can_write w k may); wire_is = k.wire_is; waiting_is = k.waiting_is; apart = k.apart; tails = k.tails }
-event_keeps w (Ends (Stop n)) k may = record { within = stop_within w k n may.1; tailless = λ e. refl; wire_is = k.wire_is; waiting_is = k.waiting_is; apart = apart_stopped w k n may.0 may.1; tails = stop_tails w k n may.0 may.1 }
+event_keeps w (Ends Full) k may = record { within = k.within; tailless = λ e. k.tailless (can_write w k may); wire_is = k.wire_is; waiting_is = k.waiting_is; apart = k.apart; tails = k.tails; plain = k.plain; rolls = k.rolls }
+event_keeps w (Ends (Stop n rolled)) k may = record { within = stop_within w k n may.1; tailless = λ e. refl; wire_is = k.wire_is; waiting_is = k.waiting_is; apart = apart_stopped w k n may.0 may.1; tails = stop_tails w k n may.0 may.1; plain = stop_plain w k n may.0; rolls = stop_rolls w k n may.0 may.1 rolled may.2 }

@@ -12,6 +12,7 @@ use Rattle.hm_data.specs.declared.entry.Entry.TheVariants as entry_is
 use Rattle.hm_data.specs.declared.request.Request.{Request}
 use Rattle.hm_data.specs.declared.sheet.Sheet.{Sheet}
 use Rattle.hm_model.specs.Answers.{last_answer}
+use Rattle.hm_model.specs.Image.{counted}
 use Rattle.hm_world_model.specs.Outside.{armed, delivered, died, report_to, started, with_report, with_sent}
 use Rattle.hm_world_model.specs.World.{Claimed, LogFault, JournalFull, World, first, whole}
 
@@ -25,6 +26,7 @@ pub data Work : Type 0 where
   Expire : (server : Server) → Work
   Abort : (pid : Pid) → Work
   Adopt : (sheets : List Sheet) → Work
+  Roll : Work  -- all entries are replaced by their image in the master's own journal
 
 -- what becomes of calls and reports
 pub data Travel : Type 0 where
@@ -50,7 +52,7 @@ pub data Life : Type 0 where
 pub data End : Type 0 where
   Fault : (tail : Option Entry) → End
   Full : End
-  Stop : (k : ℕ) → End
+  Stop : (k : ℕ) (rolled : Option ℕ) → End
 
 -- events
 pub data Event : Type 0 where
@@ -85,10 +87,10 @@ abbrev pub with_older_down : Option Server → World → World
 with_older_down None w = w
 with_older_down (Some older) w = with_entry w (entry_is.Down older)
 
--- a stop leaves the first k entries with their tail, and what is outside
-abbrev pub stopped : World → ℕ → World
-stopped w k =
-    record w { past = first k (whole w); tail = None; durable = k; taken = []; claimed = []; halted = None }
+-- a stop leaves the first k entries with their tail, rebased where they were, or where a later roll failed, and what is outside
+abbrev pub stopped : World → ℕ → Option ℕ → World
+stopped w k rolled =
+    record w { past = first k (whole w); tail = None; durable = k; taken = []; claimed = []; halted = None; rolled = rolled }
 
 -- the world after a master's work
 abbrev pub worked : World → Work → World
@@ -101,6 +103,7 @@ worked w (Flush k) = record w { durable = k }
 worked w (Expire server) = with_entry w (entry_is.Down server)
 worked w (Abort pid) = with_entry w (entry_is.Abort pid)
 worked w (Adopt sheets) = with_entry w (entry_is.Adopt sheets)
+worked w Roll = record w { rolled = Some (counted w.past) }
 
 -- the world after what becomes of calls and reports
 abbrev pub travelled : World → Travel → World
@@ -127,7 +130,7 @@ lived w (Arm peer count) = record w { outside = armed w.outside peer count }
 abbrev pub ended_by : World → End → World
 ended_by w (Fault tail) = record w { tail = tail; halted = Some LogFault }
 ended_by w Full = record w { halted = Some JournalFull }
-ended_by w (Stop k) = stopped w k
+ended_by w (Stop k rolled) = stopped w k rolled
 
 -- the world after an event
 abbrev pub happens : World → Event → World

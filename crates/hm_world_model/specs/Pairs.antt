@@ -1,5 +1,5 @@
 -- Two masters over one log: one that was deposed, and does to what is outside what it doesn't know that it may no longer.
-use Rattle.std.specs.Prelude.{◌≡◌, ℕ, ◌≤◌, List, [], ◌∷◌, drop, length, Some, true}
+use Rattle.std.specs.Prelude.{◌≡◌, ℕ, ◌≤◌, List, [], ◌∷◌, drop, length, Option, Some, true}
 use Rattle.hm_data.specs.declared.call.Call.{Call}
 use Rattle.hm_data.specs.declared.call.ReportMsg.{ReportMsg}
 use Rattle.hm_model.specs.Journal.{Past}
@@ -67,8 +67,8 @@ IsPairRun old w (event ∷ before) = IsPairRun old w before × MayPair old (pair
 -- a master whose log was opened again by another one: what is durable of it is a front of what the other opened
 abbrev pub TakenOver : Type 0
 TakenOver =
-    (w : World) (k : ℕ) → IsKept w → w.durable ≤ k → k ≤ length (whole w)
-    → Precedes (record { past = w.past; durable = w.durable }) (stopped w k)
+    (w : World) (k : ℕ) (rolled : Option ℕ) → IsKept w → w.durable ≤ k → k ≤ length (whole w)
+    → Precedes (record { past = w.past; durable = w.durable }) (stopped w k rolled)
 
 -- from then on what is kept of the active master's world is kept, whatever both do: so nothing is held twice
 abbrev pub PairsKeep : Type 0

@@ -1,5 +1,5 @@
 -- When an event may come, and runs of them.
-use Rattle.std.specs.Prelude.{◌≡◌, ◌≢◌, ◌≤◌, List, [], ◌∷◌, length, Option, Some, None, true}
+use Rattle.std.specs.Prelude.{◌≡◌, ◌≢◌, ℕ, ◌≤◌, List, [], ◌∷◌, length, Option, Some, None, true, ◌⊎◌}
 use Rattle.hm_names.specs.Server.{Server}
 use Rattle.hm_names.specs.declared.pid.Pid.{Pid}
 use Rattle.hm_data.specs.declared.call.ReportMsg.{ReportMsg}
@@ -7,16 +7,19 @@ use Rattle.hm_data.specs.declared.call.Peer.TheVariants as peer_is
 use Rattle.hm_data.specs.declared.call.Told.{Told}
 use Rattle.hm_data.specs.declared.entry.Entry.{Entry}
 use Rattle.hm_data.specs.declared.entry.Entry.TheVariants as entry_is
+use Rattle.hm_model.specs.Base.{IsBegun}
 use Rattle.hm_model.specs.Fleet.{same_address}
 use Rattle.hm_model.specs.Holding.{IsFree}
+use Rattle.hm_model.specs.Image.{counted}
 use Rattle.hm_model.specs.Journal.{Past}
 use Rattle.hm_model.specs.Locks.{IsIn}
 use Rattle.hm_model.specs.Picks.{PicksRight}
+use Rattle.hm_model.specs.Rebase.{MayRoll, up_to}
 use Rattle.hm_model.specs.Reports.{call_of, peer_of}
 use Rattle.hm_model.specs.Rest.{IsAvailable}
 use Rattle.hm_model.specs.Rules.{Allowed}
 use Rattle.hm_model.specs.Tree.{root_of}
-use Rattle.hm_world_model.specs.Events.{End, Event, Life, Travel, Work, Works, Travels, Lives, Ends, Submit, Claim, Commit, GiveUp, Flush, Expire, Abort, Adopt, Send, Deliver, DeliverAgain, Hear, Ignore, HearAgain, Lose, Repeat, SendOld, DeliverOld, Miss, Start, Die, Arm, Fault, Full, Stop, happens}
+use Rattle.hm_world_model.specs.Events.{End, Event, Life, Travel, Work, Works, Travels, Lives, Ends, Submit, Claim, Commit, GiveUp, Flush, Expire, Abort, Adopt, Roll, Send, Deliver, DeliverAgain, Hear, Ignore, HearAgain, Lose, Repeat, SendOld, DeliverOld, Miss, Start, Die, Arm, Fault, Full, Stop, happens}
 use Rattle.hm_world_model.specs.Outside.{Outside, runs}
 use Rattle.hm_world_model.specs.World.{Claimed, LogFault, World, claimed_pids, durable_part, whole}
 use Rattle.hm_data.specs.declared.call.Call.{Call}
@@ -92,6 +95,7 @@ MayWork w (Flush k) = CanWrite w × (w.durable ≤ k) × (k ≤ length w.past)
 MayWork w (Expire server) = MayEnter w (entry_is.Down server)
 MayWork w (Abort pid) = MayEnter w (entry_is.Abort pid)
 MayWork w (Adopt sheets) = MayEnter w (entry_is.Adopt sheets)
+MayWork w Roll = GoesOn w × (w.claimed ≡ []) × (w.durable ≡ length w.past) × IsBegun w.past × MayRoll w.past
 
 -- calls and reports may travel so
 abbrev pub MayTravel : World → Travel → Type 0
@@ -114,11 +118,26 @@ MayLive w (Start server older) = MayStart w server older
 MayLive w (Die server) = runs w.outside (peer_is.Server server) ≡ true
 MayLive w (Arm peer count) = GoesOn w × (runs w.outside peer ≡ true)
 
+-- so many entries of a journal, which has begun, may have been rolled
+pub record IsRolledIn (J : Past) (r : ℕ) : Type 0 where
+  pub begun : IsBegun J
+  pub within : r ≤ counted J
+  pub front : IsBegun (up_to J r)
+  pub may : MayRoll (up_to J r)
+
+-- a roll that failed can have rolled so many entries of what is durable, no fewer than the last roll
+abbrev pub CanHaveRolled : World → ℕ → Type 0
+CanHaveRolled w r = IsRolledIn (durable_part w) r × ((old : ℕ) → w.rolled ≡ Some old → old ≤ r)
+
+-- a stop may leave a journal that is rebased so: as it was, or where a later roll failed
+abbrev pub MayBeRolled : World → Option ℕ → Type 0
+MayBeRolled w rolled = (rolled ≡ w.rolled) ⊎ ((r : ℕ) × (rolled ≡ Some r) × CanHaveRolled w r)
+
 -- a master may end so
 abbrev pub MayEnd : World → End → Type 0
 MayEnd w (Fault tail) = MayLeave w tail
 MayEnd w Full = GoesOn w
-MayEnd w (Stop k) = (w.durable ≤ k) × (k ≤ length (whole w))
+MayEnd w (Stop k rolled) = (w.durable ≤ k) × (k ≤ length (whole w)) × MayBeRolled w rolled
 
 -- an event may come. While the master is halted only those that need nothing recorded: giving up, loss, death, a stop.
 abbrev pub May : World → Event → Type 0

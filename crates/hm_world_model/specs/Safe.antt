@@ -1,5 +1,5 @@
 -- What holds between a journal and what is outside.
-use Rattle.std.specs.Prelude.{◌≡◌, ◌≢◌, ℕ, ◌+◌, ◌<◌, ◌≤◌, length, drop, Some, None, true, false, ◌⊎◌}
+use Rattle.std.specs.Prelude.{◌≡◌, ◌≢◌, ℕ, ◌+◌, ◌<◌, ◌≤◌, ◌∷◌, length, drop, Some, None, true, false, ◌⊎◌}
 use Rattle.hm_names.specs.Region.{Region}
 use Rattle.hm_names.specs.Server.{Server}
 use Rattle.hm_names.specs.declared.pid.Pid.{Pid}
@@ -10,18 +10,21 @@ use Rattle.hm_data.specs.declared.call.Told.{Told}
 use Rattle.hm_data.specs.declared.call.Told.TheVariants as told_is
 use Rattle.hm_data.specs.declared.call.Verb.{Verb}
 use Rattle.hm_data.specs.declared.call.Verb.TheVariants as verb_is
+use Rattle.hm_data.specs.declared.entry.Entry.{Entry}
 use Rattle.hm_model.specs.Actors.{Actor, Served, holds}
 use Rattle.hm_model.specs.Answers.{report_of}
 use Rattle.hm_model.specs.Base.{HasNoHalfBase}
 use Rattle.hm_model.specs.Fleet.{is_fenced}
 use Rattle.hm_model.specs.Journal.{Past}
+use Rattle.hm_model.specs.Laws.{is_part}
 use Rattle.hm_model.specs.Locks.{IsIn}
 use Rattle.hm_model.specs.Reports.{call_of, fits_verb, last_call, peer_of, region_called, verb_of}
 use Rattle.hm_model.specs.Rules.{FitsCall, IsLegal}
 use Rattle.hm_model.specs.Single.{IsBasedAt}
 use Rattle.hm_world_model.specs.Claims.{IsApart}
 use Rattle.hm_world_model.specs.Outside.{Outside}
-use Rattle.hm_world_model.specs.World.{LogFault, World, claimed_pids, whole}
+use Rattle.hm_world_model.specs.Runs.{IsRolledIn}
+use Rattle.hm_world_model.specs.World.{LogFault, World, claimed_pids, durable_part, whole}
 
 -- a procedure called the server about the region
 abbrev pub CallsTo : Past → ℕ → Region → Server → Type 0
@@ -97,8 +100,13 @@ pub record Safe (J : Past) (o : Outside) : Type 0 where
   pub servers : ServersSafe J o
   pub fences_are : (server : Server) → is_fenced J server ≡ true → o.storage.fenced server ≡ true
 
+-- no entry behind the first d of a journal is a part of a base
+abbrev pub IsPlainBehind : ℕ → Past → Type 0
+IsPlainBehind d J = (n : ℕ) (entry : Entry) (before : Past) → drop n J ≡ entry ∷ before → d ≤ length before → is_part entry ≡ false
+
 -- a world keeps it for each length of its journal, with the tail, that a stop may leave. Only one whose log failed has a tail;
--- what is on the wire was sent, and what waits was reported; no two that hold conflict.
+-- what is on the wire was sent, and what waits was reported; no two that hold conflict; what isn't durable is no part of a base;
+-- and where the master's own journal was rolled, it was so within what is durable.
 pub record IsKept (w : World) : Type 0 where
   pub within : w.durable ≤ length w.past
   pub tailless : w.halted ≢ Some LogFault → w.tail ≡ None
@@ -106,3 +114,5 @@ pub record IsKept (w : World) : Type 0 where
   pub waiting_is : (report : ReportMsg) → IsIn report w.waiting → IsIn report w.outside.reports
   pub apart : IsApart w.past w.taken (claimed_pids w)
   pub tails : (n : ℕ) → n + w.durable ≤ length (whole w) → Safe (drop n (whole w)) w.outside
+  pub plain : IsPlainBehind w.durable (whole w)
+  pub rolls : (r : ℕ) → w.rolled ≡ Some r → IsRolledIn (durable_part w) r

@@ -8,6 +8,7 @@ use Rattle.hm_model.specs.Storages.{Storage}
 use Rattle.hm_model.specs.Fleet.{is_fenced}
 use Rattle.hm_model.specs.Journal.{Past}
 use Rattle.hm_model.specs.Layouts.{is_laid}
+use Rattle.hm_model.specs.Rebase.{rebase}
 use Rattle.hm_world_model.specs.Outside.{Outside, nobody}
 
 -- why a master goes on no longer: its log failed, or is full
@@ -22,7 +23,7 @@ pub record Claimed : Type 0 where
 
 -- the journal, newest first; an entry that a fault may have left after it; how many entries are durable; who was claimed
 -- since the master was opened and holds, and who is claimed; calls on the wire and reports that wait, oldest first; what is
--- outside; and whether the master halted
+-- outside; whether the master halted; and so many entries of the journal the master's own has replaced by their image
 pub record World : Type 0 where
   pub past : Past
   pub tail : Option Entry
@@ -33,6 +34,7 @@ pub record World : Type 0 where
   pub waiting : List ReportMsg
   pub outside : Outside
   pub halted : Option Halt
+  pub rolled : Option ℕ
 
 -- the journal with its tail
 abbrev pub with_tail : Option Entry → Past → Past
@@ -54,6 +56,15 @@ durable_part w = first w.durable w.past
 abbrev pub claimed_pids : World → List ℕ
 claimed_pids w = map (λ claim. claim.pid) w.claimed
 
+-- a journal with its first entries replaced by their image, where it was rolled
+abbrev pub rebased_by : Option ℕ → Past → Past
+rebased_by None past = past
+rebased_by (Some r) past = rebase past r
+
+-- the journal as the master has it
+abbrev pub own : World → Past
+own w = rebased_by w.rolled w.past
+
 -- the storage with the fences and layouts that the reports of a journal show
 abbrev pub shown_storage : Past → Storage
 shown_storage past = record { answer = λ id. None; fenced = is_fenced past; laid = λ root. is_laid past root.0; refusals = 0 }
@@ -70,4 +81,5 @@ opened past = record {
   waiting = [];
   outside = nobody (shown_storage past);
   halted = None;
+  rolled = None;
 }

@@ -1,7 +1,7 @@
-//! The world of a master: its journal, the calls and reports that travel, the region servers and the storage, and the stops
-//! that leave some of it. Definitions of what may happen and of what is kept, and laws about them: no region is open on two
-//! servers that run and aren't fenced, nor are two that overlap, whatever comes. Each function is a law: its contract is
-//! proved, and its body has nothing to do.
+//! The world of a master: its journal, the calls and reports that travel, the region servers and the storage, the rolls that
+//! replace entries of its own journal by their image, and the stops that leave some of it. Definitions of what may happen and of
+//! what is kept, and laws about them: no region is open on two servers that run and aren't fenced, nor are two that overlap,
+//! whatever comes. Each function is a law: its contract is proved, and its body has nothing to do.
 #![tactic(auto)]
 
 mod laws;
