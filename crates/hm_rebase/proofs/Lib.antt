@@ -1,4 +1,4 @@
-mod Bounds
+pub mod Bounds
 mod Seen
 mod Readings
 mod Servers
@@ -26,4 +26,4 @@ mod Laid
 mod Fixed
 mod Untold
 mod Imaged
-mod Rebased
+pub mod Rebased

@@ -114,7 +114,7 @@ ids (entry_is.Base part ∷ J) legal p r verb called about = absurd (none-some v
 
 -- who calls a region server has a parent, and has ended where its last step ended it
 module _ (J : Past) (legal : IsLegal J) (p : ℕ) (r : Region) (s : Server) (to : CallsTo J p r s) where
-  ended_is : ended J p ≡ is_stopped (last_answer J p)
+  pub ended_is : ended J p ≡ is_stopped (last_answer J p)
   ended_is =
       let v = node_called J legal p to.0 to.1 in
       let below = caller_below J legal p v.0 s v.1 (peer_called v.0.args s (same_Some (peer_in v.0.args) (peer_is.Server s) (sym v.3 ∙ to.3))) in
