@@ -113,13 +113,10 @@ module _ (J K : Past) (o : Outside) (safe : Safe J o) (legal : IsLegal K) (alike
   own_server server t is h = same_server-is s t (subst (λ x. is_the_server s x ≡ true) is h)
 
   rest_based : (state : RegionState) (server : Option Server) → AtRest K r (last_call K r) state server → is_at s (record { state = state; server = server }) ≡ true → IsBasedAt K r s
-  rest_based place_is.Offline server rest h = absurd (false≢true h)
   rest_based place_is.Opening server rest h = absurd rest
   rest_based place_is.Opened server rest h = subst (IsBasedAt K r) (sym (own_server server rest.0 rest.1 h)) (opened_based rest.0 rest.2)
   rest_based place_is.Closing server rest h = absurd rest
-  rest_based place_is.Closed server rest h = absurd (false≢true h)
-  rest_based place_is.FailedOpen server rest h = absurd (false≢true h)
-  rest_based place_is.AbnormallyClosed server rest h = absurd (false≢true h)
+  rest_based state server rest h = absurd (false≢true h)
 
   closing_based : (q : ℕ) (t : Server) (answer : Option Answer) → Calls K q t (last_call K r) (IsOpenedBy K r (last_call K r) t) answer → IsBasedAt K r t
   closing_based q t None h = opened_based t h.0

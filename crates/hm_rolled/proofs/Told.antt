@@ -43,13 +43,10 @@ module _ (J : Past) (legal : IsLegal J) (r : Region) (p : ℕ) (last : last_call
   opened_told t (inr based) = absurd (none-some p (sym based.0 ∙ last))
 
   rest_told : (state : RegionState) (server : Option Server) → AtRest J r (last_call J r) state server → IsTold J p
-  rest_told place_is.Offline server h = void_told h
   rest_told place_is.Opening server h = absurd h
   rest_told place_is.Opened server h = opened_told h.0 h.2
   rest_told place_is.Closing server h = absurd h
-  rest_told place_is.Closed server h = void_told h
-  rest_told place_is.FailedOpen server h = void_told h
-  rest_told place_is.AbnormallyClosed server h = void_told h
+  rest_told state server h = void_told h
 
   -- who made the call is this one, and has ended
   awaits_not : (q n : ℕ) → last_answer J q ≡ Some (answer_is.Await n) → last_call J r ≡ Some q → ⊥

@@ -193,9 +193,7 @@ module _ (pid : Pid) (pick : Option Server) (out : StepOut) (J : Past) (legal : 
       by : (v : Verb) → Finds J pid.0 found.0 (Some v) → verb_of J pid.0 ≡ None
       by (verb_is.AssignRegion r) f = f.0
       by (verb_is.CloseRegion r) f = f.0
-      by (verb_is.Fence s) f = f
-      by (verb_is.Layout root) f = f
-      by (verb_is.Sweep root) f = f
+      by verb f = f
 
   -- who is called was, where the call was there before
   done_old : (p : ℕ) (r : Region) (s : Server) (a : Actor) → CallsTo J p r s → Runs J o s a → last_call (entry ∷ J) r ≢ Some p → HasServed a r p
@@ -257,13 +255,7 @@ module _ (pid : Pid) (pick : Option Server) (out : StepOut) (J : Past) (legal : 
 
 -- an entry that may come next, a report only where it was made
 pub safe_append : (entry : Entry) (J : Past) → IsLegal (entry ∷ J) → (o : Outside) → Safe J o → IsTrueReport o entry → Safe (entry ∷ J) o
-safe_append (entry_is.Start sheets) J legal o safe true_report = safe_calm (entry_is.Start sheets) J legal o safe (leaves_base (entry_is.Start sheets) J legal o tt) (λ p. refl) (λ p. refl) (λ r. refl) (λ s. refl)
-safe_append (entry_is.Submit nonce request) J legal o safe true_report = safe_calm (entry_is.Submit nonce request) J legal o safe (leaves_base (entry_is.Submit nonce request) J legal o tt) (λ p. refl) (λ p. refl) (λ r. refl) (λ s. refl)
 safe_append (entry_is.Step pid pick out) J legal o safe true_report = safe_step pid pick out J legal o safe
-safe_append (entry_is.Undo pid row out) J legal o safe true_report = safe_calm (entry_is.Undo pid row out) J legal o safe (leaves_base (entry_is.Undo pid row out) J legal o tt) (λ p. refl) (λ p. refl) (λ r. refl) (λ s. refl)
 safe_append (entry_is.Report call told) J legal o safe true_report = safe_report call told J legal o safe true_report
-safe_append (entry_is.Up server) J legal o safe true_report = safe_calm (entry_is.Up server) J legal o safe (leaves_base (entry_is.Up server) J legal o tt) (λ p. refl) (λ p. refl) (λ r. refl) (λ s. refl)
-safe_append (entry_is.Down server) J legal o safe true_report = safe_calm (entry_is.Down server) J legal o safe (leaves_base (entry_is.Down server) J legal o tt) (λ p. refl) (λ p. refl) (λ r. refl) (λ s. refl)
-safe_append (entry_is.Abort pid) J legal o safe true_report = safe_calm (entry_is.Abort pid) J legal o safe (leaves_base (entry_is.Abort pid) J legal o tt) (λ p. refl) (λ p. refl) (λ r. refl) (λ s. refl)
-safe_append (entry_is.Adopt sheets) J legal o safe true_report = safe_calm (entry_is.Adopt sheets) J legal o safe (leaves_base (entry_is.Adopt sheets) J legal o tt) (λ p. refl) (λ p. refl) (λ r. refl) (λ s. refl)
 safe_append (entry_is.Base part) J legal o safe true_report = absurd true_report
+safe_append entry J legal o safe true_report = safe_calm entry J legal o safe (leaves_base entry J legal o tt) (λ p. refl) (λ p. refl) (λ r. refl) (λ s. refl)

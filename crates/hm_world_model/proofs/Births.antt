@@ -62,28 +62,15 @@ Over list region =
 -- whose transits may be of the region
 abbrev pub MayMove : Args → Region → Type 0
 MayMove (args_are.Root request first) region = Over (request_asks request first) region
-MayMove (args_are.Transit own goal to) region = ⊥
 MayMove (args_are.Crash server) region = Unit {0}
-MayMove (args_are.AddRegions table first bounds) region = ⊥
-MayMove (args_are.DropRegions table ids) region = ⊥
-MayMove (args_are.AssignCall own server) region = ⊥
-MayMove (args_are.CloseCall own server) region = ⊥
-MayMove (args_are.FenceCall server) region = ⊥
-MayMove (args_are.LayoutCall root) region = ⊥
-MayMove (args_are.SweepLayout root) region = ⊥
+MayMove args region = ⊥
 
 -- what a procedure may bear
 abbrev pub BornOf : Args → Args → Type 0
 BornOf up (args_are.Root request first) = ⊥
 BornOf up (args_are.Transit region goal to) = MayMove up region
 BornOf up (args_are.Crash server) = ⊥
-BornOf up (args_are.AddRegions table first bounds) = Unit {0}
-BornOf up (args_are.DropRegions table ids) = Unit {0}
-BornOf up (args_are.AssignCall region server) = Unit {0}
-BornOf up (args_are.CloseCall region server) = Unit {0}
-BornOf up (args_are.FenceCall server) = Unit {0}
-BornOf up (args_are.LayoutCall root) = Unit {0}
-BornOf up (args_are.SweepLayout root) = Unit {0}
+BornOf up args = Unit {0}
 
 -- all that children stand for may be born
 abbrev pub AllBorn : Args → List Child → Type 0
@@ -343,16 +330,4 @@ act_bears act_is.AddRegionRows h at l sound next = bears_given at.args (table_of
 act_bears act_is.DropRegionRows h at l sound next = bears_given at.args (table_of at.args) next (λ table. edits_rows next (remove_regions (row_at at.rows) (regions_in table (ids_of at.args)))) (λ table. bears_on at.args next (remove_regions (row_at at.rows) (regions_in table (ids_of at.args))))
 act_bears act_is.Fence h at l sound next = absurd (fence_unlisted at.args l)
 act_bears act_is.Reassign h at l sound next = absurd (reassign_unlisted at.args l)
-act_bears act_is.GetAssignCandidate h at l sound next = absurd (false≢true h)
-act_bears act_is.Open h at l sound next = absurd (false≢true h)
-act_bears act_is.ConfirmOpened h at l sound next = absurd (false≢true h)
-act_bears act_is.Close h at l sound next = absurd (false≢true h)
-act_bears act_is.ConfirmClosed h at l sound next = absurd (false≢true h)
-act_bears act_is.CheckMove h at l sound next = absurd (false≢true h)
-act_bears act_is.CallAssign h at l sound next = absurd (false≢true h)
-act_bears act_is.CallClose h at l sound next = absurd (false≢true h)
-act_bears act_is.Settle h at l sound next = absurd (false≢true h)
-act_bears act_is.CallFence h at l sound next = absurd (false≢true h)
-act_bears act_is.CallLayout h at l sound next = absurd (false≢true h)
-act_bears act_is.SettleLayout h at l sound next = absurd (false≢true h)
-act_bears act_is.CallSweep h at l sound next = absurd (false≢true h)
+act_bears act h at l sound next = absurd (false≢true h)

@@ -77,16 +77,8 @@ claimed_in claim (first ∷ claims) (inr more) = inr (claimed_in claim claims mo
 
 -- the work of one who is claimed is of one who was taken
 work_free : (past : Past) (claim : Claimed) (taken : List ℕ) (entry : Entry) → IsIn claim.pid taken → IsWork past claim entry → StepsFree past taken entry
-work_free past claim taken (entry_is.Start sheets) among work = tt
-work_free past claim taken (entry_is.Submit nonce request) among work = tt
 work_free past claim taken (entry_is.Step pid pick out) among work = inl (subst (λ p. IsIn p taken) (sym work.0) among)
-work_free past claim taken (entry_is.Undo pid row out) among work = tt
-work_free past claim taken (entry_is.Report call told) among work = tt
-work_free past claim taken (entry_is.Up server) among work = tt
-work_free past claim taken (entry_is.Down server) among work = tt
-work_free past claim taken (entry_is.Abort pid) among work = tt
-work_free past claim taken (entry_is.Adopt sheets) among work = tt
-work_free past claim taken (entry_is.Base part) among work = tt
+work_free past claim taken entry among work = tt
 
 module _ (w : World) (apart : IsApart w.past w.taken (claimed_pids w)) (legal : IsLegal w.past) where
   -- an entry of nobody

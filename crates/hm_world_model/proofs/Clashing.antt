@@ -29,13 +29,7 @@ locker (args_are.Root (request_is.Move region to) first) = moving region refl
 locker (args_are.Root request first) = requesting request first refl
 locker (args_are.Transit region goal to) = moving region refl
 locker (args_are.Crash server) = crashing server refl
-locker (args_are.AddRegions table first bounds) = askless refl
-locker (args_are.DropRegions table ids) = askless refl
-locker (args_are.AssignCall region server) = askless refl
-locker (args_are.CloseCall region server) = askless refl
-locker (args_are.FenceCall server) = askless refl
-locker (args_are.LayoutCall root) = askless refl
-locker (args_are.SweepLayout root) = askless refl
+locker args = askless refl
 
 -- where it is a region, it is of the table
 abbrev RegionOf : TableName → Resource → Type 0
@@ -107,13 +101,7 @@ region_table (args_are.Crash server) sound b (inl same) region e = absurd (never
     never : resource_is.Server server ≡ resource_is.Region region → ⊥
     never e = cc
 region_table (args_are.Crash server) sound b (inr more) region e = absurd more
-region_table (args_are.AddRegions table first bounds) sound b among region e = absurd among
-region_table (args_are.DropRegions table ids) sound b among region e = absurd among
-region_table (args_are.AssignCall own server) sound b among region e = absurd among
-region_table (args_are.CloseCall own server) sound b among region e = absurd among
-region_table (args_are.FenceCall server) sound b among region e = absurd among
-region_table (args_are.LayoutCall root) sound b among region e = absurd among
-region_table (args_are.SweepLayout root) sound b among region e = absurd among
+region_table args sound b among region e = absurd among
 
 -- who is over a region clashes with whom a transit of it clashes with
 pub over_clash : (list : List Ask) (region : Region) (goal : Goal) (to : Option Server) (args : Args) → Over list region → IsRight args → Clash (asks (args_are.Transit region goal to)) (asks args) → Clash list (asks args)
@@ -159,15 +147,11 @@ no_regions (own ∷ more) list rest = (tt, no_regions more list rest)
 request_server : (request : Request) (first : ℕ) → NoServer (request_asks request first)
 request_server (request_is.CreateNamespace ns) first = (tt, tt)
 request_server (request_is.DropNamespace ns) first = (tt, tt)
-request_server (request_is.CreateTable table keys) first = (tt, (tt, tt))
-request_server (request_is.DeleteTable table) first = (tt, (tt, tt))
-request_server (request_is.EnableTable table) first = (tt, (tt, tt))
-request_server (request_is.DisableTable table) first = (tt, (tt, tt))
-request_server (request_is.ModifyTable table version) first = (tt, (tt, tt))
 request_server (request_is.SplitRegion own key) first = (tt, (tt, (tt, (tt, (tt, tt)))))
 request_server (request_is.MergeRegions []) first = tt
 request_server (request_is.MergeRegions (one ∷ more)) first = (tt, (tt, no_regions (in_name_order (one ∷ more)) (region_alone one.table first ∷ []) (tt, tt)))
 request_server (request_is.Move own to) first = (tt, (tt, (tt, tt)))
+request_server request first = (tt, (tt, tt))
 
 pub server_asked : (args : Args) (s : Server) (b : Ask) → IsIn b (asks args) → b.resource ≡ resource_is.Server s → args ≡ args_are.Crash s
 server_asked (args_are.Root request first) s b among e = absurd (no_server (request_asks request first) (request_server request first) b among s e)
@@ -177,13 +161,7 @@ server_asked (args_are.Crash server) s b (inl same) e = ap (λ x. args_are.Crash
     one : resource_is.Server server ≡ resource_is.Server s → server ≡ s
     one e = cc
 server_asked (args_are.Crash server) s b (inr more) e = absurd more
-server_asked (args_are.AddRegions table first bounds) s b among e = absurd among
-server_asked (args_are.DropRegions table ids) s b among e = absurd among
-server_asked (args_are.AssignCall own server) s b among e = absurd among
-server_asked (args_are.CloseCall own server) s b among e = absurd among
-server_asked (args_are.FenceCall server) s b among e = absurd among
-server_asked (args_are.LayoutCall root) s b among e = absurd among
-server_asked (args_are.SweepLayout root) s b among e = absurd among
+server_asked args s b among e = absurd among
 
 -- who clashes with a crash is one of its server
 pub crash_clash : (s : Server) (args : Args) → Clash (asks (args_are.Crash s)) (asks args) → args ≡ args_are.Crash s

@@ -112,14 +112,7 @@ module _ (pid : Pid) (pick : Option Server) (out : StepOut) (J : Past) (grown : 
       by : (made : Args) → slice_get (args_in out.children) i ≡ Some made → IsChildOf step.row.act step.node.args made → Lays step.node.root made
       by (args_are.LayoutCall root) g k = made_at (Lays step.node.root) out.children (lays_own k) i (args_are.LayoutCall root) g
       by (args_are.SweepLayout root) g k = absurd k
-      by (args_are.Root request first) g k = tt
-      by (args_are.Transit region goal to) g k = tt
-      by (args_are.Crash server) g k = tt
-      by (args_are.AddRegions table first bounds) g k = tt
-      by (args_are.DropRegions table ids) g k = tt
-      by (args_are.AssignCall region server) g k = tt
-      by (args_are.CloseCall region server) g k = tt
-      by (args_are.FenceCall server) g k = tt
+      by args g k = tt
 
   child_lays : (i : ℕ) (made : Args) → slice_get (args_in out.children) i ≡ Some made → Lays step.node.root made
   child_lays i made get = elim (part_of step.node.args) [
@@ -255,10 +248,9 @@ transits_follow r goal [] = tt
 transits_follow r goal (batch ∷ more) = ((λ id. tt), transits_follow r goal more)
 
 followers_follow : (undo : Back) (args : Args) (root : Pid) → AllMade (Follows root.0) (undo_followers undo args root)
-followers_follow back_is.Nothing args root = tt
-followers_follow back_is.Edits args root = tt
 followers_follow back_is.Sweep args root = (refl, tt)
 followers_follow back_is.Reopen args root = transits_follow root.0 goal_is.Assign (batches (in_name_order (closed_by args)))
+followers_follow undo args root = tt
 
 turn_follows : (row : Row) (at : StepIn) (turn : Turn) → AllMade (Follows (let root = at.root in root.0)) (turn_answer row at turn).followers
 turn_follows row at turn_is.Step = subst (AllMade (Follows (let root = at.root in root.0))) (sym (row_formed row at).stepped.followerless) tt
@@ -317,7 +309,6 @@ module _ (pid : Pid) (row : ℕ) (out : StepOut) (J : Past) (legal : IsLegal (en
 -- every legal journal keeps it
 laying_all : (J : Past) → IsLegal J → Laying J
 laying_all [] legal = ((λ q x root is. absurd (none-some x is)), (λ q x root is. absurd (none-some x is)), (λ q s x y root swept is. absurd (none-some x is)))
-laying_all (entry_is.Start sheets ∷ J) legal = laying_all J legal.0
 laying_all (entry_is.Submit nonce request ∷ J) legal =
     let grown = grown_all J legal.0 in
     laying_rooted J (entry_is.Submit nonce request ∷ J) (submit_rooted nonce request J grown) grown (laying_all J legal.0) (λ r. refl)
@@ -335,8 +326,6 @@ laying_all (entry_is.Undo pid row out ∷ J) legal =
     (λ p lt x is root.
     let follows = undo_new_follows pid row out J legal grown p lt x is in
     ((λ e. subst (FollowsBy (root_of J pid.0)) e follows), (λ e. subst (IsFallen J) (sym (subst (FollowsBy (root_of J pid.0)) e follows)) (fallen_undone pid row out J legal grown))))
-laying_all (entry_is.Report call told ∷ J) legal = laying_all J legal.0
-laying_all (entry_is.Up server ∷ J) legal = laying_all J legal.0
 laying_all (entry_is.Down server ∷ J) legal =
     let grown = grown_all J legal.0 in
     laying_rooted J (entry_is.Down server ∷ J) (down_rooted server J grown) grown (laying_all J legal.0) (λ r. refl)
@@ -347,9 +336,8 @@ laying_all (entry_is.Down server ∷ J) legal =
           )
       | inr differs ↦ absurd (none-some x (sym (grown.numbered p lt) ∙ sym (cond-false (p == made J + 1) (Some (root_node p (args_are.Crash server) 1)) (node_of J p) (ne_eqb p (made J + 1) differs)) ∙ is))
     ])
-laying_all (entry_is.Abort pid ∷ J) legal = laying_all J legal.0
-laying_all (entry_is.Adopt sheets ∷ J) legal = laying_all J legal.0
 laying_all (entry_is.Base part ∷ J) legal = ((λ q x root is. absurd (none-some x is)), (λ s y root is. absurd (none-some y is)), (λ q s x y root swept is. absurd (none-some x is)))
+laying_all (entry ∷ J) legal = laying_all J legal.0
 
 -- where a layout is swept, a call to make it has ended, and has a lower number
 swept_late : (J : Past) → IsLegal J → (q s : ℕ) (root swept : Pid) → verb_of J q ≡ Some (verb_is.Layout root) → verb_of J s ≡ Some (verb_is.Sweep swept) → root.0 ≡ swept.0 → (ended J q ≡ true) × (q < s)
@@ -373,15 +361,13 @@ laying_verb true root = verb_is.Layout root
 laying_verb false root = verb_is.Sweep root
 
 told_verb : (verb : Verb) (told : Told) (root : ℕ) (there : Bool) → fits_verb verb told ≡ true → layout_called (Some verb) ≡ Some root → laid_by told ≡ Some there → (p : Pid) × (p.0 ≡ root) × (verb ≡ laying_verb there p)
-told_verb (verb_is.AssignRegion region) told root there fit about is = absurd (none-some root about)
-told_verb (verb_is.CloseRegion region) told root there fit about is = absurd (none-some root about)
-told_verb (verb_is.Fence server) told root there fit about is = absurd (none-some root about)
 told_verb (verb_is.Layout p) told_is.LaidOut root there fit about is = (p, same_Some p.0 root about, ap (λ b. laying_verb b p) (same_Some true there is))
 told_verb (verb_is.Layout p) told_is.Swept root there fit about is = absurd (false≢true fit)
 told_verb (verb_is.Layout p) told root there fit about is = absurd (none-some there is)
 told_verb (verb_is.Sweep p) told_is.Swept root there fit about is = (p, same_Some p.0 root about, ap (λ b. laying_verb b p) (same_Some false there is))
 told_verb (verb_is.Sweep p) told_is.LaidOut root there fit about is = absurd (false≢true fit)
 told_verb (verb_is.Sweep p) told root there fit about is = absurd (none-some there is)
+told_verb verb told root there fit about is = absurd (none-some root about)
 
 -- what a report says of a root's layout, if it is about it
 pub none_if : (c : Option ℕ) (root : ℕ) (b : Bool) → laid_if c None root b ≡ b
@@ -486,16 +472,13 @@ step_same pid pick out J legal root p b = by (report_of J p) refl
 
 tells : (J : Past) → IsLegal J → (root n : ℕ) → made J < n → laid_below J n root ≡ is_laid J root
 tells [] legal root n lt = nothing_below n root
-tells (entry_is.Start sheets ∷ J) legal root n lt = same_below J (entry_is.Start sheets ∷ J) root refl (λ p b. refl) n ∙ tells J legal.0 root n lt
 tells (entry_is.Submit nonce request ∷ J) legal root n lt = same_below J (entry_is.Submit nonce request ∷ J) root refl (λ p b. refl) n ∙ tells J legal.0 root n (omega (arith, lt))
 tells (entry_is.Step pid pick out ∷ J) legal root n lt = same_below J (entry_is.Step pid pick out ∷ J) root refl (step_same pid pick out J legal root) n ∙ tells J legal.0 root n (omega (arith, lt))
 tells (entry_is.Undo pid row out ∷ J) legal root n lt = same_below J (entry_is.Undo pid row out ∷ J) root refl (λ p b. refl) n ∙ tells J legal.0 root n (omega (arith, lt))
 tells (entry_is.Report call told ∷ J) legal root n lt = report_tells call told J legal root n lt (tells J legal.0 root n lt)
-tells (entry_is.Up server ∷ J) legal root n lt = same_below J (entry_is.Up server ∷ J) root refl (λ p b. refl) n ∙ tells J legal.0 root n lt
 tells (entry_is.Down server ∷ J) legal root n lt = same_below J (entry_is.Down server ∷ J) root refl (λ p b. refl) n ∙ tells J legal.0 root n (omega (arith, lt))
-tells (entry_is.Abort pid ∷ J) legal root n lt = same_below J (entry_is.Abort pid ∷ J) root refl (λ p b. refl) n ∙ tells J legal.0 root n lt
-tells (entry_is.Adopt sheets ∷ J) legal root n lt = same_below J (entry_is.Adopt sheets ∷ J) root refl (λ p b. refl) n ∙ tells J legal.0 root n lt
 tells (entry_is.Base part ∷ J) legal root n lt = based_below part J n root
+tells (entry ∷ J) legal root n lt = same_below J (entry ∷ J) root refl (λ p b. refl) n ∙ tells J legal.0 root n lt
 
 pub layouts_tell : LayoutsTell
 layouts_tell J legal root = tells J legal root (made J + 1) (omega arith)

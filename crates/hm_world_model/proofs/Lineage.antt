@@ -104,15 +104,8 @@ caller_born up made h = absurd (false≢true h)
 
 born_sound : (up made : Args) → BornOf up made → IsRight made
 born_sound up (args_are.Root request first) born = absurd born
-born_sound up (args_are.Transit region goal to) born = tt
 born_sound up (args_are.Crash server) born = absurd born
-born_sound up (args_are.AddRegions table first bounds) born = tt
-born_sound up (args_are.DropRegions table ids) born = tt
-born_sound up (args_are.AssignCall region server) born = tt
-born_sound up (args_are.CloseCall region server) born = tt
-born_sound up (args_are.FenceCall server) born = tt
-born_sound up (args_are.LayoutCall root) born = tt
-born_sound up (args_are.SweepLayout root) born = tt
+born_sound up args born = tt
 
 crash_args : (args : Args) → (kind_of args == 11) ≡ true → (s : Server) × (args ≡ args_are.Crash s)
 crash_args (args_are.Crash server) h = (server, refl)
@@ -351,12 +344,10 @@ module _ (pid : Pid) (pick : Option Server) (out : StepOut) (J : Past) (legal : 
       no_failure (Some c) e h = absurd (none-some c (sym h))
 
       by : (a : Answer) → Rattle.hm_model.proofs.StepDoes.IsStepAnswer a → is_stopped (Some a) ≡ true → failing a ≡ None → done_with (Some a) ≡ None → ⊥
-      by (answer_is.More n) sane stopped fine undone = false≢true stopped
-      by (answer_is.Wait n) sane stopped fine undone = false≢true stopped
-      by (answer_is.Await n) sane stopped fine undone = false≢true stopped
       by (answer_is.Done told) sane stopped fine undone = none-some told (sym undone)
       by (answer_is.Fail c) sane stopped fine undone = none-some c (sym fine)
       by answer_is.Undone sane stopped fine undone = sane
+      by answer sane stopped fine undone = false≢true stopped
 
   begun_now : (r : ℕ) → cause J' r ≢ None → last_answer J' r ≢ None
   begun_now r some = elim (cases_eq r pid.0) [
@@ -457,11 +448,10 @@ any_all [] = tt
 any_all (r ∷ more) = (tt, any_all more)
 
 followers_sound : (undo : Back) (args : Args) (root : Pid) (made : Args) → IsIn made (args_in (undo_followers undo args root)) → MayStand made
-followers_sound back_is.Nothing args root made h = absurd h
-followers_sound back_is.Edits args root made h = absurd h
 followers_sound back_is.Sweep args root made (inl same) = subst MayStand (sym same) (tt, refl)
 followers_sound back_is.Sweep args root made (inr never) = absurd never
 followers_sound back_is.Reopen args root made h = let m = moved_all (λ region. Unit {0}) goal_is.Assign (closed_by args) (any_all (closed_by args)) made h in subst MayStand (sym m.2) (tt, refl)
+followers_sound undo args root made h = absurd h
 
 undo_sound : (pid : Pid) (row : ℕ) (out : StepOut) (J : Past) → IsLegal (entry_is.Undo pid row out ∷ J) → (p : ℕ) → made J < p → (node : Node) → node_of (entry_is.Undo pid row out ∷ J) p ≡ Some node → MayStand node.args
 undo_sound pid row out J legal p lt node is = by (slice_get (args_in out.followers) (p - made J - 1)) refl (sym (undo_new pid row out J p lt) ∙ is)
@@ -475,7 +465,6 @@ undo_sound pid row out J legal p lt node is = by (slice_get (args_in out.followe
 
 pub lineage_all : (J : Past) → IsLegal J → Lineage J
 lineage_all [] legal = lineage_nothing [] (λ p. refl) (λ p. refl) (λ r. refl)
-lineage_all (entry_is.Start sheets ∷ J) legal = let l = lineage_all J legal.0 in record { born = l.born; sound = l.sound; below = l.below; awaits = l.awaits; done = l.done; begun = l.begun; fences = l.fences; told = l.told }
 lineage_all (entry_is.Submit nonce request ∷ J) legal = let g = grown_all J legal.0 in lineage_rooted J (entry_is.Submit nonce request ∷ J) (submit_rooted nonce request J g) g (lineage_all J legal.0) (λ r. refl) (submit_sound nonce request J legal)
 lineage_all (entry_is.Step pid pick out ∷ J) legal = lineage_step pid pick out J legal (lineage_all J legal.0)
 lineage_all (entry_is.Undo pid row out ∷ J) legal = let g = grown_all J legal.0 in lineage_rooted J (entry_is.Undo pid row out ∷ J) (undo_rooted pid row out J g) g (lineage_all J legal.0) (λ r. refl) (undo_sound pid row out J legal)
@@ -486,11 +475,9 @@ lineage_all (entry_is.Report call told ∷ J) legal =
     unreported : (f : ℕ) (b : Bool) → cond b (Some told) (report_of J f) ≡ None → report_of J f ≡ None
     unreported f true none = absurd (none-some told (sym none))
     unreported f false none = none
-lineage_all (entry_is.Up server ∷ J) legal = let l = lineage_all J legal.0 in record { born = l.born; sound = l.sound; below = l.below; awaits = l.awaits; done = l.done; begun = l.begun; fences = l.fences; told = l.told }
 lineage_all (entry_is.Down server ∷ J) legal = let g = grown_all J legal.0 in lineage_rooted J (entry_is.Down server ∷ J) (down_rooted server J g) g (lineage_all J legal.0) (λ r. refl) (down_sound server J legal)
-lineage_all (entry_is.Abort pid ∷ J) legal = let l = lineage_all J legal.0 in record { born = l.born; sound = l.sound; below = l.below; awaits = l.awaits; done = l.done; begun = l.begun; fences = l.fences; told = l.told }
-lineage_all (entry_is.Adopt sheets ∷ J) legal = let l = lineage_all J legal.0 in record { born = l.born; sound = l.sound; below = l.below; awaits = l.awaits; done = l.done; begun = l.begun; fences = l.fences; told = l.told }
 lineage_all (entry_is.Base part ∷ J) legal = lineage_nothing (entry_is.Base part ∷ J) (λ p. refl) (λ p. refl) (λ r. refl)
+lineage_all (entry ∷ J) legal = let l = lineage_all J legal.0 in record { born = l.born; sound = l.sound; below = l.below; awaits = l.awaits; done = l.done; begun = l.begun; fences = l.fences; told = l.told }
 
 -- who came up and isn't live went down, which made a crash, or is fenced by the base
 abbrev pub HasCrash : Past → Server → Type 0
@@ -505,12 +492,6 @@ crash_on entry J legal s (inr fenced) = inr (fenced_stays entry J s fenced)
 
 -- in a base whoever isn't live is fenced
 part_down : (part : Part) (J : Past) → (s : Server) → (came_up J s ≡ true → is_live J s ≡ false → is_fenced J s ≡ true) → came_up (entry_is.Base part ∷ J) s ≡ true → is_live (entry_is.Base part ∷ J) s ≡ false → is_fenced (entry_is.Base part ∷ J) s ≡ true
-part_down (part_is.Head entries last parts sheets) J s old up down = old up down
-part_down (part_is.Namespace ns) J s old up down = old up down
-part_down (part_is.Table table drawn own) J s old up down = old up down
-part_down (part_is.Region region range status parents place) J s old up down = old up down
-part_down (part_is.Root pid nonce args cause) J s old up down = old up down
-part_down (part_is.Layout pid) J s old up down = old up down
 part_down (part_is.Server other fenced) J s old up down =
     let parts = or_parts (same_server s other && not fenced) (is_live J s) down in
     by (same_server s other) refl fenced parts.0 parts.1
@@ -519,14 +500,10 @@ part_down (part_is.Server other fenced) J s old up down =
     by false e f own dead = rw e (old (up_before J other s e up) dead)
     by true e true own dead = rw e refl
     by true e false own dead = absurd (true≢false (sym (ap (λ b. b && true) e) ∙ own))
+part_down part J s old up down = old up down
 
 pub crashed : (J : Past) → IsLegal J → (s : Server) → came_up J s ≡ true → is_live J s ≡ false → WentDown J s
 crashed [] legal s up down = absurd (false≢true up)
-crashed (entry_is.Start sheets ∷ J) legal s up down = crash_on (entry_is.Start sheets) J legal s (crashed J legal.0 s up down)
-crashed (entry_is.Submit nonce request ∷ J) legal s up down = crash_on (entry_is.Submit nonce request) J legal s (crashed J legal.0 s up down)
-crashed (entry_is.Step pid pick out ∷ J) legal s up down = crash_on (entry_is.Step pid pick out) J legal s (crashed J legal.0 s up down)
-crashed (entry_is.Undo pid row out ∷ J) legal s up down = crash_on (entry_is.Undo pid row out) J legal s (crashed J legal.0 s up down)
-crashed (entry_is.Report call told ∷ J) legal s up down = crash_on (entry_is.Report call told) J legal s (crashed J legal.0 s up down)
 crashed (entry_is.Up other ∷ J) legal s up down =
     let parts = or_parts (same_server s other) (is_live J s) down in
     let before : came_up J s ≡ true = up_before J other s parts.0 up in
@@ -537,10 +514,9 @@ crashed (entry_is.Down other ∷ J) legal s up down = elim (cases_Bool (same_ser
       inl (made J + 1, down_new other J (made J + 1) refl ∙ ap (λ x. Some (root_node (made J + 1) (args_are.Crash x) 1)) (sym one))
   | inr differs ↦ crash_on (entry_is.Down other) J legal s (crashed J legal.0 s up (sym (ap (λ b. not b && is_live J s) differs) ∙ down))
 ]
-crashed (entry_is.Abort pid ∷ J) legal s up down = crash_on (entry_is.Abort pid) J legal s (crashed J legal.0 s up down)
-crashed (entry_is.Adopt sheets ∷ J) legal s up down = crash_on (entry_is.Adopt sheets) J legal s (crashed J legal.0 s up down)
 crashed (entry_is.Base part ∷ J) legal s up down = inr (part_down part J s (λ before dead. by (crashed J legal.0 s before dead)) up down)
   where
     by : WentDown J s → is_fenced J s ≡ true
     by (inl c) = absurd (none-some (root_node c.0 (args_are.Crash s) 1) (sym (no_node part J legal.1.0 c.0) ∙ c.1))
     by (inr fenced) = fenced
+crashed (entry ∷ J) legal s up down = crash_on entry J legal s (crashed J legal.0 s up down)

@@ -61,17 +61,13 @@ module _ (id : Pid) where
   served_of : (a : Actor) (verb : Verb) → IsOf id (serve_verb a id verb).1
   served_of a (verb_is.AssignRegion r) = serve_of a r (opening a r) (age (a.last r) id)
   served_of a (verb_is.CloseRegion r) = serve_of a r (closing a) (age (a.last r) id)
-  served_of a (verb_is.Fence s) = none_of_it
-  served_of a (verb_is.Layout root) = none_of_it
-  served_of a (verb_is.Sweep root) = none_of_it
+  served_of a verb = none_of_it
 
   store_of : (x : Option Told) (storage : Storage) (told : Told) (behind : Storage) → IsOf id (store_by x storage id told behind).1
   store_of (Some before) storage told behind = some_of_it (stored id before) refl
   store_of None storage told behind = some_of_it (stored id told) refl
 
   stored_of : (storage : Storage) (verb : Verb) → IsOf id (store_verb storage id verb).1
-  stored_of storage (verb_is.AssignRegion r) = none_of_it
-  stored_of storage (verb_is.CloseRegion r) = none_of_it
   stored_of storage (verb_is.Fence s) = store_of (storage.answer id) storage told_is.Fenced (fence_in s storage)
   stored_of storage (verb_is.Layout root) = by (nat_lt 0 storage.refusals)
     where
@@ -79,6 +75,7 @@ module _ (id : Pid) where
       by true = store_of (storage.answer id) storage told_is.Refused (refuse_in storage)
       by false = store_of (storage.answer id) storage told_is.LaidOut (lay_in root true storage)
   stored_of storage (verb_is.Sweep root) = store_of (storage.answer id) storage told_is.Swept (lay_in root false storage)
+  stored_of storage verb = none_of_it
 
 report_of_it : (o : Outside) (call : Call) → IsOf call.id (report_to o call)
 report_of_it o call = by call.peer

@@ -70,10 +70,6 @@ module _ (entry : Entry) (J : Past) (legal : IsLegal (entry ∷ J)) (p : ℕ) (t
 
 pub reported_fence : (J : Past) → IsLegal J → (p : ℕ) (told : Told) (s : Server) → report_of J p ≡ Some told → verb_of J p ≡ Some (verb_is.Fence s) → is_fenced J s ≡ true
 reported_fence [] legal p told s h v = absurd (none-some told h)
-reported_fence (entry_is.Start sheets ∷ J) legal p told s h v = reported_fence J legal.0 p told s h (verb_before (entry_is.Start sheets) J legal p told s v h)
-reported_fence (entry_is.Submit nonce request ∷ J) legal p told s h v = reported_fence J legal.0 p told s h (verb_before (entry_is.Submit nonce request) J legal p told s v h)
-reported_fence (entry_is.Step pid pick out ∷ J) legal p told s h v = reported_fence J legal.0 p told s h (verb_before (entry_is.Step pid pick out) J legal p told s v h)
-reported_fence (entry_is.Undo pid row out ∷ J) legal p told s h v = reported_fence J legal.0 p told s h (verb_before (entry_is.Undo pid row out) J legal p told s v h)
 reported_fence (entry_is.Report call now ∷ J) legal p told s h v = elim (cases_eq p call.0) [
   | inl same ↦
       let one : now ≡ told = same_Some now told (sym (cond-true (p == call.0) (Some now) (report_of J p) (eq-eqb p call.0 same)) ∙ h) in
@@ -87,11 +83,8 @@ reported_fence (entry_is.Report call now ∷ J) legal p told s h v = elim (cases
       or_right ((told_number now == told_number told_is.Fenced) && fences_if (node_of J call.0) s) (is_fenced J s)
       (reported_fence J legal.0 p told s (sym (cond-false (p == call.0) (Some now) (report_of J p) (ne_eqb p call.0 differs)) ∙ h) v)
 ]
-reported_fence (entry_is.Up server ∷ J) legal p told s h v = reported_fence J legal.0 p told s h (verb_before (entry_is.Up server) J legal p told s v h)
-reported_fence (entry_is.Down server ∷ J) legal p told s h v = reported_fence J legal.0 p told s h (verb_before (entry_is.Down server) J legal p told s v h)
-reported_fence (entry_is.Abort pid ∷ J) legal p told s h v = reported_fence J legal.0 p told s h (verb_before (entry_is.Abort pid) J legal p told s v h)
-reported_fence (entry_is.Adopt sheets ∷ J) legal p told s h v = reported_fence J legal.0 p told s h (verb_before (entry_is.Adopt sheets) J legal p told s v h)
 reported_fence (entry_is.Base part ∷ J) legal p told s h v = absurd (none-some told h)
+reported_fence (entry ∷ J) legal p told s h v = reported_fence J legal.0 p told s h (verb_before entry J legal p told s v h)
 
 safe_opened : (J : Past) → IsLegal J → Safe J (nobody (shown_storage J))
 safe_opened J legal = record {

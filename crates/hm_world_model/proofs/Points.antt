@@ -71,13 +71,10 @@ module _ (J : Past) (o : Outside) (safe : Safe J o) where
     called_at q t h = one_server (peer_of J last.0) t s (ap (peer_of J) (same_Some last.0 q (sym last.1 ∙ h.0)) ∙ h.1) last.2
 
     rest_here : (state : RegionState) (server : Option Server) → AtRest J r (last_call J r) state server → Here (record { state = state; server = server })
-    rest_here place_is.Offline server h = absurd (alive h)
     rest_here place_is.Opening server h = absurd h
     rest_here place_is.Opened server h = subst (λ x. Here (record { state = place_is.Opened; server = x })) (sym h.1) (here_at place_is.Opened h.0 refl (opened_at h.0 h.2))
     rest_here place_is.Closing server h = absurd h
-    rest_here place_is.Closed server h = absurd (alive h)
-    rest_here place_is.FailedOpen server h = absurd (alive h)
-    rest_here place_is.AbnormallyClosed server h = absurd (alive h)
+    rest_here state server h = absurd (alive h)
 
     opening_server : (q : ℕ) (t : Server) (answer : Option Answer) → Calls J q t (last_call J r) (IsVoid J r (last_call J r)) answer → t ≡ s
     opening_server q t None h = absurd (alive h.0)

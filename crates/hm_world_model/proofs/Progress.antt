@@ -84,8 +84,6 @@ module _ (J : Past) (legal : IsLegal J) (p : ℕ) (r : Region) (verb : Verb) (ca
 -- ids rise
 ids : (J : Past) → IsLegal J → (p : ℕ) (r : Region) (verb : Verb) → verb_of J p ≡ Some verb → region_called verb ≡ Some r → (q : ℕ) × (last_call J r ≡ Some q) × (p ≤ q)
 ids [] legal p r verb called about = absurd (none-some verb called)
-ids (entry_is.Start sheets ∷ J) legal p r verb called about = ids J legal.0 p r verb called about
-ids (entry_is.Submit nonce request ∷ J) legal p r verb called about = ids J legal.0 p r verb called about
 ids (entry_is.Step pid pick out ∷ J) legal p r verb called about = elim (verb_was pid pick out J p verb called) [
   | inl old ↦ later (ids J legal.0 p r verb old about) (touch pid.0 out.call r (last_call J r))
   | inr new ↦ (pid.0, last_made pid pick out J r verb new.1 about, equal new.0)
@@ -104,13 +102,8 @@ ids (entry_is.Step pid pick out ∷ J) legal p r verb called about = elim (verb_
     later q (same k) = (q.0, k ∙ q.1, q.2)
     later q (opens v k) = (pid.0, k, above q.0 q.1 q.2 (subst (Finds J pid.0 found.0) v found.2).1)
     later q (closes v k) = (pid.0, k, above q.0 q.1 q.2 (subst (Finds J pid.0 found.0) v found.2).1)
-ids (entry_is.Undo pid row out ∷ J) legal p r verb called about = ids J legal.0 p r verb called about
-ids (entry_is.Report call told ∷ J) legal p r verb called about = ids J legal.0 p r verb called about
-ids (entry_is.Up server ∷ J) legal p r verb called about = ids J legal.0 p r verb called about
-ids (entry_is.Down server ∷ J) legal p r verb called about = ids J legal.0 p r verb called about
-ids (entry_is.Abort pid ∷ J) legal p r verb called about = ids J legal.0 p r verb called about
-ids (entry_is.Adopt sheets ∷ J) legal p r verb called about = ids J legal.0 p r verb called about
 ids (entry_is.Base part ∷ J) legal p r verb called about = absurd (none-some verb called)
+ids (entry ∷ J) legal p r verb called about = ids J legal.0 p r verb called about
 
 -- who calls a region server has a parent, and has ended where its last step ended it
 module _ (J : Past) (legal : IsLegal J) (p : ℕ) (r : Region) (s : Server) (to : CallsTo J p r s) where
@@ -162,9 +155,7 @@ module _ (J : Past) (o : Outside) (safe : Safe J o) (id : Pid) (unended : ended 
   server_answers : (s : Server) (a : Actor) → o.actors s ≡ Some a → (verb : Verb) → verb_of J id.0 ≡ Some verb → peer_of J id.0 ≡ Some (peer_is.Server s) → (r : Region) → region_called verb ≡ Some r → Answers (serve_verb a id verb).1 id
   server_answers s a run (verb_is.AssignRegion q) called peer r about = by_age q s a run (verb_is.AssignRegion q, called, refl, peer) (opening a q) (age (a.last q) id) (a.last q) refl refl
   server_answers s a run (verb_is.CloseRegion q) called peer r about = by_age q s a run (verb_is.CloseRegion q, called, refl, peer) (closing a) (age (a.last q) id) (a.last q) refl refl
-  server_answers s a run (verb_is.Fence t) called peer r about = absurd (none-some r about)
-  server_answers s a run (verb_is.Layout root) called peer r about = absurd (none-some r about)
-  server_answers s a run (verb_is.Sweep root) called peer r about = absurd (none-some r about)
+  server_answers s a run verb called peer r about = absurd (none-some r about)
 
 -- the storage answers what isn't about a region
 store_answers : (x : Option Told) (storage : Storage) (id : Pid) (told : Told) (behind : Storage) → Answers (store_by x storage id told behind).1 id

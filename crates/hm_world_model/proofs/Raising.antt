@@ -75,84 +75,41 @@ count_wide test n (suc more) off =
 
 -- who steps
 abbrev pub stepper : Entry → ℕ
-stepper (entry_is.Start sheets) = 0
-stepper (entry_is.Submit nonce request) = 0
 stepper (entry_is.Step pid pick out) = pid.0
-stepper (entry_is.Undo pid row out) = 0
-stepper (entry_is.Report call told) = 0
-stepper (entry_is.Up server) = 0
-stepper (entry_is.Down server) = 0
-stepper (entry_is.Abort pid) = 0
-stepper (entry_is.Adopt sheets) = 0
-stepper (entry_is.Base part) = 0
+stepper entry = 0
 
 -- a call that is recorded was, or is recorded now
 pub new_call : (e : Entry) (J : Past) (q : ℕ) (verb : Verb) → verb_of (e ∷ J) q ≡ Some verb → (verb_of J q ≡ Some verb) ⊎ ((calls_made e ≡ 1) × (q ≡ stepper e))
-new_call (entry_is.Start sheets) J q verb is = inl is
-new_call (entry_is.Submit nonce request) J q verb is = inl is
 new_call (entry_is.Step pid pick out) J q verb is = elim (verb_was pid pick out J q verb is) [ inl old ↦ inl old | inr new ↦ inr (ap (λ c. one_if (is_some c)) new.1, new.0) ]
-new_call (entry_is.Undo pid row out) J q verb is = inl is
-new_call (entry_is.Report call told) J q verb is = inl is
-new_call (entry_is.Up server) J q verb is = inl is
-new_call (entry_is.Down server) J q verb is = inl is
-new_call (entry_is.Abort pid) J q verb is = inl is
-new_call (entry_is.Adopt sheets) J q verb is = inl is
 new_call (entry_is.Base part) J q verb is = absurd (none-some verb is)
+new_call entry J q verb is = inl is
 
 one_or_none : (b : Bool) → (one_if b ≡ 0) ⊎ (one_if b ≡ 1)
 one_or_none true = inr refl
 one_or_none false = inl refl
 
 calls_at_most : (e : Entry) → (calls_made e ≡ 0) ⊎ (calls_made e ≡ 1)
-calls_at_most (entry_is.Start sheets) = inl refl
-calls_at_most (entry_is.Submit nonce request) = inl refl
 calls_at_most (entry_is.Step pid pick out) = one_or_none (is_some out.call)
-calls_at_most (entry_is.Undo pid row out) = inl refl
-calls_at_most (entry_is.Report call told) = inl refl
-calls_at_most (entry_is.Up server) = inl refl
-calls_at_most (entry_is.Down server) = inl refl
-calls_at_most (entry_is.Abort pid) = inl refl
-calls_at_most (entry_is.Adopt sheets) = inl refl
-calls_at_most (entry_is.Base part) = inl refl
+calls_at_most entry = inl refl
 
 -- what has no report had none
 pub reported_back : (e : Entry) (J : Past) → IsLegal (e ∷ J) → (q : ℕ) → is_reported (e ∷ J) q ≡ false → is_reported J q ≡ false
-reported_back (entry_is.Start sheets) J legal q h = h
-reported_back (entry_is.Submit nonce request) J legal q h = h
-reported_back (entry_is.Step pid pick out) J legal q h = h
-reported_back (entry_is.Undo pid row out) J legal q h = h
 reported_back (entry_is.Report call told) J legal q h = by (q == call.0) h
   where
     by : (b : Bool) → is_some (cond b (Some told) (report_of J q)) ≡ false → is_reported J q ≡ false
     by true k = absurd (true≢false k)
     by false k = k
-reported_back (entry_is.Up server) J legal q h = h
-reported_back (entry_is.Down server) J legal q h = h
-reported_back (entry_is.Abort pid) J legal q h = h
-reported_back (entry_is.Adopt sheets) J legal q h = h
 reported_back (entry_is.Base part) J legal q h = by_parts (λ j. is_reported j q ≡ false) refl (λ own older. refl) part J legal.1.0
+reported_back entry J legal q h = h
 
 -- more is made
 made_grows : (e : Entry) (J : Past) → IsLegal (e ∷ J) → made J ≤ made (e ∷ J)
-made_grows (entry_is.Start sheets) J legal = omega arith
-made_grows (entry_is.Submit nonce request) J legal = omega arith
-made_grows (entry_is.Step pid pick out) J legal = omega arith
-made_grows (entry_is.Undo pid row out) J legal = omega arith
-made_grows (entry_is.Report call told) J legal = omega arith
-made_grows (entry_is.Up server) J legal = omega arith
-made_grows (entry_is.Down server) J legal = omega arith
-made_grows (entry_is.Abort pid) J legal = omega arith
-made_grows (entry_is.Adopt sheets) J legal = omega arith
 made_grows (entry_is.Base part) J legal = by part legal.1.0
   where
     by : (part : Part) → PartFits part J → made J ≤ part_made part (made J)
     by (part_is.Head entries last parts sheets) fits = subst (λ j. made j ≤ last.0) (sym fits.0) (omega arith)
-    by (part_is.Namespace ns) fits = omega arith
-    by (part_is.Table table drawn own) fits = omega arith
-    by (part_is.Region region range status parents place) fits = omega arith
-    by (part_is.Server server fenced) fits = omega arith
-    by (part_is.Root pid nonce args cause) fits = omega arith
-    by (part_is.Layout pid) fits = omega arith
+    by part fits = omega arith
+made_grows entry J legal = omega arith
 
 -- who is called of a call that is to be sent
 called_if : (o : Outside) (n : Option Node) (v : Option Verb) → runs_if o (peer_if n v) ≡ true → (node : Node) × (n ≡ Some node) × (verb : Verb) × (v ≡ Some verb)
@@ -219,16 +176,8 @@ carrying_stays w kept = ((λ k. refl), (λ claim. refl), (λ claim. refl), (λ c
 -- where a call is recorded the journal has begun
 begun_by_call : (J : Past) (p : ℕ) → verb_of J p ≢ None → IsBegun J
 begun_by_call [] p some = absurd (some refl)
-begun_by_call (entry_is.Start sheets ∷ J) p some = tt
-begun_by_call (entry_is.Submit nonce request ∷ J) p some = tt
-begun_by_call (entry_is.Step pid pick out ∷ J) p some = tt
-begun_by_call (entry_is.Undo pid row out ∷ J) p some = tt
-begun_by_call (entry_is.Report call told ∷ J) p some = tt
-begun_by_call (entry_is.Up server ∷ J) p some = tt
-begun_by_call (entry_is.Down server ∷ J) p some = tt
-begun_by_call (entry_is.Abort pid ∷ J) p some = tt
-begun_by_call (entry_is.Adopt sheets ∷ J) p some = tt
 begun_by_call (entry_is.Base part ∷ J) p some = absurd (some refl)
+begun_by_call (entry ∷ J) p some = tt
 
 -- something can be carried
 module _ (w : World) (kept : IsKept w) (going : GoesOn w) where

@@ -47,29 +47,19 @@ edits_give (edit ∷ edits) r row range gives = edits_give edits r (cond (same_k
 
 pub row_gives : (J : Past) (r : Region) → Gives (cat J (key_is.Region r)) (range_of J r)
 row_gives [] r x h = absurd (none-some x h)
-row_gives (entry_is.Start sheets ∷ J) r x h = row_gives J r x h
-row_gives (entry_is.Submit nonce request ∷ J) r x h = row_gives J r x h
 row_gives (entry_is.Step pid pick out ∷ J) r x h = edits_give out.edits r (cat J (key_is.Region r)) (range_of J r) (row_gives J r) x h
 row_gives (entry_is.Undo pid row out ∷ J) r x h = edits_give out.edits r (cat J (key_is.Region r)) (range_of J r) (row_gives J r) x h
-row_gives (entry_is.Report call told ∷ J) r x h = row_gives J r x h
-row_gives (entry_is.Up server ∷ J) r x h = row_gives J r x h
-row_gives (entry_is.Down server ∷ J) r x h = row_gives J r x h
-row_gives (entry_is.Abort pid ∷ J) r x h = row_gives J r x h
-row_gives (entry_is.Adopt sheets ∷ J) r x h = row_gives J r x h
 row_gives (entry_is.Base part ∷ J) r x h = part_gives part (cat J (key_is.Region r)) (range_of J r) (row_gives J r) x h
   where
     part_gives : (part : Part) (row : Option CatRow) (range : Option KeyRange) → Gives row range → Gives (part_row part (key_is.Region r) row) (part_range part r range)
     part_gives (part_is.Head entries last parts sheets) row range gives = λ x is. absurd (none-some x is)
-    part_gives (part_is.Namespace ns) row range gives = gives
-    part_gives (part_is.Table table drawn own) row range gives = gives
-    part_gives (part_is.Server server fenced) row range gives = gives
-    part_gives (part_is.Root pid nonce args cause) row range gives = gives
-    part_gives (part_is.Layout pid) row range gives = gives
     part_gives (part_is.Region own given status parents place) row range gives = by (same_region r own)
       where
         by : (b : Bool) → Gives (if b then Some (row_is.Region given status parents) else row) (if b then Some given else range)
         by true = λ x own_is. own_is
         by false = gives
+    part_gives part row range gives = gives
+row_gives (entry ∷ J) r x h = row_gives J r x h
 
 -- live regions that touch are one, where those of each table don't overlap
 pub live_apart : (J : Past) → ((table : TableName) → NoneOverlap (cat J) table) → (a b : Region) → ((range : KeyRange) × IsLiveWith (cat J) a range) → ((range : KeyRange) × IsLiveWith (cat J) b range) → touches J a b ≡ true → a ≡ b

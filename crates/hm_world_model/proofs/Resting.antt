@@ -329,13 +329,7 @@ module _ (J : Past) (legal : IsLegal J) (live : has_live J ≡ true) (settled : 
               bearer_top (args_are.Root other its) u up region goal to at k born = request_top u up other its at k
               bearer_top (args_are.Crash s) u up region goal to at k born = crash_top u up s at k
               bearer_top args u up region goal to at k born = absurd born
-          by_args u rest e (args_are.AddRegions table f bounds) a = askless_free g.pid g.node g.there (ap asks a)
-          by_args u rest e (args_are.DropRegions table ids) a = askless_free g.pid g.node g.there (ap asks a)
-          by_args u rest e (args_are.AssignCall region server) a = askless_free g.pid g.node g.there (ap asks a)
-          by_args u rest e (args_are.CloseCall region server) a = askless_free g.pid g.node g.there (ap asks a)
-          by_args u rest e (args_are.FenceCall server) a = askless_free g.pid g.node g.there (ap asks a)
-          by_args u rest e (args_are.LayoutCall root) a = askless_free g.pid g.node g.there (ap asks a)
-          by_args u rest e (args_are.SweepLayout root) a = askless_free g.pid g.node g.there (ap asks a)
+          by_args u rest e args a = askless_free g.pid g.node g.there (ap asks a)
 
           by_above : (above : List ℕ) → g.node.above ≡ above → IsFree J [] g.pid
           by_above [] e = absurd (differs (sym ((grown_all J legal).tops g.pid g.node g.there e) ∙ g.root))

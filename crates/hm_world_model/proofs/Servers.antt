@@ -14,20 +14,13 @@ use Rattle.hm_model.proofs.NameTies.{same_server-is}
 
 -- who came up stays so
 pub up_stays : (entry : Entry) (J : Past) (s : Server) → came_up J s ≡ true → came_up (entry ∷ J) s ≡ true
-up_stays (entry_is.Start sheets) J s h = h
-up_stays (entry_is.Submit nonce request) J s h = h
-up_stays (entry_is.Step pid pick out) J s h = h
-up_stays (entry_is.Undo pid row out) J s h = h
-up_stays (entry_is.Report call told) J s h = h
 up_stays (entry_is.Up other) J s h = came_on J other s h
-up_stays (entry_is.Down other) J s h = h
-up_stays (entry_is.Abort pid) J s h = h
-up_stays (entry_is.Adopt sheets) J s h = h
 up_stays (entry_is.Base part) J s h = by (part_server part)
   where
     by : (o : Option (Server × Bool)) → list_any (λ x. same_server s x) (elim o as (λ k. List Server) [ None ↦ servers_of J | Some both ↦ with_server both.0 (servers_of J) ]) ≡ true
     by None = h
     by (Some both) = came_on J both.0 s h
+up_stays entry J s h = h
 
 -- who came up, and isn't the one that comes up now, did before
 pub up_before : (J : Past) (other s : Server) → same_server s other ≡ false → came_up (entry_is.Up other ∷ J) s ≡ true → came_up J s ≡ true

@@ -340,9 +340,7 @@ module _ (J : Past) (o : Outside) (safe : Safe J o) (r : Region) (s : Server) (i
       subst (λ x. Safe J (record o { actors = set_actor o.actors s (Some (serve_verb a id (verb_is.CloseRegion x)).0); reports = with_report o.reports (serve_verb a id (verb_is.CloseRegion x)).1 })) (sym e)
       (let own : verb_of J id.0 ≡ Some (verb_is.CloseRegion r) = called ∙ ap (λ x. Some (verb_is.CloseRegion x)) e in
       safe_by J o safe r s id a is (verb_is.CloseRegion r, own, refl, peer) (closing a) (fit_by (verb_is.CloseRegion r) own told_is.Closed refl) (λ new free h. absurd (false≢true h)) (λ told. absurd (shut told)) (age (a.last r) id) refl)
-  safe_served (verb_is.Fence t) called peer about = absurd (none-some r about)
-  safe_served (verb_is.Layout root) called peer about = absurd (none-some r about)
-  safe_served (verb_is.Sweep root) called peer about = absurd (none-some r about)
+  safe_served verb called peer about = absurd (none-some r about)
 
 -- a call to a server is delivered
 pub safe_to_server : (J : Past) (o : Outside) → Safe J o → (call : Call) (s : Server) → verb_of J call.id.0 ≡ Some call.verb → peer_of J call.id.0 ≡ Some (peer_is.Server s) → (x : Option Actor) → o.actors s ≡ x
@@ -362,9 +360,7 @@ safe_to_server J o safe call s called peer (Some a) is = by (region_called call.
     served : (verb : Verb) → region_called verb ≡ None → Safe J (record o { actors = set_actor o.actors s (Some (serve_verb a call.id verb).0); reports = with_report o.reports (serve_verb a call.id verb).1 })
     served (verb_is.AssignRegion q) none = absurd (none-some q (sym none))
     served (verb_is.CloseRegion q) none = absurd (none-some q (sym none))
-    served (verb_is.Fence t) none = as_it_was
-    served (verb_is.Layout root) none = as_it_was
-    served (verb_is.Sweep root) none = as_it_was
+    served verb none = as_it_was
 
     by : (o' : Option Region) → region_called call.verb ≡ o' → Safe J (record o { actors = set_actor o.actors s (Some (serve a call).0); reports = with_report o.reports (serve a call).1 })
     by None none = served call.verb none

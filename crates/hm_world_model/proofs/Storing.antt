@@ -90,8 +90,6 @@ module _ (J : Past) (o : Outside) (safe : Safe J o) (id : Pid) (peer : peer_of J
       never t e = cc
 
   pub safe_stored : (verb : Verb) → verb_of J id.0 ≡ Some verb → Safe J (record o { storage = (store_verb o.storage id verb).0; reports = with_report o.reports (store_verb o.storage id verb).1 })
-  safe_stored (verb_is.AssignRegion region) called = as_it_was
-  safe_stored (verb_is.CloseRegion region) called = as_it_was
   safe_stored (verb_is.Fence s) called =
       safe_store_by J o safe id (verb_is.Fence s) called peer told_is.Fenced refl (fence_in s o.storage) (λ other. refl) (λ t k. or_right (same_server s t) (o.storage.fenced t) k)
       (λ t e. or_left (same_server s t) (o.storage.fenced t) (subst (λ x. same_server s x ≡ true) (one_fence t e) (same_server-refl s))) (o.storage.answer id) refl
@@ -104,6 +102,7 @@ module _ (J : Past) (o : Outside) (safe : Safe J o) (id : Pid) (peer : peer_of J
     where
       never : (t : Server) → verb_is.Sweep root ≡ verb_is.Fence t → ⊥
       never t e = cc
+  safe_stored verb called = as_it_was
 
 -- a call that was sent is delivered
 pub safe_deliver : (J : Past) (o : Outside) → Safe J o → (call : Call) → call_of J call.id.0 ≡ Some call → Safe J (delivered o call)

@@ -101,16 +101,9 @@ sent_tail past d o all call is n h = calls_grow (drop n past) (all n h).legal (l
 
 -- the work of a claim is no report
 work_true : (past : Past) (claim : Claimed) (o : Outside) (entry : Entry) → IsWork past claim entry → IsTrueReport o entry
-work_true past claim o (entry_is.Start sheets) work = tt
-work_true past claim o (entry_is.Submit nonce request) work = tt
-work_true past claim o (entry_is.Step pid pick out) work = tt
-work_true past claim o (entry_is.Undo pid row out) work = tt
 work_true past claim o (entry_is.Report call told) work = absurd work
-work_true past claim o (entry_is.Up server) work = tt
-work_true past claim o (entry_is.Down server) work = tt
-work_true past claim o (entry_is.Abort pid) work = tt
-work_true past claim o (entry_is.Adopt sheets) work = tt
 work_true past claim o (entry_is.Base part) work = absurd work
+work_true past claim o entry work = tt
 
 delivered_reports : (o : Outside) (call : Call) (peer : Peer) → (deliver_by o call peer).reports ≡ with_report o.reports (answer_by o call peer)
 delivered_reports o call (peer_is.Server s) = refl

@@ -17,16 +17,8 @@ laid_told (Some told) = laid_by told
 -- the base that a journal begins with has the layout of a root
 abbrev pub based_layout : Past → ℕ → Bool
 based_layout [] root = false
-based_layout (entry_is.Start sheets ∷ before) root = based_layout before root
-based_layout (entry_is.Submit nonce request ∷ before) root = based_layout before root
-based_layout (entry_is.Step pid pick out ∷ before) root = based_layout before root
-based_layout (entry_is.Undo pid row out ∷ before) root = based_layout before root
-based_layout (entry_is.Report call told ∷ before) root = based_layout before root
-based_layout (entry_is.Up server ∷ before) root = based_layout before root
-based_layout (entry_is.Down server ∷ before) root = based_layout before root
-based_layout (entry_is.Abort pid ∷ before) root = based_layout before root
-based_layout (entry_is.Adopt sheets ∷ before) root = based_layout before root
 based_layout (entry_is.Base part ∷ before) root = is_laid (entry_is.Base part ∷ before) root
+based_layout (entry ∷ before) root = based_layout before root
 
 -- the layout of a root is there, as the base shows and then the reports of the procedures with a number below n, one after another
 abbrev pub laid_below : Past → ℕ → ℕ → Bool

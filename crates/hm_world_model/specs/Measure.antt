@@ -48,16 +48,8 @@ CarryingGoesOn =
 
 -- how many calls an entry records
 abbrev pub calls_made : Entry → ℕ
-calls_made (entry_is.Start sheets) = 0
-calls_made (entry_is.Submit nonce request) = 0
 calls_made (entry_is.Step pid pick out) = one_if (is_some out.call)
-calls_made (entry_is.Undo pid row out) = 0
-calls_made (entry_is.Report call told) = 0
-calls_made (entry_is.Up server) = 0
-calls_made (entry_is.Down server) = 0
-calls_made (entry_is.Abort pid) = 0
-calls_made (entry_is.Adopt sheets) = 0
-calls_made (entry_is.Base part) = 0
+calls_made entry = 0
 
 -- who is claimed and what is durable change nothing of it, and an entry, that of a commit too, adds no more than three for the
 -- call that it records

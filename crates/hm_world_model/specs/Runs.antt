@@ -38,16 +38,9 @@ MayEnter w entry = GoesOn w × Allowed w.past entry
 
 -- the step of a claimed procedure with the server that was picked, or what undoes one of its tree
 abbrev pub IsWork : Past → Claimed → Entry → Type 0
-IsWork past claim (entry_is.Start sheets) = ⊥
-IsWork past claim (entry_is.Submit nonce request) = ⊥
 IsWork past claim (entry_is.Step pid pick out) = (pid.0 ≡ claim.pid) × (pick ≡ claim.pick)
 IsWork past claim (entry_is.Undo pid row out) = root_of past pid.0 ≡ claim.pid
-IsWork past claim (entry_is.Report call told) = ⊥
-IsWork past claim (entry_is.Up server) = ⊥
-IsWork past claim (entry_is.Down server) = ⊥
-IsWork past claim (entry_is.Abort pid) = ⊥
-IsWork past claim (entry_is.Adopt sheets) = ⊥
-IsWork past claim (entry_is.Base part) = ⊥
+IsWork past claim entry = ⊥
 
 -- a report of whom was called may be recorded next
 abbrev pub MayHear : World → ReportMsg → Type 0
@@ -60,16 +53,9 @@ IsMade o call told = (report : ReportMsg) × IsIn report o.reports × (report.ca
 
 -- a report is recorded only where it was ever made, and no part of a base
 abbrev pub IsTrueReport : Outside → Entry → Type 0
-IsTrueReport o (entry_is.Start sheets) = Unit {0}
-IsTrueReport o (entry_is.Submit nonce request) = Unit {0}
-IsTrueReport o (entry_is.Step pid pick out) = Unit {0}
-IsTrueReport o (entry_is.Undo pid row out) = Unit {0}
 IsTrueReport o (entry_is.Report call told) = IsMade o call told
-IsTrueReport o (entry_is.Up server) = Unit {0}
-IsTrueReport o (entry_is.Down server) = Unit {0}
-IsTrueReport o (entry_is.Abort pid) = Unit {0}
-IsTrueReport o (entry_is.Adopt sheets) = Unit {0}
 IsTrueReport o (entry_is.Base part) = ⊥
+IsTrueReport o entry = Unit {0}
 
 -- what a fault may leave after the journal: nothing, or an entry that may be recorded next, a report only where it was made
 abbrev pub MayLeave : World → Option Entry → Type 0
