@@ -1,6 +1,1 @@
-pub mod InOrder
-pub mod InPieces
-pub mod Ordered
-pub mod Sorting
-pub mod Stable
 pub mod Turns

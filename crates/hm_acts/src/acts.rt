@@ -10,7 +10,6 @@ use crate::calls::{
     call_assign, call_close, call_fence, call_layout, call_sweep, settle_call, settle_layout,
 };
 use crate::crashes::{fence, reassign};
-use crate::lookup::Rows;
 use crate::merges::{check_merge, update_merge_meta};
 use crate::namespaces::{
     add_namespace, check_free_namespace, check_namespace_empty, drop_namespace,
@@ -29,6 +28,7 @@ use crate::transits::{
     check_move, close_there, confirm_closed, confirm_opened, get_assign_candidate, open_there,
 };
 use hm_data::{Act, Row, StepIn, StepOut, TableState};
+use hm_views::lookup::Rows;
 use std::alloc::{AllocError, Global};
 
 // What an act answers that only tests.

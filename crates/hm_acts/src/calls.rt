@@ -3,9 +3,9 @@ ghost use Rattle.std.specs.Prelude.{◌≡◌, IfOk};
 ghost use Rattle.hm_model.specs.CallActs.{call_assign as asks_to_open, call_close as asks_to_close, settle_call as settled, call_fence as asks_to_fence, call_layout as asks_to_lay_out, layout_told as laid, settle_layout as settled_layout, call_sweep as asks_to_sweep, ends_as_told as told_end};
 
 use crate::outs::{calls, ends_with, fails, goes_on};
-use crate::views::{layout_of, region_of, server_of};
 use hm_data::{Args, Cause, StepOut, Told, Verb};
 use hm_names::Copied;
+use hm_views::views::{layout_of, region_of, server_of};
 use std::alloc::{AllocError, Global};
 
 /// Calls the server to open the region; a server that is fenced is gone.

@@ -3,10 +3,10 @@ ghost use Rattle.std.specs.Prelude.{◌≡◌, IfOk};
 ghost use Rattle.hm_model.specs.CrashActs.{fence as fencing, reassign as reassigning};
 
 use crate::outs::{ends_with, goes_on, spawns, spawns_one};
-use crate::pieces::transits;
-use crate::views::server_of;
 use hm_data::{Args, Goal, StepOut, Told};
 use hm_names::{Copied, RegionName};
+use hm_views::pieces::transits;
+use hm_views::views::server_of;
 use std::alloc::{AllocError, Global};
 
 /// Has the server fenced.

@@ -3,15 +3,10 @@
 
 mod acts;
 mod calls;
-mod checks;
 mod crashes;
-mod lookup;
 mod merges;
 mod namespaces;
-mod order;
 mod outs;
-mod pieces;
-mod ranges;
 mod regions;
 mod row;
 mod sorts;
@@ -19,7 +14,6 @@ mod splits;
 mod tables;
 mod transits;
 mod undo;
-mod views;
 
 pub use row::{picks_at_row, row_out};
 pub use sorts::{NO_ROW, editing_kinds, is_check, is_edit};

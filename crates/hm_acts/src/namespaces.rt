@@ -2,11 +2,11 @@
 ghost use Rattle.std.specs.Prelude.{◌≡◌, IfOk};
 ghost use Rattle.hm_model.specs.NamespaceActs.{check_free_namespace as check_free, add_namespace as add_ns, check_namespace_empty as check_empty, drop_namespace as drop_ns};
 
-use crate::checks::{namespace_empty, namespace_free};
-use crate::lookup::{Rows, has_table, namespace_key, namespace_row, set_row};
 use crate::outs::{checked, edits_row, goes_on};
-use crate::views::namespace_of;
 use hm_data::{Args, CatKey, CatRow, StepOut};
+use hm_views::checks::{namespace_empty, namespace_free};
+use hm_views::lookup::{Rows, has_table, namespace_key, namespace_row, set_row};
+use hm_views::views::namespace_of;
 use std::alloc::{AllocError, Global};
 
 /// The namespace to create isn't there.

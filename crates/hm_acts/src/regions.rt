@@ -1,87 +1,24 @@
 // The acts on the regions of tables.
-ghost use Rattle.std.specs.Prelude.{◌≡◌, ◌≤◌, ◌<◌, ◌^◌, ◌++◌, List as PlainList, [], ◌∷◌, IfOk, IfSome, Some, length, option_copied};
-ghost use Rattle.std.specs.List.{AllByRecursion, cons_option};
-ghost use Rattle.std.specs.Option.{option_map};
-ghost use Rattle.hm_names.specs.Region.{Region};
+ghost use Rattle.std.specs.Prelude.{◌≡◌, ◌≤◌, ◌<◌, ◌^◌, [], IfOk, Some};
+ghost use Rattle.std.specs.List.{AllByRecursion};
 ghost use Rattle.hm_model.specs.Catalog.{row_at as row_of, set_to};
 ghost use Rattle.hm_model.specs.Changes.{live_row as live_of, region_key, add_ranges as adds_ranges, remove_regions as removes};
 ghost use Rattle.hm_model.specs.Evaluation.{named_ids};
 ghost use Rattle.hm_model.specs.Pieces.{ranges_between as between, transits as transits_of};
 ghost use Rattle.hm_model.specs.RegionActs.{regions_for, add_regions as adds, open_regions as opens, close_regions as closes, drop_regions as drops, open_new as opens_new, add_region_rows as adds_rows, drop_region_rows as drops_rows};
-ghost use Rattle.hm_model.specs.RowsSaid.{regions_among as among, keep_region};
 ghost use Rattle.hm_model.specs.Views.{bounds_of as bounds_in, first_id_of as first_id, regions_in};
-ghost use Rattle.hm_acts.specs.Runs.{row_counts};
 
-use crate::checks::{is_live, status_in};
-use crate::lookup::{Rows, same_table, set_row};
-use crate::order::ids_of as ids_in;
 use crate::outs::{edits_rows, goes_on, push_edit, spawns};
-use crate::pieces::{adding, dropping, key_copies, transits, transits_from};
-use crate::ranges::range_of_keys;
-use crate::views::{first_id_of, ids_of, table_of};
-use hm_data::{Args, CatKey, CatRow, Child, Edit, Goal, Request, Status, StepOut};
+use hm_data::{Args, CatKey, CatRow, Child, Edit, Goal, Status, StepOut};
 use hm_names::{Copied, KeyRange, List, RegionName, RowKey, TableName};
+use hm_views::bounds::{bounds_of, count_of_bounds};
+use hm_views::lookup::{Rows, set_row};
+use hm_views::order::ids_of as ids_in;
+use hm_views::pieces::{adding, dropping, transits, transits_from};
+use hm_views::ranges::range_of_keys;
+use hm_views::regions::regions_among;
+use hm_views::views::{first_id_of, ids_of, table_of};
 use std::alloc::{AllocError, Global};
-
-// The key that stands for the open end.
-fn open_end(alloc: Global) -> Result<RowKey, AllocError>
-    ensures { IfOk result (λ key. key ≡ []) }
-{
-    let Ok(key) = RowKey::of(alloc, &[]) else {
-        return Err(AllocError);
-    };
-    Ok(key)
-}
-
-// The bounds of a table's regions that is split at keys.
-fn bounds_at(alloc: Global, keys: &[RowKey]) -> Result<Vec<RowKey>, AllocError>
-    ensures { IfOk result (λ v. v.items ≡ [] ∷ keys.now ++ [] ∷ []) }
-{
-    let mut bounds = Vec::new(alloc);
-    bounds.push(open_end(alloc)?)?;
-    for key in keys {
-        bounds.push(key.copy(alloc)?)?;
-    }
-    bounds.push(open_end(alloc)?)?;
-    Ok(bounds)
-}
-
-// The bounds of the regions that a procedure adds: one more than there are regions.
-fn bounds_of(alloc: Global, args: &Args) -> Result<Option<Vec<RowKey>>, AllocError>
-    ensures { IfOk result (λ bounds. option_map (λ v. v.items) bounds ≡ bounds_in args.now) }
-{
-    match args {
-        Args::Root {
-            request: Request::CreateTable { table: _, keys },
-            first: _,
-        } => Ok(Some(bounds_at(alloc, keys.as_slice())?)),
-        Args::AddRegions {
-            table: _,
-            first: _,
-            bounds,
-        } => Ok(Some(key_copies(alloc, bounds.as_slice())?)),
-        _ => Ok(None),
-    }
-}
-
-// How many bounds those are.
-fn count_of_bounds(args: &Args) -> Option<usize>
-    ensures count { result ≡ option_map length (bounds_in args.now) }
-    ensures few { IfSome result (λ count. count < 2 ^ 63) }
-{
-    match args {
-        Args::Root {
-            request: Request::CreateTable { table: _, keys },
-            first: _,
-        } => Some(keys.as_slice().len() + 2),
-        Args::AddRegions {
-            table: _,
-            first: _,
-            bounds,
-        } => Some(bounds.as_slice().len()),
-        _ => None,
-    }
-}
 
 /// Has the regions of the new table added.
 pub(crate) fn add_regions(alloc: Global, next: u8, args: &Args) -> Result<StepOut, AllocError>
@@ -96,49 +33,6 @@ pub(crate) fn add_regions(alloc: Global, next: u8, args: &Args) -> Result<StepOu
     };
     let children = adding(alloc, table, first_id_of(args), &bounds)?;
     Ok(spawns(alloc, next, children))
-}
-
-// The row counts among those of live regions, or among all.
-fn counts(only_live: bool, row: &CatRow) -> bool
-    ensures { result ≡ row_counts only_live row.now }
-{
-    !only_live || is_live(status_in(Some(row)))
-}
-
-// The region of a row of the table that counts.
-fn region_in<'a>(
-    table: &TableName,
-    only_live: bool,
-    key: &'a CatKey,
-    row: &CatRow,
-) -> Option<&'a RegionName>
-    ensures { (more : PlainList Region)
-        → keep_region table.now (row_counts only_live) key.now row.now more ≡ cons_option (option_copied result) more }
-{
-    match key {
-        CatKey::Region(region) if same_table(table, &region.table) && counts(only_live, row) => {
-            Some(region)
-        }
-        _ => None,
-    }
-}
-
-// The regions of a table among rows: the live ones, or all.
-fn regions_among(
-    alloc: Global,
-    table: &TableName,
-    only_live: bool,
-    rows: &[(CatKey, CatRow)],
-) -> Result<Vec<RegionName>, AllocError>
-    ensures { IfOk result (λ v. v.items ≡ among table.now (row_counts only_live) rows.now) }
-{
-    let mut regions = Vec::new(alloc);
-    for (key, row) in rows {
-        if let Some(region) = region_in(table, only_live, key, row) {
-            regions.push(region.copy(alloc)?)?;
-        }
-    }
-    Ok(regions)
 }
 
 // Transits of the regions that were drawn for a new table, else of the live ones of the table.

@@ -1,21 +1,14 @@
 ghost use Rattle.std.specs.Prelude.{◌≡◌, ◌≤◌, ◌<◌, ◌^◌, IfOk, Some};
 ghost use Rattle.std.specs.List.{AllByRecursion};
-ghost use Rattle.hm_model.specs.Evaluation.{is_cut_off as cut_off, named_ids, row_answer, turn_answer, picks_at};
+ghost use Rattle.hm_model.specs.Evaluation.{named_ids, row_answer, turn_answer, picks_at};
 ghost use Rattle.hm_model.specs.Views.{first_id_of};
 
 use crate::acts::act_out;
 use crate::outs::fails;
-use crate::transits::wants_server;
 use crate::undo::undo_out;
 use hm_data::{Act, Cause, Row, StepIn, StepOut, Turn};
+use hm_views::row::{is_cut_off, wants_server};
 use std::alloc::{AllocError, Global};
-
-// A step of an aborted procedure fails at a row that isn't after the point.
-fn is_cut_off(row: Row, at: &StepIn) -> bool
-    ensures { result ≡ cut_off row at.now }
-{
-    at.aborted && !row.after
-}
 
 // A step: it fails where the procedure is cut off, else it answers by its act.
 fn step_out(alloc: Global, row: Row, at: &StepIn) -> Result<StepOut, AllocError>

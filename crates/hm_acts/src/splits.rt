@@ -1,64 +1,27 @@
 // The acts of splits, and those that merges have too.
-ghost use Rattle.std.specs.Prelude.{◌≡◌, ◌≤◌, ◌<◌, ◌^◌, ◌+◌, ◌++◌, [], ◌∷◌, IfOk, OnOk, Some, option_copied};
+ghost use Rattle.std.specs.Prelude.{◌≡◌, ◌≤◌, ◌<◌, ◌^◌, ◌+◌, ◌++◌, [], ◌∷◌, IfOk, OnOk, Some};
 ghost use Rattle.std.specs.List.{AllByRecursion};
 ghost use Rattle.hm_data.specs.declared.catalog.CatKey.TheVariants as key_is;
 ghost use Rattle.hm_data.specs.declared.catalog.Status.TheVariants as status_is;
 ghost use Rattle.hm_names.specs.Ranges.{lower_part, upper_part};
 ghost use Rattle.hm_model.specs.Catalog.{row_at as row_of, set_to};
 ghost use Rattle.hm_model.specs.Changes.{changed, region_key as key_with, live_row as live_of, split_range as splits, split_edits as splitting};
-ghost use Rattle.hm_model.specs.Checks.{can_split as may_split, key_inside as is_inside};
 ghost use Rattle.hm_model.specs.Evaluation.{named_ids};
 ghost use Rattle.hm_model.specs.RegionActs.{check_split as checks_split, close_parents as closes, update_split_meta as updates_split, finish as finishes};
-ghost use Rattle.hm_model.specs.RowsSaid.{in_status as put_in, range_in as range_of};
+ghost use Rattle.hm_model.specs.RowsSaid.{in_status as put_in};
 ghost use Rattle.hm_model.specs.Views.{first_id_of as first_id};
 
-use crate::checks::region_ready;
-use crate::lookup::{Rows, kept_row, region_key, region_row, table_row};
 use crate::outs::{checked, edits_rows, ends_with, goes_on, push_edit, spawns};
-use crate::pieces::transits;
-use crate::ranges::range_of_keys;
 use crate::regions::add_region;
-use crate::undo::closed_by;
-use crate::views::{cut_of, region_of};
-use hm_data::{Args, CatKey, CatRow, Cause, Edit, Goal, Request, Status, StepOut, Told};
+use hm_data::{Args, CatKey, CatRow, Edit, Goal, Request, Status, StepOut, Told};
 use hm_names::{KeyRange, RegionName, RowKey};
+use hm_views::checks::{can_split, range_in};
+use hm_views::closing::closed_by;
+use hm_views::lookup::{Rows, kept_row, region_key, region_row, table_row};
+use hm_views::pieces::transits;
+use hm_views::ranges::range_of_keys;
+use hm_views::views::{cut_of, region_of};
 use std::alloc::{AllocError, Global};
-
-/// The range of a region, by its row.
-pub(crate) fn range_in(row: Option<&CatRow>) -> Option<&KeyRange>
-    ensures { option_copied result ≡ range_of (option_copied row.entry) }
-{
-    match row {
-        Some(
-            CatRow::Region {
-                range,
-                status: _,
-                parents: _,
-            },
-        ) => Some(range),
-        _ => None,
-    }
-}
-
-// The key lies within the range and isn't its start.
-fn key_inside(range: Option<&KeyRange>, key: &RowKey) -> Option<Cause>
-    ensures { result ≡ is_inside (option_copied range.entry) key.now }
-{
-    match range {
-        None => None,
-        Some(range) if range.inner(key) => None,
-        Some(_) => Some(Cause::KeyOutside),
-    }
-}
-
-fn can_split(table: Option<&CatRow>, region: Option<&CatRow>, key: &RowKey) -> Option<Cause>
-    ensures { result ≡ may_split (option_copied table.entry) (option_copied region.entry) key.now }
-{
-    match region_ready(table, region) {
-        Some(cause) => Some(cause),
-        None => key_inside(range_in(region), key),
-    }
-}
 
 /// The region can be split at the key.
 pub(crate) fn check_split(

@@ -2,13 +2,13 @@
 ghost use Rattle.std.specs.Prelude.{◌≡◌, IfOk};
 ghost use Rattle.hm_model.specs.NamespaceActs.{check_table_free as check_no_table, add_table as add, set_state as put_in, check_table_disabled as check_disabled, drop_table as drop, check_table_enabled as check_enabled, set_version as put_version, lay_out as laid};
 
-use crate::checks::{table_disabled, table_enabled, table_free};
-use crate::lookup;
-use crate::lookup::{Rows, namespace_row, set_row, table_key, table_row};
 use crate::outs::{checked, edits_row, goes_on, spawns_one};
-use crate::views::{table_of, version_of};
 use hm_data::{Args, CatKey, CatRow, StepOut, TableState};
 use hm_names::Pid;
+use hm_views::checks::{table_disabled, table_enabled, table_free};
+use hm_views::lookup;
+use hm_views::lookup::{Rows, namespace_row, set_row, table_key, table_row};
+use hm_views::views::{table_of, version_of};
 use std::alloc::{AllocError, Global};
 
 /// The namespace of the table to create is there, and the table isn't.

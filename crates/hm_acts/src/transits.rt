@@ -1,88 +1,23 @@
 // The acts of transits.
-ghost use Rattle.std.specs.Prelude.{◌≡◌, [], ◌∷◌, IfOk, None, Some, option_copied};
+ghost use Rattle.std.specs.Prelude.{◌≡◌, [], ◌∷◌, IfOk, None, Some};
 ghost use Rattle.hm_data.specs.declared.answer.Answer.TheVariants as answer_is;
 ghost use Rattle.hm_data.specs.declared.args.Args.TheVariants as args_are;
 ghost use Rattle.hm_data.specs.declared.args.Child.TheVariants as child_is;
 ghost use Rattle.hm_data.specs.declared.place.RegionState.TheVariants as state_is;
-ghost use Rattle.hm_model.specs.Evaluation.{wants_server as wanting};
-ghost use Rattle.hm_model.specs.TransitActs.{told_place as place_told, is_state as in_state, is_placed as placed, may_open as may, may_open_in as may_in, is_open as opened, lost_if as lost, nowhere as nowhere_in, candidate as candidate_is, get_assign_candidate as get_candidate, open_there as opens, is_told as told_by, opened_or_not as opened_if, confirm_opened as confirms, behind_close as behind, close_at as closes_at, close_or_go as closes_or_goes, close_there as closes, closed_or_lost as closed_if, confirm_closed as confirms_closed, check_move as checks};
-ghost use Rattle.hm_model.specs.Views.{region_of as region_in};
+ghost use Rattle.hm_model.specs.TransitActs.{is_open as opened, candidate as candidate_is, get_assign_candidate as get_candidate, open_there as opens, confirm_opened as confirms, behind_close as behind, close_at as closes_at, close_or_go as closes_or_goes, close_there as closes, confirm_closed as confirms_closed, check_move as checks};
 
-use crate::checks::{is_in_state, is_live, region_ready, status_in, table_state_in};
-use crate::lookup::{region_row, table_row};
 use crate::outs::{checked, ends_with, goes_on, one_child, places, spawns_one};
-use crate::views::{goal_in, region_of};
 use hm_data::{
-    Answer, Args, CatKey, CatRow, Child, Goal, Place, RegionState, StepIn, StepOut, TableState,
-    Told,
+    Answer, Args, CatKey, CatRow, Child, Goal, Place, RegionState, StepIn, StepOut, Told,
 };
 use hm_names::{Copied, List, Pid, RegionName, ServerName};
+use hm_views::checks::region_ready;
+use hm_views::lookup::{region_row, table_row};
+use hm_views::places::{
+    closed_or_lost, is_open, is_placed, is_state, is_told, lost_if, may_open_in, nowhere, told_place,
+};
+use hm_views::views::{goal_in, region_of};
 use std::alloc::{AllocError, Global};
-
-fn nowhere(state: RegionState) -> Place
-    ensures { result ≡ nowhere_in state }
-{
-    Place {
-        state,
-        server: None,
-    }
-}
-
-// A place that is told, and Offline where none is.
-fn told_place(alloc: Global, place: &Option<Place>) -> Result<Place, AllocError>
-    ensures { IfOk result (λ p. p ≡ place_told place.now) }
-{
-    match place {
-        None => Ok(nowhere(RegionState::Offline)),
-        Some(place) => place.copy(alloc),
-    }
-}
-
-fn is_state(state: RegionState, place: &Place) -> bool
-    ensures { result ≡ in_state state place.now }
-{
-    place.state.number() == state.number()
-}
-
-// The region counts as its server's.
-fn is_placed(place: &Place) -> bool
-    ensures { result ≡ placed place.now }
-{
-    is_state(RegionState::Opening, place)
-        || is_state(RegionState::Opened, place)
-        || is_state(RegionState::Closing, place)
-}
-
-fn may_open(table: Option<&CatRow>, region: Option<&CatRow>) -> bool
-    ensures { result ≡ may (option_copied table.entry) (option_copied region.entry) }
-{
-    let state = table_state_in(table);
-    is_live(status_in(region))
-        && (is_in_state(TableState::Enabled, state) || is_in_state(TableState::Enabling, state))
-}
-
-// The region may be opened, by the rows that a transit reads.
-fn may_open_in(rows: &[(CatKey, CatRow)], region: &RegionName) -> bool
-    ensures { result ≡ may_in rows.now region.now }
-{
-    may_open(table_row(rows, &region.table), region_row(rows, region))
-}
-
-fn is_open(place: &Place, fenced: bool) -> bool
-    ensures { result ≡ opened place.now fenced }
-{
-    is_state(RegionState::Opened, place) && !fenced
-}
-
-fn lost_if(is_lost: bool) -> Option<Place>
-    ensures { result ≡ lost is_lost }
-{
-    if is_lost {
-        Some(nowhere(RegionState::AbnormallyClosed))
-    } else {
-        None
-    }
-}
 
 // Where the region may be opened and isn't open, it is placed at the server that was picked.
 fn candidate(
@@ -142,18 +77,6 @@ pub(crate) fn open_there(
     };
     let region = region.copy(alloc)?;
     spawns_one(alloc, next, Args::AssignCall { region, server })
-}
-
-// One of those that ended told this.
-fn is_told(told: Told, ends: &[(Pid, Told)]) -> bool
-    ensures { result ≡ told_by told ends.now }
-{
-    for (_, end) in ends {
-        if end.number() == told.number() {
-            return true;
-        }
-    }
-    false
 }
 
 /// Takes in whether the region was opened.
@@ -279,16 +202,6 @@ pub(crate) fn close_there(
     close_or_go(alloc, next, goal_in(args), region, place, fenced)
 }
 
-fn closed_or_lost(is_closed: bool) -> RegionState
-    ensures { result ≡ closed_if is_closed }
-{
-    if is_closed {
-        RegionState::Closed
-    } else {
-        RegionState::AbnormallyClosed
-    }
-}
-
 /// Takes in whether the region was closed.
 pub(crate) fn confirm_closed(alloc: Global, args: &Args, ends: &[(Pid, Told)]) -> StepOut
     ensures { result ≡ confirms_closed args.now ends.now }
@@ -307,26 +220,4 @@ pub(crate) fn check_move(alloc: Global, next: u8, args: &Args, rows: &[(CatKey, 
     };
     let cause = region_ready(table_row(rows, &region.table), region_row(rows, region));
     checked(alloc, next, cause)
-}
-
-// The place that is told is open, at a server that isn't fenced.
-fn is_open_at(place: &Option<Place>, fenced: bool) -> bool
-    ensures { result ≡ opened (place_told place.now) fenced }
-{
-    match place {
-        None => false,
-        Some(place) => is_open(place, fenced),
-    }
-}
-
-/// The region of a transit may be opened, and isn't open.
-pub(crate) fn wants_server(at: &StepIn) -> bool
-    ensures { result ≡ wanting (region_in at.now.args) at.now }
-{
-    match region_of(&at.args) {
-        None => false,
-        Some(region) => {
-            may_open_in(at.rows.as_slice(), region) && !is_open_at(&at.place, at.fenced)
-        }
-    }
 }

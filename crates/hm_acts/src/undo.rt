@@ -1,11 +1,12 @@
 // What undoing a step answers.
-ghost use Rattle.std.specs.Prelude.{◌≡◌, [], ◌∷◌, IfOk};
-ghost use Rattle.hm_model.specs.Undoing.{turned as turned_edit, turned_round as round, undo_edits as edits_of, closed_by as closed, closed_by_request as closed_request, undo_followers as followers_of, undo_out as undone};
+ghost use Rattle.std.specs.Prelude.{◌≡◌, IfOk};
+ghost use Rattle.hm_model.specs.Undoing.{turned as turned_edit, turned_round as round, undo_edits as edits_of, undo_followers as followers_of, undo_out as undone};
 
 use crate::outs::{one_child, push_edit};
-use crate::pieces::transits;
-use hm_data::{Answer, Args, Back, Child, Edit, Goal, Request, StepIn, StepOut};
-use hm_names::{Copied, List, Pid, RegionName};
+use hm_data::{Answer, Args, Back, Child, Edit, Goal, StepIn, StepOut};
+use hm_names::{Copied, List, Pid};
+use hm_views::closing::closed_by;
+use hm_views::pieces::transits;
 use std::alloc::{AllocError, Global};
 
 fn turned(alloc: Global, edit: &Edit) -> Result<Edit, AllocError>
@@ -36,39 +37,6 @@ fn undo_edits(alloc: Global, undo: Back, edits: &[Edit]) -> Result<Vec<Edit>, Al
 {
     match undo {
         Back::Edits => turned_round(alloc, edits),
-        _ => Ok(Vec::new(alloc)),
-    }
-}
-
-// A copy of a region, as the one of a list.
-fn one_region(alloc: Global, region: &RegionName) -> Result<Vec<RegionName>, AllocError>
-    ensures { IfOk result (λ v. v.items ≡ region.now ∷ []) }
-{
-    let mut regions = Vec::new(alloc);
-    regions.push(region.copy(alloc)?)?;
-    Ok(regions)
-}
-
-/// The regions that a request closes to change them.
-pub(crate) fn closed_by_request(
-    alloc: Global,
-    request: &Request,
-) -> Result<Vec<RegionName>, AllocError>
-    ensures { IfOk result (λ v. v.items ≡ closed_request request.now) }
-{
-    match request {
-        Request::SplitRegion { region, key: _ } => one_region(alloc, region),
-        Request::MergeRegions { regions } => Ok(regions.copy(alloc)?.into_vec()),
-        _ => Ok(Vec::new(alloc)),
-    }
-}
-
-/// The regions that a procedure closes to change them.
-pub(crate) fn closed_by(alloc: Global, args: &Args) -> Result<Vec<RegionName>, AllocError>
-    ensures { IfOk result (λ v. v.items ≡ closed args.now) }
-{
-    match args {
-        Args::Root { request, first: _ } => closed_by_request(alloc, request),
         _ => Ok(Vec::new(alloc)),
     }
 }

@@ -1,0 +1,5 @@
+pub mod InOrder
+pub mod InPieces
+pub mod Ordered
+pub mod Sorting
+pub mod Stable
