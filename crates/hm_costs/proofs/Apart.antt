@@ -1,5 +1,5 @@
 -- No two roots that hold ask for what clashes, since each step is free of those who hold.
-use Rattle.std.proofs.Common.{◌≡◌, ◌≢◌, ℕ, List, [], ◌∷◌, Bool, true, false, ◌||◌, Option, refl, ap, sym, ◌∙◌, subst, inl, inr, ◌⊎◌}
+use Rattle.std.proofs.Common.{◌≡◌, ◌≢◌, ℕ, [], ◌∷◌, Option, refl, ap, sym, ◌∙◌, subst, inl, inr, ◌⊎◌}
 use Rattle.std.proofs.lemmas.Bool.{cases_eq}
 use Rattle.hm_names.specs.Server.{Server}
 use Rattle.hm_names.specs.declared.pid.Pid.{Pid}
@@ -12,31 +12,22 @@ use Rattle.hm_model.specs.Journal.{Past}
 use Rattle.hm_model.specs.Locks.{Clash, asks}
 use Rattle.hm_model.specs.Rules.{IsLegal}
 use Rattle.hm_model.specs.Tree.{Node, root_in, root_of}
-use Rattle.hm_model.specs.declared.lock.Ask.{Ask}
 use Rattle.hm_model.proofs.LegalSteps.{ready_stops}
 use Rattle.hm_model.proofs.Trees.{grown_all, step_of}
 use Rattle.hm_model.proofs.Free.{step_free}
+use Rattle.hm_model.proofs.Taken.{clash_sym}
 use Rattle.hm_model.proofs.Tops.{TopHolds, TopIs, caused_begun, held, held_or, holds_with, root_begun, step_open, tops_conflict, undo_facts, undo_open}
 
 -- no two roots that hold ask for what clashes
 abbrev pub Apart : Past → Type 0
 Apart J = (s t : ℕ) (x y : Node) → TopHolds J s x → TopHolds J t y → s ≢ t → Clash (asks x.args) (asks y.args) → ⊥
 
-or_turned : (a b : Bool) → (a || b) ≡ true → (b || a) ≡ true
-or_turned true true h = refl
-or_turned true false h = refl
-or_turned false true h = refl
-or_turned false false h = h
-
-clash_turned : (one other : List Ask) → Clash one other → Clash other one
-clash_turned one other c = (c.1, c.0, c.3, c.2, sym c.4, or_turned c.0.exclusive c.1.exclusive c.5)
-
 apart_step : (pid : Pid) (pick : Option Server) (out : StepOut) (J : Past) → IsLegal (entry_is.Step pid pick out ∷ J) → Apart J → Apart (entry_is.Step pid pick out ∷ J)
 apart_step pid pick out J legal apart s t x y h k differs clash = by (held_or pid pick out J legal s x h) (held_or pid pick out J legal t y k)
   where
     by : TopHolds J s x ⊎ ((s ≡ pid.0) × TopIs J s x) → TopHolds J t y ⊎ ((t ≡ pid.0) × TopIs J t y) → ⊥
     by (inl a) (inl b) = apart s t x y a b differs clash
-    by (inl a) (inr b) = step_free pid pick out J legal s (holds_with J s x a) (subst (λ p. InConflict J p s) b.0 (tops_conflict J t s y x b.1 a.0 (λ e. differs (sym e)) (clash_turned (asks x.args) (asks y.args) clash)))
+    by (inl a) (inr b) = step_free pid pick out J legal s (holds_with J s x a) (subst (λ p. InConflict J p s) b.0 (tops_conflict J t s y x b.1 a.0 (λ e. differs (sym e)) (clash_sym (asks x.args) (asks y.args) clash)))
     by (inr a) (inl b) = step_free pid pick out J legal t (holds_with J t y b) (subst (λ p. InConflict J p t) a.0 (tops_conflict J s t x y a.1 b.0 differs clash))
     by (inr a) (inr b) = differs (a.0 ∙ sym b.0)
 

@@ -58,9 +58,7 @@ call_due (Some (answer_is.More n)) told = 1
 call_due (Some (answer_is.Wait n)) told = 1
 call_due (Some (answer_is.Await n)) None = 2
 call_due (Some (answer_is.Await n)) (Some told) = 1
-call_due (Some (answer_is.Done t)) told = 0
-call_due (Some (answer_is.Fail c)) told = 0
-call_due (Some answer_is.Undone) told = 0
+call_due (Some answer) told = 0
 
 -- a call to open a region goes to a live server, and ends with it open; one that asks for a layout is a child
 abbrev pub CallGoes : Past → ℕ → Node → Args → Type 0
@@ -159,11 +157,7 @@ AllCounted J args n (line ∷ lines) = CountsNow line.act (table_of args) (rows_
 abbrev pub IsIdle : Option Answer → Type 0
 IsIdle None = Unit {0}
 IsIdle (Some (answer_is.More n)) = Unit {0}
-IsIdle (Some (answer_is.Wait n)) = ⊥
-IsIdle (Some (answer_is.Await n)) = ⊥
-IsIdle (Some (answer_is.Done told)) = ⊥
-IsIdle (Some (answer_is.Fail c)) = ⊥
-IsIdle (Some answer_is.Undone) = ⊥
+IsIdle (Some answer) = ⊥
 
 -- before the lines that count stand only such as go on at once
 abbrev pub goes_at_once : Act → Bool

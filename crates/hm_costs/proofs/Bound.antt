@@ -1,5 +1,5 @@
 -- The kinds are priced, so each tree that nothing disturbs is within its cost.
-use Rattle.std.proofs.Common.{◌⊎◌, ◌&&◌, ◌≡◌, ℕ, ◌+◌, ◌≤◌, List, [], ◌∷◌, ◌++◌, length, Bool, true, false, ◌==◌, cond, Option, Some, None, is_some, refl, ap, sym, ◌∙◌, subst, arith, inl, inr}
+use Rattle.std.proofs.Common.{◌⊎◌, ◌&&◌, ◌≡◌, ℕ, ◌+◌, ◌≤◌, List, [], ◌∷◌, length, Bool, true, false, ◌==◌, cond, Option, Some, None, is_some, refl, ap, sym, ◌∙◌, subst, arith, inl, inr, length-append}
 use Rattle.hm_costs.proofs.At.{IsFreshCrash, at_crash, At, Fresh, IsFreshArgs, Starts, at_calls, at_lined, at_moves, call_due, left, start_call, start_lined, start_orders, start_transit, IsIdle, CallGoes}
 use Rattle.hm_costs.proofs.Counted.{lost_same, cost_same, first_counted}
 use Rattle.hm_costs.proofs.Live.{dead_stays, down_dead}
@@ -8,7 +8,7 @@ use Rattle.hm_costs.proofs.RegionsLeave.{within_stays}
 use Rattle.hm_model.specs.Costs.{regions_lost, cost}
 use Rattle.hm_model.specs.Places.{at_server, load}
 use Rattle.hm_model.specs.Tree.{root_node, Node, is_root_in, is_top, made, node_of, root_in, submitted}
-use Rattle.hm_model.proofs.Trees.{is_there, Grown, grown_all, some_of, step_of, at_top}
+use Rattle.hm_model.proofs.Trees.{Grown, grown_all, some_of, step_of, at_top}
 use Rattle.hm_data.specs.declared.request.Request.{Request}
 use Rattle.hm_model.specs.Kinds.{request_kind, kind_of}
 use Rattle.hm_costs.proofs.CrashPaid.{crash_paid}
@@ -80,22 +80,10 @@ new_fresh entry J legal r top none is at_top = absurd (none-some top (sym none �
 
 one_at_least : (J : Past) (r : ℕ) (args : Args) → IsFreshArgs args → 1 ≤ cost J r args
 one_at_least J r (args_are.Root (request_is.CreateNamespace ns) first) fresh = omega arith
-one_at_least J r (args_are.Root (request_is.DropNamespace ns) first) fresh = omega arith
-one_at_least J r (args_are.Root (request_is.CreateTable table keys) first) fresh = omega arith
-one_at_least J r (args_are.Root (request_is.ModifyTable table version) first) fresh = omega arith
-one_at_least J r (args_are.Root (request_is.SplitRegion region key) first) fresh = omega arith
-one_at_least J r (args_are.Root (request_is.MergeRegions regions) first) fresh = omega arith
-one_at_least J r (args_are.Root (request_is.Move region to) first) fresh = omega arith
-one_at_least J r (args_are.Root (request_is.DeleteTable table) first) fresh = omega arith
-one_at_least J r (args_are.Root (request_is.EnableTable table) first) fresh = omega arith
-one_at_least J r (args_are.Root (request_is.DisableTable table) first) fresh = omega arith
+one_at_least J r (args_are.Root request first) fresh = omega arith
 one_at_least J r (args_are.Transit region goal to) fresh = omega arith
 one_at_least J r (args_are.SweepLayout root) fresh = omega arith
 one_at_least J r args fresh = absurd fresh
-
-length_append : {A : Type 0} (one other : List A) → length (one ++ other) ≡ length one + length other
-length_append [] other = omega arith
-length_append (x ∷ one) other = let on = length_append one other in omega (arith, on)
 
 -- a root at its first step
 module _ (pid : Pid) (pick : Option Server) (out : StepOut) (J : Past) (legal : IsLegal J) (above : List ℕ) (root first_id : ℕ) (top_is : above ≡ []) where
@@ -106,10 +94,7 @@ module _ (pid : Pid) (pick : Option Server) (out : StepOut) (J : Past) (legal : 
   Begins args = (budget : ℕ) × At J pid.0 (node args) budget × (1 + budget ≤ cost (entry_is.Step pid pick out ∷ J) pid.0 args)
 
   begin_args : (args : Args) → IsFreshArgs args → last_answer J pid.0 ≡ None → report_of J pid.0 ≡ None → Begins args
-  begin_args (args_are.Root (request_is.CreateNamespace ns) first) fresh last report = (_, at_lined J pid.0 (node _) _ refl refl refl (λ runs. start_lined J legal pid.0 (node _) 0 _ _ refl refl refl last (inl refl) (inl top_is) refl), omega arith)
-  begin_args (args_are.Root (request_is.DropNamespace ns) first) fresh last report = (_, at_lined J pid.0 (node _) _ refl refl refl (λ runs. start_lined J legal pid.0 (node _) 0 _ _ refl refl refl last (inl refl) (inl top_is) refl), omega arith)
-  begin_args (args_are.Root (request_is.CreateTable table keys) first) fresh last report = (_, at_lined J pid.0 (node _) _ refl refl refl (λ runs. start_lined J legal pid.0 (node _) 0 _ _ refl refl refl last (inl refl) (inl top_is) refl), (let e = length_append keys ([] ∷ []) in omega (arith, e)))
-  begin_args (args_are.Root (request_is.ModifyTable table version) first) fresh last report = (_, at_lined J pid.0 (node _) _ refl refl refl (λ runs. start_lined J legal pid.0 (node _) 0 _ _ refl refl refl last (inl refl) (inl top_is) refl), omega arith)
+  begin_args (args_are.Root (request_is.CreateTable table keys) first) fresh last report = (_, at_lined J pid.0 (node _) _ refl refl refl (λ runs. start_lined J legal pid.0 (node _) 0 _ _ refl refl refl last (inl refl) (inl top_is) refl), (let e = length-append keys ([] ∷ []) in omega (arith, e)))
   begin_args (args_are.Root (request_is.SplitRegion region key) first) fresh last report = (26, at_lined J pid.0 (node _) 26 refl refl refl (λ runs. start_orders J legal pid.0 (node _) 26 refl refl last either), omega arith)
     where
       either : (lines : List Line) → IsIn lines (orders_of 8) → Starts J pid.0 (node (args_are.Root (request_is.SplitRegion region key) first)) 26 lines
@@ -130,6 +115,7 @@ module _ (pid : Pid) (pick : Option Server) (out : StepOut) (J : Past) (legal : 
       let n = length (live_among table (rows_read J (args_are.Root (request_is.DisableTable table) first))) in
       let same = first_counted pid pick out J last table (λ row. is_live_status (status_in (Some row))) in
       (left (args_are.Root (request_is.DisableTable table) first) n (lines_of (kind_of (args_are.Root (request_is.DisableTable table) first))), at_lined J pid.0 (node (args_are.Root (request_is.DisableTable table) first)) _ refl refl refl (λ runs. start_lined J legal pid.0 (node (args_are.Root (request_is.DisableTable table) first)) n _ _ refl refl refl last (inr (record { counter = tt; top = top_is; idle = subst IsIdle (sym last) tt; soon = refl; counted = (tt, (tt, (omega arith, (tt, tt)))) })) (inl top_is) refl), omega (arith, same))
+  begin_args (args_are.Root request first) fresh last report = (_, at_lined J pid.0 (node _) _ refl refl refl (λ runs. start_lined J legal pid.0 (node _) 0 _ _ refl refl refl last (inl refl) (inl top_is) refl), omega arith)
   begin_args (args_are.Transit region goal_is.Assign to) fresh last report = (6, at_moves J pid.0 (node _) 6 region refl refl refl (start_transit J pid.0 (node _) region 0 refl last (λ e. top_is) (λ e. omega (arith, e)) (λ e. omega (arith, e))), omega arith)
   begin_args (args_are.Transit region goal_is.Unassign to) fresh last report = (5, at_moves J pid.0 (node _) 5 region refl refl refl (start_transit J pid.0 (node _) region 3 refl last (λ e. top_is) (λ e. omega (arith, e)) (λ e. omega (arith, e))), omega arith)
   begin_args (args_are.Transit region goal_is.Move to) fresh last report = absurd fresh
@@ -171,12 +157,10 @@ awaits J r top going q x is of verb called unended =
       where
         top_ended : q ≡ r → (o : Option Answer) → last_answer J q ≡ o → is_stopped o ≡ true → ⊥
         top_ended here None e h = false≢true h
-        top_ended here (Some (answer_is.More n)) e h = false≢true h
-        top_ended here (Some (answer_is.Wait n)) e h = false≢true h
-        top_ended here (Some (answer_is.Await n)) e h = false≢true h
         top_ended here (Some (answer_is.Done told)) e h = true≢false (sym (ended_by J r going.clean ∙ ap (λ o. is_some (done_with o)) (ap (last_answer J) (sym here) ∙ e)) ∙ going.unended)
         top_ended here (Some (answer_is.Fail c)) e h = (sound_all J going.legal).caused q x is c e (ap (cause J) of ∙ going.clean)
         top_ended here (Some answer_is.Undone) e h = (sound_all J going.legal).undone q e
+        top_ended here (Some answer) e h = false≢true h
 
         at : (above : List ℕ) → x.above ≡ above → ⊥
         at [] a = top_ended (sym ((grown_all J going.legal).tops q x is a) ∙ of) last e stops
@@ -184,12 +168,11 @@ awaits J r top going q x is of verb called unended =
 
     by : (last : Option Answer) → last_answer J q ≡ last → CallerAt verb (verb_of J q) last → (n : ℕ) × (last_answer J q ≡ Some (answer_is.Await n))
     by None e at = absurd (none-some verb (sym at ∙ called))
-    by (Some (answer_is.More n)) e at = absurd at
-    by (Some (answer_is.Wait n)) e at = absurd at
     by (Some (answer_is.Await n)) e at = (n, e)
     by (Some (answer_is.Done told)) e at = absurd (runs (Some (answer_is.Done told)) e refl)
     by (Some (answer_is.Fail c)) e at = absurd (runs (Some (answer_is.Fail c)) e refl)
     by (Some answer_is.Undone) e at = absurd (runs (Some answer_is.Undone) e refl)
+    by (Some answer) e at = absurd at
 
 not_request : (request : Request) → request_kind request ≡ 11 → ⊥
 not_request (request_is.CreateNamespace ns) kind = omega (arith, kind)
@@ -214,7 +197,8 @@ steps_priced pid pick out J legal r top going all me is_me of budget at =
       | calls_part verb v unmoved exact ↦ call_paid pid pick out J legal me is_me (live_unfenced J legal.0) unaborted budget verb v (at.calls verb v)
     ]
 
-fenced_only : (server : Server) (told : Told) → fits_verb (verb_is.Fence server) told ≡ true → (told_number told == told_number told_is.Fenced) ≡ true
+-- a fence is answered in one way
+pub fenced_only : (server : Server) (told : Told) → fits_verb (verb_is.Fence server) told ≡ true → (told_number told == told_number told_is.Fenced) ≡ true
 fenced_only server told_is.Fenced fits = refl
 fenced_only server told fits = absurd (false≢true fits)
 

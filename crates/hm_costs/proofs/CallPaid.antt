@@ -1,5 +1,5 @@
 -- Steps of procedures that make a call are paid for.
-use Rattle.std.proofs.Common.{◌≡◌, ℕ, ◌+◌, ◌≤◌, ◌∷◌, true, false, not, Option, Some, None, refl, ap, sym, ◌∙◌, subst, arith, inl, inr, slice_get}
+use Rattle.std.proofs.Common.{◌≡◌, ℕ, ◌+◌, ◌≤◌, ◌∷◌, true, false, not, Option, Some, None, refl, ap, sym, ◌∙◌, subst, arith, inl, inr, slice_get, ◌⊎◌}
 use Rattle.std.proofs.lemmas.Bool.{cases_Bool, cond-false, false≢true, true≢false, and_left}
 use Rattle.std.proofs.lemmas.Option.{none-some, same_Some}
 use Rattle.hm_names.specs.Server.{Server}
@@ -51,9 +51,7 @@ due_some (Some (answer_is.More n)) report runs = omega arith
 due_some (Some (answer_is.Wait n)) report runs = omega arith
 due_some (Some (answer_is.Await n)) None runs = omega arith
 due_some (Some (answer_is.Await n)) (Some told) runs = omega arith
-due_some (Some (answer_is.Done t)) report runs = absurd (true≢false runs)
-due_some (Some (answer_is.Fail c)) report runs = absurd (true≢false runs)
-due_some (Some answer_is.Undone) report runs = absurd (true≢false runs)
+due_some (Some answer) report runs = absurd (true≢false runs)
 
 -- a report that opens nothing else and is no refusal
 opened_only : (region : Region) (told : Told) → fits_verb (verb_is.AssignRegion region) told ≡ true → is_refusal told ≡ false → told ≡ told_is.Opened
@@ -125,16 +123,13 @@ module _ (pid : Pid) (pick : Option Server) (out : StepOut) (J : Past) (legal : 
             let own : w.0 ≡ me = same_Some w.0 me (sym w.1 ∙ is_me) in
             let verb_is : f.0 ≡ verb_is.AssignRegion region = same_Some f.0 _ (sym w.2 ∙ ap (λ (n : Node). verb_in n.args) own ∙ ap verb_in is) in
             same ∙ opened_only region told.0 (ap (λ u. fits_verb u told.0) (sym verb_is) ∙ f.2) (at.clean told.0 told.2)
-        | inr failed ↦ absurd (done_fail t failed.0 failed.1)
+        | inr failed ↦ absurd (done_no_fail t failed.0 failed.1)
       ]
     ]),
   )
     where
       told_same : (t u : Told) → answer_is.Done t ≡ answer_is.Done u → t ≡ u
       told_same t u e = cc
-
-      done_fail : (t : Told) (c : Cause) → answer_is.Done t ≡ answer_is.Fail c → ⊥
-      done_fail t c e = cc
   call_ends t e ending (args_are.FenceCall server) is h = (
     h.0,
     λ stops. elim ending [
@@ -170,9 +165,7 @@ module _ (pid : Pid) (pick : Option Server) (out : StepOut) (J : Past) (legal : 
   layout_fine own is (Some (answer_is.Await n)) e runs at_call = layout_at (fixed act_is.SettleLayout no_row false) 1 (ap (λ o. row_after (first_row_of me.args) o) e ∙ at_call.0) refl own is (settled (report_of J pid.0) refl)
   layout_fine own is (Some (answer_is.More n)) e runs at_call = absurd at_call
   layout_fine own is (Some (answer_is.Wait n)) e runs at_call = absurd at_call
-  layout_fine own is (Some (answer_is.Done t)) e runs at_call = absurd (true≢false runs)
-  layout_fine own is (Some (answer_is.Fail c)) e runs at_call = absurd (true≢false runs)
-  layout_fine own is (Some answer_is.Undone) e runs at_call = absurd (true≢false runs)
+  layout_fine own is (Some answer) e runs at_call = absurd (true≢false runs)
 
   call_fine : failing out.answer ≡ None
   call_fine = elim call_out.does [
@@ -214,36 +207,16 @@ module _ (pid : Pid) (pick : Option Server) (out : StepOut) (J : Past) (legal : 
         let start = ap (λ o. call_due o (report_of J pid.0)) asks.0 in
         let two = ap (λ o. call_due (Some (answer_is.Await 1)) o) (unreported asks.0) in
         call_pays 2 (omega (arith, due, start)) (call_after (answer_is.Await 1) asks.2 2 (omega (arith, two)) (call_runs_on (answer_is.Await 1) asks.2 refl me.args at.goes))
-    | inr ends ↦ by out.answer refl ends.1
+    | inr ends ↦ elim (ends_so out.answer ends.1) [
+      | inl done ↦
+          let due = at.due in
+          let some = due_some (last_answer J pid.0) (report_of J pid.0) call_runs in
+          call_pays 0 (omega (arith, due, some)) (call_after (answer_is.Done done.0) done.1 0 (omega arith) (call_ends done.0 done.1 (subst (Ending J pid.0 me.args (last_answer J pid.0)) done.1 ends.1) me.args refl at.goes))
+      | inr failed ↦ absurd (none-some failed.0 (sym call_fine ∙ ap failing failed.1))
+    ]
   ]
     where
-      one : 1 ≤ budget
-      one = let due = at.due in let some = due_some (last_answer J pid.0) (report_of J pid.0) call_runs in omega (arith, due, some)
-
-      by : (a : Answer) → out.answer ≡ a → Ending J pid.0 me.args (last_answer J pid.0) out.answer → IsPaid At Fresh price pid pick out J me budget
-      by (answer_is.Done t) e ending = let some = one in call_pays 0 (omega (arith, some)) (call_after (answer_is.Done t) e 0 (omega arith) (call_ends t e (subst (Ending J pid.0 me.args (last_answer J pid.0)) e ending) me.args refl at.goes))
-      by (answer_is.Fail c) e ending = absurd (none-some c (sym call_fine ∙ ap failing e))
-      by (answer_is.More n) e ending = absurd (not_more n (subst (Ending J pid.0 me.args (last_answer J pid.0)) e ending))
-        where
-          not_more : (n : ℕ) → Ending J pid.0 me.args (last_answer J pid.0) (answer_is.More n) → ⊥
-          not_more n (inl gone) = let e = gone.0 in cc
-          not_more n (inr (inl told)) = let e = told.1 in cc
-          not_more n (inr (inr failed)) = let e = failed.1 in cc
-      by (answer_is.Wait n) e ending = absurd (not_wait n (subst (Ending J pid.0 me.args (last_answer J pid.0)) e ending))
-        where
-          not_wait : (n : ℕ) → Ending J pid.0 me.args (last_answer J pid.0) (answer_is.Wait n) → ⊥
-          not_wait n (inl gone) = let e = gone.0 in cc
-          not_wait n (inr (inl told)) = let e = told.1 in cc
-          not_wait n (inr (inr failed)) = let e = failed.1 in cc
-      by (answer_is.Await n) e ending = absurd (not_await n (subst (Ending J pid.0 me.args (last_answer J pid.0)) e ending))
-        where
-          not_await : (n : ℕ) → Ending J pid.0 me.args (last_answer J pid.0) (answer_is.Await n) → ⊥
-          not_await n (inl gone) = let e = gone.0 in cc
-          not_await n (inr (inl told)) = let e = told.1 in cc
-          not_await n (inr (inr failed)) = let e = failed.1 in cc
-      by answer_is.Undone e ending = absurd (not_undone (subst (Ending J pid.0 me.args (last_answer J pid.0)) e ending))
-        where
-          not_undone : Ending J pid.0 me.args (last_answer J pid.0) answer_is.Undone → ⊥
-          not_undone (inl gone) = let e = gone.0 in cc
-          not_undone (inr (inl told)) = let e = told.1 in cc
-          not_undone (inr (inr failed)) = let e = failed.1 in cc
+      ends_so : (a : Answer) → Ending J pid.0 me.args (last_answer J pid.0) a → ((t : Told) × (a ≡ answer_is.Done t)) ⊎ ((c : Cause) × (a ≡ answer_is.Fail c))
+      ends_so a (inl gone) = inl (told_is.Gone, gone.0)
+      ends_so a (inr (inl told)) = inl (told.0, told.1)
+      ends_so a (inr (inr failed)) = inr (failed.0, failed.1)

@@ -1,5 +1,5 @@
 -- What a root costs is the same from its first step on.
-use Rattle.std.proofs.Common.{◌≡◌, ◌≢◌, ℕ, ◌+◌, ◌*◌, ◌≤◌, List, [], ◌∷◌, length, Bool, true, false, ◌&&◌, ◌==◌, Option, Some, None, is_none, refl, ap, sym, ◌∙◌, arith, inl, inr}
+use Rattle.std.proofs.Common.{◌≡◌, ◌≢◌, ℕ, ◌+◌, ◌*◌, List, [], ◌∷◌, length, Bool, true, false, ◌&&◌, ◌==◌, Option, Some, None, is_none, refl, ap, sym, ◌∙◌, arith, inl, inr}
 use Rattle.std.proofs.lemmas.Bool.{and_left, and_right, cases_eq, cond-false, cond-true, eq-eqb, ne_eqb}
 use Rattle.std.proofs.lemmas.Option.{none-some}
 use Rattle.std.specs.declared.cmp.Ordering.{Ordering}
@@ -80,9 +80,10 @@ behind_with : (k key : CatKey) (keys : List CatKey) → key_cmp k key ≡ Less �
 behind_with k key [] less behind = (less, tt)
 behind_with k key (first ∷ more) less behind = behind_with_at (key_cmp key first) k key first more (with_key key more) less behind.0 behind.1 (behind_with k key more less behind.1)
 
-in_order : (key : CatKey) (keys : List CatKey) → AreInOrder keys → AreInOrder (with_key key keys)
-in_order key [] order = (tt, tt)
-in_order key (first ∷ more) order = by (key_cmp key first) refl (in_order key more order.1)
+-- one key more leaves keys in order
+pub order_with : (key : CatKey) (keys : List CatKey) → AreInOrder keys → AreInOrder (with_key key keys)
+order_with key [] order = (tt, tt)
+order_with key (first ∷ more) order = by (key_cmp key first) refl (order_with key more order.1)
   where
     by : (o : Ordering) → key_cmp key first ≡ o → AreInOrder (with_key key more) → AreInOrder (with_key_at o key first more (with_key key more))
     by Less e on = ((e, further key first more e order.0), (order.0, order.1))
@@ -93,7 +94,7 @@ in_order key (first ∷ more) order = by (key_cmp key first) refl (in_order key 
 pub more_edits : (asked : CatKey → Bool) (there : Catalog) (edits : List Edit) (keys : List CatKey) → AreInOrder keys → ((key : CatKey) → there key ≢ None → IsIn key keys) → rows_at asked there (with_keys edits keys) ≡ rows_at asked there keys
 more_edits asked there [] keys order listed = refl
 more_edits asked there (edit ∷ edits) keys order listed =
-    more_edits asked there edits (with_key edit.key keys) (in_order edit.key keys order) (λ key some. in_with_key key edit.key keys (inr (listed key some)))
+    more_edits asked there edits (with_key edit.key keys) (order_with edit.key keys order) (λ key some. in_with_key key edit.key keys (inr (listed key some)))
     ∙ more_rows asked there edit.key keys order (listed edit.key)
 
 -- a key that had a row before the first step of a root is listed

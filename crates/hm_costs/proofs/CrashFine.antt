@@ -1,11 +1,10 @@
 -- Nothing that a crash makes fails, so it ends well.
-use Rattle.std.proofs.Common.{◌≡◌, ◌≢◌, ℕ, zero, suc, ◌-◌, ◌==◌, List, [], ◌∷◌, ◌++◌, Bool, true, false, not, cond, map, Option, Some, None, is_some, refl, ap, sym, ◌∙◌, subst, arith, inl, inr, slice_get}
+use Rattle.std.proofs.Common.{◌≡◌, ◌≢◌, ℕ, zero, suc, ◌-◌, ◌==◌, List, [], ◌∷◌, Bool, true, false, not, cond, Option, Some, None, is_some, refl, ap, sym, ◌∙◌, subst, arith, inl, inr, slice_get}
 use Rattle.std.proofs.lemmas.Bool.{and_right, cases_eq, cond-false, cond-true, eq-eqb, eqb-true, false≢true}
 use Rattle.std.proofs.lemmas.Option.{none-some, same_Some}
 use Rattle.hm_names.specs.Region.{Region}
 use Rattle.hm_names.specs.Server.{Server}
 use Rattle.hm_names.specs.declared.pid.Pid.{Pid}
-use Rattle.hm_names.specs.declared.table.TableName.{TableName}
 use Rattle.hm_data.specs.declared.act.Act.{Act}
 use Rattle.hm_data.specs.declared.act.Act.TheVariants as act_is
 use Rattle.hm_data.specs.declared.answer.Answer.{Answer}
@@ -36,7 +35,7 @@ use Rattle.hm_model.specs.Lists.{exact_rows, fixed}
 use Rattle.hm_model.specs.Locks.{in_name_order}
 use Rattle.hm_model.specs.Outs.{fails, given, goes_on, ends_with, places, spawns}
 use Rattle.hm_model.specs.Phase.{cause, or_else}
-use Rattle.hm_model.specs.Pieces.{Batch, batches, transits}
+use Rattle.hm_model.specs.Pieces.{batches, transits}
 use Rattle.hm_model.specs.Rules.{IsLegal}
 use Rattle.hm_model.specs.TransitActs.{behind_close, candidate, close_at, close_or_go, is_open, is_told, may_open_in, opened_or_not, told_place}
 use Rattle.hm_model.specs.Tree.{Node, args_in, made, node_of, root_in, root_of}
@@ -54,6 +53,7 @@ use Rattle.hm_model.proofs.StepDoes.{Does, GoesNear, IsMoveOut, bears_by, calls 
 use Rattle.hm_model.proofs.Trees.{IsRooted, answer_now, does_of, down_rooted, grown_all, le_or_lt, new_child, node_same, old_or_new, other_answer, step_of, submit_rooted, undo_rooted}
 use Rattle.hm_costs.proofs.Moves.{is_moving}
 use Rattle.hm_costs.proofs.Spend.{IsChildGoal}
+use Rattle.hm_costs.proofs.Each.{Each, each_at, each_opened}
 
 -- what stands in the tree of a crash: itself, the call to fence, transits that assign or unassign, and their calls
 abbrev IsOfCrash : Args → Type 0
@@ -63,23 +63,6 @@ IsOfCrash (args_are.Transit region goal to) = IsChildGoal goal
 IsOfCrash (args_are.AssignCall region server) = Unit {0}
 IsOfCrash (args_are.CloseCall region server) = Unit {0}
 IsOfCrash args = ⊥
-
-abbrev AllOfCrash : List Args → Type 0
-AllOfCrash [] = Unit {0}
-AllOfCrash (args ∷ more) = IsOfCrash args × AllOfCrash more
-
-of_at : (list : List Args) → AllOfCrash list → (i : ℕ) (args : Args) → slice_get list i ≡ Some args → IsOfCrash args
-of_at [] all i args is = absurd (none-some args is)
-of_at (first ∷ more) all zero args is = subst IsOfCrash (same_Some first args is) all.0
-of_at (first ∷ more) all (suc i) args is = of_at more all.1 i args is
-
-of_ids : (table : TableName) (ids : List ℕ) (more : List Args) → AllOfCrash more → AllOfCrash (map (λ id. args_are.Transit (record { table = table; id = id }) goal_is.Assign None) ids ++ more)
-of_ids table [] more all = all
-of_ids table (id ∷ ids) more all = (tt, of_ids table ids more all)
-
-of_batches : (list : List Batch) → AllOfCrash (args_in (map (λ batch. child_is.Transits batch.table batch.ids goal_is.Assign) list))
-of_batches [] = tt
-of_batches (batch ∷ more) = of_ids batch.table batch.ids (args_in (map (λ batch. child_is.Transits batch.table batch.ids goal_is.Assign) more)) (of_batches more)
 
 of_caller : (args : Args) → is_caller args ≡ true → IsOfCrash args
 of_caller (args_are.AssignCall region server) h = tt
@@ -114,7 +97,7 @@ is_crashing act = false
 
 record Fine (out : StepOut) : Type 0 where
   pub fails : failing out.answer ≡ None
-  pub children : AllOfCrash (args_in out.children)
+  pub children : Each IsOfCrash (args_in out.children)
 
 crash_fine : (act : Act) → is_crashing act ≡ true → (next : ℕ) (at : StepIn) → Fine (act_answer act next at)
 crash_fine act_is.Fence h next at = by (server_of at.args)
@@ -122,9 +105,9 @@ crash_fine act_is.Fence h next at = by (server_of at.args)
     by : (o : Option Server) → Fine (given o next (λ server. spawns next (child_is.One (args_are.FenceCall server) ∷ [])))
     by None = record { fails = on_fine next; children = tt }
     by (Some server) = record { fails = refl; children = (tt, tt) }
-crash_fine act_is.Reassign h next at = by (transits goal_is.Assign at.on_server) (of_batches (batches (in_name_order at.on_server)))
+crash_fine act_is.Reassign h next at = by (transits goal_is.Assign at.on_server) (each_opened IsOfCrash (λ region. tt) (batches (in_name_order at.on_server)))
   where
-    by : (children : List Child) → AllOfCrash (args_in children) → Fine (reassign_all next children)
+    by : (children : List Child) → Each IsOfCrash (args_in children) → Fine (reassign_all next children)
     by [] all = record { fails = refl; children = tt }
     by (child ∷ more) all = record { fails = refl; children = all }
 crash_fine act h next at = absurd (false≢true h)
@@ -278,7 +261,7 @@ of_step pid pick out J legal before p x top is root server crash = elim (le_or_l
       | lined_part exact unmoved uncalled ↦ absurd (of_exact me.node.args up exact)
       | crash_part kind unmoved uncalled ↦
           let crashing = row_passes (λ row. is_crashing row.act) (exact_rows 11) refl (row_of J pid.0 me.node) me.row (row_at pid pick out J legal 11 kind _ _ refl) in
-          of_at (args_in out.children) (subst (λ (o : StepOut). AllOfCrash (args_in o.children)) (sym me.out_is) (row_by (λ o. AllOfCrash (args_in o.children)) me.row (seen pid pick out J legal) (λ c. tt) (crash_fine me.row.act crashing me.row.next (seen pid pick out J legal)).children)) i args at
+          each_at IsOfCrash (args_in out.children) (subst (λ (o : StepOut). Each IsOfCrash (args_in o.children)) (sym me.out_is) (row_by (λ o. Each IsOfCrash (args_in o.children)) me.row (seen pid pick out J legal) (λ c. tt) (crash_fine me.row.act crashing me.row.next (seen pid pick out J legal)).children)) i args at
       | moves_part r m kind uncalled ↦ of_caller args (sym (ap (λ o. bears_by (is_some o) (is_some (verb_in me.node.args)) (is_caller args)) m) ∙ does.bearing i args at)
       | calls_part verb v unmoved exact ↦ absurd (none-some args (ap (λ c. slice_get (args_in c) i) (sym (does.calls verb v).childless) ∙ at))
     ]
@@ -318,9 +301,8 @@ module _ (pid : Pid) (pick : Option Server) (out : StepOut) (J : Past) (legal : 
   unchecked region m of at = by its.node.args of m (ap (row_after (first_row_of its.node.args)) (sym (checks_all J legal.0 pid.0 its.node region its.node_is m at)) ∙ at)
     where
       by : (args : Args) → IsOfCrash args → moved_by args ≡ Some region → row_after (first_row_of args) None ≡ 5 → ⊥
-      by (args_are.Transit own goal_is.Assign to) of m e = omega (arith, e)
-      by (args_are.Transit own goal_is.Unassign to) of m e = omega (arith, e)
       by (args_are.Transit own goal_is.Move to) of m e = of
+      by (args_are.Transit own goal to) of m e = omega (arith, e)
       by (args_are.Crash server) of m e = none-some region m
       by (args_are.FenceCall server) of m e = none-some region m
       by (args_are.AssignCall own server) of m e = none-some region m

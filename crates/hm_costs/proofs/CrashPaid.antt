@@ -1,5 +1,5 @@
 -- Steps of crashes are paid for.
-use Rattle.std.proofs.Common.{◌≡◌, ℕ, ◌+◌, ◌-◌, ◌≤◌, List, [], ◌∷◌, length, take, drop, true, false, not, Option, Some, None, option_map, refl, ap, sym, ◌∙◌, subst, arith, inl, inr, slice_get}
+use Rattle.std.proofs.Common.{◌≡◌, ℕ, ◌+◌, ◌-◌, ◌≤◌, List, [], ◌∷◌, length, take, drop, true, false, not, Option, Some, None, option_map, refl, ap, sym, ◌∙◌, subst, arith, inl, inr, slice_get, length-drop}
 use Rattle.std.proofs.lemmas.Bool.{and_left, cond-false, true≢false}
 use Rattle.std.proofs.lemmas.Option.{none-some, same_Some}
 use Rattle.hm_names.specs.Region.{Region}
@@ -41,13 +41,14 @@ use Rattle.hm_costs.proofs.At.{At, CrashAt, Fresh, at_crash}
 use Rattle.hm_model.proofs.StepDoes.{exact_row_is}
 use Rattle.hm_costs.proofs.LinedPaid.{child_at}
 use Rattle.hm_costs.proofs.Live.{dead_stays}
-use Rattle.hm_costs.proofs.Lost.{CrashDue, Moving, Within, at_listed, at_most, both_lengths, drop_length, moving_due, listed_at, take_or_drop}
+use Rattle.hm_costs.proofs.Lost.{CrashDue, Moving, Within, at_listed, at_most, both_lengths, moving_due, listed_at, take_or_drop}
 use Rattle.hm_model.proofs.InOrder.{at_order}
 use Rattle.hm_model.proofs.Listed.{transit_made}
 use Rattle.hm_costs.proofs.Prices.{AllAt, IsPaid}
-use Rattle.hm_costs.proofs.Spend.{AreChildren, is_child_at, price, transits_spent}
+use Rattle.hm_costs.proofs.Spend.{AreChildren, IsChild, price, transits_spent}
 use Rattle.hm_costs.proofs.Sums.{total}
 use Rattle.hm_costs.proofs.TransitPaid.{new_unstepped}
+use Rattle.hm_costs.proofs.Each.{each_at}
 
 module _ (pid : Pid) (pick : Option Server) (out : StepOut) (J : Past) (legal : IsLegal (entry_is.Step pid pick out ∷ J)) (r : ℕ) (all : AllAt At Fresh price J r) (me : Node) (is_me : node_of J pid.0 ≡ Some me) (of : me.root ≡ r) (unaborted : is_aborted J pid.0 ≡ false) (budget : ℕ) (server : Server) (crash : me.args ≡ args_are.Crash server) (at : CrashAt J pid.0 me server budget) where
   abbrev Paid : Type 0
@@ -94,7 +95,7 @@ module _ (pid : Pid) (pick : Option Server) (out : StepOut) (J : Past) (legal : 
     rest = rest;
     pays = pays;
     own = λ fine. crash_now rest (answer_is.Wait 1) e due;
-    children = λ fine i args is. child_at pid pick out J legal me is_me (made J + i + 1) (omega arith) args (is_child_at me.args (args_in out.children) children i args is);
+    children = λ fine i args is. child_at pid pick out J legal me is_me (made J + i + 1) (omega arith) args (each_at (IsChild me.args) (args_in out.children) children i args is);
   }
 
   fence_paid : last_answer J pid.0 ≡ None → CrashDue J pid.0 me server budget None → Paid
@@ -147,7 +148,7 @@ module _ (pid : Pid) (pick : Option Server) (out : StepOut) (J : Past) (legal : 
           let sum : total price (args_in out.children) ≡ total price (args_in (transits goal_is.Assign (take 64 (at_server J server)))) = ap (λ c. total price (args_in c)) children in
           let each = spent.0 in
           let both = both_lengths 64 (at_server J server) in
-          let fewer = drop_length 64 (at_server J server) in
+          let fewer = length-drop 64 (at_server J server) in
           let some : 1 ≤ length (take 64 (at_server J server)) = some_taken (take 64 (at_server J server)) child more e in
           waits_paid (moving_due (length (drop 64 (at_server J server)))) (ap (λ (o : StepOut). o.answer) is) (omega (arith, sum, each, both, fewer, few, enough, some)) (subst (λ c. AreChildren me.args (args_in c)) (sym children) spent.1) (
             refl,
@@ -175,11 +176,8 @@ module _ (pid : Pid) (pick : Option Server) (out : StepOut) (J : Past) (legal : 
   by_last : (last : Option Answer) → last_answer J pid.0 ≡ last → CrashDue J pid.0 me server budget last → Paid
   by_last None e due = fence_paid e due
   by_last (Some (answer_is.Wait n)) e due = reassign_paid (e ∙ ap (λ k. Some (answer_is.Wait k)) due.0) due.1 due.2 due.3
-  by_last (Some (answer_is.More n)) e due = absurd due
-  by_last (Some (answer_is.Await n)) e due = absurd due
   by_last (Some (answer_is.Done told)) e due = absurd (subst (ReadyBy J pid.0 crash_step.node) e crash_step.ready)
-  by_last (Some (answer_is.Fail c)) e due = absurd due
-  by_last (Some answer_is.Undone) e due = absurd due
+  by_last (Some answer) e due = absurd due
 
   pub crash_paid : Paid
   crash_paid = by_last (last_answer J pid.0) refl at.due

@@ -1,18 +1,15 @@
 -- Each server that is fenced, or is to be, is dead.
-use Rattle.std.proofs.Common.{◌≡◌, ℕ, zero, suc, ◌+◌, ◌-◌, ◌==◌, List, [], ◌∷◌, ◌++◌, Bool, true, false, map, Option, Some, None, refl, ap, sym, ◌∙◌, subst, inl, inr, ◌⊎◌, slice_get, option_map, is_some, nat_lt}
+use Rattle.std.proofs.Common.{◌≡◌, ℕ, ◌+◌, ◌-◌, ◌==◌, [], ◌∷◌, Bool, true, false, Option, Some, None, refl, ap, sym, ◌∙◌, subst, inl, inr, ◌⊎◌, slice_get, option_map, is_some, nat_lt}
 use Rattle.std.proofs.lemmas.Bool.{cases_eq, cond-false, cond-true, eq-eqb, false≢true, ne_eqb, true≢false, lt-ltb}
 use Rattle.std.proofs.lemmas.Option.{none-some, same_Some}
 use Rattle.hm_names.specs.Server.{Server}
 use Rattle.hm_names.specs.declared.pid.Pid.{Pid}
-use Rattle.hm_names.specs.declared.table.TableName.{TableName}
 use Rattle.hm_data.specs.declared.act.Back.{Back}
 use Rattle.hm_data.specs.declared.act.Back.TheVariants as back_is
 use Rattle.hm_data.specs.declared.args.Args.{Args}
 use Rattle.hm_data.specs.declared.args.Args.TheVariants as args_are
-use Rattle.hm_data.specs.declared.args.Child.TheVariants as child_is
 use Rattle.hm_data.specs.declared.entry.Entry.{Entry}
 use Rattle.hm_data.specs.declared.entry.Entry.TheVariants as entry_is
-use Rattle.hm_data.specs.declared.place.Goal.TheVariants as goal_is
 use Rattle.hm_data.specs.declared.step.StepOut.{StepOut}
 use Rattle.hm_model.specs.Answers.{last_answer, row_of}
 use Rattle.hm_model.specs.Evaluation.{row_answer}
@@ -21,7 +18,7 @@ use Rattle.hm_model.specs.Inputs.{step_input}
 use Rattle.hm_model.specs.Journal.{Past}
 use Rattle.hm_model.specs.Kinds.{kind_of}
 use Rattle.hm_model.specs.Lists.{exact_rows}
-use Rattle.hm_model.specs.Pieces.{Batch, batches}
+use Rattle.hm_model.specs.Pieces.{batches}
 use Rattle.hm_model.specs.Locks.{in_name_order}
 use Rattle.hm_model.specs.Rules.{IsLegal}
 use Rattle.hm_model.specs.Tree.{Node, args_in, made, node_of, root_node, submitted}
@@ -36,9 +33,10 @@ use Rattle.hm_model.proofs.Trees.{does_of, grown_all, le_or_lt, new_child, node_
 use Rattle.hm_model.proofs.UndoMakes.{undo_of}
 use Rattle.hm_costs.proofs.At.{IsFreshArgs}
 use Rattle.hm_costs.proofs.Live.{FencedDead, FencersDead, IsDead, dead_stays, down_dead, fence_in, fenced_step}
-use Rattle.hm_costs.proofs.Spend.{AreChildren, IsChild, IsChildGoal, act_spent, is_child_at}
+use Rattle.hm_costs.proofs.Spend.{AreChildren, IsChild, IsChildGoal, act_spent}
 use Rattle.hm_data.specs.declared.sheet.Row.{Row}
 use Rattle.hm_data.specs.declared.step.StepIn.{StepIn}
+use Rattle.hm_costs.proofs.Each.{Each, each_at, each_opened}
 
 -- what undos make: transits that assign, and sweeps
 abbrev pub IsFollower : Args → Type 0
@@ -52,27 +50,9 @@ follows_fresh (args_are.Transit region goal to) is = is
 follows_fresh (args_are.SweepLayout root) is = tt
 follows_fresh args is = absurd is
 
--- all are such
-abbrev pub AllFresh : List Args → Type 0
-AllFresh [] = Unit {0}
-AllFresh (args ∷ more) = IsFollower args × AllFresh more
-
-fresh_at : (list : List Args) → AllFresh list → (i : ℕ) (args : Args) → slice_get list i ≡ Some args → IsFollower args
-fresh_at [] all i args is = absurd (none-some args is)
-fresh_at (first ∷ more) all zero args is = subst IsFollower (same_Some first args is) all.0
-fresh_at (first ∷ more) all (suc i) args is = fresh_at more all.1 i args is
-
-fresh_ids : (table : TableName) (ids : List ℕ) (more : List Args) → AllFresh more → AllFresh (map (λ id. args_are.Transit (record { table = table; id = id }) goal_is.Assign None) ids ++ more)
-fresh_ids table [] more all = all
-fresh_ids table (id ∷ ids) more all = (tt, fresh_ids table ids more all)
-
-fresh_batches : (list : List Batch) → AllFresh (args_in (map (λ batch. child_is.Transits batch.table batch.ids goal_is.Assign) list))
-fresh_batches [] = tt
-fresh_batches (batch ∷ more) = fresh_ids batch.table batch.ids (args_in (map (λ batch. child_is.Transits batch.table batch.ids goal_is.Assign) more)) (fresh_batches more)
-
-fresh_followers : (undo : Back) (args : Args) (root : Pid) → AllFresh (args_in (undo_followers undo args root))
+fresh_followers : (undo : Back) (args : Args) (root : Pid) → Each IsFollower (args_in (undo_followers undo args root))
 fresh_followers back_is.Sweep args root = (tt, tt)
-fresh_followers back_is.Reopen args root = fresh_batches (batches (in_name_order (closed_by args)))
+fresh_followers back_is.Reopen args root = each_opened IsFollower (λ region. tt) (batches (in_name_order (closed_by args)))
 fresh_followers undo args root = tt
 
 -- a follower of an undo
@@ -82,12 +62,12 @@ follower_is pid row out J legal q x none is =
     let rooted = undo_rooted pid row out J (grown_all J legal.0) in
     elim (le_or_lt q (made J)) [
       | inl le ↦ absurd (none-some x (sym none ∙ sym (rooted.old q le) ∙ is))
-      | inr lt ↦ by (slice_get (args_in out.followers) (q - made J - 1)) refl (sym (cond-true (nat_lt (made J) q) (option_map (λ args. root_node q args 1) (slice_get (args_in out.followers) (q - made J - 1))) (node_of J q) (lt-ltb (made J) q lt)) ∙ is) (subst (λ (o : StepOut). AllFresh (args_in o.followers)) (sym u.out_is) (fresh_followers u.undo u.args u.root))
+      | inr lt ↦ by (slice_get (args_in out.followers) (q - made J - 1)) refl (sym (cond-true (nat_lt (made J) q) (option_map (λ args. root_node q args 1) (slice_get (args_in out.followers) (q - made J - 1))) (node_of J q) (lt-ltb (made J) q lt)) ∙ is) (subst (λ (o : StepOut). Each IsFollower (args_in o.followers)) (sym u.out_is) (fresh_followers u.undo u.args u.root))
     ]
   where
-    by : (o : Option Args) → slice_get (args_in out.followers) (q - made J - 1) ≡ o → option_map (λ args. root_node q args 1) o ≡ Some x → AllFresh (args_in out.followers) → IsFollower x.args
+    by : (o : Option Args) → slice_get (args_in out.followers) (q - made J - 1) ≡ o → option_map (λ args. root_node q args 1) o ≡ Some x → Each IsFollower (args_in out.followers) → IsFollower x.args
     by None e m all = absurd (none-some x m)
-    by (Some args) e m all = subst (λ (n : Node). IsFollower n.args) (same_Some (root_node q args 1) x m) (fresh_at (args_in out.followers) all (q - made J - 1) args e)
+    by (Some args) e m all = subst (λ (n : Node). IsFollower n.args) (same_Some (root_node q args 1) x m) (each_at IsFollower (args_in out.followers) all (q - made J - 1) args e)
 
 -- so it is one of the roots that are made
 pub follower_fresh : (pid : Pid) (row : ℕ) (out : StepOut) (J : Past) → IsLegal (entry_is.Undo pid row out ∷ J) → (q : ℕ) (x : Node) → node_of J q ≡ None → node_of (entry_is.Undo pid row out ∷ J) q ≡ Some x → IsFreshArgs x.args
@@ -136,7 +116,7 @@ made_fences pid pick out J legal step does i args is server f = elim (part_of st
 ]
   where
     plain : is_plain step.row.act ≡ true → verb_in step.node.args ≡ None → fence_in step.node.args ≡ Some server
-    plain on uncalled = child_fences step.node.args args server uncalled (is_child_at step.node.args (args_in out.children) (subst (λ (o : StepOut). AreChildren step.node.args (args_in o.children)) (sym step.out_is) (plain_children step.row (step_input J pid.0 step.node pick) on)) i args is) f
+    plain on uncalled = child_fences step.node.args args server uncalled (each_at (IsChild step.node.args) (args_in out.children) (subst (λ (o : StepOut). AreChildren step.node.args (args_in o.children)) (sym step.out_is) (plain_children step.row (step_input J pid.0 step.node pick) on)) i args is) f
 
 fencers_rooted : (entry : Entry) (J : Past) (legal : IsLegal (entry ∷ J)) → FencersDead J → ((q : ℕ) (x : Node) → node_of (entry ∷ J) q ≡ Some x → (node_of J q ≡ Some x) ⊎ ((server : Server) → fence_in x.args ≡ Some server → IsDead (entry ∷ J) server)) → FencersDead (entry ∷ J)
 fencers_rooted entry J legal old new q x is server f = elim (new q x is) [

@@ -1,6 +1,6 @@
 -- Of what a step edits the regions' rows are of the table that its procedure works on.
-use Rattle.std.proofs.Common.{◌≡◌, ℕ, ◌+◌, ◌==◌, List, [], ◌∷◌, ◌++◌, length, map, Bool, true, false, not, cond, Option, Some, None, refl, ap, sym, subst, inl, inr}
-use Rattle.std.proofs.lemmas.Bool.{and_parts, false≢true}
+use Rattle.std.proofs.Common.{◌≡◌, ℕ, ◌+◌, List, [], ◌∷◌, ◌++◌, length, map, true, Option, Some, None, refl, ap, sym, subst, inl, inr}
+use Rattle.std.proofs.lemmas.Bool.{false≢true}
 use Rattle.std.proofs.lemmas.Option.{none-some, same_Some}
 use Rattle.std.specs.declared.cmp.Ordering.{Ordering}
 use Rattle.std.specs.declared.cmp.Ordering.TheVariants.{Equal, Greater, Less}
@@ -31,7 +31,6 @@ use Rattle.hm_model.specs.Catalog.{Catalog, row_at, set_to}
 use Rattle.hm_model.specs.Changes.{add_merged, add_ranges, changed, mark_merged, merge_edits, merged_of, remove_regions, split_edits, split_range}
 use Rattle.hm_model.specs.Checks.{by_start, can_split, namespace_empty, namespace_free, parts_of, table_disabled, table_enabled, table_free}
 use Rattle.hm_model.specs.CrashActs.{reassign_all}
-use Rattle.hm_model.specs.Keys.{same_table}
 use Rattle.hm_model.specs.Kinds.{table_of_first}
 use Rattle.hm_model.specs.Locks.{IsIn, in_name_order, with_region, with_region_at}
 use Rattle.hm_model.specs.NamespaceActs.{has_table, version_of}
@@ -43,7 +42,6 @@ use Rattle.hm_model.specs.RowsSaid.{all_among, in_state, in_version, range_in}
 use Rattle.hm_model.specs.Undoing.{closed_by, turned, turned_round}
 use Rattle.hm_model.specs.Views.{asked_of, bounds_of, first_id_of, namespace_of, region_of, regions_in, table_of}
 use Rattle.hm_model.specs.Wanted.{ids_of, server_of}
-use Rattle.hm_model.proofs.KeyTests.{same_table-is}
 use Rattle.hm_model.proofs.PlainActs.{is_plain}
 use Rattle.hm_model.proofs.Siblings.{merge_is, one_table}
 

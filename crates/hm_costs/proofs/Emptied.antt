@@ -1,13 +1,11 @@
 -- After a crash has ended no region is at its server.
-use Rattle.std.proofs.Common.{◌≡◌, ℕ, zero, suc, List, [], ◌∷◌, Bool, true, false, not, take, Option, Some, None, refl, ap, sym, ◌∙◌, subst, arith, inl, inr, ◌⊎◌, slice_get}
+use Rattle.std.proofs.Common.{◌≡◌, ℕ, zero, suc, List, [], ◌∷◌, true, false, take, Option, Some, None, refl, ap, sym, ◌∙◌, inl, inr, slice_get}
 use Rattle.std.proofs.lemmas.Bool.{cases_Bool, cases_eq, false≢true, true≢false}
 use Rattle.std.proofs.lemmas.Option.{none-some, same_Some}
 use Rattle.hm_names.specs.Region.{Region}
 use Rattle.hm_names.specs.Server.{Server}
 use Rattle.hm_names.specs.declared.pid.Pid.{Pid}
 use Rattle.hm_data.specs.declared.act.Act.TheVariants as act_is
-use Rattle.hm_data.specs.declared.answer.Answer.{Answer}
-use Rattle.hm_data.specs.declared.answer.Answer.TheVariants as answer_is
 use Rattle.hm_data.specs.declared.args.Args.TheVariants as args_are
 use Rattle.hm_data.specs.declared.args.Child.{Child}
 use Rattle.hm_data.specs.declared.entry.Entry.{Entry}
@@ -41,6 +39,7 @@ use Rattle.hm_costs.proofs.Dead.{fencers_all}
 use Rattle.hm_costs.proofs.Live.{IsDead, fence_in}
 use Rattle.hm_costs.proofs.Lost.{at_listed}
 use Rattle.hm_costs.proofs.Opening.{none_comes}
+pub use Rattle.hm_costs.proofs.Trees.{done_stops}
 
 abbrev IsEmptied : Past → Type 0
 IsEmptied J =
@@ -115,16 +114,6 @@ emptied_all (entry_is.Step pid pick out ∷ J) legal = λ r top server is crash 
 ]
 emptied_all (entry_is.Base part ∷ J) legal = λ r top server is. absurd (none-some top is)
 emptied_all (entry ∷ J) legal = λ r. still_empty entry J legal r refl (emptied_all J legal.0)
-
--- what is done has stopped
-pub done_stops : (last : Option Answer) → Rattle.std.proofs.Common.is_some (done_with last) ≡ true → is_stopped last ≡ true
-done_stops None h = absurd (false≢true h)
-done_stops (Some (answer_is.More n)) h = absurd (false≢true h)
-done_stops (Some (answer_is.Wait n)) h = absurd (false≢true h)
-done_stops (Some (answer_is.Await n)) h = absurd (false≢true h)
-done_stops (Some (answer_is.Done told)) h = refl
-done_stops (Some (answer_is.Fail c)) h = absurd (false≢true h)
-done_stops (Some answer_is.Undone) h = absurd (false≢true h)
 
 pub crashes_empty_is : CrashesEmpty
 crashes_empty_is J legal r top server is crash ended region =

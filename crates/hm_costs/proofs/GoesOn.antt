@@ -22,6 +22,7 @@ use Rattle.hm_model.proofs.LegalSteps.{StepFacts}
 use Rattle.hm_model.proofs.StepDoes.{Does, IsStepAnswer}
 use Rattle.hm_model.proofs.Trees.{Grown, answer_now, does_of, down_rooted, grown_all, is_there, le_or_lt, node_same, old_or_new, other_answer, pid_there, step_of, still_there, submit_rooted, undo_rooted, new_child, IsRooted}
 use Rattle.hm_costs.specs.Theorem.{HasOneThatGoes, EachTreeGoesOn}
+use Rattle.hm_costs.proofs.Trees.{all_from}
 
 -- steps never answer that something is undone, and where one failed its tree has a cause
 pub record IsSoundJournal (J : Past) : Type 0 where
@@ -109,10 +110,6 @@ last_failing (suc n) test = elim (cases_Bool (test n)) [
   ]
 ]
 
-all_from : (n : ℕ) (test : ℕ → Bool) → ((q : ℕ) → q < n → test q ≡ true) → all_below n test ≡ true
-all_from zero test each = refl
-all_from (suc n) test each = and_from (test n) (all_below n test) (each n (omega arith)) (all_from n test (λ q lt. each q (omega (arith, lt))))
-
 module _ (J : Past) (legal : IsLegal J) (r : ℕ) (node : Node) (is : node_of J r ≡ Some node) (top : node.above ≡ []) where
   grown : Grown J
   grown = grown_all J legal
@@ -163,9 +160,7 @@ module _ (J : Past) (legal : IsLegal J) (r : ℕ) (node : Node) (is : node_of J 
   own_goes (Some (answer_is.More n)) b runs e = inl refl
   own_goes (Some (answer_is.Wait n)) b runs e = inl (ap (own_phase (Some (answer_is.Wait n))) e)
   own_goes (Some (answer_is.Await n)) b runs e = inr refl
-  own_goes (Some (answer_is.Done told)) b runs e = absurd (true≢false runs)
-  own_goes (Some (answer_is.Fail c)) b runs e = absurd (true≢false runs)
-  own_goes (Some answer_is.Undone) b runs e = absurd (true≢false runs)
+  own_goes (Some answer) b runs e = absurd (true≢false runs)
 
   own_at : (q : ℕ) → is_stopped (last_answer J q) ≡ false → children_ended J q ≡ true → (own_phase (last_answer J q) (children_ended J q) ≡ phase_is.Runnable) ⊎ (own_phase (last_answer J q) (children_ended J q) ≡ phase_is.Awaiting)
   own_at q runs ended = own_goes (last_answer J q) (children_ended J q) runs ended
@@ -194,12 +189,10 @@ module _ (J : Past) (legal : IsLegal J) (r : ℕ) (node : Node) (is : node_of J 
     where
       by : (o : Option Answer) → last_answer J r ≡ o → is_stopped o ≡ false
       by None e = refl
-      by (Some (answer_is.More n)) e = refl
-      by (Some (answer_is.Wait n)) e = refl
-      by (Some (answer_is.Await n)) e = refl
       by (Some (answer_is.Done told)) e = absurd (true≢false (sym (ap (λ c. root_over c (rolled_back J r) (done_with (last_answer J r))) none ∙ ap (λ o. is_some (done_with o)) e) ∙ open_still))
       by (Some (answer_is.Fail c)) e = absurd ((sound_all J legal).caused r node is c e (ap (cause J) ((grown_all J legal).tops r node is top) ∙ none))
       by (Some answer_is.Undone) e = absurd ((sound_all J legal).undone r e)
+      by (Some answer) e = refl
 
   own_root : node.root ≡ r
   own_root = (grown_all J legal).tops r node is top

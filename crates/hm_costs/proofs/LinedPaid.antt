@@ -50,10 +50,11 @@ use Rattle.hm_model.proofs.Trees.{Grown, answer_now, grown_all, step_of}
 use Rattle.hm_model.proofs.ValidSheets.{Leads, valid_end}
 use Rattle.hm_costs.proofs.At.{At, Fresh, Lined, at_calls, at_lined, at_moves, left, no_checks, reading, reads_rows, start_call, start_lined, start_transit, tail_of, tail_unchecked}
 use Rattle.hm_costs.proofs.Prices.{IsPaid}
-use Rattle.hm_costs.proofs.Spend.{AreChildren, IsChild, act_spent, counted_at, is_child_at, many, price, spend}
+use Rattle.hm_costs.proofs.Spend.{AreChildren, IsChild, act_spent, counted_at, many, price, spend}
 use Rattle.hm_costs.proofs.Sums.{total}
 use Rattle.hm_costs.proofs.TransitPaid.{new_unstepped}
 use Rattle.hm_data.specs.declared.call.Verb.TheVariants as verb_is
+use Rattle.hm_costs.proofs.Each.{each_at}
 
 -- what an act costs that counts nothing in the rows
 spend_any : (act : Act) (args : Args) (bounds : Option (List (List ℕ))) → bounds_of args ≡ bounds → reads_rows act bounds ≡ false → (n : ℕ) → spend act args n ≡ spend act args 0
@@ -214,7 +215,7 @@ module _ (pid : Pid) (pick : Option Server) (out : StepOut) (J : Past) (legal : 
         });
         children = λ fine i args is.
             let made_so : AreChildren me.args (args_in out.children) = subst (λ (o : StepOut). AreChildren me.args (args_in o.children)) (sym says) spent.children in
-            child_at pid pick out J legal me is_me (made J + i + 1) (omega arith) args (is_child_at me.args (args_in out.children) made_so i args is);
+            child_at pid pick out J legal me is_me (made J + i + 1) (omega arith) args (each_at (IsChild me.args) (args_in out.children) made_so i args is);
       }
 
   pub lined_paid : IsPaid At Fresh price pid pick out J me budget

@@ -121,11 +121,6 @@ both_lengths zero list = omega arith
 both_lengths (suc n) [] = omega arith
 both_lengths (suc n) (x ∷ list) = let on = both_lengths n list in omega (arith, on)
 
-pub drop_length : {A : Type 0} (n : ℕ) (list : List A) → length (drop n list) ≡ length list - n
-drop_length zero list = omega arith
-drop_length (suc n) [] = omega arith
-drop_length (suc n) (x ∷ list) = let on = drop_length n list in omega (arith, on)
-
 -- each region at the server is one of these
 abbrev pub Within : Past → Server → List Region → Type 0
 Within J server rest = (y : Region) → is_at server (place_of J y) ≡ true → IsIn y rest
@@ -144,12 +139,9 @@ Moving J r x server rest =
 
 abbrev pub CrashDue : Past → ℕ → Node → Server → ℕ → Option Answer → Type 0
 CrashDue J r x server budget None = (rest : List Region) × (4 + moving_due (length rest) ≤ budget) × Within J server rest
-CrashDue J r x server budget (Some (answer_is.More n)) = ⊥
 CrashDue J r x server budget (Some (answer_is.Wait n)) = (n ≡ 1) × (rest : List Region) × (moving_due (length rest) ≤ budget) × Moving J r x server rest
-CrashDue J r x server budget (Some (answer_is.Await n)) = ⊥
 CrashDue J r x server budget (Some (answer_is.Done told)) = Unit {0}
-CrashDue J r x server budget (Some (answer_is.Fail c)) = ⊥
-CrashDue J r x server budget (Some answer_is.Undone) = ⊥
+CrashDue J r x server budget (Some answer) = ⊥
 
 filtered : (test : Region → Bool) (y : Region) (list : List Region) → IsIn y (filter test list) → test y ≡ true
 filtered test y [] h = elim h [ ]

@@ -49,7 +49,6 @@ use Rattle.hm_model.specs.Wanted.{goal_in, wanted_of}
 use Rattle.hm_model.specs.Whereabouts.{moved_by}
 use Rattle.hm_model.proofs.KeyTests.{same_region-refl}
 use Rattle.hm_model.proofs.LegalSteps.{StepFacts}
-use Rattle.hm_model.proofs.NameTies.{same_server-is}
 use Rattle.hm_model.proofs.Trees.{answer_now, grown_all, step_of}
 use Rattle.hm_model.proofs.StepDoes.{exact_row_is}
 

@@ -47,6 +47,7 @@ use Rattle.hm_costs.proofs.Live.{IsDead}
 use Rattle.hm_costs.proofs.Moves.{comes_not, is_moving, opening_now}
 use Rattle.hm_costs.proofs.Prices.{Spares}
 use Rattle.hm_model.proofs.RootTrees.{absent_all, ended_by}
+use Rattle.hm_costs.proofs.Trees.{cons_nil}
 
 -- what calls a region server never fails
 caller_fine : (J : Past) (p : ℕ) (x : Node) (rows : List Row) (out : StepOut) → Does J p x.args (last_answer J p) rows out → is_caller x.args ≡ true → failing out.answer ≡ None
@@ -86,9 +87,6 @@ fails_step pid pick out J legal p before x r is m top c failed = elim (le_or_lt 
   | inl le ↦ by (sym (node_same pid pick out J p le) ∙ is) (root_of J pid.0 == p) refl failed
 ]
   where
-    cons_nil : (u : ℕ) (rest : List ℕ) → u ∷ rest ≡ [] → ⊥
-    cons_nil u rest e = cc
-
     grown : Grown J
     grown = grown_all J legal.0
 
@@ -133,12 +131,10 @@ fails_all (entry ∷ J) legal p = fails_calm entry J legal p refl refl (fails_al
 -- who has stopped is at no row
 stopped_row : (first : ℕ) (last : Option Answer) → is_stopped last ≡ true → row_after first last ≡ no_row
 stopped_row first None h = absurd (false≢true h)
-stopped_row first (Some (answer_is.More n)) h = absurd (false≢true h)
-stopped_row first (Some (answer_is.Wait n)) h = absurd (false≢true h)
-stopped_row first (Some (answer_is.Await n)) h = absurd (false≢true h)
 stopped_row first (Some (answer_is.Done told)) h = refl
 stopped_row first (Some (answer_is.Fail c)) h = refl
 stopped_row first (Some answer_is.Undone) h = refl
+stopped_row first (Some answer) h = absurd (false≢true h)
 
 -- the row at which a transit begins
 first_row : (args : Args) (region : Region) → moved_by args ≡ Some region → (first_row_of args ≡ 0) ⊎ ((first_row_of args ≡ 3) ⊎ (first_row_of args ≡ 5))
@@ -180,12 +176,8 @@ opens_holds J legal p x region is m at = ((λ none. none-some x (sym none ∙ is
 
     undone : (o : Option Answer) → is_stopped o ≡ false → is_some (done_with o) ≡ false
     undone None h = refl
-    undone (Some (answer_is.More n)) h = refl
-    undone (Some (answer_is.Wait n)) h = refl
-    undone (Some (answer_is.Await n)) h = refl
     undone (Some (answer_is.Done told)) h = absurd (true≢false h)
-    undone (Some (answer_is.Fail c)) h = refl
-    undone (Some answer_is.Undone) h = refl
+    undone (Some answer) h = refl
 
     root_open : x.above ≡ [] → (o : Option Cause) → cause J p ≡ o → root_ended J p ≡ false
     root_open top None e = ended_by J p e ∙ undone (last_answer J p) runs

@@ -17,7 +17,7 @@ use Rattle.hm_model.specs.Apart.{IsSameTree, tree_of}
 use Rattle.hm_model.specs.Costs.{cost}
 use Rattle.hm_model.specs.Entries.{IsQuiet, entries_of, makes}
 use Rattle.hm_model.specs.Journal.{Past}
-use Rattle.hm_model.specs.Phase.{all_stopped, cause, ended, in_tree, or_else, root_ended, root_over, rolled_back, stopped_in, all_below, ended_node}
+use Rattle.hm_model.specs.Phase.{all_stopped, cause, ended, in_tree, or_else, root_ended, root_over, rolled_back, stopped_in, ended_node}
 use Rattle.hm_model.specs.Rules.{IsLegal}
 use Rattle.hm_model.specs.Tree.{Node, args_in, child_of, made, node_of, root_in, root_of, is_root_in, is_top}
 use Rattle.hm_model.specs.Undo.{is_empty, pushed, stack, Undoable, unless_failed}
@@ -30,7 +30,7 @@ use Rattle.hm_model.proofs.Trees.{Grown, IsRooted, answer_now, does_of, down_roo
 use Rattle.hm_costs.proofs.Prices.{ArePriced, Going, IsPaid, Spares}
 use Rattle.hm_costs.proofs.Sums.{price_of, sum_append, sum_below, sum_same, sum_swap, sum_total, total}
 use Rattle.hm_model.proofs.RootTrees.{absent_all, ended_by, of_tree, over_stopped, step_root, call_root, undo_root}
-use Rattle.hm_costs.proofs.Trees.{entries_other, no_root_by_step, one_if_true, quiet_before}
+use Rattle.hm_costs.proofs.Trees.{all_from, done_stops, entries_other, no_root_by_step, one_if_true, quiet_before}
 use Rattle.hm_model.proofs.PlainActs.{ChildrenWait}
 use Rattle.hm_data.specs.declared.act.Back.{Back}
 use Rattle.hm_data.specs.declared.catalog.Edit.{Edit}
@@ -235,10 +235,6 @@ module _ (At : Past → ℕ → Node → ℕ → Type 0) (Fresh : Past → ℕ �
         childless (answer_is.Wait n) e c failed w = absurd (none-some c failed)
         childless answer e c failed w = w
 
-        all_from : (n : ℕ) (test : ℕ → Bool) → ((q : ℕ) → q < n → test q ≡ true) → all_below n test ≡ true
-        all_from zero test each = refl
-        all_from (suc n) test each = and_from (test n) (all_below n test) (each n (omega arith)) (all_from n test (λ q lt. each q (omega (arith, lt))))
-
         one : (q : ℕ) (o : Option Node) → node_of (entry_is.Step pid pick out ∷ J) q ≡ o → ((q : ℕ) (x : Node) → node_of J q ≡ Some x → x.root ≡ r → q ≡ r) → q < made J + 1 → (not (in_tree r o) || ((q == r) || is_stopped (last_answer (entry_is.Step pid pick out ∷ J) q))) ≡ true
         one q None e only lt = refl
         one q (Some x) e only lt = elim (cases_Bool (x.root == r)) [
@@ -432,15 +428,6 @@ module _ (At : Past → ℕ → Node → ℕ → Type 0) (Fresh : Past → ℕ �
             let clean : cause J r ≡ None = ap (cause J) (sym here) ∙ st.uncaused (ap (λ (n : Node). is_top n.above) one ∙ ap is_top at_top) in
             true≢false (sym (done_stops (last_answer J r) (sym (ended_by J r clean) ∙ ended)) ∙ ap (λ k. is_stopped (last_answer J k)) (sym here) ∙ runs)
       ]
-    where
-      done_stops : (o : Option Answer) → is_some (done_with o) ≡ true → is_stopped o ≡ true
-      done_stops None h = h
-      done_stops (Some (answer_is.More n)) h = h
-      done_stops (Some (answer_is.Wait n)) h = h
-      done_stops (Some (answer_is.Await n)) h = h
-      done_stops (Some (answer_is.Done told)) h = refl
-      done_stops (Some (answer_is.Fail c)) h = refl
-      done_stops (Some answer_is.Undone) h = refl
 
   own_step : ArePriced At Fresh price → (pid : Pid) (pick : Option Server) (out : StepOut) (J : Past) (legal : IsLegal (entry_is.Step pid pick out ∷ J)) (r : ℕ) (top : Node) → node_of J r ≡ Some top → top.above ≡ [] → IsQuiet (entry_is.Step pid pick out ∷ J) r → r ≡ root_of J pid.0 → Paid J r top → Paid (entry_is.Step pid pick out ∷ J) r top
   own_step priced pid pick out J legal r top is at_top quiet mine (over ended stepped within) = absurd (over_steps pid pick out J legal r top is at_top ended mine)

@@ -39,6 +39,7 @@ use Rattle.hm_costs.proofs.Prices.{AllAt}
 use Rattle.hm_model.proofs.Parted.{no_node}
 use Rattle.std.proofs.lemmas.Option.{none-some}
 use Rattle.hm_costs.proofs.Spend.{price}
+use Rattle.hm_costs.proofs.Trees.{cons_nil}
 
 -- the regions at a server that went down are among those that were there: a transit places its region at a live server, and
 -- what it opens or closes there was there before
@@ -111,9 +112,6 @@ module _ (pid : Pid) (pick : Option Server) (out : StepOut) (J : Past) (legal : 
       by (suc (suc (suc zero))) here (inr is) = by_close (is_open (place_of J region) (seen pid pick out J legal me is_me region refl).fenced) is
       by (suc (suc (suc (suc zero)))) here (inr is) = goes 0 (ap (λ (o : StepOut). o.answer) is)
       by (suc (suc (suc (suc (suc zero))))) here (inr is) = cons_nil q x.above (at.first here).1
-        where
-          cons_nil : (u : ℕ) (rest : List ℕ) → u ∷ rest ≡ [] → ⊥
-          cons_nil u rest e = cc
       by (suc (suc (suc (suc (suc (suc n)))))) here (inr is) = is
 
 -- so the regions at a server that is fenced are still among some, or moved by a transit of the crash that goes on

@@ -132,17 +132,15 @@ AsksFor args table = (ask : Ask) × IsIn ask (asks args) × (ask.resource ≡ re
 
 -- a root asks for the table that it works on
 top_asks : (args : Args) → IsTop args → (table : TableName) → table_of args ≡ Some table → AsksFor args table
-top_asks (args_are.Root (request_is.CreateNamespace ns) first) top table is = absurd (none-some table is)
-top_asks (args_are.Root (request_is.DropNamespace ns) first) top table is = absurd (none-some table is)
 top_asks (args_are.Root (request_is.CreateTable own keys) first) top table is = (exclusive (resource_is.Table own), inr (inl refl), ap resource_is.Table (same_Some own table is))
 top_asks (args_are.Root (request_is.DeleteTable own) first) top table is = (exclusive (resource_is.Table own), inr (inl refl), ap resource_is.Table (same_Some own table is))
 top_asks (args_are.Root (request_is.EnableTable own) first) top table is = (exclusive (resource_is.Table own), inr (inl refl), ap resource_is.Table (same_Some own table is))
 top_asks (args_are.Root (request_is.DisableTable own) first) top table is = (exclusive (resource_is.Table own), inr (inl refl), ap resource_is.Table (same_Some own table is))
 top_asks (args_are.Root (request_is.ModifyTable own version) first) top table is = (exclusive (resource_is.Table own), inr (inl refl), ap resource_is.Table (same_Some own table is))
 top_asks (args_are.Root (request_is.SplitRegion region key) first) top table is = (shared (resource_is.Table region.table), inr (inl refl), ap resource_is.Table (same_Some region.table table is))
-top_asks (args_are.Root (request_is.MergeRegions []) first) top table is = absurd (none-some table is)
 top_asks (args_are.Root (request_is.MergeRegions (region ∷ more)) first) top table is = (shared (resource_is.Table region.table), inr (inl refl), ap resource_is.Table (same_Some region.table table is))
 top_asks (args_are.Root (request_is.Move region to) first) top table is = (shared (resource_is.Table region.table), inr (inl refl), ap resource_is.Table (same_Some region.table table is))
+top_asks (args_are.Root request first) top table is = absurd (none-some table is)
 top_asks (args_are.Transit region goal to) top table is = (shared (resource_is.Table region.table), inr (inl refl), ap resource_is.Table (same_Some region.table table is))
 top_asks (args_are.Crash server) top table is = absurd (none-some table is)
 top_asks (args_are.SweepLayout root) top table is = absurd (none-some table is)
@@ -164,12 +162,8 @@ clashes one counter top counts table own other =
 -- an idle root waits for nobody
 idle_waits : (last : Option Answer) → IsIdle last → IsWaiting last → ⊥
 idle_waits None idle waits = waits
-idle_waits (Some (answer_is.More n)) idle waits = waits
 idle_waits (Some (answer_is.Wait n)) idle waits = idle
-idle_waits (Some (answer_is.Await n)) idle waits = waits
-idle_waits (Some (answer_is.Done told)) idle waits = waits
-idle_waits (Some (answer_is.Fail c)) idle waits = waits
-idle_waits (Some answer_is.Undone) idle waits = waits
+idle_waits (Some answer) idle waits = waits
 
 module _ (J : Past) (q : ℕ) (x : Node) (going : Going J q x) (begun : last_answer J q ≢ None) (counter : IsCounter x.args) (idle : IsIdle (last_answer J q)) where
   abbrev holds : TopHolds J q x

@@ -1,7 +1,7 @@
 -- What each act costs that calls nobody and places nothing, and what procedures it makes.
-use Rattle.std.proofs.Common.{◌≡◌, ℕ, zero, suc, ◌+◌, ◌*◌, ◌-◌, ◌/◌, ◌≤◌, List, [], ◌∷◌, Bool, true, false, Option, Some, None, cond, nat_le, length, take, drop, map, refl, ap, sym, ◌∙◌, subst, arith, inl, inr, slice_get}
+use Rattle.std.proofs.Common.{◌≡◌, ℕ, zero, suc, ◌+◌, ◌*◌, ◌-◌, ◌/◌, ◌≤◌, List, [], ◌∷◌, Bool, true, false, Option, Some, None, cond, nat_le, length, take, drop, map, refl, ap, sym, ◌∙◌, subst, arith, inl, inr, length-drop}
 use Rattle.std.proofs.lemmas.Bool.{cases_Bool, false≢true}
-use Rattle.std.proofs.lemmas.Option.{none-some, same_Some}
+use Rattle.std.proofs.lemmas.List.{length-map}
 use Rattle.hm_names.specs.Region.{Region}
 use Rattle.hm_names.specs.declared.table.TableName.{TableName}
 use Rattle.hm_data.specs.declared.act.Act.{Act}
@@ -44,6 +44,7 @@ use Rattle.std.specs.declared.cmp.Ordering.{Ordering}
 use Rattle.std.specs.declared.cmp.Ordering.TheVariants.{Equal, Greater, Less}
 use Rattle.std.proofs.lemmas.Bool.{leb-false}
 use Rattle.hm_names.specs.Server.{Server}
+use Rattle.hm_costs.proofs.Each.{Each}
 
 -- what a transit costs, from its first row on
 abbrev pub transit_price : Goal → ℕ
@@ -75,13 +76,7 @@ IsChild up (args_are.LayoutCall root) = Unit {0}
 IsChild up args = ⊥
 
 abbrev pub AreChildren : Args → List Args → Type 0
-AreChildren up [] = Unit {0}
-AreChildren up (args ∷ more) = IsChild up args × AreChildren up more
-
-pub is_child_at : (up : Args) (list : List Args) → AreChildren up list → (i : ℕ) (args : Args) → slice_get list i ≡ Some args → IsChild up args
-is_child_at up [] all i args is = absurd (none-some args is)
-is_child_at up (first ∷ more) all zero args is = subst (IsChild up) (same_Some first args is) all.0
-is_child_at up (first ∷ more) all (suc i) args is = is_child_at up more all.1 i args is
+AreChildren up list = Each (IsChild up) list
 
 -- how many regions are opened or closed: those of a new table, else so many
 abbrev pub many : Option (List (List ℕ)) → ℕ → ℕ
@@ -175,11 +170,6 @@ adding_children : (up : Args) (most : ℕ) (table : TableName) → table_of up �
 adding_children up zero table own first bounds = tt
 adding_children up (suc most) table own first bounds = adding_one (nat_le (length bounds) 1) up table own first bounds (adding most table (first + 64) (drop 64 bounds)) (adding_children up most table own (first + 64) (drop 64 bounds))
 
-length_drop : {A : Type 0} (n : ℕ) (list : List A) → length (drop n list) ≡ length list - n
-length_drop zero list = omega arith
-length_drop (suc n) [] = omega arith
-length_drop (suc n) (x ∷ list) = let on = length_drop n list in omega (arith, on)
-
 next_piece : (n : ℕ) → 1 ≤ n → 1 + (((n - 64) + 63) / 64) ≤ (n + 63) / 64
 next_piece n some = omega (arith, some)
 
@@ -190,7 +180,7 @@ adding_price (suc most) table first bounds = elim (cases_Bool (nat_le (length bo
   | inr off ↦
       let e : total price (args_in (adding (suc most) table first bounds)) ≡ 1 + total price (args_in (adding most table (first + 64) (drop 64 bounds))) = ap (λ b. total price (args_in (cond b [] (child_is.One (args_are.AddRegions table first (take 65 bounds)) ∷ adding most table (first + 64) (drop 64 bounds))))) off in
       let low = adding_price most table (first + 64) (drop 64 bounds) in
-      let fewer = length_drop 64 bounds in
+      let fewer = length-drop 64 bounds in
       let some = leb-false (length bounds) 1 off in
       omega (arith, e, low, fewer, some)
 ]
@@ -208,7 +198,7 @@ pieces_many zero items = omega arith
 pieces_many (suc most) [] = omega arith
 pieces_many (suc most) (item ∷ items) =
     let on = pieces_many most (drop 64 (item ∷ items)) in
-    let fewer = length_drop 64 (item ∷ items) in
+    let fewer = length-drop 64 (item ∷ items) in
     omega (arith, on, fewer)
 
 module _ (up : Args) (amount : ℕ) (some : 1 ≤ amount) where
@@ -268,16 +258,12 @@ close_spent up (Some table) next rows =
     let count = for_length table (first_id_of up) (bounds_of up) rows in
     spawns_spent up (1 + 5 * many (bounds_of up) (length (live_among table rows))) next (transits goal_is.Unassign (regions_for table (first_id_of up) (bounds_of up) rows)) (omega (arith, sum, count)) t.1
 
-length_map : {A B : Type 0} (f : A → B) (list : List A) → length (map f list) ≡ length list
-length_map f [] = refl
-length_map f (x ∷ list) = let on = length_map f list in omega (arith, on)
-
 drop_spent : (up : Args) (table : Option TableName) → table_of up ≡ table → (next : ℕ) (rows : Rows) → IsSpent up (spend act_is.DropRegions up (rows_counted act_is.DropRegions table rows)) (given table next (λ table. spawns next (dropping table (map (λ region. region.id) (all_among table rows)))))
 drop_spent up None own next rows = none_spent up (1 + by_64s 0) (omega arith) (gives (on_to next) []) refl
 drop_spent up (Some table) own next rows =
     let sum = pieces_price table (by_64 (map (λ (region : Region). region.id) (all_among table rows))) in
     let few = pieces_many (length (map (λ (region : Region). region.id) (all_among table rows))) (map (λ (region : Region). region.id) (all_among table rows)) in
-    let count = length_map (λ (region : Region). region.id) (all_among table rows) in
+    let count = length-map (all_among table rows) (λ (region : Region). region.id) in
     spawns_spent up (1 + by_64s (length (all_among table rows))) next (dropping table (map (λ region. region.id) (all_among table rows))) (omega (arith, sum, few, count)) (pieces_children up table own (by_64 (map (λ region. region.id) (all_among table rows))))
 
 parents_spent : (up : Args) (next : ℕ) → IsSpent up (1 + 5 * length (closed_by up)) (spawns next (transits goal_is.Unassign (closed_by up)))

@@ -1,5 +1,5 @@
 -- What a procedure may still cost stays, whatever others of the tree, and other trees, do.
-use Rattle.hm_model.specs.Fleet.{is_fenced, is_live, same_server}
+use Rattle.hm_model.specs.Fleet.{is_live, same_server}
 use Rattle.hm_model.specs.Whereabouts.{crashed_in, moved_by}
 use Rattle.hm_costs.proofs.At.{CrashAt, AllCounted, At, CallAt, Counting, Fresh, CallGoes, Lined, OpensAt, TransitAt, call_due, due_at, IsIdle}
 use Rattle.hm_costs.proofs.Live.{IsDead, dead_stays}
@@ -129,12 +129,8 @@ module _ (entry : Entry) (J : Past) (legal : IsLegal (entry ∷ J)) (r : ℕ) (t
     where
       by : (last : Option Answer) → CrashDue J q x server budget last → CrashDue (entry ∷ J) q x server budget last
       by None d = (d.0, d.1, within_stays entry J legal q x is server at.dead d.0 d.2)
-      by (Some (answer_is.More n)) d = d
       by (Some (answer_is.Wait n)) d = (d.0, d.1, d.2, moving_stays server d.1 at.dead d.3)
-      by (Some (answer_is.Await n)) d = d
-      by (Some (answer_is.Done told)) d = d
-      by (Some (answer_is.Fail k)) d = d
-      by (Some answer_is.Undone) d = d
+      by (Some answer) d = d
 
   pub all_stays : (budget : ℕ) → At J q x budget → At (entry ∷ J) q x budget
   all_stays budget at = record {

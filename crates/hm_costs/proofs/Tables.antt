@@ -36,8 +36,10 @@ use Rattle.hm_model.proofs.UndoMakes.{undo_of}
 use Rattle.hm_costs.proofs.Dead.{IsFollower, follower_is, plain_children}
 use Rattle.hm_costs.proofs.Edits.{AreEditsOf, ClosesItsOwn, act_edits, asked_closes, edits_as, edits_turned}
 use Rattle.hm_model.proofs.Transits.{caller_facts}
-use Rattle.hm_costs.proofs.Spend.{AreChildren, IsChild, is_child_at}
+use Rattle.hm_costs.proofs.Spend.{AreChildren, IsChild}
 use Rattle.hm_model.proofs.RootTrees.{absent_all, tree_root}
+use Rattle.hm_costs.proofs.Trees.{cons_nil}
+use Rattle.hm_costs.proofs.Each.{each_at}
 
 -- what roots are: requests, followers of undos, and crashes
 abbrev pub IsTop : Args → Type 0
@@ -121,12 +123,8 @@ undo_none false steps none = none
 
 pushed_undone : (table : Option TableName) (back : Back) (failed : Bool) (p row : ℕ) (edits : List Edit) (below : List Undoable) → AreEditsOf table edits → AllUndoOf table below → AllUndoOf table (pushed back failed p row edits below)
 pushed_undone table back_is.Nothing failed p row edits below all more = more
-pushed_undone table back_is.Edits true p row edits below all more = more
-pushed_undone table back_is.Edits false p row edits below all more = (all, more)
-pushed_undone table back_is.Sweep true p row edits below all more = more
-pushed_undone table back_is.Sweep false p row edits below all more = (all, more)
-pushed_undone table back_is.Reopen true p row edits below all more = more
-pushed_undone table back_is.Reopen false p row edits below all more = (all, more)
+pushed_undone table undo true p row edits below all more = more
+pushed_undone table undo false p row edits below all more = (all, more)
 
 -- a step
 module _ (pid : Pid) (pick : Option Server) (out : StepOut) (J : Past) (legal : IsLegal (entry_is.Step pid pick out ∷ J)) (old : Tabled J) where
@@ -173,7 +171,7 @@ module _ (pid : Pid) (pick : Option Server) (out : StepOut) (J : Past) (legal : 
       plainly unmoved uncalled plain =
           let p = plain_here plain in (
             edits_as (table_of step.node.args) (table_of root.0.args) (λ table e. old.tables pid.0 step.node root.0 step.node_is root.1 unmoved uncalled table e) out.edits p.0,
-            λ i args is. inl (is_child_at step.node.args (args_in out.children) p.1 i args is, unmoved, uncalled),
+            λ i args is. inl (each_at (IsChild step.node.args) (args_in out.children) p.1 i args is, unmoved, uncalled),
           )
 
   edits_of_root : (top : Node) → node_of J (root_of J pid.0) ≡ Some top → AreEditsOf (table_of top.args) out.edits
@@ -237,9 +235,6 @@ module _ (pid : Pid) (pick : Option Server) (out : StepOut) (J : Past) (legal : 
           ]
     ];
   }
-    where
-      cons_nil : (u : ℕ) (rest : List ℕ) → u ∷ rest ≡ [] → ⊥
-      cons_nil u rest e = cc
 
 -- so it is in every legal journal
 pub tabled_all : (J : Past) → IsLegal J → Tabled J

@@ -19,9 +19,10 @@ abbrev pub AllMet : List (ℕ × ℕ) → Type 0
 AllMet [] = Unit {0}
 AllMet ((kind, entries) ∷ more) = ((J : Past) × IsLegal J × (r : ℕ) × IsMet J r kind entries) × AllMet more
 
--- roots of each kind of request, where tables have one region, and two where they are merged; a crash of one region; a
--- transit and a sweep that an undo made; and a table that is made, enabled and disabled, and a crash, with two regions
+-- roots of each kind of request, where tables have one region, and two and three where they are merged; a crash of one
+-- region; a transit and a sweep that an undo made; and a table that is made, enabled and disabled, and a crash, with two
+-- regions
 abbrev pub CostsAreMet : Type 0
 CostsAreMet =
     AllMet ((1, 3) ∷ (2, 3) ∷ (3, 18) ∷ (4, 5) ∷ (5, 11) ∷ (6, 10) ∷ (7, 3) ∷ (8, 27) ∷ (9, 26) ∷ (10, 13) ∷ (11, 13) ∷ (10, 7) ∷ (27, 4)
-    ∷ (3, 24) ∷ (5, 17) ∷ (6, 15) ∷ (11, 19) ∷ [])
+    ∷ (3, 24) ∷ (5, 17) ∷ (6, 15) ∷ (11, 19) ∷ (9, 31) ∷ [])

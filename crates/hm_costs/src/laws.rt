@@ -19,8 +19,8 @@ pub fn crashes_empty()
 {}
 
 /// Each kind of root costs just what a root of the kind takes in some legal journal: requests of each kind, with one region in
-/// a table, which is the one that is split, and two that are merged, a crash of one region, and the transit and the sweep that an undo makes; and where
-/// regions are counted one by one, with two of them.
+/// a table, which is the one that is split, and two and three that are merged, a crash of one region, and the transit and the
+/// sweep that an undo makes; and where regions are counted one by one, with two of them.
 pub fn costs_are_met()
     ensures { CostsAreMet }
 {}
