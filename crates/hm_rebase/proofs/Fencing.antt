@@ -41,15 +41,11 @@ use Rattle.hm_model.proofs.LegalSteps.{ReadyBy, StepFacts}
 use Rattle.hm_model.proofs.StepDoes.{exact_row_is}
 use Rattle.hm_model.proofs.Trees.{Grown, IsWaiting, answer_now, child_stopped, does_of, grown_all, node_new, other_answer, some_of, step_of}
 use Rattle.hm_costs.proofs.CrashFine.{uncut}
+use Rattle.hm_costs.proofs.Bound.{fenced_only}
 
 -- who has a call or a report was there before an entry
 was_there : (entry : Entry) (J : Past) → IsLegal (entry ∷ J) → (q : ℕ) (x : Node) → node_of (entry ∷ J) q ≡ Some x → (y : Node) → node_of J q ≡ Some y → node_of J q ≡ Some x
 was_there entry J legal q x is y before = before ∙ ap Some (same_Some y x (sym (nodes_stay entry J legal q y before) ∙ is))
-
--- nothing else is told of a call to fence a server
-fenced_only : (server : Server) (told : Told) → fits_verb (verb_is.Fence server) told ≡ true → (told_number told == told_number told_is.Fenced) ≡ true
-fenced_only server told_is.Fenced fits = refl
-fenced_only server told fits = absurd (false≢true fits)
 
 -- the report of a call to fence a server says that it is fenced
 abbrev AreTold : Past → Type 0

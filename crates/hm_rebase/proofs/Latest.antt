@@ -1,8 +1,7 @@
 -- The servers of a journal in name order, and that of those of one address only the latest is live.
-use Rattle.std.proofs.Common.{◌≡◌, ℕ, List, [], ◌∷◌, Bool, true, false, cond, not, ◌&&◌, ◌||◌, ◌==◌, nat_lt, Option, Some, None, refl, ap, sym, ◌∙◌, subst, inl, inr, ◌⊎◌, bytes_eq, arith}
+use Rattle.std.proofs.Common.{◌≡◌, ℕ, List, [], ◌∷◌, Bool, true, false, cond, not, ◌&&◌, ◌||◌, ◌==◌, nat_lt, Option, Some, None, refl, ap, sym, ◌∙◌, inl, inr, bytes_eq, arith}
 use Rattle.std.specs.List.{list_any}
-use Rattle.std.specs.Ordering.{nat_cmp, ordering_reverse, ordering_then}
-use Rattle.std.specs.declared.cmp.Ordering.{Ordering}
+use Rattle.std.specs.Ordering.{nat_cmp, ordering_then}
 use Rattle.std.specs.declared.cmp.Ordering.TheVariants.{Equal, Greater, Less}
 use Rattle.std.proofs.lemmas.Bool.{and_from, and_parts, eqb-true, eq-eqb, false≢true, or_cases, true≢false}
 use Rattle.std.proofs.lemmas.Bool.Decides.{nat_tests}
@@ -12,110 +11,25 @@ use Rattle.hm_names.specs.Server.{Server}
 use Rattle.hm_data.specs.declared.catalog.CatKey.TheVariants as key_is
 use Rattle.hm_data.specs.declared.entry.Entry.TheVariants as entry_is
 use Rattle.hm_data.specs.declared.part.Part.TheVariants as part_is
-use Rattle.hm_model.specs.Fleet.{came_up, has_newer, has_older_live, is_live, same_address, same_server, servers_of, with_server, with_server_at}
+use Rattle.hm_model.specs.Fleet.{came_up, has_newer, has_older_live, is_live, same_address, same_server, servers_of, with_server}
 use Rattle.hm_model.specs.Journal.{Past}
 use Rattle.hm_model.specs.Locks.{IsIn}
 use Rattle.hm_model.specs.Parts.{part_server}
 use Rattle.hm_model.specs.Rules.{IsLegal}
 use Rattle.hm_model.proofs.CameUp.{any_with, live_came}
 use Rattle.hm_model.proofs.KeyTests.{bytes_eq-is, bytes_eq-refl, key_cmp-refl}
-use Rattle.hm_model.proofs.NameTies.{same_server-is, same_server-refl, server_cmp-is, servers_total}
+use Rattle.hm_model.proofs.NameTies.{same_server-is, same_server-refl, servers_total}
+use Rattle.hm_rebase.proofs.Orders.{InOrder, order_with}
 
--- each of the servers comes after this one
-abbrev pub AllLater : Server → List Server → Type 0
-AllLater server [] = Unit {0}
-AllLater server (first ∷ more) = (server_cmp server first ≡ Less) × AllLater server more
-
-abbrev pub InOrder : List Server → Type 0
-InOrder [] = Unit {0}
-InOrder (server ∷ more) = AllLater server more × InOrder more
-
-later_on : (one server : Server) (list : List Server) → server_cmp one server ≡ Less → AllLater server list → AllLater one list
-later_on one server [] less all = tt
-later_on one server (first ∷ more) less all = (servers_total.trans one server first less all.0, later_on one server more less all.1)
-
-later_at : (o : Ordering) (one server first : Server) (more rest : List Server) → server_cmp one server ≡ Less → server_cmp one first ≡ Less → AllLater one more → AllLater one rest → AllLater one (with_server_at o server first more rest)
-later_at Less one server first more rest less here all on = (less, (here, all))
-later_at Equal one server first more rest less here all on = (here, all)
-later_at Greater one server first more rest less here all on = (here, on)
-
-later_with : (one server : Server) (list : List Server) → server_cmp one server ≡ Less → AllLater one list → AllLater one (with_server server list)
-later_with one server [] less all = (less, tt)
-later_with one server (first ∷ more) less all = later_at (server_cmp server first) one server first more (with_server server more) less all.0 all.1 (later_with one server more less all.1)
-
-order_with : (server : Server) (list : List Server) → InOrder list → InOrder (with_server server list)
-order_with server [] order = (tt, tt)
-order_with server (first ∷ more) order = by (order_with server more order.1) (server_cmp server first) refl
-  where
-    by : InOrder (with_server server more) → (o : Ordering) → server_cmp server first ≡ o → InOrder (with_server_at o server first more (with_server server more))
-    by on Less e = ((e, later_on server first more e order.0), order)
-    by on Equal e = order
-    by on Greater e = (later_with first server more (servers_total.antisymm first server ∙ ap ordering_reverse e) order.0, on)
-
-pub servers_order : (J : Past) → InOrder (servers_of J)
+pub servers_order : (J : Past) → InOrder server_cmp (servers_of J)
 servers_order [] = tt
-servers_order (entry_is.Up server ∷ J) = order_with server (servers_of J) (servers_order J)
+servers_order (entry_is.Up server ∷ J) = order_with server_cmp servers_total server (servers_of J) (servers_order J)
 servers_order (entry_is.Base part ∷ J) = by (part_server part) (servers_order J)
   where
-    by : (o : Option (Server × Bool)) → InOrder (servers_of J) → InOrder (elim o as (λ s. List Server) [ None ↦ servers_of J | Some both ↦ with_server both.0 (servers_of J) ])
+    by : (o : Option (Server × Bool)) → InOrder server_cmp (servers_of J) → InOrder server_cmp (elim o as (λ s. List Server) [ None ↦ servers_of J | Some both ↦ with_server both.0 (servers_of J) ])
     by None order = order
-    by (Some both) order = order_with both.0 (servers_of J) order
+    by (Some both) order = order_with server_cmp servers_total both.0 (servers_of J) order
 servers_order (entry ∷ J) = servers_order J
-
--- what is in a list with one server more
-in_at : (q server first : Server) (more rest : List Server) → ((q ≡ server) ⊎ IsIn q more → IsIn q rest) → (o : Ordering) → server_cmp server first ≡ o → (q ≡ server) ⊎ IsIn q (first ∷ more) → IsIn q (with_server_at o server first more rest)
-in_at q server first more rest on Less e h = h
-in_at q server first more rest on Equal e h = elim h [ inl new ↦ inl (new ∙ server_cmp-is server first e) | inr old ↦ old ]
-in_at q server first more rest on Greater e h = elim h [
-  | inl new ↦ inr (on (inl new))
-  | inr old ↦ elim old [ inl here ↦ inl here | inr later ↦ inr (on (inr later)) ]
-]
-
-pub in_with : (q server : Server) (list : List Server) → (q ≡ server) ⊎ IsIn q list → IsIn q (with_server server list)
-in_with q server [] h = h
-in_with q server (first ∷ more) h = in_at q server first more (with_server server more) (in_with q server more) (server_cmp server first) refl h
-
-from_at : (q server first : Server) (more rest : List Server) → (IsIn q rest → (q ≡ server) ⊎ IsIn q more) → (o : Ordering) → IsIn q (with_server_at o server first more rest) → (q ≡ server) ⊎ IsIn q (first ∷ more)
-from_at q server first more rest on Less h = h
-from_at q server first more rest on Equal h = inr h
-from_at q server first more rest on Greater (inl here) = inr (inl here)
-from_at q server first more rest on Greater (inr later) = elim (on later) [ inl new ↦ inl new | inr old ↦ inr (inr old) ]
-
-pub from_with : (q server : Server) (list : List Server) → IsIn q (with_server server list) → (q ≡ server) ⊎ IsIn q list
-from_with q server [] h = h
-from_with q server (first ∷ more) h = from_at q server first more (with_server server more) (from_with q server more) (server_cmp server first) h
-
-pub later_in : (server y : Server) (list : List Server) → AllLater server list → IsIn y list → server_cmp server y ≡ Less
-later_in server y [] all h = elim h [ ]
-later_in server y (first ∷ more) all (inl here) = ap (server_cmp server) here ∙ all.0
-later_in server y (first ∷ more) all (inr later) = later_in server y more all.1 later
-
-not_later : (server : Server) (list : List Server) → AllLater server list → IsIn server list → ⊥
-not_later server list all among =
-    let less : server_cmp server server ≡ Less = later_in server server list all among in
-    let tied : server_cmp server server ≡ Equal = tied_itself servers_total server in
-    cc
-
-pub same_list : (one other : List Server) → InOrder one → InOrder other → ((y : Server) → IsIn y one → IsIn y other) → ((y : Server) → IsIn y other → IsIn y one) → one ≡ other
-same_list [] [] up down to from = refl
-same_list [] (y ∷ other) up down to from = elim (from y (inl refl)) [ ]
-same_list (x ∷ one) [] up down to from = elim (to x (inl refl)) [ ]
-same_list (x ∷ one) (y ∷ other) up down to from =
-    ap (λ z. z ∷ one) here ∙ ap (λ l. y ∷ l) (same_list one other up.1 down.1
-    (λ z among. elim (to z (inr among)) [ inl first ↦ absurd (not_later x one up.0 (subst (λ w. IsIn w one) (first ∙ sym here) among)) | inr later ↦ later ])
-    (λ z among. elim (from z (inr among)) [ inl first ↦ absurd (not_later y other down.0 (subst (λ w. IsIn w other) (first ∙ here) among)) | inr later ↦ later ]))
-  where
-    here : x ≡ y
-    here = elim (to x (inl refl)) [
-      | inl same ↦ same
-      | inr after ↦ elim (from y (inl refl)) [
-        | inl same ↦ sym same
-        | inr behind ↦
-            let around : server_cmp x x ≡ Less = servers_total.trans x y x (later_in x y one up.0 behind) (later_in y x other down.0 after) in
-            let tied : server_cmp x x ≡ Equal = tied_itself servers_total x in
-            cc
-      ]
-    ]
 
 -- who is in the list came up
 pub in_came : (server : Server) (list : List Server) → IsIn server list → list_any (λ o. same_server server o) list ≡ true

@@ -1,6 +1,7 @@
 pub mod Bounds
 mod Seen
 mod Readings
+mod Orders
 mod Servers
 mod Inputs
 mod Allowing

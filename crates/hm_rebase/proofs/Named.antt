@@ -1,11 +1,9 @@
 -- The keys of an image: in order, with each that has a row, and with each table that ids were drawn for.
 use Rattle.std.proofs.Common.{◌≡◌, ◌≢◌, ℕ, zero, suc, List, [], ◌∷◌, Option, Some, None, refl, ap, sym, ◌∙◌, inl, inr, ◌⊎◌, arith}
-use Rattle.std.specs.Ordering.{ordering_reverse}
 use Rattle.std.specs.declared.cmp.Ordering.{Ordering}
 use Rattle.std.specs.declared.cmp.Ordering.TheVariants.{Equal, Greater, Less}
 use Rattle.std.proofs.lemmas.Bool.{cases_Bool, cond-false}
 use Rattle.hm_names.specs.declared.table.TableName.{TableName}
-use Rattle.hm_data.proofs.KeyOrder.{keys_total}
 use Rattle.hm_data.specs.Keys.{key_cmp}
 use Rattle.hm_data.specs.declared.catalog.CatKey.{CatKey}
 use Rattle.hm_data.specs.declared.catalog.CatKey.TheVariants as key_is
@@ -20,32 +18,11 @@ use Rattle.hm_model.specs.Keys.{same_table}
 use Rattle.hm_model.specs.Kinds.{table_of_request}
 use Rattle.hm_model.specs.Locks.{IsIn}
 use Rattle.hm_model.specs.Parts.{part_drawn, part_key}
-use Rattle.hm_model.specs.RowLaws.{AllBehind, AreInOrder}
+use Rattle.hm_model.specs.RowLaws.{AreInOrder}
 use Rattle.hm_model.specs.Tree.{drawn, ids_for, new_ids}
 use Rattle.hm_model.proofs.KeyTests.{same_table-is}
 use Rattle.hm_model.proofs.Rows.{has_key, in_with_key, in_with_keys}
-
-behind_further : (k key : CatKey) (keys : List CatKey) → key_cmp k key ≡ Less → AllBehind key keys → AllBehind k keys
-behind_further k key [] less behind = tt
-behind_further k key (first ∷ more) less behind = (keys_total.trans k key first less behind.0, behind_further k key more less behind.1)
-
-behind_at : (o : Ordering) (k key first : CatKey) (more rest : List CatKey) → key_cmp k key ≡ Less → key_cmp k first ≡ Less → AllBehind k more → AllBehind k rest → AllBehind k (with_key_at o key first more rest)
-behind_at Less k key first more rest less here behind on = (less, (here, behind))
-behind_at Equal k key first more rest less here behind on = (here, behind)
-behind_at Greater k key first more rest less here behind on = (here, on)
-
-behind_with : (k key : CatKey) (keys : List CatKey) → key_cmp k key ≡ Less → AllBehind k keys → AllBehind k (with_key key keys)
-behind_with k key [] less behind = (less, tt)
-behind_with k key (first ∷ more) less behind = behind_at (key_cmp key first) k key first more (with_key key more) less behind.0 behind.1 (behind_with k key more less behind.1)
-
-order_at : (o : Ordering) (key first : CatKey) (more : List CatKey) → key_cmp key first ≡ o → AllBehind first more → AreInOrder more → AreInOrder (with_key key more) → AreInOrder (with_key_at o key first more (with_key key more))
-order_at Less key first more e behind order rest = ((e, behind_further key first more e behind), (behind, order))
-order_at Equal key first more e behind order rest = (behind, order)
-order_at Greater key first more e behind order rest = (behind_with first key more (keys_total.antisymm first key ∙ ap ordering_reverse e) behind, rest)
-
-order_with : (key : CatKey) (keys : List CatKey) → AreInOrder keys → AreInOrder (with_key key keys)
-order_with key [] order = (tt, tt)
-order_with key (first ∷ more) order = order_at (key_cmp key first) key first more refl order.0 order.1 (order_with key more order.1)
+use Rattle.hm_costs.proofs.Counted.{order_with}
 
 order_with_keys : (edits : List Edit) (keys : List CatKey) → AreInOrder keys → AreInOrder (with_keys edits keys)
 order_with_keys [] keys order = order

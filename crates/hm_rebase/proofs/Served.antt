@@ -30,11 +30,12 @@ use Rattle.hm_model.specs.Sheets.{sheets_of}
 use Rattle.hm_model.specs.TransitActs.{nowhere}
 use Rattle.hm_model.specs.Tree.{drawn, made}
 use Rattle.hm_model.proofs.CameUp.{fenced_came, live_came}
-use Rattle.hm_model.proofs.NameTies.{same_server-is, same_server-refl, servers_total}
+use Rattle.hm_model.proofs.NameTies.{same_server-is, same_server-refl, server_cmp-is, servers_total}
 use Rattle.hm_costs.proofs.Dead.{live_unfenced}
 use Rattle.hm_rebase.proofs.Downed.{down_fenced}
 use Rattle.hm_rebase.proofs.Keyed.{IsEarly, Keyed}
-use Rattle.hm_rebase.proofs.Latest.{InOrder, any_none, came_in, from_with, in_came, in_with, later_in, latest_all, same_list, servers_order, start_less}
+use Rattle.hm_rebase.proofs.Latest.{any_none, came_in, in_came, latest_all, servers_order, start_less}
+use Rattle.hm_rebase.proofs.Orders.{InOrder, from_with, in_with, later_in, same_list}
 use Rattle.hm_rebase.proofs.Putting.{put}
 use Rattle.hm_rebase.proofs.Still.{still}
 
@@ -147,7 +148,7 @@ module _ (J : Past) (legal : IsLegal J) (begun : IsBegun J) (none : under_way J 
   }
 
   -- one more server
-  module _ (own : Part) (Q : Past) (s : Server) (rest : List Server) (order : InOrder (s ∷ rest)) (k : Served own Q (s ∷ rest)) where
+  module _ (own : Part) (Q : Past) (s : Server) (rest : List Server) (order : InOrder server_cmp (s ∷ rest)) (k : Served own Q (s ∷ rest)) where
     abbrev P : Past
     P = entry_is.Base own ∷ Q
 
@@ -187,7 +188,7 @@ module _ (J : Past) (legal : IsLegal J) (begun : IsBegun J) (none : under_way J 
     apart x among = elim (cases_Bool (same_server x s)) [
       | inr off ↦ off
       | inl on ↦
-          let less : server_cmp s x ≡ Less = later_in s x rest order.0 among in
+          let less : server_cmp s x ≡ Less = later_in server_cmp s x rest order.0 among in
           let tied : server_cmp s x ≡ Equal = ap (server_cmp s) (same_server-is x s on) ∙ tied_itself servers_total s in
           absurd (cc)
     ]
@@ -218,15 +219,15 @@ module _ (J : Past) (legal : IsLegal J) (begun : IsBegun J) (none : under_way J 
       rows = k.rows;
       ids = k.ids;
       places = k.places;
-      before = λ x among. later_in s x rest order.0 among;
+      before = λ x among. later_in server_cmp s x rest order.0 among;
       inside = λ x among. k.inside x (inr among);
-      within = λ y among. elim (from_with y s (servers_of P) among) [ inl new ↦ subst (λ z. IsIn z (servers_of J)) (sym new) here_in | inr old ↦ k.within y old ];
+      within = λ y among. elim (from_with server_cmp y s (servers_of P) among) [ inl new ↦ subst (λ z. IsIn z (servers_of J)) (sym new) here_in | inr old ↦ k.within y old ];
       listed = λ y among. elim (k.listed y among) [
-        | inl old ↦ inl (in_with y s (servers_of P) (inr old))
-        | inr later ↦ elim later [ inl here ↦ inl (in_with y s (servers_of P) (inl here)) | inr more ↦ inr more ]
+        | inl old ↦ inl (in_with server_cmp servers_total server_cmp-is y s (servers_of P) (inr old))
+        | inr later ↦ elim later [ inl here ↦ inl (in_with server_cmp servers_total server_cmp-is y s (servers_of P) (inl here)) | inr more ↦ inr more ]
       ];
-      earlier = λ y x among later. elim (from_with y s (servers_of P) among) [
-        | inl new ↦ ap (λ z. server_cmp z x) new ∙ later_in s x rest order.0 later
+      earlier = λ y x among later. elim (from_with server_cmp y s (servers_of P) among) [
+        | inl new ↦ ap (λ z. server_cmp z x) new ∙ later_in server_cmp s x rest order.0 later
         | inr old ↦ k.earlier y x old (inr later)
       ];
       dead = λ x among.
@@ -240,7 +241,7 @@ module _ (J : Past) (legal : IsLegal J) (begun : IsBegun J) (none : under_way J 
       laid = k.laid;
     }
 
-  pub serve_all : (rest : List Server) → InOrder rest → (P : Past) → HasServed P rest → HasServed (put P (map (server_part J) rest)) []
+  pub serve_all : (rest : List Server) → InOrder server_cmp rest → (P : Past) → HasServed P rest → HasServed (put P (map (server_part J) rest)) []
   serve_all [] order P h = h
   serve_all (s ∷ rest) order P h =
       serve_all rest order.1 (entry_is.Base (server_part J s) ∷ P) (record {
@@ -252,4 +253,4 @@ module _ (J : Past) (legal : IsLegal J) (begun : IsBegun J) (none : under_way J 
 
   -- then all servers are the same
   pub served_same : (own : Part) (Q : Past) → Served own Q [] → servers_of (entry_is.Base own ∷ Q) ≡ servers_of J
-  served_same own Q k = same_list (servers_of (entry_is.Base own ∷ Q)) (servers_of J) (servers_order (entry_is.Base own ∷ Q)) (servers_order J) k.within (λ y among. elim (k.listed y among) [ inl old ↦ old | inr later ↦ absurd later ])
+  served_same own Q k = same_list server_cmp servers_total (servers_of (entry_is.Base own ∷ Q)) (servers_of J) (servers_order (entry_is.Base own ∷ Q)) (servers_order J) k.within (λ y among. elim (k.listed y among) [ inl old ↦ old | inr later ↦ absurd later ])

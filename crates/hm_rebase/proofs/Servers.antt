@@ -1,8 +1,6 @@
 -- Servers in journals that read alike: who is live, and which regions are at each.
-use Rattle.std.proofs.Common.{◌≡◌, List, [], ◌∷◌, take, nat_lt, Bool, not, ◌&&◌, ◌||◌, Option, Some, None, refl, ap, sym, ◌∙◌, subst, inl, inr}
+use Rattle.std.proofs.Common.{◌≡◌, List, [], ◌∷◌, take, nat_lt, Bool, not, ◌&&◌, ◌||◌, Option, Some, None, refl, ap, sym, ◌∙◌, inl}
 use Rattle.std.specs.List.{list_any}
-use Rattle.std.specs.declared.cmp.Ordering.TheVariants.{Equal, Less}
-use Rattle.std.proofs.lemmas.Cmp.{tied_itself}
 use Rattle.hm_names.specs.Order.{region_cmp}
 use Rattle.hm_names.specs.Region.{Region}
 use Rattle.hm_names.specs.Server.{Server}
@@ -10,42 +8,15 @@ use Rattle.hm_data.specs.declared.args.Args.{Args}
 use Rattle.hm_model.specs.Fleet.{has_newer, has_older_live, has_other_live, is_live, same_address, same_server, servers_of}
 use Rattle.hm_model.specs.Inputs.{fenced_if, place_if, regions_on, sees_fenced, server_at}
 use Rattle.hm_model.specs.Journal.{Past}
-use Rattle.hm_model.specs.Locks.{IsIn}
 use Rattle.hm_model.specs.Places.{at_server, is_at, is_the_server, place_of}
 use Rattle.hm_model.specs.TransitActs.{is_placed, told_place}
 use Rattle.hm_model.specs.Whereabouts.{called_by, moved_by}
-use Rattle.hm_model.proofs.InOrder.{AllLater, InOrder, at_order, not_later}
+use Rattle.hm_model.proofs.InOrder.{at_order}
 use Rattle.hm_model.proofs.NameTies.{regions_total}
 use Rattle.hm_costs.proofs.Lost.{at_listed, listed_at}
 use Rattle.hm_rebase.specs.Alike.{Alike}
 use Rattle.hm_rebase.proofs.Seen.{AreOnePlace, one_place, placed_one, server_one}
-
-later_in : (region y : Region) (list : List Region) → AllLater region list → IsIn y list → region_cmp region y ≡ Less
-later_in region y [] all h = elim h [ ]
-later_in region y (first ∷ more) all (inl here) = ap (region_cmp region) here ∙ all.0
-later_in region y (first ∷ more) all (inr later) = later_in region y more all.1 later
-
--- lists in order are the same where the same is in them
-same_list : (one other : List Region) → InOrder one → InOrder other → ((y : Region) → IsIn y one → IsIn y other) → ((y : Region) → IsIn y other → IsIn y one) → one ≡ other
-same_list [] [] up down to from = refl
-same_list [] (y ∷ other) up down to from = elim (from y (inl refl)) [ ]
-same_list (x ∷ one) [] up down to from = elim (to x (inl refl)) [ ]
-same_list (x ∷ one) (y ∷ other) up down to from =
-    ap (λ z. z ∷ one) here ∙ ap (λ l. y ∷ l) (same_list one other up.1 down.1
-    (λ z among. elim (to z (inr among)) [ inl first ↦ absurd (not_later x one up.0 (subst (λ w. IsIn w one) (first ∙ sym here) among)) | inr later ↦ later ])
-    (λ z among. elim (from z (inr among)) [ inl first ↦ absurd (not_later y other down.0 (subst (λ w. IsIn w other) (first ∙ here) among)) | inr later ↦ later ]))
-  where
-    here : x ≡ y
-    here = elim (to x (inl refl)) [
-      | inl same ↦ same
-      | inr after ↦ elim (from y (inl refl)) [
-        | inl same ↦ sym same
-        | inr behind ↦
-            let around : region_cmp x x ≡ Less = regions_total.trans x y x (later_in x y one up.0 behind) (later_in y x other down.0 after) in
-            let tied : region_cmp x x ≡ Equal = tied_itself regions_total x in
-            cc
-      ]
-    ]
+use Rattle.hm_rebase.proofs.Orders.{same_list}
 
 any_same : (one other : Server → Bool) (list : List Server) → ((s : Server) → one s ≡ other s) → list_any one list ≡ list_any other list
 any_same one other [] same = refl
@@ -59,7 +30,7 @@ module _ (J K : Past) (alike : Alike J K) where
       ∙ ap (λ s. is_placed (place_of K region) && is_the_server server s) (server_one (place_of J region) (place_of K region) one)
 
   pub at_server_same : (server : Server) → at_server J server ≡ at_server K server
-  at_server_same server = same_list (at_server J server) (at_server K server) (at_order J server) (at_order K server)
+  at_server_same server = same_list region_cmp regions_total (at_server J server) (at_server K server) (at_order J server) (at_order K server)
       (λ y among. at_listed K server y (sym (at_same server y) ∙ listed_at J server y among))
       (λ y among. at_listed J server y (at_same server y ∙ listed_at K server y among))
 
