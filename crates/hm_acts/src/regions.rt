@@ -1,10 +1,11 @@
 // The acts on the regions of tables.
-ghost use Rattle.std.specs.Prelude.{◌≡◌, ◌≤◌, ◌<◌, ◌^◌, [], IfOk, Some};
+ghost use Rattle.std.specs.Prelude.{◌≡◌, ◌≤◌, ◌<◌, ◌^◌, [], IfOk, Some, length};
 ghost use Rattle.std.specs.List.{AllByRecursion};
 ghost use Rattle.hm_model.specs.Catalog.{row_at as row_of, set_to};
 ghost use Rattle.hm_model.specs.Changes.{live_row as live_of, region_key, add_ranges as adds_ranges, remove_regions as removes};
 ghost use Rattle.hm_model.specs.Evaluation.{named_ids};
-ghost use Rattle.hm_model.specs.Pieces.{ranges_between as between, transits as transits_of};
+ghost use Rattle.hm_model.specs.Outs.{edits_rows as editing, spawns as spawning};
+ghost use Rattle.hm_model.specs.Pieces.{adding as adding_of, ranges_between as between, transits as transits_of};
 ghost use Rattle.hm_model.specs.RegionActs.{regions_for, add_regions as adds, open_regions as opens, close_regions as closes, drop_regions as drops, open_new as opens_new, add_region_rows as adds_rows, drop_region_rows as drops_rows};
 ghost use Rattle.hm_model.specs.Views.{bounds_of as bounds_in, first_id_of as first_id, regions_in};
 
@@ -20,6 +21,23 @@ use hm_views::regions::regions_among;
 use hm_views::views::{first_id_of, ids_of, table_of};
 use std::alloc::{AllocError, Global};
 
+// Has the regions between bounds added.
+fn add_between(
+    alloc: Global,
+    next: u8,
+    table: &TableName,
+    first: u64,
+    bounds: Vec<RowKey>,
+) -> Result<StepOut, AllocError>
+    requires { first < 2 ^ 32 }
+    ensures { IfOk result
+        (λ out. out ≡ spawning next (adding_of (length bounds.items) table.now first bounds.items)) }
+{
+    let children = adding(alloc, table, first, &bounds);
+    drop(bounds);
+    Ok(spawns(alloc, next, children?))
+}
+
 /// Has the regions of the new table added.
 pub(crate) fn add_regions(alloc: Global, next: u8, args: &Args) -> Result<StepOut, AllocError>
     requires { first_id args.now < 2 ^ 32 }
@@ -28,11 +46,10 @@ pub(crate) fn add_regions(alloc: Global, next: u8, args: &Args) -> Result<StepOu
     let Some(table) = table_of(args) else {
         return Ok(goes_on(alloc, next));
     };
-    let Some(bounds) = bounds_of(alloc, args)? else {
-        return Ok(goes_on(alloc, next));
-    };
-    let children = adding(alloc, table, first_id_of(args), &bounds)?;
-    Ok(spawns(alloc, next, children))
+    match bounds_of(alloc, args)? {
+        None => Ok(goes_on(alloc, next)),
+        Some(bounds) => add_between(alloc, next, table, first_id_of(args), bounds),
+    }
 }
 
 // Transits of the regions that were drawn for a new table, else of the live ones of the table.
@@ -218,6 +235,44 @@ fn add_ranges(
     Ok(edits)
 }
 
+// Adds regions of these ranges as live, without parents.
+fn add_rows(
+    alloc: Global,
+    next: u8,
+    rows: &Rows<'_>,
+    table: &TableName,
+    first: u64,
+    ranges: Vec<KeyRange>,
+) -> Result<StepOut, AllocError>
+    requires drawn { 1 ≤ first }
+    requires low { first < 2 ^ 32 }
+    ensures { IfOk result
+        (λ out. out ≡ editing next (adds_ranges (row_of rows.now) table.now first ranges.items)) }
+{
+    let edits = add_ranges(alloc, rows, table, first, &ranges);
+    drop(ranges);
+    Ok(edits_rows(alloc, next, edits?))
+}
+
+// Adds the regions between bounds as live, without parents.
+fn add_rows_between(
+    alloc: Global,
+    next: u8,
+    rows: &Rows<'_>,
+    table: &TableName,
+    first: u64,
+    bounds: Vec<RowKey>,
+) -> Result<StepOut, AllocError>
+    requires drawn { 1 ≤ first }
+    requires low { first < 2 ^ 32 }
+    ensures { IfOk result
+        (λ out. out ≡ editing next (adds_ranges (row_of rows.now) table.now first (between bounds.items))) }
+{
+    let ranges = ranges_between(alloc, &bounds);
+    drop(bounds);
+    add_rows(alloc, next, rows, table, first, ranges?)
+}
+
 /// Adds regions as live, without parents.
 pub(crate) fn add_region_rows(
     alloc: Global,
@@ -232,12 +287,10 @@ pub(crate) fn add_region_rows(
     let Some(table) = table_of(args) else {
         return Ok(goes_on(alloc, next));
     };
-    let Some(bounds) = bounds_of(alloc, args)? else {
-        return Ok(goes_on(alloc, next));
-    };
-    let ranges = ranges_between(alloc, &bounds)?;
-    let edits = add_ranges(alloc, rows, table, first_id_of(args), &ranges)?;
-    Ok(edits_rows(alloc, next, edits))
+    match bounds_of(alloc, args)? {
+        None => Ok(goes_on(alloc, next)),
+        Some(bounds) => add_rows_between(alloc, next, rows, table, first_id_of(args), bounds),
+    }
 }
 
 // The regions of a table with these ids are removed.

@@ -3,8 +3,10 @@ ghost use Rattle.std.specs.Prelude.{◌≡◌, [], ◌∷◌, IfOk, None, Some};
 ghost use Rattle.hm_data.specs.declared.answer.Answer.TheVariants as answer_is;
 ghost use Rattle.hm_data.specs.declared.args.Args.TheVariants as args_are;
 ghost use Rattle.hm_data.specs.declared.args.Child.TheVariants as child_is;
+ghost use Rattle.hm_data.specs.declared.call.Told.TheVariants as told_is;
 ghost use Rattle.hm_data.specs.declared.place.RegionState.TheVariants as state_is;
-ghost use Rattle.hm_model.specs.TransitActs.{is_open as opened, candidate as candidate_is, get_assign_candidate as get_candidate, open_there as opens, confirm_opened as confirms, behind_close as behind, close_at as closes_at, close_or_go as closes_or_goes, close_there as closes, confirm_closed as confirms_closed, check_move as checks};
+ghost use Rattle.hm_model.specs.Outs.{given, places as placing};
+ghost use Rattle.hm_model.specs.TransitActs.{is_open as opened, is_state as in_state, lost_if as lost, candidate as candidate_is, get_assign_candidate as get_candidate, open_there as opens, confirm_opened as confirms, behind_close as behind, close_at as closes_at, close_or_go as closes_or_goes, close_there as closes, confirm_closed as confirms_closed, check_move as checks};
 
 use crate::outs::{checked, ends_with, goes_on, one_child, places, spawns_one};
 use hm_data::{
@@ -163,6 +165,29 @@ fn close_at(
     Ok(closing(alloc, next, children, server))
 }
 
+// A region is closed at the server where it is, if there is one.
+fn close_where(
+    alloc: Global,
+    next: u8,
+    region: &RegionName,
+    server: Option<ServerName>,
+) -> Result<StepOut, AllocError>
+    ensures { IfOk result (λ out. out ≡ given server next (closes_at next region.now)) }
+{
+    match server {
+        None => Ok(goes_on(alloc, next)),
+        Some(server) => close_at(alloc, next, region, server),
+    }
+}
+
+// What there is to do with a region that isn't open: where its server is lost, so is it.
+fn go_behind(alloc: Global, goal: Goal, place: &Place) -> StepOut
+    ensures { result ≡ placing (behind goal told_is.Nothing) (lost (in_state state_is.Opened place.now)) }
+{
+    let lost = lost_if(is_state(RegionState::Opened, place));
+    places(alloc, behind_close(goal, Told::Nothing), lost)
+}
+
 // A region is closed where it is open; where its server is lost, so is it.
 fn close_or_go(
     alloc: Global,
@@ -175,14 +200,14 @@ fn close_or_go(
     ensures { IfOk result
         (λ out. out ≡ closes_or_goes next goal region.now place (opened place fenced)) }
 {
-    if !is_open(&place, fenced) {
-        let lost = lost_if(is_state(RegionState::Opened, &place));
-        return Ok(places(alloc, behind_close(goal, Told::Nothing), lost));
+    if is_open(&place, fenced) {
+        let Place { state: _, server } = place;
+        close_where(alloc, next, region, server)
+    } else {
+        let out = go_behind(alloc, goal, &place);
+        drop(place);
+        Ok(out)
     }
-    let Some(server) = place.server else {
-        return Ok(goes_on(alloc, next));
-    };
-    close_at(alloc, next, region, server)
 }
 
 /// Has the region closed where it is open.
