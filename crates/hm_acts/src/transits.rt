@@ -16,7 +16,8 @@ use hm_names::{Copied, List, Pid, RegionName, ServerName};
 use hm_views::checks::region_ready;
 use hm_views::lookup::{region_row, table_row};
 use hm_views::places::{
-    closed_or_lost, is_open, is_placed, is_state, is_told, lost_if, may_open_in, nowhere, told_place,
+    closed_or_lost, is_open, is_placed, is_state, is_told, lost_if, may_open_in, nowhere,
+    told_place,
 };
 use hm_views::views::{goal_in, region_of};
 use std::alloc::{AllocError, Global};

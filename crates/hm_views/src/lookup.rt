@@ -83,10 +83,7 @@ pub fn table_row<'a>(rows: &'a [(CatKey, CatRow)], table: &TableName) -> Option<
 }
 
 /// The row of a region among rows.
-pub fn region_row<'a>(
-    rows: &'a [(CatKey, CatRow)],
-    region: &RegionName,
-) -> Option<&'a CatRow>
+pub fn region_row<'a>(rows: &'a [(CatKey, CatRow)], region: &RegionName) -> Option<&'a CatRow>
     ensures { option_copied result ≡ row_of rows.now (key_is.Region region.now) }
 {
     for (key, row) in rows {

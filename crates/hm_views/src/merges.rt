@@ -62,6 +62,14 @@ fn regions_live(rows: &Rows<'_>, regions: &[RegionName]) -> Option<Cause>
     }
 }
 
+// A region's part of a merge, by its range.
+fn part_of(alloc: Global, id: u64, range: &KeyRange) -> Result<Merged, AllocError>
+    ensures { IfOk result (λ part. part ≡ record { id = id; range = range.now }) }
+{
+    let range = range.copy(alloc)?;
+    Ok(Merged { id, range })
+}
+
 // The ranges of regions among rows, where they are known.
 fn parts_of(
     alloc: Global,
@@ -73,11 +81,7 @@ fn parts_of(
     let mut parts = Vec::new(alloc);
     for region in regions {
         if let Some(range) = range_in(rows.region(region)) {
-            let range = range.copy(alloc)?;
-            parts.push(Merged {
-                id: region.id,
-                range,
-            })?;
+            parts.push(part_of(alloc, region.id, range)?)?;
         }
     }
     Ok(parts)

@@ -16,10 +16,7 @@ fn copies(alloc: Global, regions: &[RegionName]) -> Result<Vec<RegionName>, Allo
 }
 
 /// Copies of the regions, in name order.
-pub fn in_name_order(
-    alloc: Global,
-    regions: &[RegionName],
-) -> Result<Vec<RegionName>, AllocError>
+pub fn in_name_order(alloc: Global, regions: &[RegionName]) -> Result<Vec<RegionName>, AllocError>
     ensures { IfOk result (λ v. v.items ≡ ordered regions.now) }
 {
     let mut copied = copies(alloc, regions)?;

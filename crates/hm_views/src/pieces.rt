@@ -59,11 +59,7 @@ fn batches(alloc: Global, goal: Goal, regions: &[RegionName]) -> Result<Vec<Chil
 }
 
 /// Transits of regions: one child for each table, in name order, with the ids rising.
-pub fn transits(
-    alloc: Global,
-    goal: Goal,
-    regions: &[RegionName],
-) -> Result<Vec<Child>, AllocError>
+pub fn transits(alloc: Global, goal: Goal, regions: &[RegionName]) -> Result<Vec<Child>, AllocError>
     ensures { IfOk result (λ v. v.items ≡ transits_of goal regions.now) }
 {
     let ordered = in_name_order(alloc, regions)?;
@@ -124,11 +120,7 @@ fn drop_piece(alloc: Global, table: &TableName, ids: &[u64]) -> Result<Child, Al
 
 /// Procedures that remove regions, 64 each, the last the rest.
 #[tactic(auto, using(crate::proofs::InPieces::dropping_by))]
-pub fn dropping(
-    alloc: Global,
-    table: &TableName,
-    ids: &[u64],
-) -> Result<Vec<Child>, AllocError>
+pub fn dropping(alloc: Global, table: &TableName, ids: &[u64]) -> Result<Vec<Child>, AllocError>
     ensures { IfOk result (λ v. v.items ≡ drops table.now ids.now) }
 {
     let mut children = Vec::new(alloc);

@@ -13,11 +13,7 @@ fn range_to(alloc: Global, start: RowKey, end: &RowKey) -> Result<KeyRange, Allo
 }
 
 /// The range from a start to an end.
-pub fn range_of_keys(
-    alloc: Global,
-    start: &RowKey,
-    end: &RowKey,
-) -> Result<KeyRange, AllocError>
+pub fn range_of_keys(alloc: Global, start: &RowKey, end: &RowKey) -> Result<KeyRange, AllocError>
     ensures { IfOk result (λ range. range ≡ record { start = start.now; end = end.now }) }
 {
     let start = start.copy(alloc)?;
