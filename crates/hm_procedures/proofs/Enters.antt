@@ -2,7 +2,7 @@
 use Rattle.std.proofs.Common.{◌≡◌, ◌≢◌, ℕ, suc, ◌+◌, ◌-◌, ◌<◌, ◌≤◌, ◌==◌, List, [], ◌∷◌, ◌++◌, Bool, true, not, ◌&&◌, Option, Some, None, length, map, slice_get, refl, ap, sym, ◌∙◌, inl, inr, arith, length-append}
 use Rattle.std.specs.Option.{option_map}
 use Rattle.std.proofs.lemmas.Bool.{cases_Bool, cases_eq, cases_lt}
-use Rattle.std.proofs.lemmas.Option.{none-some, same_Some, slice_get-map}
+use Rattle.std.proofs.lemmas.Option.{none-some, same_Some, slice_get-map, slice_get_past}
 use Rattle.hm_names.specs.Server.{Server}
 use Rattle.hm_names.specs.declared.nonce.Nonce.{Nonce}
 use Rattle.hm_names.specs.declared.pid.Pid.{Pid}
@@ -15,22 +15,29 @@ use Rattle.hm_data.specs.declared.record.Phase.{Phase}
 use Rattle.hm_data.specs.declared.record.Phase.TheVariants as phase_is
 use Rattle.hm_data.specs.declared.request.Request.{Request}
 use Rattle.hm_data.specs.declared.sheet.Sheet.{Sheet}
+use Rattle.hm_data.specs.declared.part.Part.{Part}
 use Rattle.hm_model.specs.Apart.{tree_of}
+use Rattle.hm_model.specs.Base.{PartFits}
+use Rattle.hm_model.specs.Editions.{edition_of, editions}
 use Rattle.hm_model.specs.Journal.{Past}
 use Rattle.hm_model.specs.Kinds.{table_of_request}
 use Rattle.hm_model.specs.Phase.{ended, phase}
-use Rattle.hm_model.specs.Plain.{IsPlain}
+use Rattle.hm_model.specs.Procedures.{offset}
+use Rattle.hm_model.specs.Records.{unfinished}
 use Rattle.hm_model.specs.Rules.{IsLegal}
 use Rattle.hm_model.specs.Tree.{Node, first_of, is_root, is_root_in, is_top, made, node_of, root_node}
+use Rattle.hm_model.proofs.Editions.{made_in_force}
 use Rattle.hm_model.proofs.Forest.{rooted_all}
 use Rattle.hm_model.proofs.Grown.{down_new, down_old, grown_all, made_up_to, submit_new, submit_old}
+use Rattle.hm_model.proofs.Parted.{by_parts, count_none}
 use Rattle.hm_procedures.specs.Book.{IsRooting}
 use Rattle.hm_procedures.specs.Changes.{aborted, added, fresh, reported}
 use Rattle.hm_procedures.specs.Kept.{IsKept, args_made, kept_at, kept_in, kept_of, root_shown}
 use Rattle.hm_procedures.specs.declared.kept.Tracked.{Tracked}
 use Rattle.hm_procedures.proofs.Blank.{IsBlank, blank_new}
 use Rattle.hm_procedures.proofs.Counts.{all_stay, closed, is_open, no_root, open_root}
-use Rattle.hm_procedures.proofs.Facts.{fresh_root, on_abort, on_report, still_down, still_start, still_submit, still_up}
+use Rattle.hm_procedures.proofs.Facts.{fresh_root, on_abort, on_report, still_adopt, still_down, still_start, still_submit, still_up}
+use Rattle.hm_procedures.proofs.Firsts.{none_low}
 use Rattle.hm_procedures.proofs.InTrees.{others, others_end, root_runs}
 use Rattle.hm_procedures.proofs.Places.{length-added, slice_get-added, slice_get-high, slice_get-low}
 
@@ -57,46 +64,61 @@ roots_added roots mid more each q =
 abbrev pub shown_as : (ℕ → Node → Phase) → Past → ℕ → Option Tracked
 shown_as phases J p = option_map (λ x. kept_in (phases p x) J p x) (node_of J p)
 
--- those that were there, and those that an entry makes
-module _ (J' : Past) (n : ℕ) (up : Option (Pid × Pid)) (make : ℕ → Args → Node) (fresh_is : (p : ℕ) (args : Args) → IsBlank J' p → kept_in phase_is.Runnable J' p (make p args) ≡ fresh p up args) (phases : ℕ → Node → Phase) (kept : List Tracked) (long : length kept ≡ n) (made : List Args) where
-  pub more_made : ((q : ℕ) → q < n → slice_get kept q ≡ shown_as phases J' (q + 1)) → ((q : ℕ) → n ≤ q → node_of J' (q + 1) ≡ option_map (make (q + 1)) (slice_get made (q - n))) → ((p : ℕ) → n < p → IsBlank J' p)
+-- those that were there, and those that an entry makes, numbered after n
+module _ (J' : Past) (from n : ℕ) (up : Option (Pid × Pid)) (edition : ℕ) (make : ℕ → Args → Node)
+    (fresh_is : (p : ℕ) (args : Args) → n < p → node_of J' p ≡ Some (make p args) → IsBlank J' p → kept_in phase_is.Runnable J' p (make p args) ≡ fresh p up edition args)
+    (phases : ℕ → Node → Phase) (kept : List Tracked) (long : from + length kept ≡ n) (made : List Args) where
+  pub more_made : ((q : ℕ) → q < length kept → slice_get kept q ≡ shown_as phases J' (from + q + 1)) → ((p : ℕ) → n < p → node_of J' p ≡ option_map (make p) (slice_get made (p - n - 1))) → ((p : ℕ) → n < p → IsBlank J' p)
       → ((p : ℕ) (x : Node) → n < p → node_of J' p ≡ Some x → phases p x ≡ phase_is.Runnable)
-      → (q : ℕ) → slice_get (kept ++ added (length kept) up made) q ≡ shown_as phases J' (q + 1)
-  more_made old new blank runs q = elim (cases_lt q n) [
-    | inl lt ↦ slice_get-low kept (added (length kept) up made) q (omega (arith, lt, long)) ∙ old q lt
-    | inr le ↦ (let number : length kept + (q - length kept) + 1 ≡ q + 1 = omega (arith, le, long) in
-        slice_get-high kept (added (length kept) up made) q (omega (arith, le, long))
-        ∙ slice_get-added (length kept) up made (q - length kept)
-        ∙ ap (λ k. option_map (fresh k up) (slice_get made (q - length kept))) number
-        ∙ ap (λ k. option_map (fresh (q + 1) up) (slice_get made (q - k))) long
-        ∙ by le (slice_get made (q - n)) (new q le))
+      → (q : ℕ) → slice_get (kept ++ added n up edition made) q ≡ shown_as phases J' (from + q + 1)
+  more_made old new blank runs q = elim (cases_lt q (length kept)) [
+    | inl lt ↦ slice_get-low kept (added n up edition made) q lt ∙ old q lt
+    | inr le ↦ (let number : n + (q - length kept) + 1 ≡ from + q + 1 = omega (arith, le, long) in
+        let place : q - length kept ≡ from + q + 1 - n - 1 = omega (arith, le, long) in
+        let behind : n < from + q + 1 = omega (arith, le, long) in
+        slice_get-high kept (added n up edition made) q le
+        ∙ slice_get-added n up edition made (q - length kept)
+        ∙ ap (λ k. option_map (fresh k up edition) (slice_get made (q - length kept))) number
+        ∙ ap (λ k. option_map (fresh (from + q + 1) up edition) (slice_get made k)) place
+        ∙ by (from + q + 1) behind (slice_get made (from + q + 1 - n - 1)) (new (from + q + 1) behind))
   ]
     where
-      by : n ≤ q → (o : Option Args) → node_of J' (q + 1) ≡ option_map (make (q + 1)) o → option_map (fresh (q + 1) up) o ≡ shown_as phases J' (q + 1)
-      by le None e = sym (ap (option_map (λ x. kept_in (phases (q + 1) x) J' (q + 1) x)) e)
-      by le (Some args) e =
-          sym (ap (option_map (λ x. kept_in (phases (q + 1) x) J' (q + 1) x)) e
-          ∙ ap (λ f. Some (kept_in f J' (q + 1) (make (q + 1) args))) (runs (q + 1) (make (q + 1) args) (omega (arith, le)) e)
-          ∙ ap Some (fresh_is (q + 1) args (blank (q + 1) (omega (arith, le)))))
+      by : (p : ℕ) → n < p → (o : Option Args) → node_of J' p ≡ option_map (make p) o → option_map (fresh p up edition) o ≡ shown_as phases J' p
+      by p lt None e = sym (ap (option_map (λ x. kept_in (phases p x) J' p x)) e)
+      by p lt (Some args) e =
+          sym (ap (option_map (λ x. kept_in (phases p x) J' p x)) e
+          ∙ ap (λ f. Some (kept_in f J' p (make p args))) (runs p (make p args) lt e)
+          ∙ ap Some (fresh_is p args lt e (blank p lt)))
 
 -- the number of those that are kept now
-pub count_more : (kept : List Tracked) (up : Option (Pid × Pid)) (made : List Args) (n : ℕ) → length kept ≡ n → length (kept ++ added (length kept) up made) ≡ n + length made
-count_more kept up made n long = length-append kept (added (length kept) up made) ∙ ap (λ k. length kept + k) (length-added (length kept) up made) ∙ ap (λ k. k + length made) long
+pub count_more : (kept : List Tracked) (n : ℕ) (up : Option (Pid × Pid)) (edition : ℕ) (made : List Args) → length (kept ++ added n up edition made) ≡ length kept + length made
+count_more kept n up edition made = length-append kept (added n up edition made) ∙ ap (λ k. length kept + k) (length-added n up edition made)
 
 -- the root that an entry makes
 pub one_new : (J J' : Past) → IsLegal J → (args : Args) (first : ℕ) → ((q : ℕ) → q ≢ made J + 1 → node_of J' q ≡ node_of J q) → ((q : ℕ) → q ≡ made J + 1 → node_of J' q ≡ Some (root_node q args first))
-    → (q : ℕ) → made J ≤ q → node_of J' (q + 1) ≡ option_map (λ a. root_node (q + 1) a first) (slice_get (args ∷ []) (q - made J))
-one_new J J' legal args first old new q le = elim (cases_eq q (made J)) [
-  | inl same ↦ (let e : q - made J ≡ 0 = omega (arith, same) in new (q + 1) (omega (arith, same)) ∙ sym (ap (λ i. option_map (λ a. root_node (q + 1) a first) (slice_get (args ∷ []) i)) e))
-  | inr far ↦ (let e : q - made J ≡ suc (q - made J - 1) = omega (arith, le, far) in
-      old (q + 1) (λ e. omega (arith, le, far, e)) ∙ (grown_all J legal).numbered (q + 1) (omega (arith, le)) ∙ sym (ap (λ i. option_map (λ a. root_node (q + 1) a first) (slice_get (args ∷ []) i)) e))
+    → (p : ℕ) → made J < p → node_of J' p ≡ option_map (λ a. root_node p a first) (slice_get (args ∷ []) (p - made J - 1))
+one_new J J' legal args first old new p lt = elim (cases_eq p (made J + 1)) [
+  | inl same ↦ (let e : p - made J - 1 ≡ 0 = omega (arith, same) in new p same ∙ sym (ap (λ i. option_map (λ a. root_node p a first) (slice_get (args ∷ []) i)) e))
+  | inr far ↦ (let e : p - made J - 1 ≡ suc (p - made J - 2) = omega (arith, lt, far) in
+      old p far ∙ (grown_all J legal).numbered p lt ∙ sym (ap (λ i. option_map (λ a. root_node p a first) (slice_get (args ∷ []) i)) e))
 ]
 
+-- who is there has a number behind the offset
+pub behind_low : (J : Past) → IsLegal J → (p : ℕ) (x : Node) → node_of J p ≡ Some x → offset J < p
+behind_low J legal p x is = elim (cases_lt (offset J) p) [
+  | inl lt ↦ lt
+  | inr le ↦ absurd (none-some x (sym (none_low J legal p le) ∙ is))
+]
+
+-- the root of who is there was made
+pub root_within : (J : Past) → IsLegal J → (p : ℕ) (x : Node) → node_of J p ≡ Some x → x.root ≤ made J
+root_within J legal p x is = let root = rooted_all J legal p x is in (made_up_to J (grown_all J legal) x.root root.root root.there).1
+
 -- an entry that makes a root of its own
-module _ (entry : Entry) (J : Past) (legal : IsLegal (entry ∷ J)) (plain : IsPlain entry) (kept : List Tracked) (roots : List Pid) (left : ℕ) (was : IsKept J kept roots left) (args : Args) (first : ℕ)
+module _ (entry : Entry) (J : Past) (legal : IsLegal (entry ∷ J)) (off_is : offset (entry ∷ J) ≡ offset J) (kept : List Tracked) (roots : List Pid) (left : ℕ) (was : IsKept J kept roots left) (args : Args) (first : ℕ)
     (tree : tree_of J entry ≡ made J + 1) (made_is : made (entry ∷ J) ≡ made J + 1)
     (old : (q : ℕ) → q ≢ made J + 1 → node_of (entry ∷ J) q ≡ node_of J q) (new : (q : ℕ) → q ≡ made J + 1 → node_of (entry ∷ J) q ≡ Some (root_node q args first))
-    (still : (shown : Phase) (p : ℕ) (x : Node) → kept_in shown (entry ∷ J) p x ≡ kept_in shown J p x) where
+    (still : (shown : Phase) (p : ℕ) (x : Node) → x.root ≤ made J → kept_in shown (entry ∷ J) p x ≡ kept_in shown J p x) where
   abbrev now : Past
   now = entry ∷ J
 
@@ -104,16 +126,16 @@ module _ (entry : Entry) (J : Past) (legal : IsLegal (entry ∷ J)) (plain : IsP
   made_now = args ∷ []
 
   low_root : (p : ℕ) (x : Node) → node_of J p ≡ Some x → x.root ≢ made J + 1
-  low_root p x is e =
-      let root = rooted_all J legal.0 p x is in
-      let few = (made_up_to J (grown_all J legal.0) x.root root.root root.there).1 in omega (arith, few, e)
+  low_root p x is e = let few = root_within J legal.0 p x is in omega (arith, few, e)
 
-  old_kept : (q : ℕ) → q < made J → slice_get kept q ≡ kept_of now (q + 1)
-  old_kept q lt = was.kept_are q ∙ by (node_of J (q + 1)) refl ∙ sym (ap (option_map (kept_at now (q + 1))) (old (q + 1) (λ e. omega (arith, lt, e))))
+  old_kept : (q : ℕ) → q < length kept → slice_get kept q ≡ kept_of now (offset J + q + 1)
+  old_kept q lt =
+      was.kept_are q ∙ by (offset J + q + 1) (node_of J (offset J + q + 1)) refl
+      ∙ sym (ap (option_map (kept_at now (offset J + q + 1))) (old (offset J + q + 1) (λ e. let count = was.count in omega (arith, lt, e, count))))
     where
-      by : (o : Option Node) → node_of J (q + 1) ≡ o → option_map (kept_at J (q + 1)) o ≡ option_map (kept_at now (q + 1)) o
-      by None e = refl
-      by (Some x) e = ap Some (sym (ap (λ f. kept_in f now (q + 1) x) (others entry J legal (made J + 1) tree (q + 1) x e (low_root (q + 1) x e)) ∙ still (phase J (q + 1) x) (q + 1) x))
+      by : (p : ℕ) (o : Option Node) → node_of J p ≡ o → option_map (kept_at J p) o ≡ option_map (kept_at now p) o
+      by p None e = refl
+      by p (Some x) e = ap Some (sym (ap (λ f. kept_in f now p x) (others entry J legal (made J + 1) tree p x e (low_root p x e)) ∙ still (phase J p x) p x (root_within J legal.0 p x e)))
 
   new_runs : (p : ℕ) (x : Node) → made J < p → node_of now p ≡ Some x → phase now p x ≡ phase_is.Runnable
   new_runs p x lt is = elim (cases_eq p (made J + 1)) [
@@ -136,40 +158,74 @@ module _ (entry : Entry) (J : Past) (legal : IsLegal (entry ∷ J)) (plain : IsP
         | inr below ↦ no_root now q x (here ∙ e) below ∙ sym (no_root J q x e below)
       ]
 
-  pub rooted_kept : IsKept now (kept ++ added (length kept) None made_now) (roots ++ map root_shown (added (length kept) None made_now)) (left + 1)
+  -- in the edition in force
+  new_edition : (p : ℕ) → made J < p → (x : Node) → node_of now p ≡ Some x → is_top x.above ≡ true → edition_of now p ≡ editions J
+  new_edition p lt x is top = (made_in_force entry J legal p lt (ap is_root_in is ∙ top)).1
+
+  pub rooted_kept : IsKept now (kept ++ added (made J) None (editions J) made_now) (roots ++ map root_shown (added (made J) None (editions J) made_now)) (left + 1)
   rooted_kept = record {
     legal = legal;
-    plain = (was.plain, plain);
-    count = count_more kept None made_now (made J) was.count ∙ sym made_is;
-    kept_are = more_made now (made J) None (λ p a. root_node p a first) (λ p a blank. fresh_root now p a first blank) (phase now) kept was.count made_now old_kept (one_new J now legal.0 args first old new) (λ p lt. blank_new entry J legal p lt) new_runs;
-    roots_are = roots_added roots kept (added (length kept) None made_now) was.roots_are;
+    count = (let long = count_more kept (made J) None (editions J) made_now in let count = was.count in omega (arith, long, count, made_is, off_is));
+    kept_are = λ q.
+        more_made now (offset J) (made J) None (editions J) (λ p a. root_node p a first) (λ p a lt is blank. fresh_root now p a first (editions J) (new_edition p lt (root_node p a first) is refl) blank) (phase now) kept was.count made_now old_kept (one_new J now legal.0 args first old new) (λ p lt. blank_new entry J legal p lt) new_runs q
+        ∙ ap (λ n. kept_of now (n + q + 1)) (sym off_is);
+    roots_are = roots_added roots kept (added (made J) None (editions J) made_now) was.roots_are;
     left_are = ap (λ n. n + 1) was.left_are ∙ sym (all_stay J now 1 made_is true (λ q lt le. open_root now q (root_node q args first) (new q (omega (arith, lt, le))) refl (blank_new entry J legal q lt)) open_same);
   }
+
+-- before a part of a base entries made nobody, and nobody is unfinished
+pub none_made : (part : Part) (before : Past) → PartFits part before → made before ≡ offset before
+none_made = by_parts (λ J. made J ≡ offset J) refl (λ own older. refl)
+
+none_unfinished : (part : Part) (before : Past) → PartFits part before → unfinished before ≡ 0
+none_unfinished = by_parts (λ J. unfinished J ≡ 0) refl (λ own older. count_none (made (entry_is.Base own ∷ older) + 1))
 
 -- entries that make nothing: what is kept stays, or is changed of one
 module _ (J : Past) (kept : List Tracked) (roots : List Pid) (left : ℕ) (was : IsKept J kept roots left) where
   pub start_kept : (sheets : List Sheet) → IsLegal (entry_is.Start sheets ∷ J) → IsKept (entry_is.Start sheets ∷ J) kept roots left
-  start_kept sheets legal = record { legal = legal; plain = (was.plain, tt); count = was.count; kept_are = λ q. was.kept_are q ∙ by (q + 1) (node_of J (q + 1)); roots_are = was.roots_are; left_are = was.left_are }
+  start_kept sheets legal = record { legal = legal; count = was.count; kept_are = λ q. was.kept_are q ∙ by (offset J + q + 1) (node_of J (offset J + q + 1)); roots_are = was.roots_are; left_are = was.left_are }
     where
       by : (p : ℕ) (o : Option Node) → option_map (kept_at J p) o ≡ option_map (kept_at (entry_is.Start sheets ∷ J) p) o
       by p None = refl
       by p (Some x) = ap Some (sym (still_start (phase J p x) J p x sheets legal))
 
   pub up_kept : (server : Server) → IsLegal (entry_is.Up server ∷ J) → IsKept (entry_is.Up server ∷ J) kept roots left
-  up_kept server legal = record { legal = legal; plain = (was.plain, tt); count = was.count; kept_are = λ q. was.kept_are q ∙ by (q + 1) (node_of J (q + 1)); roots_are = was.roots_are; left_are = was.left_are }
+  up_kept server legal = record { legal = legal; count = was.count; kept_are = λ q. was.kept_are q ∙ by (offset J + q + 1) (node_of J (offset J + q + 1)); roots_are = was.roots_are; left_are = was.left_are }
     where
       by : (p : ℕ) (o : Option Node) → option_map (kept_at J p) o ≡ option_map (kept_at (entry_is.Up server ∷ J) p) o
       by p None = refl
       by p (Some x) = ap Some (sym (still_up (phase J p x) J p x server legal))
 
+  pub adopt_kept : (sheets : List Sheet) → IsLegal (entry_is.Adopt sheets ∷ J) → IsKept (entry_is.Adopt sheets ∷ J) kept roots left
+  adopt_kept sheets legal = record { legal = legal; count = was.count; kept_are = λ q. was.kept_are q ∙ by (offset J + q + 1) (node_of J (offset J + q + 1)); roots_are = was.roots_are; left_are = was.left_are }
+    where
+      by : (p : ℕ) (o : Option Node) → option_map (kept_at J p) o ≡ option_map (kept_at (entry_is.Adopt sheets ∷ J) p) o
+      by p None = refl
+      by p (Some x) = ap Some (sym (still_adopt (phase J p x) J p x sheets legal))
+
+  -- before a part of a base nobody is kept
+  pub part_none : (part : Part) → IsLegal (entry_is.Base part ∷ J) → length kept ≡ 0
+  part_none part legal = let count = was.count in let none = none_made part J legal.1.0 in omega (arith, count, none)
+
+  pub part_kept : (part : Part) → IsLegal (entry_is.Base part ∷ J) → IsKept (entry_is.Base part ∷ J) kept roots left
+  part_kept part legal =
+      let none = part_none part legal in
+      record {
+        legal = legal;
+        count = omega (arith, none);
+        kept_are = λ q. slice_get_past kept q (omega (arith, none));
+        roots_are = was.roots_are;
+        left_are = was.left_are ∙ none_unfinished part J legal.1.0 ∙ sym (count_none (made (entry_is.Base part ∷ J) + 1));
+      }
+
   pub report_kept : (call : Pid) (told : Told) → IsLegal (entry_is.Report call told ∷ J) → (new : List Tracked)
-      → ((q : ℕ) → slice_get new q ≡ option_map (reported (q + 1 == call.0) told) (slice_get kept q)) → IsKept (entry_is.Report call told ∷ J) new roots left
+      → ((q : ℕ) → slice_get new q ≡ option_map (reported (offset J + q + 1 == call.0) told) (slice_get kept q)) → IsKept (entry_is.Report call told ∷ J) new roots left
   report_kept call told legal new each = record {
     legal = legal;
-    plain = (was.plain, tt);
-    count = same_length (λ q. reported (q + 1 == call.0) told) new kept each ∙ was.count;
-    kept_are = λ q. each q ∙ ap (option_map (reported (q + 1 == call.0) told)) (was.kept_are q) ∙ by (q + 1) (node_of J (q + 1));
-    roots_are = λ q. was.roots_are q ∙ same (q + 1 == call.0) (slice_get kept q) ∙ sym (ap (option_map root_shown) (each q));
+   
+    count = ap (λ n. offset J + n) (same_length (λ q. reported (offset J + q + 1 == call.0) told) new kept each) ∙ was.count;
+    kept_are = λ q. each q ∙ ap (option_map (reported (offset J + q + 1 == call.0) told)) (was.kept_are q) ∙ by (offset J + q + 1) (node_of J (offset J + q + 1));
+    roots_are = λ q. was.roots_are q ∙ same (offset J + q + 1 == call.0) (slice_get kept q) ∙ sym (ap (option_map root_shown) (each q));
     left_are = was.left_are;
   }
     where
@@ -182,13 +238,13 @@ module _ (J : Past) (kept : List Tracked) (roots : List Pid) (left : ℕ) (was :
       same b (Some one) = refl
 
   pub abort_kept : (pid : Pid) → IsLegal (entry_is.Abort pid ∷ J) → (new : List Tracked)
-      → ((q : ℕ) → slice_get new q ≡ option_map (aborted (q + 1 == pid.0)) (slice_get kept q)) → IsKept (entry_is.Abort pid ∷ J) new roots left
+      → ((q : ℕ) → slice_get new q ≡ option_map (aborted (offset J + q + 1 == pid.0)) (slice_get kept q)) → IsKept (entry_is.Abort pid ∷ J) new roots left
   abort_kept pid legal new each = record {
     legal = legal;
-    plain = (was.plain, tt);
-    count = same_length (λ q. aborted (q + 1 == pid.0)) new kept each ∙ was.count;
-    kept_are = λ q. each q ∙ ap (option_map (aborted (q + 1 == pid.0))) (was.kept_are q) ∙ by (q + 1) (node_of J (q + 1));
-    roots_are = λ q. was.roots_are q ∙ same (q + 1 == pid.0) (slice_get kept q) ∙ sym (ap (option_map root_shown) (each q));
+   
+    count = ap (λ n. offset J + n) (same_length (λ q. aborted (offset J + q + 1 == pid.0)) new kept each) ∙ was.count;
+    kept_are = λ q. each q ∙ ap (option_map (aborted (offset J + q + 1 == pid.0))) (was.kept_are q) ∙ by (offset J + q + 1) (node_of J (offset J + q + 1));
+    roots_are = λ q. was.roots_are q ∙ same (offset J + q + 1 == pid.0) (slice_get kept q) ∙ sym (ap (option_map root_shown) (each q));
     left_are = was.left_are;
   }
     where
@@ -201,19 +257,19 @@ module _ (J : Past) (kept : List Tracked) (roots : List Pid) (left : ℕ) (was :
       same b (Some one) = refl
 
   pub submit_kept : (nonce : Nonce) (request : Request) → IsLegal (entry_is.Submit nonce request ∷ J)
-      → let args : Args = args_are.Root request (first_of J (table_of_request request)) in IsKept (entry_is.Submit nonce request ∷ J) (kept ++ added (length kept) None (args ∷ [])) (roots ++ map root_shown (added (length kept) None (args ∷ []))) (left + 1)
+      → let args : Args = args_are.Root request (first_of J (table_of_request request)) in IsKept (entry_is.Submit nonce request ∷ J) (kept ++ added (made J) None (editions J) (args ∷ [])) (roots ++ map root_shown (added (made J) None (editions J) (args ∷ []))) (left + 1)
   submit_kept nonce request legal =
-      rooted_kept (entry_is.Submit nonce request) J legal tt kept roots left was (args_are.Root request (first_of J (table_of_request request))) (first_of J (table_of_request request)) refl refl
-      (λ q differs. submit_old nonce request J q differs) (λ q same. submit_new nonce request J q same) (λ shown p x. still_submit shown J p x nonce request legal)
+      rooted_kept (entry_is.Submit nonce request) J legal refl kept roots left was (args_are.Root request (first_of J (table_of_request request))) (first_of J (table_of_request request)) refl refl
+      (λ q differs. submit_old nonce request J q differs) (λ q same. submit_new nonce request J q same) (λ shown p x le. still_submit shown J p x nonce request legal le)
 
   pub down_kept : (server : Server) → IsLegal (entry_is.Down server ∷ J)
-      → IsKept (entry_is.Down server ∷ J) (kept ++ added (length kept) None (args_are.Crash server ∷ [])) (roots ++ map root_shown (added (length kept) None (args_are.Crash server ∷ []))) (left + 1)
+      → IsKept (entry_is.Down server ∷ J) (kept ++ added (made J) None (editions J) (args_are.Crash server ∷ [])) (roots ++ map root_shown (added (made J) None (editions J) (args_are.Crash server ∷ []))) (left + 1)
   down_kept server legal =
-      rooted_kept (entry_is.Down server) J legal tt kept roots left was (args_are.Crash server) 1 refl refl
-      (λ q differs. down_old server J q differs) (λ q same. down_new server J q same) (λ shown p x. still_down shown J p x server legal)
+      rooted_kept (entry_is.Down server) J legal refl kept roots left was (args_are.Crash server) 1 refl refl
+      (λ q differs. down_old server J q differs) (λ q same. down_new server J q same) (λ shown p x le. still_down shown J p x server legal le)
 
   pub root_kept : (entry : Entry) → IsRooting entry → IsLegal (entry ∷ J)
-      → IsKept (entry ∷ J) (kept ++ added (length kept) None (args_made J entry)) (roots ++ map root_shown (added (length kept) None (args_made J entry))) (left + 1)
+      → IsKept (entry ∷ J) (kept ++ added (made J) None (editions J) (args_made J entry)) (roots ++ map root_shown (added (made J) None (editions J) (args_made J entry))) (left + 1)
   root_kept (entry_is.Start sheets) makes legal = absurd makes
   root_kept (entry_is.Submit nonce request) makes legal = submit_kept nonce request legal
   root_kept (entry_is.Step pid pick out) makes legal = absurd makes

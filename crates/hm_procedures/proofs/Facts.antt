@@ -1,5 +1,5 @@
 -- What an entry leaves of what is told of a procedure, but its phase.
-use Rattle.std.proofs.Common.{◌≡◌, ℕ, ◌+◌, ◌-◌, ◌&&◌, ◌||◌, ◌==◌, List, [], ◌∷◌, Bool, true, false, not, if◌then◌else◌, Option, Some, None, is_none, is_some, length, refl, ap, sym, ◌∙◌, inl, inr, arith}
+use Rattle.std.proofs.Common.{◌≡◌, ℕ, ◌+◌, ◌-◌, ◌≤◌, ◌&&◌, ◌||◌, ◌==◌, List, [], ◌∷◌, Bool, true, false, not, if◌then◌else◌, Option, Some, None, is_none, is_some, length, refl, ap, sym, ◌∙◌, inl, inr, arith}
 use Rattle.std.specs.Option.{option_map, option_or}
 use Rattle.std.proofs.lemmas.Bool.{cases_eq, eq-eqb, ne_eqb, true≢false}
 use Rattle.std.proofs.lemmas.Option.{same_Some}
@@ -16,6 +16,7 @@ use Rattle.hm_data.specs.declared.record.Phase.TheVariants as phase_is
 use Rattle.hm_data.specs.declared.step.StepOut.{StepOut}
 use Rattle.hm_model.specs.Answers.{failing, is_stop, last_answer, row_after}
 use Rattle.hm_model.specs.Counts.{one_if}
+use Rattle.hm_model.specs.Editions.{edition_of}
 use Rattle.hm_model.specs.Journal.{Past}
 use Rattle.hm_model.specs.Kinds.{first_row_of}
 use Rattle.hm_model.specs.Phase.{cause, child_in, in_tree, is_parent, or_else}
@@ -24,6 +25,7 @@ use Rattle.hm_model.specs.Rules.{IsLegal}
 use Rattle.hm_model.specs.Tree.{Node, args_in, child_of, is_top, made, node_of, parent_in, pid_of, root_in, root_node}
 use Rattle.hm_model.specs.Waiting.{open_children, open_under}
 use Rattle.hm_model.proofs.Forest.{forest_all, rooted_all, top_is_own}
+use Rattle.hm_model.proofs.RootSheets.{stays}
 use Rattle.hm_model.proofs.Waiting.{children_change, under_change}
 use Rattle.hm_procedures.specs.Changes.{aborted, child_ended, fresh, is_this, reported, stepped, tree_stepped}
 use Rattle.hm_procedures.specs.Kept.{kept_in}
@@ -49,18 +51,18 @@ eq_swap a b = elim (cases_eq a b) [
 ]
 
 -- what is kept, of a new root and of a new child
-pub fresh_root : (J : Past) (p : ℕ) (args : Args) (first : ℕ) → IsBlank J p → kept_in phase_is.Runnable J p (root_node p args first) ≡ fresh p None args
-fresh_root J p args first b = rw (b.last, b.verb, b.report, b.aborted, b.tries, b.before, b.count, b.first, b.cause_is, b.children, b.under) refl
+pub fresh_root : (J : Past) (p : ℕ) (args : Args) (first : ℕ) (edition : ℕ) → edition_of J p ≡ edition → IsBlank J p → kept_in phase_is.Runnable J p (root_node p args first) ≡ fresh p None edition args
+fresh_root J p args first edition of b = rw (b.last, b.verb, b.report, b.aborted, b.tries, b.before, b.count, b.first, b.cause_is, b.children, b.under, of) refl
 
-pub fresh_child : (J : Past) (p : ℕ) (pid : Pid) (me : Node) (args : Args) → IsBlank J p → kept_in phase_is.Runnable J p (child_of pid.0 me args) ≡ fresh p (Some (pid, pid_of me.root)) args
-fresh_child J p pid me args b = rw (b.last, b.verb, b.report, b.aborted, b.tries, b.before, b.count, b.first, b.cause_is, b.children, b.under) refl
+pub fresh_child : (J : Past) (p : ℕ) (pid : Pid) (me : Node) (args : Args) (edition : ℕ) → edition_of J me.root ≡ edition → IsBlank J p → kept_in phase_is.Runnable J p (child_of pid.0 me args) ≡ fresh p (Some (pid, pid_of me.root)) edition args
+fresh_child J p pid me args edition of b = rw (b.last, b.verb, b.report, b.aborted, b.tries, b.before, b.count, b.first, b.cause_is, b.children, b.under, of) refl
 
--- with other counts
-abbrev counted : Tracked → ℕ → ℕ → Tracked
-counted one children under = record one { open_children = children; open_under = under }
+-- with other counts, and in another edition
+abbrev counted : Tracked → ℕ → ℕ → ℕ → Tracked
+counted one edition children under = record one { shown = record one.shown { edition = edition }; open_children = children; open_under = under }
 
-counted_same : (one : Tracked) {a b c d : ℕ} → a ≡ b → c ≡ d → counted one a c ≡ counted one b d
-counted_same one {a} {b} {c} {d} e f = ap (λ n. counted one n c) e ∙ ap (counted one b) f
+counted_same : (one : Tracked) {m n a b c d : ℕ} → m ≡ n → a ≡ b → c ≡ d → counted one m a c ≡ counted one n b d
+counted_same one {m} {n} {a} {b} {c} {d} g e f = ap (λ x. counted one x a c) g ∙ ap (λ x. counted one n x c) e ∙ ap (counted one n b) f
 
 as_was : {a b : ℕ} → a + 0 ≡ b + 0 → a ≡ b
 as_was e = omega (arith, e)
@@ -70,25 +72,28 @@ module _ (phase : Phase) (J : Past) (p : ℕ) (node : Node) where
   was = kept_in phase J p node
 
   pub still_start : (sheets : List _) → IsLegal (entry_is.Start sheets ∷ J) → kept_in phase (entry_is.Start sheets ∷ J) p node ≡ was
-  still_start sheets legal = counted_same was (as_was (children_change (entry_is.Start sheets) J legal p)) (as_was (under_change (entry_is.Start sheets) J legal p))
+  still_start sheets legal = counted_same was refl (as_was (children_change (entry_is.Start sheets) J legal p)) (as_was (under_change (entry_is.Start sheets) J legal p))
 
-  pub still_submit : (nonce : _) (request : _) → IsLegal (entry_is.Submit nonce request ∷ J) → kept_in phase (entry_is.Submit nonce request ∷ J) p node ≡ was
-  still_submit nonce request legal = counted_same was (as_was (children_change (entry_is.Submit nonce request) J legal p)) (as_was (under_change (entry_is.Submit nonce request) J legal p))
+  pub still_adopt : (sheets : List _) → IsLegal (entry_is.Adopt sheets ∷ J) → kept_in phase (entry_is.Adopt sheets ∷ J) p node ≡ was
+  still_adopt sheets legal = counted_same was refl (as_was (children_change (entry_is.Adopt sheets) J legal p)) (as_was (under_change (entry_is.Adopt sheets) J legal p))
 
-  pub still_undo : (pid : Pid) (row : ℕ) (out : StepOut) → IsLegal (entry_is.Undo pid row out ∷ J) → kept_in phase (entry_is.Undo pid row out ∷ J) p node ≡ was
-  still_undo pid row out legal = counted_same was (as_was (children_change (entry_is.Undo pid row out) J legal p)) (as_was (under_change (entry_is.Undo pid row out) J legal p))
+  pub still_submit : (nonce : _) (request : _) → IsLegal (entry_is.Submit nonce request ∷ J) → node.root ≤ made J → kept_in phase (entry_is.Submit nonce request ∷ J) p node ≡ was
+  still_submit nonce request legal le = counted_same was (stays (entry_is.Submit nonce request) J legal node.root le).1 (as_was (children_change (entry_is.Submit nonce request) J legal p)) (as_was (under_change (entry_is.Submit nonce request) J legal p))
+
+  pub still_undo : (pid : Pid) (row : ℕ) (out : StepOut) → IsLegal (entry_is.Undo pid row out ∷ J) → node.root ≤ made J → kept_in phase (entry_is.Undo pid row out ∷ J) p node ≡ was
+  still_undo pid row out legal le = counted_same was (stays (entry_is.Undo pid row out) J legal node.root le).1 (as_was (children_change (entry_is.Undo pid row out) J legal p)) (as_was (under_change (entry_is.Undo pid row out) J legal p))
 
   pub still_up : (server : Server) → IsLegal (entry_is.Up server ∷ J) → kept_in phase (entry_is.Up server ∷ J) p node ≡ was
-  still_up server legal = counted_same was (as_was (children_change (entry_is.Up server) J legal p)) (as_was (under_change (entry_is.Up server) J legal p))
+  still_up server legal = counted_same was refl (as_was (children_change (entry_is.Up server) J legal p)) (as_was (under_change (entry_is.Up server) J legal p))
 
-  pub still_down : (server : Server) → IsLegal (entry_is.Down server ∷ J) → kept_in phase (entry_is.Down server ∷ J) p node ≡ was
-  still_down server legal = counted_same was (as_was (children_change (entry_is.Down server) J legal p)) (as_was (under_change (entry_is.Down server) J legal p))
+  pub still_down : (server : Server) → IsLegal (entry_is.Down server ∷ J) → node.root ≤ made J → kept_in phase (entry_is.Down server ∷ J) p node ≡ was
+  still_down server legal le = counted_same was (stays (entry_is.Down server) J legal node.root le).1 (as_was (children_change (entry_is.Down server) J legal p)) (as_was (under_change (entry_is.Down server) J legal p))
 
   pub on_report : (call : Pid) (told : Told) → IsLegal (entry_is.Report call told ∷ J) → kept_in phase (entry_is.Report call told ∷ J) p node ≡ reported (p == call.0) told was
-  on_report call told legal = counted_same (reported (p == call.0) told was) (as_was (children_change (entry_is.Report call told) J legal p)) (as_was (under_change (entry_is.Report call told) J legal p))
+  on_report call told legal = counted_same (reported (p == call.0) told was) refl (as_was (children_change (entry_is.Report call told) J legal p)) (as_was (under_change (entry_is.Report call told) J legal p))
 
   pub on_abort : (pid : Pid) → IsLegal (entry_is.Abort pid ∷ J) → kept_in phase (entry_is.Abort pid ∷ J) p node ≡ aborted (p == pid.0) was
-  on_abort pid legal = counted_same (aborted (p == pid.0) was) (as_was (children_change (entry_is.Abort pid) J legal p)) (as_was (under_change (entry_is.Abort pid) J legal p))
+  on_abort pid legal = counted_same (aborted (p == pid.0) was) refl (as_was (children_change (entry_is.Abort pid) J legal p)) (as_was (under_change (entry_is.Abort pid) J legal p))
 
 row_if : (b : Bool) (first : ℕ) (answer : Answer) (last : Option Answer) → (if b then row_after first (Some answer) else row_after first last) ≡ row_after first (if b then Some answer else last)
 row_if true first answer last = refl

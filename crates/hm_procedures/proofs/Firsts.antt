@@ -10,6 +10,7 @@ use Rattle.hm_data.specs.declared.entry.Entry.TheVariants as entry_is
 use Rattle.hm_data.specs.declared.step.StepOut.{StepOut}
 use Rattle.hm_model.specs.Journal.{Past}
 use Rattle.hm_model.specs.Phase.{child_in}
+use Rattle.hm_model.specs.Procedures.{offset}
 use Rattle.hm_model.specs.Rules.{IsLegal}
 use Rattle.hm_model.specs.Tree.{args_in, made, node_of, root_node}
 use Rattle.hm_model.proofs.Grown.{down_new, down_old, grown_all, step_old, submit_new, submit_old, undo_new, undo_old}
@@ -40,6 +41,12 @@ stays (entry_is.Undo pid row out) J legal q le = undo_old pid row out J q le
 stays (entry_is.Down server) J legal q le = down_old server J q (λ e. omega (arith, le, e))
 stays (entry_is.Base part) J legal q le = sym (no_node part J legal.1.0 q)
 stays entry J legal q le = refl
+
+-- nobody has a number up to the offset
+pub none_low : (J : Past) → IsLegal J → (p : ℕ) → p ≤ offset J → node_of J p ≡ None
+none_low [] legal p le = refl
+none_low (entry_is.Base part ∷ J) legal p le = refl
+none_low (entry ∷ J) legal p le = let few = (grown_all J legal.0).low in stays entry J legal p (omega (arith, le, few)) ∙ none_low J legal.0 p le
 
 module _ (entry : Entry) (J : Past) (legal : IsLegal (entry ∷ J)) where
   abbrev now : Past

@@ -14,6 +14,7 @@ mod Rolled
 mod Readers
 mod Called
 mod Needs
+mod Based
 mod Tops
 mod Firsts
 mod Elders

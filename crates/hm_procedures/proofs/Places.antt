@@ -43,39 +43,46 @@ slice_get-high [] ys k le = let e : k ≡ k - 0 = omega arith in ap (slice_get y
 slice_get-high (x ∷ xs) ys zero le = absurd (omega (arith, le))
 slice_get-high (x ∷ xs) ys (suc k) le = let e : k - length xs ≡ suc k - suc (length xs) = omega arith in slice_get-high xs ys k (omega (arith, le)) ∙ ap (slice_get ys) e
 
-pub length-added : (n : ℕ) (up : Option (Pid × Pid)) (made : List Args) → length (added n up made) ≡ length made
-length-added n up [] = refl
-length-added n up (args ∷ more) = ap suc (length-added (n + 1) up more)
+pub length-added : (n : ℕ) (up : Option (Pid × Pid)) (edition : ℕ) (made : List Args) → length (added n up edition made) ≡ length made
+length-added n up edition [] = refl
+length-added n up edition (args ∷ more) = ap suc (length-added (n + 1) up edition more)
 
-pub slice_get-added : (n : ℕ) (up : Option (Pid × Pid)) (made : List Args) (i : ℕ) → slice_get (added n up made) i ≡ option_map (fresh (n + i + 1) up) (slice_get made i)
-slice_get-added n up [] i = refl
-slice_get-added n up (args ∷ more) zero = let e : n + 1 ≡ n + 0 + 1 = omega arith in ap (λ k. Some (fresh k up args)) e
-slice_get-added n up (args ∷ more) (suc i) = let e : n + 1 + i + 1 ≡ n + suc i + 1 = omega arith in slice_get-added (n + 1) up more i ∙ ap (λ k. option_map (fresh k up) (slice_get more i)) e
+pub slice_get-added : (n : ℕ) (up : Option (Pid × Pid)) (edition : ℕ) (made : List Args) (i : ℕ) → slice_get (added n up edition made) i ≡ option_map (fresh (n + i + 1) up edition) (slice_get made i)
+slice_get-added n up edition [] i = refl
+slice_get-added n up edition (args ∷ more) zero = let e : n + 1 ≡ n + 0 + 1 = omega arith in ap (λ k. Some (fresh k up edition args)) e
+slice_get-added n up edition (args ∷ more) (suc i) = let e : n + 1 + i + 1 ≡ n + suc i + 1 = omega arith in slice_get-added (n + 1) up edition more i ∙ ap (λ k. option_map (fresh k up edition) (slice_get more i)) e
 
 -- one more after others
-added_snoc : (n : ℕ) (up : Option (Pid × Pid)) (ys : List Args) (args : Args) → added n up (ys ++ args ∷ []) ≡ added n up ys ++ added (n + length ys) up (args ∷ [])
-added_snoc n up [] args = let e : n + 1 ≡ n + 0 + 1 = omega arith in ap (λ k. fresh k up args ∷ []) e
-added_snoc n up (y ∷ ys) args =
+added_snoc : (n : ℕ) (up : Option (Pid × Pid)) (edition : ℕ) (ys : List Args) (args : Args) → added n up edition (ys ++ args ∷ []) ≡ added n up edition ys ++ added (n + length ys) up edition (args ∷ [])
+added_snoc n up edition [] args = let e : n + 1 ≡ n + 0 + 1 = omega arith in ap (λ k. fresh k up edition args ∷ []) e
+added_snoc n up edition (y ∷ ys) args =
     let e : n + 1 + length ys ≡ n + suc (length ys) = omega arith in
-    ap (λ l. fresh (n + 1) up y ∷ l) (added_snoc (n + 1) up ys args ∙ ap (λ k. added (n + 1) up ys ++ added k up (args ∷ [])) e)
+    ap (λ l. fresh (n + 1) up edition y ∷ l) (added_snoc (n + 1) up edition ys args ∙ ap (λ k. added (n + 1) up edition ys ++ added k up edition (args ∷ [])) e)
 
-pub added_next : (old : List Tracked) (up : Option (Pid × Pid)) (ys : List Args) (args : Args) (now : List Tracked) → now ≡ old ++ added (length old) up ys
-    → now ++ added (length now) up (args ∷ []) ≡ old ++ added (length old) up (ys ++ args ∷ [])
-added_next old up ys args now is =
-    let long : length now ≡ length old + length ys = ap length is ∙ length-append old (added (length old) up ys) ∙ ap (λ k. length old + k) (length-added (length old) up ys) in
-    ap (λ l. l ++ added (length now) up (args ∷ [])) is
-    ∙ append_assoc old (added (length old) up ys) (added (length now) up (args ∷ []))
-    ∙ ap (λ k. old ++ (added (length old) up ys ++ added k up (args ∷ []))) long
-    ∙ ap (λ l. old ++ l) (sym (added_snoc (length old) up ys args))
+-- so many are kept after new ones
+pub long_now : (low : ℕ) (old : List Tracked) (up : Option (Pid × Pid)) (edition : ℕ) (ys : List Args) (now : List Tracked) → now ≡ old ++ added (low + length old) up edition ys → low + length now ≡ low + length old + length ys
+long_now low old up edition ys now is =
+    let a = ap length is ∙ length-append old (added (low + length old) up edition ys) in
+    let b = length-added (low + length old) up edition ys in
+    omega (arith, a, b)
+
+pub added_next : (low : ℕ) (old : List Tracked) (up : Option (Pid × Pid)) (edition : ℕ) (ys : List Args) (args : Args) (now : List Tracked) → now ≡ old ++ added (low + length old) up edition ys
+    → now ++ added (low + length now) up edition (args ∷ []) ≡ old ++ added (low + length old) up edition (ys ++ args ∷ [])
+added_next low old up edition ys args now is =
+    let n : ℕ = low + length old in
+    ap (λ l. l ++ added (low + length now) up edition (args ∷ [])) is
+    ∙ append_assoc old (added n up edition ys) (added (low + length now) up edition (args ∷ []))
+    ∙ ap (λ k. old ++ (added n up edition ys ++ added k up edition (args ∷ []))) (long_now low old up edition ys now is)
+    ∙ ap (λ l. old ++ l) (sym (added_snoc n up edition ys args))
 
 -- and so their roots
-pub roots_next : (roots : List Pid) (f : Tracked → Pid) (n : ℕ) (up : Option (Pid × Pid)) (ys : List Args) (args : Args) (m : ℕ) (now : List Pid) → m ≡ n + length ys → now ≡ roots ++ map f (added n up ys)
-    → now ++ map f (added m up (args ∷ [])) ≡ roots ++ map f (added n up (ys ++ args ∷ []))
-roots_next roots f n up ys args m now long is =
-    ap (λ l. l ++ map f (added m up (args ∷ []))) is
-    ∙ append_assoc roots (map f (added n up ys)) (map f (added m up (args ∷ [])))
-    ∙ ap (λ k. roots ++ (map f (added n up ys) ++ map f (added k up (args ∷ [])))) long
-    ∙ ap (λ l. roots ++ l) (sym (map-append f (added n up ys) (added (n + length ys) up (args ∷ []))) ∙ ap (map f) (sym (added_snoc n up ys args)))
+pub roots_next : (roots : List Pid) (f : Tracked → Pid) (n : ℕ) (up : Option (Pid × Pid)) (edition : ℕ) (ys : List Args) (args : Args) (m : ℕ) (now : List Pid) → m ≡ n + length ys → now ≡ roots ++ map f (added n up edition ys)
+    → now ++ map f (added m up edition (args ∷ [])) ≡ roots ++ map f (added n up edition (ys ++ args ∷ []))
+roots_next roots f n up edition ys args m now long is =
+    ap (λ l. l ++ map f (added m up edition (args ∷ []))) is
+    ∙ append_assoc roots (map f (added n up edition ys)) (map f (added m up edition (args ∷ [])))
+    ∙ ap (λ k. roots ++ (map f (added n up edition ys) ++ map f (added k up edition (args ∷ [])))) long
+    ∙ ap (λ l. roots ++ l) (sym (map-append f (added n up edition ys) (added (n + length ys) up edition (args ∷ []))) ∙ ap (map f) (sym (added_snoc n up edition ys args)))
   where
     map-append : {A B : Type 0} (g : A → B) (xs zs : List A) → map g (xs ++ zs) ≡ map g xs ++ map g zs
     map-append g [] zs = refl

@@ -12,6 +12,7 @@ use Rattle.hm_model.specs.Answers.{done_with, last_answer}
 use Rattle.hm_model.specs.Inputs.{ends_below, ends_of, is_new_child, made_at_step}
 use Rattle.hm_model.specs.Journal.{Past}
 use Rattle.hm_model.specs.Phase.{child_in, end_of, is_parent}
+use Rattle.hm_model.specs.Procedures.{offset}
 use Rattle.hm_model.specs.Rules.{IsLegal}
 use Rattle.hm_model.specs.Tree.{Node, args_in, made, node_of, root_node}
 use Rattle.hm_model.proofs.Grown.{down_new, down_old, grown_all, step_old, submit_new, submit_old, undo_new, undo_old}
@@ -24,18 +25,20 @@ use Rattle.hm_procedures.specs.declared.kept.Tracked.{Tracked}
 abbrev pub is_among : ℕ → ℕ → ℕ → Bool
 is_among from count q = nat_lt from q && nat_lt q (from + count + 1)
 
--- those that a procedure's last step made are its new children, and none was numbered later than what was made
+-- those that a procedure's last step made are its new children, numbered among what entries made
 pub record IsRun (J : Past) (p : ℕ) : Type 0 where
   pub most : made_at_step J p + made_in_step J p ≤ made J
+  pub least : 1 ≤ made_in_step J p → offset J ≤ made_at_step J p
   pub are : (q : ℕ) → is_new_child J p q ≡ is_among (made_at_step J p) (made_in_step J p) q
 
 among_not : (from count q : ℕ) → from + count < q → is_among from count q ≡ false
 among_not from count q lt = and_right (nat_lt from q) (nat_lt q (from + count + 1)) (le-ltb q (from + count + 1) (omega (arith, lt)))
 
 -- an entry that makes no child of the procedure
-run_still : (J J' : Past) (p : ℕ) → made J ≤ made J' → made_at_step J' p ≡ made_at_step J p → made_in_step J' p ≡ made_in_step J p
+run_still : (J J' : Past) (p : ℕ) → made J ≤ made J' → offset J' ≡ offset J → made_at_step J' p ≡ made_at_step J p → made_in_step J' p ≡ made_in_step J p
     → ((q : ℕ) → q ≤ made J → node_of J' q ≡ node_of J q) → ((q : ℕ) → made J < q → child_in p (node_of J' q) ≡ false) → IsRun J p → IsRun J' p
-run_still J J' p more at in_it old new run = record {
+run_still J J' p more off at in_it old new run = record {
+  least = λ some. let was = run.least (omega (arith, some, in_it)) in omega (arith, was, off, at);
   most = let was = run.most in omega (arith, was, more, at, in_it);
   are = λ q. elim (cases_lt (made J) q) [
     | inl lt ↦
@@ -79,6 +82,7 @@ module _ (pid : Pid) (pick : Option Server) (out : StepOut) (J : Past) (legal : 
       let in_it : made_in_step after p ≡ length (args_in out.children) = cond-true (p == pid.0) (length (args_in out.children)) (made_in_step J p) (eq-eqb p pid.0 same) in
       record {
         most = omega (arith, at, in_it);
+        least = λ some. let few = (grown_all J legal.0).low in omega (arith, few, at);
         are = λ q. ap (λ n. nat_lt n q && child_in p (node_of after q)) at ∙ elim (cases_lt (made J) q) [
           | inr le ↦
               and_left (nat_lt (made J) q) (child_in p (node_of after q)) (le-ltb (made J) q le)
@@ -95,7 +99,7 @@ module _ (pid : Pid) (pick : Option Server) (out : StepOut) (J : Past) (legal : 
       }
 
   run_other : p ≢ pid.0 → IsRun J p → IsRun after p
-  run_other differs run = run_still J after p (omega arith) (other_steps pid pick out J p differs)
+  run_other differs run = run_still J after p (omega arith) refl (other_steps pid pick out J p differs)
       (cond-false (p == pid.0) (length (args_in out.children)) (made_in_step J p) (ne_eqb p pid.0 differs))
       (λ q le. step_old pid pick out J q le)
       (λ q lt. elim (cases_lt (made after) q) [
@@ -112,9 +116,9 @@ none_new q = and_right (nat_lt 0 q) false refl ∙ elim (cases_lt 0 q) [
 ]
 
 pub run_all : (J : Past) → IsLegal J → (p : ℕ) → IsRun J p
-run_all [] legal p = record { most = omega arith; are = none_new }
-run_all (entry_is.Start sheets ∷ J) legal p = run_still J (entry_is.Start sheets ∷ J) p (omega arith) refl refl (λ q le. refl) (λ q lt. ap (child_in p) ((grown_all J legal.0).numbered q lt)) (run_all J legal.0 p)
-run_all (entry_is.Submit nonce request ∷ J) legal p = run_still J (entry_is.Submit nonce request ∷ J) p (omega arith) refl refl (λ q le. submit_old nonce request J q (λ e. omega (arith, le, e)))
+run_all [] legal p = record { most = omega arith; least = λ some. omega arith; are = none_new }
+run_all (entry_is.Start sheets ∷ J) legal p = run_still J (entry_is.Start sheets ∷ J) p (omega arith) refl refl refl (λ q le. refl) (λ q lt. ap (child_in p) ((grown_all J legal.0).numbered q lt)) (run_all J legal.0 p)
+run_all (entry_is.Submit nonce request ∷ J) legal p = run_still J (entry_is.Submit nonce request ∷ J) p (omega arith) refl refl refl (λ q le. submit_old nonce request J q (λ e. omega (arith, le, e)))
     (λ q lt. elim (cases_eq q (made J + 1)) [
       | inl same ↦ ap (child_in p) (submit_new nonce request J q same)
       | inr differs ↦ ap (child_in p) (submit_old nonce request J q differs ∙ (grown_all J legal.0).numbered q lt)
@@ -124,27 +128,27 @@ run_all (entry_is.Step pid pick out ∷ J) legal p = elim (cases_eq p pid.0) [
   | inl same ↦ run_own pid pick out J legal p same
   | inr differs ↦ run_other pid pick out J legal p differs (run_all J legal.0 p)
 ]
-run_all (entry_is.Undo pid row out ∷ J) legal p = run_still J (entry_is.Undo pid row out ∷ J) p (omega arith) refl refl (λ q le. undo_old pid row out J q le)
+run_all (entry_is.Undo pid row out ∷ J) legal p = run_still J (entry_is.Undo pid row out ∷ J) p (omega arith) refl refl refl (λ q le. undo_old pid row out J q le)
     (λ q lt. ap (child_in p) (undo_new pid row out J q lt) ∙ by (slice_get (args_in out.followers) (q - made J - 1)) q)
     (run_all J legal.0 p)
   where
     by : (o : Option Args) (q : ℕ) → child_in p (option_map (λ args. root_node q args 1) o) ≡ false
     by None q = refl
     by (Some args) q = refl
-run_all (entry_is.Report call told ∷ J) legal p = run_still J (entry_is.Report call told ∷ J) p (omega arith) refl refl (λ q le. refl) (λ q lt. ap (child_in p) ((grown_all J legal.0).numbered q lt)) (run_all J legal.0 p)
-run_all (entry_is.Up server ∷ J) legal p = run_still J (entry_is.Up server ∷ J) p (omega arith) refl refl (λ q le. refl) (λ q lt. ap (child_in p) ((grown_all J legal.0).numbered q lt)) (run_all J legal.0 p)
-run_all (entry_is.Down server ∷ J) legal p = run_still J (entry_is.Down server ∷ J) p (omega arith) refl refl (λ q le. down_old server J q (λ e. omega (arith, le, e)))
+run_all (entry_is.Report call told ∷ J) legal p = run_still J (entry_is.Report call told ∷ J) p (omega arith) refl refl refl (λ q le. refl) (λ q lt. ap (child_in p) ((grown_all J legal.0).numbered q lt)) (run_all J legal.0 p)
+run_all (entry_is.Up server ∷ J) legal p = run_still J (entry_is.Up server ∷ J) p (omega arith) refl refl refl (λ q le. refl) (λ q lt. ap (child_in p) ((grown_all J legal.0).numbered q lt)) (run_all J legal.0 p)
+run_all (entry_is.Down server ∷ J) legal p = run_still J (entry_is.Down server ∷ J) p (omega arith) refl refl refl (λ q le. down_old server J q (λ e. omega (arith, le, e)))
     (λ q lt. elim (cases_eq q (made J + 1)) [
       | inl same ↦ ap (child_in p) (down_new server J q same)
       | inr differs ↦ ap (child_in p) (down_old server J q differs ∙ (grown_all J legal.0).numbered q lt)
     ])
     (run_all J legal.0 p)
-run_all (entry_is.Abort pid ∷ J) legal p = run_still J (entry_is.Abort pid ∷ J) p (omega arith) refl refl (λ q le. refl) (λ q lt. ap (child_in p) ((grown_all J legal.0).numbered q lt)) (run_all J legal.0 p)
-run_all (entry_is.Adopt sheets ∷ J) legal p = run_still J (entry_is.Adopt sheets ∷ J) p (omega arith) refl refl (λ q le. refl) (λ q lt. ap (child_in p) ((grown_all J legal.0).numbered q lt)) (run_all J legal.0 p)
-run_all (entry_is.Base part ∷ J) legal p = record { most = omega arith; are = none_new }
+run_all (entry_is.Abort pid ∷ J) legal p = run_still J (entry_is.Abort pid ∷ J) p (omega arith) refl refl refl (λ q le. refl) (λ q lt. ap (child_in p) ((grown_all J legal.0).numbered q lt)) (run_all J legal.0 p)
+run_all (entry_is.Adopt sheets ∷ J) legal p = run_still J (entry_is.Adopt sheets ∷ J) p (omega arith) refl refl refl (λ q le. refl) (λ q lt. ap (child_in p) ((grown_all J legal.0).numbered q lt)) (run_all J legal.0 p)
+run_all (entry_is.Base part ∷ J) legal p = record { most = omega arith; least = λ some. absurd (omega (arith, some)); are = none_new }
 
 -- what those below a number ended with, where none of them is a new child
-module _ (J : Past) (legal : IsLegal J) (p : ℕ) (kept : List Tracked) (are : (q : ℕ) → slice_get kept q ≡ kept_of J (q + 1)) where
+module _ (J : Past) (legal : IsLegal J) (p : ℕ) (kept : List Tracked) (are : (q : ℕ) → slice_get kept q ≡ kept_of J (offset J + q + 1)) where
   abbrev from : ℕ
   from = made_at_step J p
 
@@ -175,20 +179,23 @@ module _ (J : Past) (legal : IsLegal J) (p : ℕ) (kept : List Tracked) (are : (
   kept_end n (Some x) e same = refl
 
   -- then as they are kept
-  ends_run : (n : ℕ) → n ≤ count → ends_below J p (from + 1 + n) ≡ ends_in kept from n
+  ends_run : (n : ℕ) → n ≤ count → ends_below J p (from + 1 + n) ≡ ends_in (offset J) kept from n
   ends_run zero le = let e : from + 1 + 0 ≡ from + 1 = omega arith in ap (ends_below J p) e ∙ ends_none (from + 1) (omega arith)
   ends_run (suc n) le =
       let e : from + 1 + suc n ≡ suc (from + n + 1) = omega arith in
       let f : from + n + 1 ≡ from + 1 + n = omega arith in
       let here : is_new_child J p (from + n + 1) ≡ true = run.are (from + n + 1) ∙ and_from (nat_lt from (from + n + 1)) (nat_lt (from + n + 1) (from + count + 1)) (lt-ltb from (from + n + 1) (omega arith)) (lt-ltb (from + n + 1) (from + count + 1) (omega (arith, le))) in
+      let some : 1 ≤ count = omega (arith, le) in
+      let least = run.least some in
+      let place : offset J + (from + n - offset J) + 1 ≡ from + n + 1 = omega (arith, least) in
       ap (ends_below J p) e
       ∙ ap (λ l. l ++ one (from + n + 1)) (ap (ends_below J p) f ∙ ends_run n (omega (arith, le)))
-      ∙ ap (λ l. ends_in kept from n ++ l) (cond-true (is_new_child J p (from + n + 1)) (end_of (from + n + 1) (done_with (last_answer J (from + n + 1)))) [] here
+      ∙ ap (λ l. ends_in (offset J) kept from n ++ l) (cond-true (is_new_child J p (from + n + 1)) (end_of (from + n + 1) (done_with (last_answer J (from + n + 1)))) [] here
       ∙ kept_end (from + n) (node_of J (from + n + 1)) refl refl
-      ∙ ap (λ o. elim o as (λ x. List (Pid × Told)) [ None ↦ [] | Some x ↦ end_of (from + n + 1) (done_with x.last) ]) (sym (are (from + n))))
+      ∙ ap (λ o. elim o as (λ x. List (Pid × Told)) [ None ↦ [] | Some x ↦ end_of (from + n + 1) (done_with x.last) ]) (sym (are (from + n - offset J) ∙ ap (kept_of J) place)))
 
   -- and none after
-  ends_past : (m : ℕ) → ends_below J p (from + 1 + count + m) ≡ ends_in kept from count
+  ends_past : (m : ℕ) → ends_below J p (from + 1 + count + m) ≡ ends_in (offset J) kept from count
   ends_past zero = let e : from + 1 + count + 0 ≡ from + 1 + count = omega arith in ap (ends_below J p) e ∙ ends_run count (omega arith)
   ends_past (suc m) =
       let e : from + 1 + count + suc m ≡ suc (from + 1 + count + m) = omega arith in
@@ -197,7 +204,7 @@ module _ (J : Past) (legal : IsLegal J) (p : ℕ) (kept : List Tracked) (are : (
       ∙ right (ends_below J p (from + 1 + count + m))
       ∙ ends_past m
 
-  pub ends_are : ends_in kept from count ≡ ends_of J p
+  pub ends_are : ends_in (offset J) kept from count ≡ ends_of J p
   ends_are =
       let most = run.most in
       let e : from + 1 + count + (made J - (from + count)) ≡ made J + 1 = omega (arith, most) in

@@ -30,10 +30,10 @@ abbrev pub parent_by : Option (Pid × Pid) → Option Pid
 parent_by None = None
 parent_by (Some up) = Some up.0
 
--- a new procedure, as a root or with its parent and its root
-abbrev pub fresh : ℕ → Option (Pid × Pid) → Args → Tracked
-fresh p up args = record {
-  shown = record { pid = record { 0 = p }; parent = parent_by up; root = root_by p up; kind = kind_of args; edition = 0; row = first_row_of args; args = args; tries = 0; aborted = false; phase = phase_is.Runnable };
+-- a new procedure, as a root or with its parent and its root, in an edition
+abbrev pub fresh : ℕ → Option (Pid × Pid) → ℕ → Args → Tracked
+fresh p up edition args = record {
+  shown = record { pid = record { 0 = p }; parent = parent_by up; root = root_by p up; kind = kind_of args; edition = edition; row = first_row_of args; args = args; tries = 0; aborted = false; phase = phase_is.Runnable };
   last = None;
   report = None;
   has_called = false;
@@ -46,9 +46,9 @@ fresh p up args = record {
 }
 
 -- new procedures, numbered after a number
-abbrev pub added : ℕ → Option (Pid × Pid) → List Args → List Tracked
-added p up [] = []
-added p up (args ∷ more) = fresh (p + 1) up args ∷ added (p + 1) up more
+abbrev pub added : ℕ → Option (Pid × Pid) → ℕ → List Args → List Tracked
+added p up edition [] = []
+added p up edition (args ∷ more) = fresh (p + 1) up edition args ∷ added (p + 1) up edition more
 
 -- the eldest sibling of a procedure, by the first child of its parent: that one, or itself
 abbrev pub elder_by : ℕ → Option Pid → Pid
@@ -137,8 +137,8 @@ abbrev pub is_undoing : Tracked → Bool
 is_undoing one =
     is_none (let shown = one.shown in shown.parent) && (is_some one.cause && ((one.open_under == 0) && not (is_rolled_back (let shown = one.shown in shown.phase))))
 
--- what those of some procedures ended with that ended well, from a place on
-abbrev pub ends_in : List Tracked → ℕ → ℕ → List (Pid × Told)
-ends_in kept from zero = []
-ends_in kept from (suc n) =
-    ends_in kept from n ++ (elim (slice_get kept (from + n)) as (λ one. List (Pid × Told)) [ None ↦ [] | Some one ↦ end_of (from + n + 1) (done_with one.last) ])
+-- what so many procedures after a number ended with that ended well, where the first that is kept has the number after `low`
+abbrev pub ends_in : ℕ → List Tracked → ℕ → ℕ → List (Pid × Told)
+ends_in low kept from zero = []
+ends_in low kept from (suc n) =
+    ends_in low kept from n ++ (elim (slice_get kept (from + n - low)) as (λ one. List (Pid × Told)) [ None ↦ [] | Some one ↦ end_of (from + n + 1) (done_with one.last) ])

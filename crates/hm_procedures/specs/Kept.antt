@@ -6,11 +6,14 @@ use Rattle.hm_data.specs.declared.args.Args.{Args}
 use Rattle.hm_data.specs.declared.args.Args.TheVariants as args_are
 use Rattle.hm_data.specs.declared.entry.Entry.{Entry}
 use Rattle.hm_data.specs.declared.entry.Entry.TheVariants as entry_is
+use Rattle.hm_data.specs.declared.part.Part.{Part}
+use Rattle.hm_data.specs.declared.part.Part.TheVariants as part_is
 use Rattle.hm_data.specs.declared.record.Phase.{Phase}
+use Rattle.hm_model.specs.Editions.{edition_of}
 use Rattle.hm_model.specs.Answers.{is_aborted, last_answer, report_of, row_of}
 use Rattle.hm_model.specs.Inputs.{made_at_step}
 use Rattle.hm_model.specs.Journal.{Past}
-use Rattle.hm_model.specs.Plain.{ArePlain}
+use Rattle.hm_model.specs.Procedures.{number_at, offset}
 use Rattle.hm_model.specs.Kinds.{kind_of, table_of_request}
 use Rattle.hm_model.specs.Phase.{cause, phase}
 use Rattle.hm_model.specs.Places.{tries_of}
@@ -22,7 +25,12 @@ use Rattle.hm_model.specs.Waiting.{open_children, open_under}
 use Rattle.hm_procedures.specs.Changes.{elder_by, first_made}
 use Rattle.hm_procedures.specs.declared.kept.Tracked.{Tracked}
 
--- what the procedures that an entry makes work on, in order
+-- what the root of a part works on, if the part is of one
+abbrev pub part_args : Part → List Args
+part_args (part_is.Root pid nonce args cause) = args ∷ []
+part_args part = []
+
+-- what the procedures that an entry makes work on, in order; of a part of a base, what its root works on
 abbrev pub args_made : Past → Entry → List Args
 args_made before (entry_is.Start sheets) = []
 args_made before (entry_is.Submit nonce request) = args_are.Root request (first_of before (table_of_request request)) ∷ []
@@ -33,7 +41,7 @@ args_made before (entry_is.Up server) = []
 args_made before (entry_is.Down server) = args_are.Crash server ∷ []
 args_made before (entry_is.Abort pid) = []
 args_made before (entry_is.Adopt sheets) = []
-args_made before (entry_is.Base part) = []
+args_made before (entry_is.Base part) = part_args part
 
 -- how many procedures the last step of a procedure made
 abbrev pub made_in_step : Past → ℕ → ℕ
@@ -64,7 +72,7 @@ first_child_of (entry_is.Abort pid ∷ before) p = first_child_of before p
 first_child_of (entry_is.Adopt sheets ∷ before) p = first_child_of before p
 first_child_of (entry_is.Base part ∷ before) p = None
 
--- what is kept of a procedure that is shown in a phase; a plain journal has one edition
+-- what is kept of a procedure that is shown in a phase
 abbrev pub kept_in : Phase → Past → ℕ → Node → Tracked
 kept_in phase before p node = record {
   shown = record {
@@ -72,7 +80,7 @@ kept_in phase before p node = record {
     parent = option_map pid_of (parent_in node.above);
     root = pid_of node.root;
     kind = kind_of node.args;
-    edition = 0;
+    edition = edition_of before node.root;
     row = row_of before p node;
     args = node.args;
     tries = tries_of before p;
@@ -111,15 +119,16 @@ eldest_in past p (up ∷ above) = elder_by p (first_child_of past up)
 abbrev pub eldest_of : Past → ℕ → Node → Pid
 eldest_of past p node = eldest_in past p node.above
 
--- each procedure has its eldest sibling
+-- each procedure that an entry made has its eldest sibling
 abbrev pub AreElders : Past → List Pid → Type 0
-AreElders past elders = (p : ℕ) → slice_get elders p ≡ option_map (eldest_of past (p + 1)) (node_of past (p + 1))
+AreElders past elders =
+    (place : ℕ) → slice_get elders place ≡ option_map (eldest_of past (number_at past place)) (node_of past (number_at past place))
 
--- what is kept is what a legal, plain journal says of its procedures, of their roots, and of how many roots haven't ended
+-- what is kept is what a legal journal says of the procedures that its entries made, of their roots, and of how many roots
+-- haven't ended
 pub record IsKept (past : Past) (kept : List Tracked) (roots : List Pid) (left : ℕ) : Type 0 where
   pub legal : IsLegal past
-  pub plain : ArePlain past
-  pub count : length kept ≡ made past
-  pub kept_are : (p : ℕ) → slice_get kept p ≡ kept_of past (p + 1)
-  pub roots_are : (p : ℕ) → slice_get roots p ≡ option_map root_shown (slice_get kept p)
+  pub count : offset past + length kept ≡ made past
+  pub kept_are : (place : ℕ) → slice_get kept place ≡ kept_of past (number_at past place)
+  pub roots_are : (place : ℕ) → slice_get roots place ≡ option_map root_shown (slice_get kept place)
   pub left_are : left ≡ unfinished past

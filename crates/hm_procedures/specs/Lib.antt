@@ -4,3 +4,4 @@ pub mod Changes
 pub mod Book
 pub mod Below
 pub mod Procedures
+pub mod OldRoots

@@ -1,5 +1,5 @@
 //! What children ended with.
-ghost use Rattle.std.specs.Prelude.{◌≡◌, ◌+◌, ◌≤◌, ◌++◌, IfOk, OnOk, length};
+ghost use Rattle.std.specs.Prelude.{◌≡◌, ◌+◌, ◌<◌, ◌≤◌, ◌^◌, ◌++◌, IfOk, OnOk, length};
 ghost use Rattle.hm_model.specs.Answers.{done_with as told_by};
 ghost use Rattle.hm_model.specs.Phase.{end_of};
 ghost use Rattle.hm_procedures.specs.Changes.{ends_in};
@@ -19,20 +19,24 @@ fn push_end(ends: &mut Vec<(Pid, Told)>, pid: Pid, kept: &Tracked) -> Result<(),
     Ok(())
 }
 
-// What those of so many procedures from a place on ended with that ended well.
+// What those of so many procedures after a number ended with that ended well, where the first that is kept has the number after
+// `low`.
 pub(crate) fn ends_from(
     alloc: Global,
+    low: u64,
     kept: &[Tracked],
     from: u64,
     count: u64,
 ) -> Result<List<(Pid, Told)>, AllocError>
-    requires { from + count ≤ length kept.now }
-    ensures { IfOk result (λ ends. ends ≡ ends_in kept.now from count) }
+    requires high { from + count ≤ low + length kept.now }
+    requires low { 1 ≤ count → low ≤ from }
+    requires small { from + count < 2 ^ 64 }
+    ensures { IfOk result (λ ends. ends ≡ ends_in low kept.now from count) }
 {
     let mut ends = Vec::new(alloc);
     for i in 0..count {
-        let place = from + i;
-        push_end(&mut ends, Pid(place + 1), &kept[place as usize])?;
+        let place = from + i - low;
+        push_end(&mut ends, Pid(from + i + 1), &kept[place as usize])?;
     }
     Ok(List::of(ends))
 }

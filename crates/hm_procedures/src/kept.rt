@@ -140,12 +140,12 @@ pub(crate) fn kept_at(kept: &[Tracked], place: u64) -> Option<&Tracked>
 }
 
 // The first child of a procedure.
-pub(crate) fn first_child(kept: &[Tracked], pid: Pid) -> Option<Pid>
-    requires low { 1 ≤ pid.0 }
-    requires high { pid.0 ≤ length kept.now }
-    ensures { (one : TrackedOf) → slice_get kept.now (pid.0 - 1) ≡ Some one → result ≡ one.first_child }
+pub(crate) fn first_child(kept: &[Tracked], from: u64, pid: Pid) -> Option<Pid>
+    requires low { from < pid.0 }
+    requires high { pid.0 ≤ from + length kept.now }
+    ensures { (one : TrackedOf) → slice_get kept.now (pid.0 - from - 1) ≡ Some one → result ≡ one.first_child }
 {
-    kept[pid.0 as usize - 1].first_child
+    kept[(pid.0 - from - 1) as usize].first_child
 }
 
 // The first child after a step, before which so many procedures had been made and which makes so many.
@@ -161,9 +161,9 @@ fn first_after(first: Option<Pid>, made: u64, count: u64) -> Option<Pid>
 }
 
 impl Tracked {
-    // A new procedure, as a root or with its parent and its root.
-    pub(crate) fn fresh(pid: Pid, up: Option<(Pid, Pid)>, args: Args) -> Tracked
-        ensures { result ≡ fresh pid.0 up args }
+    // A new procedure, as a root or with its parent and its root, in an edition.
+    pub(crate) fn fresh(pid: Pid, up: Option<(Pid, Pid)>, edition: u64, args: Args) -> Tracked
+        ensures { result ≡ fresh pid.0 up edition args }
     {
         let (parent, root) = match up {
             Some((parent, root)) => (Some(parent), root),
@@ -177,8 +177,7 @@ impl Tracked {
                 parent,
                 root,
                 kind,
-                // No sheets were adopted.
-                edition: 0,
+                edition,
                 row,
                 args,
                 tries: 0,

@@ -9,6 +9,7 @@ mod ends;
 mod journal;
 mod kept;
 mod kinds;
+mod old;
 mod phases;
 mod procedures;
 mod trees;

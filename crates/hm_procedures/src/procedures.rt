@@ -2,8 +2,10 @@ ghost use Rattle.std.specs.Prelude.{◌≡◌, ◌≢◌, ℕ, ◌+◌, ◌<◌,
 ghost use Rattle.std.specs.Option.{option_copied};
 ghost use Rattle.hm_model.specs.Answers.{last_answer, report_of};
 ghost use Rattle.hm_model.specs.Apart.{tree_of};
+ghost use Rattle.hm_model.specs.Editions.{editions};
 ghost use Rattle.hm_model.specs.Inputs.{ends_of, made_at_step};
 ghost use Rattle.hm_model.specs.Phase.{child_in, ended};
+ghost use Rattle.hm_model.specs.Procedures.{offset};
 ghost use Rattle.hm_model.specs.Records.{record_of, unfinished};
 ghost use Rattle.hm_model.specs.Reports.{call_of, is_settled, verb_of};
 ghost use Rattle.hm_model.specs.Rest.{MayUndo};
@@ -11,9 +13,9 @@ ghost use Rattle.hm_model.specs.Rules.{IsLegal};
 ghost use Rattle.hm_model.specs.Tree.{made, node_of};
 ghost use Rattle.hm_model.specs.Undo.{is_empty, stack};
 ghost use Rattle.hm_model.specs.Waiting.{children_made, ends_one};
-ghost use Rattle.hm_model.specs.Plain.{ArePlain, IsPlain};
 ghost use Rattle.hm_procedures.specs.Below.{is_below};
 ghost use Rattle.hm_procedures.specs.Kept.{args_made, first_child_of, kept_of, made_in_step};
+ghost use Rattle.hm_procedures.specs.OldRoots.{old_record_of, old_records};
 ghost use Rattle.hm_procedures.specs.Procedures.{IsNextChild, children, roots, unfinished_procedures};
 
 use crate::book::{Book, less_if};
@@ -21,6 +23,7 @@ use crate::calls::call_with;
 use crate::ends::ends_from;
 use crate::journal::Journal;
 use crate::kept::{Tracked, is_stop, kept_at};
+use crate::old::find_old;
 use hm_data::{Args, Call, Entry, Record, Told};
 use hm_model::laws::calls_are_own;
 use hm_names::{List, Pid};
@@ -69,27 +72,53 @@ impl Procedures {
         self.past.then(entry)
     }
 
+    /// The number before that of the first procedure that an entry made: the last of a base, where there is one.
+    pub fn offset(&self) -> u64
+        ensures { result ≡ offset self.now.past }
+    {
+        self.book.offset
+    }
+
+    /// The edition in force: how often sheets were adopted, since the base where there is one.
+    pub fn editions(&self) -> u64
+        ensures { result ≡ editions self.now.past }
+    {
+        self.book.editions
+    }
+
+    /// The roots of the base as they are shown, in the order of their numbers.
+    pub fn old_roots(&self) -> &[Record]
+        ensures { result.now ≡ old_records self.now.past }
+    {
+        self.book.old_roots.as_slice()
+    }
+
+    /// The root of the base that has a number, as it is shown.
+    pub fn find_old(&self, pid: Pid) -> Option<&Record>
+        ensures { option_copied result ≡ old_record_of self.now.past pid.0 }
+    {
+        find_old(&self.book.old_roots, pid)
+    }
+
     /// The number of the procedure that was made last; 0 where there is none.
     pub fn last_pid(&self) -> u64
         ensures last { result ≡ made self.now.past }
         ensures small { result < 2 ^ 63 }
         ensures legal { IsLegal self.now.past }
-        ensures plain { ArePlain self.now.past }
     {
-        self.book.kept.len() as u64
+        self.book.offset + self.book.kept.len() as u64
     }
 
     // What is kept of a procedure.
     fn kept(&self, pid: Pid) -> Option<&Tracked>
         ensures kept { option_copied result ≡ kept_of self.now.past pid.0 }
         ensures legal { IsLegal self.now.past }
-        ensures plain { ArePlain self.now.past }
     {
         let kept = &self.book.kept;
-        if pid.0 == 0 {
+        if pid.0 <= self.book.offset {
             return None;
         }
-        kept_at(kept, pid.0 - 1)
+        kept_at(kept, pid.0 - self.book.offset - 1)
     }
 
     /// A procedure as it stands.
@@ -185,7 +214,7 @@ impl Procedures {
         ensures { IfOk result (λ ends. ends ≡ ends_of self.now.past pid.0) }
     {
         let (from, count) = self.last_made(pid);
-        ends_from(alloc, &self.book.kept, from, count)
+        ends_from(alloc, self.book.offset, &self.book.kept, from, count)
     }
 
     // How many procedures had been made before the last step of a procedure, and how many that made.
@@ -288,11 +317,11 @@ impl Procedures {
         self.book.reserve(count)
     }
 
-    /// Takes in an entry: `made` are what the procedures that it makes work on, in order, `nothing_left` whether nothing is
-    /// left to undo of its tree after it. It takes no memory.
+    /// Takes in an entry: `made` are what the procedures that it makes work on, in order, of a part of a base what its root works
+    /// on; `nothing_left` is whether nothing is left to undo of its tree after it. It takes no memory.
     pub fn enter(&mut self, entry: &Entry, made: List<Args>, nothing_left: bool)
         requires legal { IsLegal (entry.now ∷ self.old.past) }
-        requires plain { IsPlain entry.now }
+        requires few { editions (entry.now ∷ self.old.past) < 2 ^ 64 }
         requires made { made ≡ args_made self.old.past entry.now }
         requires left { nothing_left ≡ is_empty (stack (entry.now ∷ self.old.past) (tree_of self.old.past entry.now)) }
         requires room { length made ≤ self.old.spare }

@@ -5,5 +5,6 @@ use Rattle.hm_procedures.proofs.trees.Trees.first.Goals as goal
 
 pub returns-clause-first : goal.returns-clause-first
 returns-clause-first c = λ i lt is.
-    let low = root_low c.self.inside.members.items c.self.invariant.0 i c.args.root (ap (λ (v : TreesView). Rattle.std.specs.List.slice_get v.roots i) c.self.view_is ∙ is) in
-    omega (arith, low, lt)
+    let from = ap (λ (v : TreesView). v.from) c.self.view_is in
+    let low = root_low c.self.inside.from c.self.inside.members.items c.self.invariant.0 i c.args.root (ap (λ (v : TreesView). Rattle.std.specs.List.slice_get v.roots i) c.self.view_is ∙ is) in
+    omega (arith, low, lt, from)
