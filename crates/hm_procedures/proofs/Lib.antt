@@ -19,3 +19,4 @@ mod Tops
 mod Firsts
 mod Elders
 mod Kids
+mod Olds

@@ -1,5 +1,5 @@
 -- What the readers say, by what is kept.
-use Rattle.std.proofs.Common.{◌≡◌, ℕ, suc, List, [], ◌++◌, Result, Ok, Err, IfOk, slice_get, ◌+◌, Bool, Option, Some, None, IsTrue, ◌↔◌, refl, ap, sym, ◌∙◌, arith}
+use Rattle.std.proofs.Common.{◌≡◌, ℕ, suc, List, [], ◌++◌, Result, Ok, Err, IfOk, slice_get, ◌+◌, ◌-◌, ◌≤◌, Bool, Option, Some, None, IsTrue, ◌↔◌, refl, ap, sym, ◌∙◌, arith}
 use Rattle.std.specs.Option.{option_map}
 use Rattle.std.proofs.lemmas.Option.{none-some, same_Some}
 use Rattle.hm_names.specs.declared.pid.Pid.{Pid}
@@ -8,16 +8,15 @@ use Rattle.hm_model.specs.Answers.{done_with}
 use Rattle.hm_model.specs.Journal.{Past}
 use Rattle.hm_model.specs.Inputs.{undoes}
 use Rattle.hm_model.specs.Phase.{end_of, ended}
-use Rattle.hm_model.specs.Plain.{ArePlain}
+use Rattle.hm_model.specs.Procedures.{offset}
 use Rattle.hm_model.specs.Records.{record_at, record_of}
 use Rattle.hm_model.specs.Rest.{MayUndo}
 use Rattle.hm_model.specs.Rules.{IsLegal}
 use Rattle.hm_model.specs.Tree.{Node, node_of}
-use Rattle.hm_model.proofs.Grown.{grown_all}
-use Rattle.hm_model.proofs.Plain.{first_edition}
 use Rattle.hm_procedures.specs.Changes.{ends_in, has_ended, is_undoing}
 use Rattle.hm_procedures.specs.Kept.{kept_at, kept_of}
 use Rattle.hm_procedures.specs.declared.kept.Tracked.{Tracked}
+use Rattle.hm_procedures.proofs.Firsts.{none_low}
 use Rattle.hm_procedures.proofs.Shown.{ended_kept, undoes_kept}
 
 -- who isn't kept isn't there
@@ -36,8 +35,9 @@ there_of J p one some = by (node_of J p) refl some
     by None e h = absurd (none-some one (sym h))
     by (Some x) e h = (x, e, same_Some one (kept_at J p x) h)
 
-pub kept_none : (J : Past) → IsLegal J → (p : ℕ) → p ≡ 0 → None ≡ kept_of J p
-kept_none J legal p zero_is = sym (ap (option_map (kept_at J p)) (ap (node_of J) zero_is ∙ (grown_all J legal).none))
+-- nobody is kept of a number up to the offset
+pub kept_none : (J : Past) → IsLegal J → (p : ℕ) → p ≤ offset J → None ≡ kept_of J p
+kept_none J legal p le = sym (ap (option_map (kept_at J p)) (none_low J legal p le))
 
 pub ended_by : (J : Past) → IsLegal J → (p : ℕ) (one : Tracked) → Some one ≡ kept_of J p → has_ended one ≡ ended J p
 ended_by J legal p one is = let t = there_of J p one is in ap has_ended t.2 ∙ ended_kept J legal p t.0 t.1
@@ -48,13 +48,9 @@ undoes_by J legal p one is b said =
     let same : b ≡ undoes J p t.0 = said ∙ ap is_undoing t.2 ∙ undoes_kept J legal p t.0 t.1 in
     (λ on. (t.0, t.1, sym same ∙ on), λ may. same ∙ ap (undoes J p) (same_Some t.0 may.0 (sym t.1 ∙ may.1)) ∙ may.2)
 
--- who is kept is shown as told of a plain journal, which has one edition
-pub shown_by : (J : Past) → ArePlain J → (p : ℕ) (one : Tracked) → Some one ≡ kept_of J p → Some one.shown ≡ record_of J p
-shown_by J plain p one is =
-    let t = there_of J p one is in
-    ap (λ (k : Tracked). Some k.shown) t.2
-    ∙ ap (λ n. Some (record (record_at J p t.0) { edition = n })) (sym (first_edition J plain t.0.root))
-    ∙ sym (ap (option_map (record_at J p)) t.1)
+-- who is kept is shown as told
+pub shown_by : (J : Past) (p : ℕ) (one : Tracked) → Some one ≡ kept_of J p → Some one.shown ≡ record_of J p
+shown_by J p one is = let t = there_of J p one is in ap (λ (k : Tracked). Some k.shown) t.2 ∙ sym (ap (option_map (record_at J p)) t.1)
 
 -- the same list, where there is one
 pub ends_said : {A E : Type 0} {xs ys : List A} (r : Result (List A) E) → xs ≡ ys → IfOk r (λ ends. ends ≡ xs) → IfOk r (λ ends. ends ≡ ys)
@@ -62,10 +58,10 @@ ends_said (Ok ends) same said = said ∙ same
 ends_said (Err e) same said = tt
 
 -- one end more
-pub ends_more : (kept : List Tracked) (from i : ℕ) (one : Tracked) → slice_get kept (from + i) ≡ Some one → ends_in kept from i ++ end_of (from + i + 1) (done_with one.last) ≡ ends_in kept from (i + 1)
-ends_more kept from i one is =
+pub ends_more : (low : ℕ) (kept : List Tracked) (from i : ℕ) (one : Tracked) → slice_get kept (from + i - low) ≡ Some one → ends_in low kept from i ++ end_of (from + i + 1) (done_with one.last) ≡ ends_in low kept from (i + 1)
+ends_more low kept from i one is =
     let e : suc i ≡ i + 1 = omega arith in
-    sym (ap (λ o. ends_in kept from i ++ (elim o as (λ x. List (Pid × Told)) [ None ↦ [] | Some x ↦ end_of (from + i + 1) (done_with x.last) ])) is) ∙ ap (ends_in kept from) e
+    sym (ap (λ o. ends_in low kept from i ++ (elim o as (λ x. List (Pid × Told)) [ None ↦ [] | Some x ↦ end_of (from + i + 1) (done_with x.last) ])) is) ∙ ap (ends_in low kept from) e
 
-pub ends_push : (kept : List Tracked) (from i : ℕ) (one : Tracked) → slice_get kept (from + i) ≡ Some one → (ends new : List (Pid × Told)) → ends ≡ ends_in kept from i → new ≡ ends ++ end_of (from + i + 1) (done_with one.last) → new ≡ ends_in kept from (i + 1)
-ends_push kept from i one is ends new was more = more ∙ ap (λ l. l ++ end_of (from + i + 1) (done_with one.last)) was ∙ ends_more kept from i one is
+pub ends_push : (low : ℕ) (kept : List Tracked) (from i : ℕ) (one : Tracked) → slice_get kept (from + i - low) ≡ Some one → (ends new : List (Pid × Told)) → ends ≡ ends_in low kept from i → new ≡ ends ++ end_of (from + i + 1) (done_with one.last) → new ≡ ends_in low kept from (i + 1)
+ends_push low kept from i one is ends new was more = more ∙ ap (λ l. l ++ end_of (from + i + 1) (done_with one.last)) was ∙ ends_more low kept from i one is

@@ -103,7 +103,7 @@ impl Procedures {
     /// The number of the procedure that was made last; 0 where there is none.
     pub fn last_pid(&self) -> u64
         ensures last { result ≡ made self.now.past }
-        ensures small { result < 2 ^ 63 }
+        ensures small { result ≤ 2 ^ 63 + 2 ^ 48 }
         ensures legal { IsLegal self.now.past }
     {
         self.book.offset + self.book.kept.len() as u64

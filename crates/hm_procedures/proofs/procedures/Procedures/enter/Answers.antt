@@ -7,6 +7,7 @@ use Rattle.hm_procedures.specs.Book.{IsBook, spare_of}
 use Rattle.hm_procedures.specs.Procedures.{ProceduresView}
 use Rattle.hm_procedures.specs.declared.book.Book.{Book}
 use Rattle.hm_procedures.proofs.Below.{below_change, below_few, below_most}
+use Rattle.hm_procedures.proofs.Needs.{offset_most}
 use Rattle.hm_procedures.proofs.procedures.Procedures.enter.Goals as goal
 
 pub overflow_add-self-inside : goal.overflow_add-self-inside
@@ -19,7 +20,8 @@ overflow_add-self-inside c =
     let below = c.self.invariant.1 in
     let most = below_most c.self.inside.past.entries in
     let count = c.self.invariant.0.0.count in
-    omega (arith, room, few, made_is, more, below, most, count, b.kept.ok.0, b.kept.small)
+    let least = offset_most c.self.inside.past.entries c.self.invariant.0.0.legal in
+    omega (arith, least, room, few, made_is, more, below, most, count, b.kept.ok.0, b.kept.small)
 
 pub less_if-self-inside-requires : goal.less_if-self-inside-requires
 less_if-self-inside-requires c =

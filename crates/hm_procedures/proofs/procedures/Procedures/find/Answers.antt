@@ -4,4 +4,4 @@ use Rattle.hm_procedures.proofs.Readers.{shown_by}
 use Rattle.hm_procedures.proofs.procedures.Procedures.find.Goals as goal
 
 pub returns-in-Some : goal.returns-in-Some
-returns-in-Some c = shown_by c.args.self.now.past c.kept.ensures.plain c.args.pid.0 c.in-Some.kept.now (sym (ap option_copied c.in-Some.is) ∙ c.kept.ensures.kept)
+returns-in-Some c = shown_by c.args.self.now.past c.args.pid.0 c.in-Some.kept.now (sym (ap option_copied c.in-Some.is) ∙ c.kept.ensures.kept)

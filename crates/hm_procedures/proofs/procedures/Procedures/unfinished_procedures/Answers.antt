@@ -3,6 +3,7 @@ use Rattle.hm_model.specs.Journal.{Past}
 use Rattle.hm_procedures.specs.Procedures.{ProceduresView, unfinished_procedures}
 use Rattle.hm_procedures.specs.declared.book.Book.{Book}
 use Rattle.hm_procedures.proofs.Below.{unfinished_most, unfinished_sum}
+use Rattle.hm_procedures.proofs.Needs.{offset_most}
 use Rattle.hm_procedures.proofs.procedures.Procedures.unfinished_procedures.Goals as goal
 
 pub overflow_add-result : goal.overflow_add-result
@@ -14,7 +15,8 @@ overflow_add-result c =
     let count = c.self.invariant.0.0.count in
     let sum = unfinished_sum J in
     let most = unfinished_most J in
-    omega (arith, left, below, count, sum, most, b.kept.ok.0, b.kept.small)
+    let least = offset_most J c.self.invariant.0.0.legal in
+    omega (arith, least, left, below, count, sum, most, b.kept.ok.0, b.kept.small)
 
 pub returns : goal.returns
 returns c =
