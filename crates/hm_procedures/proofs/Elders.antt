@@ -27,7 +27,7 @@ use Rattle.hm_procedures.specs.Procedures.{IsNextChild}
 use Rattle.hm_procedures.specs.Trees.{IsNext}
 use Rattle.hm_procedures.specs.declared.kept.Tracked.{Tracked}
 use Rattle.hm_procedures.proofs.Enters.{none_made, one_new}
-use Rattle.hm_procedures.proofs.Firsts.{child_within, first_stays, first_there, firsts, none_low, stays}
+use Rattle.hm_procedures.proofs.Firsts.{first_stays, first_there, firsts, none_low, stays}
 use Rattle.hm_procedures.proofs.Members.{end_at, low_at}
 use Rattle.hm_procedures.proofs.Places.{length-added, slice_get-high, slice_get-low}
 

@@ -222,7 +222,6 @@ module _ (J : Past) (kept : List Tracked) (roots : List Pid) (left : ℕ) (was :
       → ((q : ℕ) → slice_get new q ≡ option_map (reported (offset J + q + 1 == call.0) told) (slice_get kept q)) → IsKept (entry_is.Report call told ∷ J) new roots left
   report_kept call told legal new each = record {
     legal = legal;
-   
     count = ap (λ n. offset J + n) (same_length (λ q. reported (offset J + q + 1 == call.0) told) new kept each) ∙ was.count;
     kept_are = λ q. each q ∙ ap (option_map (reported (offset J + q + 1 == call.0) told)) (was.kept_are q) ∙ by (offset J + q + 1) (node_of J (offset J + q + 1));
     roots_are = λ q. was.roots_are q ∙ same (offset J + q + 1 == call.0) (slice_get kept q) ∙ sym (ap (option_map root_shown) (each q));
@@ -241,7 +240,6 @@ module _ (J : Past) (kept : List Tracked) (roots : List Pid) (left : ℕ) (was :
       → ((q : ℕ) → slice_get new q ≡ option_map (aborted (offset J + q + 1 == pid.0)) (slice_get kept q)) → IsKept (entry_is.Abort pid ∷ J) new roots left
   abort_kept pid legal new each = record {
     legal = legal;
-   
     count = ap (λ n. offset J + n) (same_length (λ q. aborted (offset J + q + 1 == pid.0)) new kept each) ∙ was.count;
     kept_are = λ q. each q ∙ ap (option_map (aborted (offset J + q + 1 == pid.0))) (was.kept_are q) ∙ by (offset J + q + 1) (node_of J (offset J + q + 1));
     roots_are = λ q. was.roots_are q ∙ same (offset J + q + 1 == pid.0) (slice_get kept q) ∙ sym (ap (option_map root_shown) (each q));

@@ -1,5 +1,5 @@
 -- The roots of a base: their numbers rise, and one is found by its number.
-use Rattle.std.proofs.Common.{◌≡◌, ◌≢◌, ◌<◌, ◌≤◌, ◌+◌, ◌-◌, ℕ, zero, suc, List, [], ◌∷◌, ◌++◌, ◌==◌, Bool, true, false, Option, Some, None, Result, Ok, Err, get_or, length, nat_lt, slice_get, refl, ap, sym, ◌∙◌, subst, inl, inr, ◌⊎◌, arith, length-append}
+use Rattle.std.proofs.Common.{◌≡◌, ◌≢◌, ◌<◌, ◌≤◌, ◌-◌, ℕ, List, [], ◌∷◌, ◌++◌, ◌==◌, true, Option, Some, None, Ok, Err, get_or, length, nat_lt, slice_get, refl, ap, sym, ◌∙◌, subst, inl, inr, ◌⊎◌, arith, tests, length-append}
 use Rattle.std.specs.List.Sorted.{IsBinarySearchResult}
 use Rattle.std.specs.Ordering.{nat_cmp, ordering_index}
 use Rattle.std.specs.declared.cmp.Ordering.{Ordering}
@@ -122,19 +122,19 @@ number one = let pid = one.pid in pid.0
 -- all are lower
 pub records_below : (J : Past) → IsLegal J → (n : ℕ) → Ends J n → (i : ℕ) (one : Record) → slice_get (old_records J) i ≡ Some one → number one < n
 records_below [] legal n ends i one is = absurd (none-some one is)
-records_below (entry_is.Base own ∷ before) legal n ends i one is = by own legal.1.0 ends is
+records_below (entry_is.Base own ∷ before) legal n ends i one is = by (records_below before legal.0) own legal.1.0 ends is
   where
-    by : (part : Part) → PartFits part before → Before part n → slice_get (old_records (entry_is.Base part ∷ before)) i ≡ Some one → number one < n
-    by (part_is.Head entries last parts sheets) fits less at = absurd (none-some one (sym (ap (λ j. slice_get (old_records j) i) fits.0) ∙ at))
-    by (part_is.Namespace ns) fits less at = records_below before legal.0 n (early_ends before (part_is.Namespace ns) n tt fits) i one at
-    by (part_is.Table table ids row) fits less at = records_below before legal.0 n (early_ends before (part_is.Table table ids row) n tt fits.0) i one at
-    by (part_is.Region region range status parents place) fits less at = records_below before legal.0 n (early_ends before (part_is.Region region range status parents place) n tt fits.0) i one at
-    by (part_is.Server server fenced) fits less at = records_below before legal.0 n (early_ends before (part_is.Server server fenced) n tt fits.0) i one at
-    by (part_is.Root pid nonce args cause) fits less at = elim (at_last (old_records before) (old_record pid args cause) i one at) [
-      | inl old ↦ records_below before legal.0 n (ends_on before pid.0 n (root_ends before pid nonce args cause fits.0) (omega (arith, less))) i one old.1
+    by : ((m : ℕ) → Ends before m → (i : ℕ) (one : Record) → slice_get (old_records before) i ≡ Some one → number one < m) → (part : Part) → PartFits part before → Before part n → slice_get (old_records (entry_is.Base part ∷ before)) i ≡ Some one → number one < n
+    by on (part_is.Head entries last parts sheets) fits less at = absurd (none-some one (sym (ap (λ j. slice_get (old_records j) i) fits.0) ∙ at))
+    by on (part_is.Namespace ns) fits less at = on n (early_ends before (part_is.Namespace ns) n tt fits) i one at
+    by on (part_is.Table table ids row) fits less at = on n (early_ends before (part_is.Table table ids row) n tt fits.0) i one at
+    by on (part_is.Region region range status parents place) fits less at = on n (early_ends before (part_is.Region region range status parents place) n tt fits.0) i one at
+    by on (part_is.Server server fenced) fits less at = on n (early_ends before (part_is.Server server fenced) n tt fits.0) i one at
+    by on (part_is.Root pid nonce args cause) fits less at = elim (at_last (old_records before) (old_record pid args cause) i one at) [
+      | inl old ↦ on n (ends_on before pid.0 n (root_ends before pid nonce args cause fits.0) (omega (arith, less))) i one old.1
       | inr new ↦ subst (λ r. number r < n) new.1 less
     ]
-    by (part_is.Layout pid) fits less at = absurd less
+    by on (part_is.Layout pid) fits less at = absurd less
 records_below J legal n ends i one is = absurd ends
 
 -- before a root all are lower
@@ -166,31 +166,31 @@ rising (entry ∷ before) legal = rising before legal.0
 -- who stands in the list is shown under its number
 in_list : (J : Past) → IsLegal J → (i : ℕ) (one : Record) → slice_get (old_records J) i ≡ Some one → old_record_of J (number one) ≡ Some one
 in_list [] legal i one is = absurd (none-some one is)
-in_list (entry_is.Base own ∷ before) legal i one is = by own legal is
+in_list (entry_is.Base own ∷ before) legal i one is = by (in_list before legal.0 i one) own legal is
   where
-    by : (part : Part) → IsLegal (entry_is.Base part ∷ before) → slice_get (old_records (entry_is.Base part ∷ before)) i ≡ Some one → old_record_of (entry_is.Base part ∷ before) (number one) ≡ Some one
-    by (part_is.Root pid nonce args cause) legal' at = elim (at_last (old_records before) (old_record pid args cause) i one at) [
+    by : (slice_get (old_records before) i ≡ Some one → old_record_of before (number one) ≡ Some one) → (part : Part) → IsLegal (entry_is.Base part ∷ before) → slice_get (old_records (entry_is.Base part ∷ before)) i ≡ Some one → old_record_of (entry_is.Base part ∷ before) (number one) ≡ Some one
+    by on (part_is.Root pid nonce args cause) legal' at = elim (at_last (old_records before) (old_record pid args cause) i one at) [
       | inl old ↦
           (let lt = roots_below pid nonce args cause before legal' i one old.1 in
           cond-false (number one == pid.0) (Some (old_record pid args cause)) (old_record_of before (number one)) (ne_eqb (number one) pid.0 (λ e. omega (arith, e, lt)))
-          ∙ in_list before legal.0 i one old.1)
+          ∙ on old.1)
       | inr new ↦
           cond-true (number one == pid.0) (Some (old_record pid args cause)) (old_record_of before (number one)) (eq-eqb (number one) pid.0 (ap number (sym new.1)))
           ∙ ap Some new.1
     ]
-    by part legal' at = in_list before legal.0 i one at
+    by on part legal' at = on at
 in_list (entry ∷ before) legal i one is = in_list before legal.0 i one is
 
 -- whose number none has isn't shown
 not_in : (J : Past) (p : ℕ) → ((i : ℕ) (one : Record) → slice_get (old_records J) i ≡ Some one → number one ≢ p) → old_record_of J p ≡ None
 not_in [] p none = refl
-not_in (entry_is.Base own ∷ before) p none = by own none
+not_in (entry_is.Base own ∷ before) p none = by (not_in before p) own none
   where
-    by : (part : Part) → ((i : ℕ) (one : Record) → slice_get (old_records (entry_is.Base part ∷ before)) i ≡ Some one → number one ≢ p) → old_record_of (entry_is.Base part ∷ before) p ≡ None
-    by (part_is.Root pid nonce args cause) non =
+    by : (((i : ℕ) (one : Record) → slice_get (old_records before) i ≡ Some one → number one ≢ p) → old_record_of before p ≡ None) → (part : Part) → ((i : ℕ) (one : Record) → slice_get (old_records (entry_is.Base part ∷ before)) i ≡ Some one → number one ≢ p) → old_record_of (entry_is.Base part ∷ before) p ≡ None
+    by on (part_is.Root pid nonce args cause) non =
         cond-false (p == pid.0) (Some (old_record pid args cause)) (old_record_of before p) (ne_eqb p pid.0 (λ e. non (length (old_records before)) (old_record pid args cause) (last_here (old_records before) (old_record pid args cause)) (sym e)))
-        ∙ not_in before p (λ i one at. non i one (slice_get-low (old_records before) (old_record pid args cause ∷ []) i (slice_get_within (old_records before) i one at) ∙ at))
-    by part non = not_in before p non
+        ∙ on (λ i one at. non i one (slice_get-low (old_records before) (old_record pid args cause ∷ []) i (slice_get_within (old_records before) i one at) ∙ at))
+    by on part non = on non
 not_in (entry ∷ before) p none = not_in before p none
 
 -- who is found is shown
@@ -218,16 +218,17 @@ module _ (shown : List Record) (up : AreRising shown) (p : ℕ) where
   pub searched_ok : (i : ℕ) (one : Record) → slice_get shown i ≡ Some one → IsBinarySearchResult rank shown (Ok i) → number one ≡ p
   searched_ok i one at found = equal_is (number one) p (ap rank (sym (get_or_from_slice_get shown i one one at)) ∙ found one)
 
-  pub searched_err : (i : ℕ) → IsBinarySearchResult rank shown (Err i) → (j : ℕ) (one : Record) → slice_get shown j ≡ Some one → number one ≢ p
-  searched_err i found j one at = elim (cases_lt j i) [
-    | inl lt ↦ less_not (number one) p (ap rank here ∙ parted.0 j one (omega arith) lt)
-    | inr le ↦ greater_not (number one) p (ap rank here ∙ parted.1 j one le (slice_get_within shown j one at))
-  ]
-    where
-      here : one ≡ get_or shown j one
-      here = sym (get_or_from_slice_get shown j one one at)
+  rises_by : (a b : ℕ) (d : Record) → a ≤ b → b < length shown → ordering_index (rank (get_or shown a d)) ≤ ordering_index (rank (get_or shown b d))
+  rises_by a b d le lt = higher (number (get_or shown a d)) (number (get_or shown b d)) p (elim (cases_lt a b) [
+    | inl less ↦ (let below = up a b (get_or shown a d) (get_or shown b d) less (slice_get-get_or shown a d (omega (arith, less, lt))) (slice_get-get_or shown b d lt) in omega (arith, below))
+    | inr same ↦ (let e : a ≡ b = omega (arith, same, le) in subst (λ k. number (get_or shown a d) ≤ number (get_or shown k d)) e (omega arith))
+  ])
 
-      parted = found (λ a b d le lt. higher (number (get_or shown a d)) (number (get_or shown b d)) p (elim (cases_lt a b) [
-        | inl less ↦ (let below = up a b (get_or shown a d) (get_or shown b d) less (slice_get-get_or shown a d (omega (arith, less, lt))) (slice_get-get_or shown b d lt) in omega (arith, below))
-        | inr same ↦ (let e : a ≡ b = omega (arith, same, le) in subst (λ k. number (get_or shown a d) ≤ number (get_or shown k d)) e (omega arith))
-      ]))
+  pub searched_err : (i : ℕ) → IsBinarySearchResult rank shown (Err i) → (j : ℕ) (one : Record) → slice_get shown j ≡ Some one → number one ≢ p
+  searched_err i found j one at =
+      let here : one ≡ get_or shown j one = sym (get_or_from_slice_get shown j one one at) in
+      let parted = found rises_by in
+      elim (cases_lt j i) [
+        | inl lt ↦ less_not (number one) p (ap rank here ∙ parted.0 j one (omega arith) lt)
+        | inr le ↦ greater_not (number one) p (ap rank here ∙ parted.1 j one le (slice_get_within shown j one at))
+      ]

@@ -12,7 +12,14 @@ use hm_data::{Cause, StepOut, Told};
 use hm_names::Pid;
 
 // A step, before which so many had been made and which makes so many.
-pub(crate) fn note_step(kept: &mut [Tracked], from: u64, pid: Pid, out: &StepOut, made: u64, count: u64)
+pub(crate) fn note_step(
+    kept: &mut [Tracked],
+    from: u64,
+    pid: Pid,
+    out: &StepOut,
+    made: u64,
+    count: u64,
+)
     requires low { from < pid.0 }
     requires high { pid.0 ≤ from + length kept.old }
     requires small { (one : TrackedOf) → slice_get kept.old (pid.0 - from - 1) ≡ Some one → one.open_children + count < 2 ^ 64 }

@@ -38,12 +38,7 @@ pub(crate) fn record_of(pid: Pid, args: Args, cause: Option<Cause>) -> Record
 }
 
 // Adds a root of a base, which is made of what it works on.
-pub(crate) fn add_old(
-    shown: &mut Vec<Record>,
-    pid: Pid,
-    cause: Option<Cause>,
-    made: List<Args>,
-)
+pub(crate) fn add_old(shown: &mut Vec<Record>, pid: Pid, cause: Option<Cause>, made: List<Args>)
     requires room { length made ≤ vec_capacity shown.old - vec_len shown.old }
     ensures one { (args : ArgsOf) → made ≡ args ∷ [] → shown.new.items ≡ shown.old.items ++ old_record pid args cause ∷ [] }
     ensures count { vec_len shown.new ≤ vec_len shown.old + length made }

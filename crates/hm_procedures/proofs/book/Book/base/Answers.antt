@@ -1,4 +1,4 @@
-use Rattle.std.proofs.Common.{◌≡◌, ◌+◌, ◌∷◌, length, refl, ap, sym, subst, ◌∙◌, arith}
+use Rattle.std.proofs.Common.{◌≡◌, ◌+◌, ◌∷◌, length, refl, sym, subst, ◌∙◌, arith}
 use Rattle.hm_data.specs.declared.part.Part.{Part}
 use Rattle.hm_data.specs.declared.part.Part.TheVariants as part_is
 use Rattle.hm_data.specs.declared.entry.Entry.TheVariants as entry_is
