@@ -36,16 +36,9 @@ still_based J J' old new off edition shown was same = record {
 
 -- an entry that makes a root of its own
 pub rooting_based : (J : Past) (old new : Book) (entry : Entry) → IsBased J old → SameBase old new → IsRooting entry → IsBased (entry ∷ J) new
-rooting_based J old new (entry_is.Start sheets) was same makes = absurd makes
 rooting_based J old new (entry_is.Submit nonce request) was same makes = still_based J (entry_is.Submit nonce request ∷ J) old new refl refl refl was same
-rooting_based J old new (entry_is.Step pid pick out) was same makes = absurd makes
-rooting_based J old new (entry_is.Undo pid row out) was same makes = absurd makes
-rooting_based J old new (entry_is.Report call told) was same makes = absurd makes
-rooting_based J old new (entry_is.Up server) was same makes = absurd makes
 rooting_based J old new (entry_is.Down server) was same makes = still_based J (entry_is.Down server ∷ J) old new refl refl refl was same
-rooting_based J old new (entry_is.Abort pid) was same makes = absurd makes
-rooting_based J old new (entry_is.Adopt sheets) was same makes = absurd makes
-rooting_based J old new (entry_is.Base part) was same makes = absurd makes
+rooting_based J old new entry was same makes = absurd makes
 
 -- no sheets were adopted before a part
 none_adopted : (part : Part) (before : Past) → PartFits part before → editions before ≡ 0
@@ -54,15 +47,6 @@ none_adopted = by_parts (λ J. editions J ≡ 0) refl (λ own older. refl)
 -- new sheets
 pub adopt_based : (J : Past) (old new : Book) (entry : Entry) → IsAdopt entry → IsBased J old → new.editions ≡ old.editions + 1 → new.offset ≡ old.offset → new.trees.from ≡ old.trees.from → new.siblings.from ≡ old.siblings.from → new.old_roots.items ≡ old.old_roots.items
     → IsBased (entry ∷ J) new
-adopt_based J old new (entry_is.Start sheets) adopts was edition off trees siblings shown = absurd adopts
-adopt_based J old new (entry_is.Submit nonce request) adopts was edition off trees siblings shown = absurd adopts
-adopt_based J old new (entry_is.Step pid pick out) adopts was edition off trees siblings shown = absurd adopts
-adopt_based J old new (entry_is.Undo pid row out) adopts was edition off trees siblings shown = absurd adopts
-adopt_based J old new (entry_is.Report call told) adopts was edition off trees siblings shown = absurd adopts
-adopt_based J old new (entry_is.Up server) adopts was edition off trees siblings shown = absurd adopts
-adopt_based J old new (entry_is.Down server) adopts was edition off trees siblings shown = absurd adopts
-adopt_based J old new (entry_is.Abort pid) adopts was edition off trees siblings shown = absurd adopts
-adopt_based J old new (entry_is.Base part) adopts was edition off trees siblings shown = absurd adopts
 adopt_based J old new (entry_is.Adopt sheets) adopts was edition off trees siblings shown = record {
   begin = off ∙ was.begin;
   trees = trees ∙ was.trees;
@@ -70,6 +54,7 @@ adopt_based J old new (entry_is.Adopt sheets) adopts was edition off trees sibli
   edition = edition ∙ ap (λ n. n + 1) was.edition;
   shown = shown ∙ was.shown;
 }
+adopt_based J old new entry adopts was edition off trees siblings shown = absurd adopts
 
 -- a part of a base
 pub part_based : (J : Past) (old new : Book) (part : Part) → IsLegal (entry_is.Base part ∷ J) → IsBased J old → new.offset ≡ part_made part old.offset → new.trees.from ≡ part_made part old.trees.from → new.siblings.from ≡ part_made part old.siblings.from → new.editions ≡ old.editions
@@ -93,29 +78,13 @@ other_based J book part head root legal was = part_based J book book part legal 
 
 -- new sheets leave what is kept
 pub adopts_kept : (J : Past) (kept : List Tracked) (roots : List Pid) (left : ℕ) → IsKept J kept roots left → (entry : Entry) → IsAdopt entry → IsLegal (entry ∷ J) → IsKept (entry ∷ J) kept roots left
-adopts_kept J kept roots left was (entry_is.Start sheets) adopts legal = absurd adopts
-adopts_kept J kept roots left was (entry_is.Submit nonce request) adopts legal = absurd adopts
-adopts_kept J kept roots left was (entry_is.Step pid pick out) adopts legal = absurd adopts
-adopts_kept J kept roots left was (entry_is.Undo pid row out) adopts legal = absurd adopts
-adopts_kept J kept roots left was (entry_is.Report call told) adopts legal = absurd adopts
-adopts_kept J kept roots left was (entry_is.Up server) adopts legal = absurd adopts
-adopts_kept J kept roots left was (entry_is.Down server) adopts legal = absurd adopts
-adopts_kept J kept roots left was (entry_is.Abort pid) adopts legal = absurd adopts
-adopts_kept J kept roots left was (entry_is.Base part) adopts legal = absurd adopts
 adopts_kept J kept roots left was (entry_is.Adopt sheets) adopts legal = adopt_kept J kept roots left was sheets legal
+adopts_kept J kept roots left was entry adopts legal = absurd adopts
 
 -- and the eldest siblings
 pub adopts_elders : (J : Past) (list : List Pid) → IsLegal J → AreElders J list → (entry : Entry) → IsAdopt entry → IsLegal (entry ∷ J) → AreElders (entry ∷ J) list
-adopts_elders J list legal are (entry_is.Start sheets) adopts legal' = absurd adopts
-adopts_elders J list legal are (entry_is.Submit nonce request) adopts legal' = absurd adopts
-adopts_elders J list legal are (entry_is.Step pid pick out) adopts legal' = absurd adopts
-adopts_elders J list legal are (entry_is.Undo pid row out) adopts legal' = absurd adopts
-adopts_elders J list legal are (entry_is.Report call told) adopts legal' = absurd adopts
-adopts_elders J list legal are (entry_is.Up server) adopts legal' = absurd adopts
-adopts_elders J list legal are (entry_is.Down server) adopts legal' = absurd adopts
-adopts_elders J list legal are (entry_is.Abort pid) adopts legal' = absurd adopts
-adopts_elders J list legal are (entry_is.Base part) adopts legal' = absurd adopts
 adopts_elders J list legal are (entry_is.Adopt sheets) adopts legal' = same_elders J legal list are (entry_is.Adopt sheets) legal' refl (λ q lt. refl)
+adopts_elders J list legal are entry adopts legal' = absurd adopts
 
 -- a list of no length has none
 pub none_in : {X : Type 0} (xs : List X) → length xs ≡ 0 → xs ≡ []

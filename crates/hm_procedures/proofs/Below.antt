@@ -122,7 +122,6 @@ none_below = by_parts (λ J. open_below J ≡ 0) refl (λ own older. count_none 
 
 -- an entry makes so many descendants, and ends one or none
 pub below_change : (entry : Entry) (J : Past) → IsLegal (entry ∷ J) → open_below (entry ∷ J) + one_if (ends_one (λ q. is_below (node_of J q)) entry) ≡ open_below J + children_made entry
-below_change (entry_is.Start sheets) J legal = refl
 below_change (entry_is.Submit nonce request) J legal = nothing_more (roots_only J (entry_is.Submit nonce request ∷ J) 1 refl (λ q le. submit_old nonce request J q (λ e. omega (arith, le, e)))
     (λ q lt. elim (cases_eq q (made J + 1)) [
       | inl same ↦ ap is_below (submit_new nonce request J q same)
@@ -137,30 +136,19 @@ below_change (entry_is.Undo pid row out) J legal = nothing_more (roots_only J (e
     by : (q : ℕ) (o : Option Args) → is_below (option_map (λ args. root_node q args 1) o) ≡ false
     by q None = refl
     by q (Some args) = refl
-below_change (entry_is.Report call told) J legal = refl
-below_change (entry_is.Up server) J legal = refl
 below_change (entry_is.Down server) J legal = nothing_more (roots_only J (entry_is.Down server ∷ J) 1 refl (λ q le. down_old server J q (λ e. omega (arith, le, e)))
     (λ q lt. elim (cases_eq q (made J + 1)) [
       | inl same ↦ ap is_below (down_new server J q same)
       | inr differs ↦ ap is_below (down_old server J q differs ∙ (grown_all J legal.0).numbered q lt)
     ])
     (λ q. refl))
-below_change (entry_is.Abort pid) J legal = refl
-below_change (entry_is.Adopt sheets) J legal = refl
 below_change (entry_is.Base part) J legal = omega (arith, count_none (made (entry_is.Base part ∷ J) + 1), none_below part J legal.1.0)
+below_change entry J legal = refl
 
 -- none but what it makes at all
 pub below_few : (entry : Entry) (J : Past) → children_made entry ≤ length (args_made J entry)
 below_few (entry_is.Start sheets) J = omega arith
-below_few (entry_is.Submit nonce request) J = omega arith
-below_few (entry_is.Step pid pick out) J = omega arith
-below_few (entry_is.Undo pid row out) J = omega arith
-below_few (entry_is.Report call told) J = omega arith
-below_few (entry_is.Up server) J = omega arith
-below_few (entry_is.Down server) J = omega arith
-below_few (entry_is.Abort pid) J = omega arith
-below_few (entry_is.Adopt sheets) J = omega arith
-below_few (entry_is.Base part) J = omega arith
+below_few entry J = omega arith
 
 -- the roots and the descendants that haven't ended are the procedures that haven't
 pub unfinished_sum : (J : Past) → unfinished J + open_below J ≡ unfinished_procedures J

@@ -83,10 +83,7 @@ module _ (pid : Pid) (pick : Option Server) (out : StepOut) (J : Past) (legal : 
 
 -- an entry tells nothing of who wasn't made before it
 pub blank_on : (entry : Entry) (J : Past) → IsLegal (entry ∷ J) → (p : ℕ) → node_of J p ≡ None → IsBlank J p → IsBlank (entry ∷ J) p
-blank_on (entry_is.Start sheets) J legal p none was = record { last = was.last; verb = was.verb; report = was.report; aborted = was.aborted; tries = was.tries; before = was.before; count = was.count; first = was.first; cause_is = was.cause_is; children = children_on (entry_is.Start sheets) J legal p was refl; under = under_on (entry_is.Start sheets) J legal p was refl }
-blank_on (entry_is.Submit nonce request) J legal p none was = record { last = was.last; verb = was.verb; report = was.report; aborted = was.aborted; tries = was.tries; before = was.before; count = was.count; first = was.first; cause_is = was.cause_is; children = children_on (entry_is.Submit nonce request) J legal p was refl; under = under_on (entry_is.Submit nonce request) J legal p was refl }
 blank_on (entry_is.Step pid pick out) J legal p none was = blank_step pid pick out J legal p none was
-blank_on (entry_is.Undo pid row out) J legal p none was = record { last = was.last; verb = was.verb; report = was.report; aborted = was.aborted; tries = was.tries; before = was.before; count = was.count; first = was.first; cause_is = was.cause_is; children = children_on (entry_is.Undo pid row out) J legal p was refl; under = under_on (entry_is.Undo pid row out) J legal p was refl }
 blank_on (entry_is.Report call told) J legal p none was = record {
   last = was.last;
   verb = was.verb;
@@ -100,8 +97,6 @@ blank_on (entry_is.Report call told) J legal p none was = record {
   children = children_on (entry_is.Report call told) J legal p was refl;
   under = under_on (entry_is.Report call told) J legal p was refl;
 }
-blank_on (entry_is.Up server) J legal p none was = record { last = was.last; verb = was.verb; report = was.report; aborted = was.aborted; tries = was.tries; before = was.before; count = was.count; first = was.first; cause_is = was.cause_is; children = children_on (entry_is.Up server) J legal p was refl; under = under_on (entry_is.Up server) J legal p was refl }
-blank_on (entry_is.Down server) J legal p none was = record { last = was.last; verb = was.verb; report = was.report; aborted = was.aborted; tries = was.tries; before = was.before; count = was.count; first = was.first; cause_is = was.cause_is; children = children_on (entry_is.Down server) J legal p was refl; under = under_on (entry_is.Down server) J legal p was refl }
 blank_on (entry_is.Abort pid) J legal p none was = record {
   last = was.last;
   verb = was.verb;
@@ -115,8 +110,8 @@ blank_on (entry_is.Abort pid) J legal p none was = record {
   children = children_on (entry_is.Abort pid) J legal p was refl;
   under = under_on (entry_is.Abort pid) J legal p was refl;
 }
-blank_on (entry_is.Adopt sheets) J legal p none was = record { last = was.last; verb = was.verb; report = was.report; aborted = was.aborted; tries = was.tries; before = was.before; count = was.count; first = was.first; cause_is = was.cause_is; children = children_on (entry_is.Adopt sheets) J legal p was refl; under = under_on (entry_is.Adopt sheets) J legal p was refl }
 blank_on (entry_is.Base part) J legal p none was = record { last = refl; verb = refl; report = refl; aborted = refl; tries = refl; before = refl; count = refl; first = refl; cause_is = refl; children = children_on (entry_is.Base part) J legal p was refl; under = under_on (entry_is.Base part) J legal p was refl }
+blank_on entry J legal p none was = record { last = was.last; verb = was.verb; report = was.report; aborted = was.aborted; tries = was.tries; before = was.before; count = was.count; first = was.first; cause_is = was.cause_is; children = children_on entry J legal p was refl; under = under_on entry J legal p was refl }
 
 -- who isn't there wasn't there
 gone : (entry : Entry) (J : Past) → IsLegal (entry ∷ J) → (p : ℕ) → node_of (entry ∷ J) p ≡ None → node_of J p ≡ None

@@ -228,21 +228,14 @@ module _ (J : Past) (legal : IsLegal J) (list : List Pid) (are : AreElders J lis
 
   module _ (long : offset J + length list ≡ made J) where
     pub elders_root : (entry : Entry) → IsRooting entry → IsLegal (entry ∷ J) → AreElders (entry ∷ J) (list ++ elders (made J) None (args_made J entry))
-    elders_root (entry_is.Start sheets) makes legal' = absurd makes
     elders_root (entry_is.Submit nonce request) makes legal' =
         let first = first_of J (table_of_request request) in
         more_elders (entry_is.Submit nonce request) legal' refl long None (λ p a. root_node p a first) (args_are.Root request first ∷ []) (λ p a. refl)
         (one_new J (entry_is.Submit nonce request ∷ J) legal (args_are.Root request first) first (λ q differs. submit_old nonce request J q differs) (λ q same. submit_new nonce request J q same))
-    elders_root (entry_is.Step pid pick out) makes legal' = absurd makes
-    elders_root (entry_is.Undo pid row out) makes legal' = absurd makes
-    elders_root (entry_is.Report call told) makes legal' = absurd makes
-    elders_root (entry_is.Up server) makes legal' = absurd makes
     elders_root (entry_is.Down server) makes legal' =
         more_elders (entry_is.Down server) legal' refl long None (λ p a. root_node p a 1) (args_are.Crash server ∷ []) (λ p a. refl)
         (one_new J (entry_is.Down server ∷ J) legal (args_are.Crash server) 1 (λ q differs. down_old server J q differs) (λ q same. down_new server J q same))
-    elders_root (entry_is.Abort pid) makes legal' = absurd makes
-    elders_root (entry_is.Adopt sheets) makes legal' = absurd makes
-    elders_root (entry_is.Base part) makes legal' = absurd makes
+    elders_root entry makes legal' = absurd makes
 
     -- before a part of a base there is none
     pub elders_part : (part : Part) → IsLegal (entry_is.Base part ∷ J) → AreElders (entry_is.Base part ∷ J) list

@@ -268,13 +268,6 @@ module _ (J : Past) (kept : List Tracked) (roots : List Pid) (left : ℕ) (was :
 
   pub root_kept : (entry : Entry) → IsRooting entry → IsLegal (entry ∷ J)
       → IsKept (entry ∷ J) (kept ++ added (made J) None (editions J) (args_made J entry)) (roots ++ map root_shown (added (made J) None (editions J) (args_made J entry))) (left + 1)
-  root_kept (entry_is.Start sheets) makes legal = absurd makes
   root_kept (entry_is.Submit nonce request) makes legal = submit_kept nonce request legal
-  root_kept (entry_is.Step pid pick out) makes legal = absurd makes
-  root_kept (entry_is.Undo pid row out) makes legal = absurd makes
-  root_kept (entry_is.Report call told) makes legal = absurd makes
-  root_kept (entry_is.Up server) makes legal = absurd makes
   root_kept (entry_is.Down server) makes legal = down_kept server legal
-  root_kept (entry_is.Abort pid) makes legal = absurd makes
-  root_kept (entry_is.Adopt sheets) makes legal = absurd makes
-  root_kept (entry_is.Base part) makes legal = absurd makes
+  root_kept entry makes legal = absurd makes

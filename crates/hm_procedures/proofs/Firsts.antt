@@ -104,7 +104,6 @@ module _ (pid : Pid) (pick : Option Server) (out : StepOut) (J : Past) (legal : 
 
 pub firsts : (J : Past) → IsLegal J → (p : ℕ) → IsNextChild J p 0 (first_child_of J p)
 firsts [] legal p = λ q lt. refl
-firsts (entry_is.Start sheets ∷ J) legal p = still (entry_is.Start sheets) J legal p (first_child_of J p) (λ q lt. ap (child_in p) ((grown_all J legal.0).numbered q lt)) (firsts J legal.0 p)
 firsts (entry_is.Submit nonce request ∷ J) legal p =
     still (entry_is.Submit nonce request) J legal p (first_child_of J p)
     (λ q lt. elim (cases_eq q (made J + 1)) [
@@ -119,8 +118,6 @@ firsts (entry_is.Undo pid row out ∷ J) legal p =
     by : (o : Option Args) (q : ℕ) → child_in p (option_map (λ args. root_node q args 1) o) ≡ false
     by None q = refl
     by (Some args) q = refl
-firsts (entry_is.Report call told ∷ J) legal p = still (entry_is.Report call told) J legal p (first_child_of J p) (λ q lt. ap (child_in p) ((grown_all J legal.0).numbered q lt)) (firsts J legal.0 p)
-firsts (entry_is.Up server ∷ J) legal p = still (entry_is.Up server) J legal p (first_child_of J p) (λ q lt. ap (child_in p) ((grown_all J legal.0).numbered q lt)) (firsts J legal.0 p)
 firsts (entry_is.Down server ∷ J) legal p =
     still (entry_is.Down server) J legal p (first_child_of J p)
     (λ q lt. elim (cases_eq q (made J + 1)) [
@@ -128,9 +125,8 @@ firsts (entry_is.Down server ∷ J) legal p =
       | inr differs ↦ ap (child_in p) (down_old server J q differs ∙ (grown_all J legal.0).numbered q lt)
     ])
     (firsts J legal.0 p)
-firsts (entry_is.Abort pid ∷ J) legal p = still (entry_is.Abort pid) J legal p (first_child_of J p) (λ q lt. ap (child_in p) ((grown_all J legal.0).numbered q lt)) (firsts J legal.0 p)
-firsts (entry_is.Adopt sheets ∷ J) legal p = still (entry_is.Adopt sheets) J legal p (first_child_of J p) (λ q lt. ap (child_in p) ((grown_all J legal.0).numbered q lt)) (firsts J legal.0 p)
 firsts (entry_is.Base part ∷ J) legal p = λ q lt. refl
+firsts (entry ∷ J) legal p = still entry J legal p (first_child_of J p) (λ q lt. ap (child_in p) ((grown_all J legal.0).numbered q lt)) (firsts J legal.0 p)
 
 -- a child has a first child of its parent, which is no later
 pub first_there : (J : Past) → IsLegal J → (p q : ℕ) → child_in p (node_of J q) ≡ true → (first : Pid) × (first_child_of J p ≡ Some first) × (first.0 ≤ q) × (child_in p (node_of J first.0) ≡ true)

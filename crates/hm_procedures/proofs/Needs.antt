@@ -138,12 +138,7 @@ roots_still from (Some up) roots more roots' is has =
 -- the last of a base is no more than 2 ^ 48
 part_most : (part : Part) (before : Past) → PartFits part before → made before ≤ 2 ^ 48 → made (entry_is.Base part ∷ before) ≤ 2 ^ 48
 part_most (part_is.Head entries last parts sheets) before fits was = fits.2
-part_most (part_is.Namespace ns) before fits was = was
-part_most (part_is.Table table own row) before fits was = was
-part_most (part_is.Region region range status parents place) before fits was = was
-part_most (part_is.Server server fenced) before fits was = was
-part_most (part_is.Root pid nonce args cause) before fits was = was
-part_most (part_is.Layout pid) before fits was = was
+part_most part before fits was = was
 
 pub offset_most : (J : Past) → IsLegal J → offset J ≤ 2 ^ 48
 offset_most [] legal = omega arith

@@ -21,13 +21,9 @@ use Rattle.hm_procedures.proofs.Places.{slice_get-high, slice_get-low}
 
 -- a part stands before a root of this number: a root of a lower one, or a part of another sort than layouts
 abbrev Before : Part → ℕ → Type 0
-Before (part_is.Head entries last parts sheets) n = Unit {0}
-Before (part_is.Namespace ns) n = Unit {0}
-Before (part_is.Table table own row) n = Unit {0}
-Before (part_is.Region region range status parents place) n = Unit {0}
-Before (part_is.Server server fenced) n = Unit {0}
 Before (part_is.Root pid nonce args cause) n = pid.0 < n
 Before (part_is.Layout pid) n = ⊥
+Before part n = Unit {0}
 
 -- so does the newest of parts, if there is one
 abbrev Ends : Past → ℕ → Type 0
@@ -42,22 +38,14 @@ lower a b is = elim (cases_lt a b) [
 ]
 
 before_root : (own : Part) (pid : Pid) (nonce : _) (args : Args) (cause : Option Cause) → rises own (part_is.Root pid nonce args cause) ≡ true → Before own pid.0
-before_root (part_is.Head entries last parts sheets) pid nonce args cause up = tt
-before_root (part_is.Namespace ns) pid nonce args cause up = tt
-before_root (part_is.Table table own row) pid nonce args cause up = tt
-before_root (part_is.Region region range status parents place) pid nonce args cause up = tt
-before_root (part_is.Server server fenced) pid nonce args cause up = tt
 before_root (part_is.Root one used work why) pid nonce args cause up = lower one.0 pid.0 up
 before_root (part_is.Layout one) pid nonce args cause up = absurd (false≢true up)
+before_root part pid nonce args cause up = tt
 
 further : (own : Part) (m n : ℕ) → Before own m → m ≤ n → Before own n
-further (part_is.Head entries last parts sheets) m n is le = tt
-further (part_is.Namespace ns) m n is le = tt
-further (part_is.Table table own row) m n is le = tt
-further (part_is.Region region range status parents place) m n is le = tt
-further (part_is.Server server fenced) m n is le = tt
 further (part_is.Root pid nonce args cause) m n is le = omega (arith, is, le)
 further (part_is.Layout pid) m n is le = is
+further part m n is le = tt
 
 root_ends : (before : Past) (pid : Pid) (nonce : _) (args : Args) (cause : Option Cause) → Rises before (part_is.Root pid nonce args cause) → Ends before pid.0
 root_ends (entry_is.Base own ∷ before) pid nonce args cause up = before_root own pid nonce args cause up
@@ -70,13 +58,9 @@ ends_on before m n is le = absurd is
 
 -- before a part of an earlier sort stands no root
 abbrev IsEarly : Part → Type 0
-IsEarly (part_is.Head entries last parts sheets) = Unit {0}
-IsEarly (part_is.Namespace ns) = Unit {0}
-IsEarly (part_is.Table table own row) = Unit {0}
-IsEarly (part_is.Region region range status parents place) = Unit {0}
-IsEarly (part_is.Server server fenced) = Unit {0}
 IsEarly (part_is.Root pid nonce args cause) = ⊥
 IsEarly (part_is.Layout pid) = ⊥
+IsEarly part = Unit {0}
 
 early : (one own : Part) (n : ℕ) → IsEarly own → rises one own ≡ true → Before one n
 early (part_is.Root pid nonce args cause) (part_is.Head entries last parts sheets) n is up = absurd (false≢true up)
@@ -93,11 +77,7 @@ early (part_is.Layout pid) (part_is.Region region range status parents place) n 
 early (part_is.Layout pid) (part_is.Server server fenced) n is up = absurd (false≢true up)
 early (part_is.Layout pid) (part_is.Root other used work why) n is up = absurd is
 early (part_is.Layout pid) (part_is.Layout other) n is up = absurd is
-early (part_is.Head entries last parts sheets) own n is up = tt
-early (part_is.Namespace ns) own n is up = tt
-early (part_is.Table table drawn row) own n is up = tt
-early (part_is.Region region range status parents place) own n is up = tt
-early (part_is.Server server fenced) own n is up = tt
+early part own n is up = tt
 
 early_ends : (before : Past) (own : Part) (n : ℕ) → IsEarly own → Rises before own → Ends before n
 early_ends (entry_is.Base one ∷ before) own n is up = early one own n is up
@@ -127,14 +107,12 @@ records_below (entry_is.Base own ∷ before) legal n ends i one is = by (records
     by : ((m : ℕ) → Ends before m → (i : ℕ) (one : Record) → slice_get (old_records before) i ≡ Some one → number one < m) → (part : Part) → PartFits part before → Before part n → slice_get (old_records (entry_is.Base part ∷ before)) i ≡ Some one → number one < n
     by on (part_is.Head entries last parts sheets) fits less at = absurd (none-some one (sym (ap (λ j. slice_get (old_records j) i) fits.0) ∙ at))
     by on (part_is.Namespace ns) fits less at = on n (early_ends before (part_is.Namespace ns) n tt fits) i one at
-    by on (part_is.Table table ids row) fits less at = on n (early_ends before (part_is.Table table ids row) n tt fits.0) i one at
-    by on (part_is.Region region range status parents place) fits less at = on n (early_ends before (part_is.Region region range status parents place) n tt fits.0) i one at
-    by on (part_is.Server server fenced) fits less at = on n (early_ends before (part_is.Server server fenced) n tt fits.0) i one at
     by on (part_is.Root pid nonce args cause) fits less at = elim (at_last (old_records before) (old_record pid args cause) i one at) [
       | inl old ↦ on n (ends_on before pid.0 n (root_ends before pid nonce args cause fits.0) (omega (arith, less))) i one old.1
       | inr new ↦ subst (λ r. number r < n) new.1 less
     ]
     by on (part_is.Layout pid) fits less at = absurd less
+    by on part fits less at = on n (early_ends before part n tt fits.0) i one at
 records_below J legal n ends i one is = absurd ends
 
 -- before a root all are lower

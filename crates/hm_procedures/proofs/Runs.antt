@@ -117,7 +117,6 @@ none_new q = and_right (nat_lt 0 q) false refl ∙ elim (cases_lt 0 q) [
 
 pub run_all : (J : Past) → IsLegal J → (p : ℕ) → IsRun J p
 run_all [] legal p = record { most = omega arith; least = λ some. omega arith; are = none_new }
-run_all (entry_is.Start sheets ∷ J) legal p = run_still J (entry_is.Start sheets ∷ J) p (omega arith) refl refl refl (λ q le. refl) (λ q lt. ap (child_in p) ((grown_all J legal.0).numbered q lt)) (run_all J legal.0 p)
 run_all (entry_is.Submit nonce request ∷ J) legal p = run_still J (entry_is.Submit nonce request ∷ J) p (omega arith) refl refl refl (λ q le. submit_old nonce request J q (λ e. omega (arith, le, e)))
     (λ q lt. elim (cases_eq q (made J + 1)) [
       | inl same ↦ ap (child_in p) (submit_new nonce request J q same)
@@ -135,17 +134,14 @@ run_all (entry_is.Undo pid row out ∷ J) legal p = run_still J (entry_is.Undo p
     by : (o : Option Args) (q : ℕ) → child_in p (option_map (λ args. root_node q args 1) o) ≡ false
     by None q = refl
     by (Some args) q = refl
-run_all (entry_is.Report call told ∷ J) legal p = run_still J (entry_is.Report call told ∷ J) p (omega arith) refl refl refl (λ q le. refl) (λ q lt. ap (child_in p) ((grown_all J legal.0).numbered q lt)) (run_all J legal.0 p)
-run_all (entry_is.Up server ∷ J) legal p = run_still J (entry_is.Up server ∷ J) p (omega arith) refl refl refl (λ q le. refl) (λ q lt. ap (child_in p) ((grown_all J legal.0).numbered q lt)) (run_all J legal.0 p)
 run_all (entry_is.Down server ∷ J) legal p = run_still J (entry_is.Down server ∷ J) p (omega arith) refl refl refl (λ q le. down_old server J q (λ e. omega (arith, le, e)))
     (λ q lt. elim (cases_eq q (made J + 1)) [
       | inl same ↦ ap (child_in p) (down_new server J q same)
       | inr differs ↦ ap (child_in p) (down_old server J q differs ∙ (grown_all J legal.0).numbered q lt)
     ])
     (run_all J legal.0 p)
-run_all (entry_is.Abort pid ∷ J) legal p = run_still J (entry_is.Abort pid ∷ J) p (omega arith) refl refl refl (λ q le. refl) (λ q lt. ap (child_in p) ((grown_all J legal.0).numbered q lt)) (run_all J legal.0 p)
-run_all (entry_is.Adopt sheets ∷ J) legal p = run_still J (entry_is.Adopt sheets ∷ J) p (omega arith) refl refl refl (λ q le. refl) (λ q lt. ap (child_in p) ((grown_all J legal.0).numbered q lt)) (run_all J legal.0 p)
 run_all (entry_is.Base part ∷ J) legal p = record { most = omega arith; least = λ some. absurd (omega (arith, some)); are = none_new }
+run_all (entry ∷ J) legal p = run_still J (entry ∷ J) p (omega arith) refl refl refl (λ q le. refl) (λ q lt. ap (child_in p) ((grown_all J legal.0).numbered q lt)) (run_all J legal.0 p)
 
 -- what those below a number ended with, where none of them is a new child
 module _ (J : Past) (legal : IsLegal J) (p : ℕ) (kept : List Tracked) (are : (q : ℕ) → slice_get kept q ≡ kept_of J (offset J + q + 1)) where

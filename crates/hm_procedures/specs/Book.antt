@@ -51,65 +51,26 @@ HasElder from elders (Some eldest) =
 
 -- the entry makes a root of its own
 abbrev pub IsRooting : Entry → Type 0
-IsRooting (entry_is.Start sheets) = ⊥
 IsRooting (entry_is.Submit nonce request) = Unit {0}
-IsRooting (entry_is.Step pid pick out) = ⊥
-IsRooting (entry_is.Undo pid row out) = ⊥
-IsRooting (entry_is.Report call told) = ⊥
-IsRooting (entry_is.Up server) = ⊥
 IsRooting (entry_is.Down server) = Unit {0}
-IsRooting (entry_is.Abort pid) = ⊥
-IsRooting (entry_is.Adopt sheets) = ⊥
-IsRooting (entry_is.Base part) = ⊥
+IsRooting entry = ⊥
 
 -- the entry undoes a step
 abbrev pub IsUndo : Entry → Type 0
-IsUndo (entry_is.Start sheets) = ⊥
-IsUndo (entry_is.Submit nonce request) = ⊥
-IsUndo (entry_is.Step pid pick out) = ⊥
 IsUndo (entry_is.Undo pid row out) = Unit {0}
-IsUndo (entry_is.Report call told) = ⊥
-IsUndo (entry_is.Up server) = ⊥
-IsUndo (entry_is.Down server) = ⊥
-IsUndo (entry_is.Abort pid) = ⊥
-IsUndo (entry_is.Adopt sheets) = ⊥
-IsUndo (entry_is.Base part) = ⊥
+IsUndo entry = ⊥
 
 -- the entry is the report of a call
 abbrev pub IsReport : Entry → Type 0
-IsReport (entry_is.Start sheets) = ⊥
-IsReport (entry_is.Submit nonce request) = ⊥
-IsReport (entry_is.Step pid pick out) = ⊥
-IsReport (entry_is.Undo pid row out) = ⊥
 IsReport (entry_is.Report call told) = Unit {0}
-IsReport (entry_is.Up server) = ⊥
-IsReport (entry_is.Down server) = ⊥
-IsReport (entry_is.Abort pid) = ⊥
-IsReport (entry_is.Adopt sheets) = ⊥
-IsReport (entry_is.Base part) = ⊥
+IsReport entry = ⊥
 
 -- the entry adopts sheets
 abbrev pub IsAdopt : Entry → Type 0
-IsAdopt (entry_is.Start sheets) = ⊥
-IsAdopt (entry_is.Submit nonce request) = ⊥
-IsAdopt (entry_is.Step pid pick out) = ⊥
-IsAdopt (entry_is.Undo pid row out) = ⊥
-IsAdopt (entry_is.Report call told) = ⊥
-IsAdopt (entry_is.Up server) = ⊥
-IsAdopt (entry_is.Down server) = ⊥
-IsAdopt (entry_is.Abort pid) = ⊥
 IsAdopt (entry_is.Adopt sheets) = Unit {0}
-IsAdopt (entry_is.Base part) = ⊥
+IsAdopt entry = ⊥
 
 -- the entry is an abort
 abbrev pub IsAbort : Entry → Type 0
-IsAbort (entry_is.Start sheets) = ⊥
-IsAbort (entry_is.Submit nonce request) = ⊥
-IsAbort (entry_is.Step pid pick out) = ⊥
-IsAbort (entry_is.Undo pid row out) = ⊥
-IsAbort (entry_is.Report call told) = ⊥
-IsAbort (entry_is.Up server) = ⊥
-IsAbort (entry_is.Down server) = ⊥
 IsAbort (entry_is.Abort pid) = Unit {0}
-IsAbort (entry_is.Adopt sheets) = ⊥
-IsAbort (entry_is.Base part) = ⊥
+IsAbort entry = ⊥

@@ -32,45 +32,27 @@ part_args part = []
 
 -- what the procedures that an entry makes work on, in order; of a part of a base, what its root works on
 abbrev pub args_made : Past → Entry → List Args
-args_made before (entry_is.Start sheets) = []
 args_made before (entry_is.Submit nonce request) = args_are.Root request (first_of before (table_of_request request)) ∷ []
 args_made before (entry_is.Step pid pick out) = args_in out.children
 args_made before (entry_is.Undo pid row out) = args_in out.followers
-args_made before (entry_is.Report call told) = []
-args_made before (entry_is.Up server) = []
 args_made before (entry_is.Down server) = args_are.Crash server ∷ []
-args_made before (entry_is.Abort pid) = []
-args_made before (entry_is.Adopt sheets) = []
 args_made before (entry_is.Base part) = part_args part
+args_made before entry = []
 
 -- how many procedures the last step of a procedure made
 abbrev pub made_in_step : Past → ℕ → ℕ
 made_in_step [] p = 0
-made_in_step (entry_is.Start sheets ∷ before) p = made_in_step before p
-made_in_step (entry_is.Submit nonce request ∷ before) p = made_in_step before p
 made_in_step (entry_is.Step pid pick out ∷ before) p = if p == pid.0 then length (args_in out.children) else made_in_step before p
-made_in_step (entry_is.Undo pid row out ∷ before) p = made_in_step before p
-made_in_step (entry_is.Report call told ∷ before) p = made_in_step before p
-made_in_step (entry_is.Up server ∷ before) p = made_in_step before p
-made_in_step (entry_is.Down server ∷ before) p = made_in_step before p
-made_in_step (entry_is.Abort pid ∷ before) p = made_in_step before p
-made_in_step (entry_is.Adopt sheets ∷ before) p = made_in_step before p
 made_in_step (entry_is.Base part ∷ before) p = 0
+made_in_step (entry ∷ before) p = made_in_step before p
 
 -- the first child that a procedure made
 abbrev pub first_child_of : Past → ℕ → Option Pid
 first_child_of [] p = None
-first_child_of (entry_is.Start sheets ∷ before) p = first_child_of before p
-first_child_of (entry_is.Submit nonce request ∷ before) p = first_child_of before p
 first_child_of (entry_is.Step pid pick out ∷ before) p =
     if p == pid.0 then option_or (first_child_of before p) (first_made (made before) (length (args_in out.children))) else first_child_of before p
-first_child_of (entry_is.Undo pid row out ∷ before) p = first_child_of before p
-first_child_of (entry_is.Report call told ∷ before) p = first_child_of before p
-first_child_of (entry_is.Up server ∷ before) p = first_child_of before p
-first_child_of (entry_is.Down server ∷ before) p = first_child_of before p
-first_child_of (entry_is.Abort pid ∷ before) p = first_child_of before p
-first_child_of (entry_is.Adopt sheets ∷ before) p = first_child_of before p
 first_child_of (entry_is.Base part ∷ before) p = None
+first_child_of (entry ∷ before) p = first_child_of before p
 
 -- what is kept of a procedure that is shown in a phase
 abbrev pub kept_in : Phase → Past → ℕ → Node → Tracked
