@@ -12,6 +12,7 @@ use Rattle.hm_data.specs.declared.entry.Entry.TheVariants as entry_is
 use Rattle.hm_index.specs.Index.{find}
 use Rattle.hm_model.specs.Fleet.{has_newer, is_live, same_address}
 use Rattle.hm_model.specs.Journal.{Past}
+use Rattle.hm_model.specs.Plain.{IsPlain}
 use Rattle.hm_model.specs.Standings.{MayComeUp, greatest_start, live_if, standings_of}
 use Rattle.hm_model.proofs.NameTies.{same_server-is, same_server-refl, server_ties}
 use Rattle.hm_places.specs.Laws.{StandingsTell, stand_behind}
@@ -96,16 +97,16 @@ pub can_go_down : (J : Past) (server : Server) → StandingsTell J → is_live J
 can_go_down J server tell live down_is.Unknown not_up = true≢false (sym (live_there (find server_cmp (standings_of J) server) (tell.live server ∙ live)) ∙ not_up)
 can_go_down J server tell live down_is.AlreadyDown gone = true≢false (sym (tell.live server ∙ live) ∙ gone.1)
 
--- other entries leave the servers as they stand
-pub others_stand : (entry : Entry) (J : Past) (servers : List (Server × Standing)) → comes_up entry ≡ None
+-- other plain entries leave the servers as they stand
+pub others_stand : (entry : Entry) (J : Past) (servers : List (Server × Standing)) → IsPlain entry → comes_up entry ≡ None
     → ((call : Pid) (told : Told) → entry ≡ entry_is.Report call told → ⊥) → ((server : Server) → entry ≡ entry_is.Down server → ⊥) → stand_behind J entry servers ≡ servers
-others_stand (entry_is.Start sheets) J servers up report down = refl
-others_stand (entry_is.Submit nonce request) J servers up report down = refl
-others_stand (entry_is.Step pid pick out) J servers up report down = refl
-others_stand (entry_is.Undo pid row out) J servers up report down = refl
-others_stand (entry_is.Report call told) J servers up report down = absurd (report call told refl)
-others_stand (entry_is.Up server) J servers up report down = absurd (none-some server (sym up))
-others_stand (entry_is.Down server) J servers up report down = absurd (down server refl)
-others_stand (entry_is.Abort pid) J servers up report down = refl
-others_stand (entry_is.Adopt sheets) J servers up report down = refl
-others_stand (entry_is.Base part) J servers up report down = refl
+others_stand (entry_is.Start sheets) J servers plain up report down = refl
+others_stand (entry_is.Submit nonce request) J servers plain up report down = refl
+others_stand (entry_is.Step pid pick out) J servers plain up report down = refl
+others_stand (entry_is.Undo pid row out) J servers plain up report down = refl
+others_stand (entry_is.Report call told) J servers plain up report down = absurd (report call told refl)
+others_stand (entry_is.Up server) J servers plain up report down = absurd (none-some server (sym up))
+others_stand (entry_is.Down server) J servers plain up report down = absurd (down server refl)
+others_stand (entry_is.Abort pid) J servers plain up report down = refl
+others_stand (entry_is.Adopt sheets) J servers plain up report down = refl
+others_stand (entry_is.Base part) J servers plain up report down = absurd plain

@@ -1,14 +1,13 @@
 //! The places of regions.
-ghost use Rattle.std.specs.Prelude.{◌≡◌, ◌+◌, ◌≤◌, ◌∷◌, IfOk};
+ghost use Rattle.std.specs.Prelude.{◌≡◌, ◌+◌, ◌≤◌, ◌∷◌, IfOk, Some};
 ghost use Rattle.std.specs.Option.{option_copied};
 ghost use Rattle.hm_model.specs.Places.{region_if};
-ghost use Rattle.hm_model.specs.Plain.{IsPlain};
 ghost use Rattle.hm_model.specs.Tree.{node_of};
 ghost use Rattle.hm_model.specs.Views.{region_of as region_in, region_of_request as requested_region};
 ghost use Rattle.hm_model.specs.Loads.{places_of};
-ghost use Rattle.hm_places.specs.Laws.{placed_now as placed_by};
+ghost use Rattle.hm_places.specs.Laws.{part_places as places_by, placed_now as placed_by};
 
-use hm_data::{Args, Entry, Place, Request};
+use hm_data::{Args, Entry, Part, Place, Request};
 use hm_names::{Copied, Pid, RegionName};
 use hm_places::{Places, places_follow};
 use hm_procedures::Procedures;
@@ -52,6 +51,31 @@ fn region_at(past: &Procedures, pid: Pid) -> Option<&RegionName>
     }
 }
 
+type Placed = Option<(RegionName, Place)>;
+
+// A region with a place, in memory of their own.
+fn placed_at(alloc: Global, region: &RegionName, place: &Place) -> Result<Placed, AllocError>
+    ensures { IfOk result (λ placed. placed ≡ Some (region.now, place.now)) }
+{
+    Ok(Some((region.copy(alloc)?, place.copy(alloc)?)))
+}
+
+// The place that a part of a base gives its region.
+fn part_places(alloc: Global, part: &Part) -> Result<Placed, AllocError>
+    ensures { IfOk result (λ placed. placed ≡ places_by part.now) }
+{
+    match part {
+        Part::Region {
+            region,
+            range: _,
+            status: _,
+            parents: _,
+            place,
+        } => placed_at(alloc, region, place),
+        _ => Ok(None),
+    }
+}
+
 // The place that an entry gives a region.
 pub(crate) fn placed_now(
     alloc: Global,
@@ -60,11 +84,12 @@ pub(crate) fn placed_now(
 ) -> Result<Option<(RegionName, Place)>, AllocError>
     ensures { IfOk result (λ placed. placed ≡ placed_by past.now.past entry.now) }
 {
-    let Entry::Step { pid, pick: _, out } = entry else {
-        return Ok(None);
-    };
-    match (region_at(past, *pid), &out.place) {
-        (Some(region), Some(place)) => Ok(Some((region.copy(alloc)?, place.copy(alloc)?))),
+    match entry {
+        Entry::Step { pid, pick: _, out } => match (region_at(past, *pid), &out.place) {
+            (Some(region), Some(place)) => placed_at(alloc, region, place),
+            _ => Ok(None),
+        },
+        Entry::Base { part } => part_places(alloc, part),
         _ => Ok(None),
     }
 }
@@ -76,7 +101,6 @@ pub(crate) fn set_place(
     entry: &Entry,
     placed: Option<(RegionName, Place)>,
 )
-    requires plain { IsPlain entry.now }
     requires places { places.old.places ≡ places_of past.now.past }
     requires placed { placed ≡ placed_by past.now.past entry.now }
     requires room { 1 ≤ places.old.spare }

@@ -26,5 +26,5 @@ returns-clause-servers c other down =
     let legal : IsLegal (entry_is.Down server ∷ J) = subst (λ (e : Entry). IsLegal (e ∷ J)) c.in-Down.is c.requires.legal in
     c.in-Ok.ensures.down.now
     ∙ ap (λ l. put_down l (Some server)) c.requires.servers
-    ∙ c.servers_follow.ensures.entries (entry_is.Down server) J legal tt
+    ∙ c.servers_follow.ensures.entries (entry_is.Down server) J legal
     ∙ sym (ap (λ (e : Entry). standings_of (e ∷ J)) c.in-Down.is)

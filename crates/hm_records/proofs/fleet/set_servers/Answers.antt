@@ -38,7 +38,7 @@ returns-in-Some-clause-servers c =
     let legal : IsLegal (entry_is.Up server ∷ J) = subst (λ (e : Entry). IsLegal (e ∷ J)) is c.requires.legal in
     c.add.ensures.servers
     ∙ ap (λ l. placed server_cmp l server fresh) c.requires.servers
-    ∙ c.servers_follow.ensures.entries (entry_is.Up server) J legal tt
+    ∙ c.servers_follow.ensures.entries (entry_is.Up server) J legal
     ∙ sym (ap (λ (e : Entry). standings_of (e ∷ J)) is)
 
 pub returns-in-Report-clause-servers : goal.returns-in-Report-clause-servers
@@ -48,7 +48,7 @@ returns-in-Report-clause-servers c =
     let told : Told = c.in-Report.told in
     let legal : IsLegal (entry_is.Report call told ∷ J) = subst (λ (e : Entry). IsLegal (e ∷ J)) c.in-Report.is c.requires.legal in
     c.fence_shown.ensures.servers
-    ∙ c.servers_follow.ensures.entries (entry_is.Report call told) J legal tt
+    ∙ c.servers_follow.ensures.entries (entry_is.Report call told) J legal
     ∙ sym (ap (λ (e : Entry). standings_of (e ∷ J)) c.in-Report.is)
 
 pub returns-in-Down-clause-servers : goal.returns-in-Down-clause-servers
@@ -59,5 +59,5 @@ returns-in_default-entry-clause-servers c =
     let J : Past = c.args.past.now.past in
     let entry : Entry = c.args.entry.now in
     c.requires.servers
-    ∙ sym (others_stand entry J (standings_of J) (sym c.requires.up ∙ c.in_default.is) c.in_default-entry.not-Report c.in_default-entry.not-Down)
-    ∙ c.servers_follow.ensures.entries entry J c.requires.legal c.requires.plain
+    ∙ sym (others_stand entry J (standings_of J) c.requires.plain (sym c.requires.up ∙ c.in_default.is) c.in_default-entry.not-Report c.in_default-entry.not-Down)
+    ∙ c.servers_follow.ensures.entries entry J c.requires.legal
