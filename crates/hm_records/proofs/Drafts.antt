@@ -43,9 +43,10 @@ count_map : {X Y : Type 0} (f : X → Y) (xs : List X) → length (map f xs) ≡
 count_map f [] = refl
 count_map f (x ∷ xs) = ap suc (count_map f xs)
 
--- as many as there are procedures that the entry makes
-pub drafts_count : (J : Past) (entry : Entry) → length (drafts_of J entry) ≡ length (args_made [] entry)
-drafts_count J entry = count_map (draft_of (above_made J (stepper_of entry))) (args_made J entry) ∙ made_count J entry
+-- no more than there are procedures that the entry makes, and roots of a base
+pub drafts_count : (J : Past) (entry : Entry) → length (drafts_of J entry) ≤ length (args_made [] entry)
+drafts_count J (entry_is.Base part) = omega arith
+drafts_count J entry = let many = count_map (draft_of (above_made J (stepper_of entry))) (args_made J entry) in let same = made_count J entry in omega (arith, many, same)
 
 -- whatever their ancestors
 asks_above : (above other : List ℕ) (made : List Args) → asks_in (map (draft_of above) made) ≡ asks_in (map (draft_of other) made)

@@ -54,6 +54,7 @@ pub starts : (sheets : List Sheet) (beside : Beside) → beside.rows ≡ rows_in
     → beside.sheets ≡ sheets → beside.book ≡ [] → AreRecords (entry_is.Start sheets ∷ []) beside
 starts sheets beside rows stacks places servers nonces drawn_ids sheets_is book = record {
   begun = λ e. cc;
+  plain = (tt, tt);
   named = tt;
   rows_are = rows;
   stacks_tell = λ root on. ap (λ (l : Stacks). steps_of l root) stacks;

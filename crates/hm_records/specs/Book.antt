@@ -73,9 +73,14 @@ above_made before (Some pid) = pid.0 ∷ above_in (row_at before pid.0)
 abbrev pub draft_of : List ℕ → Args → DraftView
 draft_of above args = record { above = above; asks = asked args }
 
+-- those of what an entry makes that are procedures, to be enlisted: the roots of a base aren't
+abbrev pub enlisted : Entry → List Args → List Args
+enlisted (entry_is.Base part) made = []
+enlisted entry made = made
+
 -- what will be enlisted of the procedures that an entry makes, in order
 abbrev pub drafts_of : Past → Entry → List DraftView
-drafts_of before entry = map (draft_of (above_made before (stepper_of entry))) (args_made before entry)
+drafts_of before entry = map (draft_of (above_made before (stepper_of entry))) (enlisted entry (args_made before entry))
 
 -- for how much drafts ask in all
 abbrev pub asks_in : List DraftView → ℕ

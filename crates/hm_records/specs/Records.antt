@@ -13,6 +13,7 @@ use Rattle.hm_model.specs.Journal.{Past}
 use Rattle.hm_model.specs.Loads.{places_of}
 use Rattle.hm_model.specs.Nonces.{by_nonce}
 use Rattle.hm_model.specs.Phase.{ended}
+use Rattle.hm_model.specs.Plain.{ArePlain}
 use Rattle.hm_model.specs.RegionIds.{AreNamed}
 use Rattle.hm_model.specs.RowsSaid.{Rows}
 use Rattle.hm_model.specs.Sheets.{sheets_of}
@@ -65,9 +66,10 @@ pub record Beside : Type 0 where
   pub sheets : List Sheet
   pub book : List Row
 
--- the journal has begun, its submissions name regions by their ids, and what is kept beside its procedures is what it says
+-- the journal has begun, it is plain, its submissions name regions by their ids, and what is kept beside its procedures is what it says
 pub record AreRecords (past : Past) (beside : Beside) : Type 0 where
   pub begun : past ≢ []
+  pub plain : ArePlain past
   pub named : AreNamed past
   pub rows_are : beside.rows ≡ rows_in past
   pub stacks_tell : Tells (is_open past) past beside.stacks

@@ -7,7 +7,7 @@ ghost use Rattle.hm_model.specs.Phase.{ended};
 ghost use Rattle.hm_model.specs.Rules.{IsLegal};
 ghost use Rattle.hm_model.specs.Tree.{pid_of};
 ghost use Rattle.hm_procedures.specs.Kept.{args_made};
-ghost use Rattle.hm_records.specs.Book.{AreRows, AreRowsWith, asked as asked_by, asks_in, asks_of, draft_of as drafted_with, drafts_of as drafts_by, has_first as has_first_of, or_drafted, or_taken, stepper_of as stepper_by, unless_ended};
+ghost use Rattle.hm_records.specs.Book.{AreRows, AreRowsWith, asked as asked_by, asks_in, asks_of, draft_of as drafted_with, drafts_of as drafts_by, enlisted as enlisted_of, has_first as has_first_of, or_drafted, or_taken, stepper_of as stepper_by, unless_ended};
 
 use crate::records::Records;
 use hm_data::{Args, Entry};
@@ -102,6 +102,16 @@ fn count_asks(drafts: &[Draft]) -> Result<u64, AllocError>
     Ok(count)
 }
 
+// Those of what an entry makes that are procedures, to be enlisted: the roots of a base aren't.
+fn enlisted<'a>(entry: &Entry, made: &'a [Args]) -> &'a [Args]
+    ensures { result.now ≡ enlisted_of entry.now made.now }
+{
+    match entry {
+        Entry::Base { part: _ } => &[],
+        _ => made,
+    }
+}
+
 // What will be enlisted of the procedures that an entry makes.
 pub(crate) fn drafts_of(
     alloc: Global,
@@ -114,7 +124,12 @@ pub(crate) fn drafts_of(
     ensures asks { IfOk result (λ drafts. drafts.asks ≡ asks_of entry.now) }
 {
     let _legal = records.procedures();
-    let list = draft_all(alloc, records.book(), stepper_of(entry), made)?;
+    let list = draft_all(
+        alloc,
+        records.book(),
+        stepper_of(entry),
+        enlisted(entry, made),
+    )?;
     let asks = count_asks(&list)?;
     Ok(Drafts { list, asks })
 }
@@ -136,7 +151,7 @@ fn take(book: &mut LockBook, past: &Procedures, entry: &Entry)
 
 // Enlists procedures after the last, in the room that was made for them.
 fn enlist(book: &mut LockBook, last: u64, drafts: Vec<Draft>)
-    requires small { last < 2 ^ 63 }
+    requires small { last ≤ 2 ^ 63 + 2 ^ 48 }
     requires new { (p : ℕ) → last < p → row_of book.old.rows p ≡ None }
     requires spare { length drafts.items ≤ book.old.spare }
     requires asks { asks_in drafts.items ≤ book.old.spare_asks }

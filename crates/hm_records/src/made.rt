@@ -3,12 +3,12 @@ ghost use Rattle.std.specs.Prelude.{◌≡◌, ◌++◌, ◌==◌, [], ◌∷◌
 ghost use Rattle.std.specs.List.{list_any};
 ghost use Rattle.hm_data.specs.declared.args.Args.TheVariants as args_are;
 ghost use Rattle.hm_model.specs.Tree.{args_in as procedures_in, child_args};
-ghost use Rattle.hm_procedures.specs.Kept.{args_made as made_by};
+ghost use Rattle.hm_procedures.specs.Kept.{args_made as made_by, part_args};
 ghost use Rattle.hm_model.specs.RegionIds.{AsksForZero, children_asked as asked_by, is_zero_transit as is_one_of_zero};
 
 use crate::ids::first_of;
 use crate::records::Records;
-use hm_data::{Args, Child, Entry, Goal};
+use hm_data::{Args, Child, Entry, Goal, Part};
 use hm_names::{Copied, List, RegionName, TableName};
 use std::alloc::{AllocError, Global};
 
@@ -129,7 +129,23 @@ fn just(alloc: Global, args: Args) -> Result<List<Args>, AllocError>
     Ok(List::of(made))
 }
 
-// What the procedures work on that an entry makes, in order; none where it asks for a transit of the number 0.
+// What the root of a part of a base works on, if the part is of one.
+fn root_in(alloc: Global, part: &Part) -> Result<List<Args>, AllocError>
+    ensures { IfOk result (λ made. made ≡ part_args part.now) }
+{
+    match part {
+        Part::Root {
+            pid: _,
+            nonce: _,
+            args,
+            cause: _,
+        } => just(alloc, args.copy(alloc)?),
+        _ => Ok(List::of(Vec::new(alloc))),
+    }
+}
+
+// What the procedures work on that an entry makes, in order, of a part of a base what its root works on; none where it asks for a
+// transit of the number 0.
 pub(crate) fn args_made(
     alloc: Global,
     records: &Records,
@@ -151,6 +167,7 @@ pub(crate) fn args_made(
             let server = server.copy(alloc)?;
             Ok(Some(just(alloc, Args::Crash { server })?))
         }
+        Entry::Base { part } => Ok(Some(root_in(alloc, part)?)),
         _ => Ok(Some(args_in(alloc, children)?)),
     }
 }

@@ -1,8 +1,8 @@
 //! The steps that may be undone, in their trees.
-ghost use Rattle.std.specs.Prelude.{◌≡◌, ◌+◌, ◌≤◌, ◌∷◌, length, is_some, IfOk};
+ghost use Rattle.std.specs.Prelude.{◌≡◌, ◌+◌, ◌<◌, ◌≤◌, ◌^◌, ◌∷◌, length, is_some, IfOk};
 ghost use Rattle.hm_model.specs.Answers.{failing};
 ghost use Rattle.hm_model.specs.Apart.{tree_of as tree_in};
-ghost use Rattle.hm_model.specs.Plain.{IsPlain};
+ghost use Rattle.hm_model.specs.Editions.{editions};
 ghost use Rattle.hm_model.specs.Rules.{IsLegal};
 ghost use Rattle.hm_model.specs.Sheets.{row_in, sheet_for as sheet_among, undo_by};
 ghost use Rattle.hm_model.specs.Tree.{pid_of, root_of as root_in};
@@ -156,7 +156,7 @@ pub(crate) fn enter_tree(
     step: Option<Step>,
 )
     requires legal { IsLegal (entry.now ∷ procedures.old.past) }
-    requires plain { IsPlain entry.now }
+    requires few { editions (entry.now ∷ procedures.old.past) < 2 ^ 64 }
     requires tells { Tells (is_open procedures.old.past) procedures.old.past stack.old.stacks }
     requires forgotten { AreForgotten procedures.old.past stack.old.stacks }
     requires tree { tree ≡ pid_of (tree_in procedures.old.past entry.now) }

@@ -1,12 +1,12 @@
-use Rattle.hm_records.proofs.Begins.{begins, leaves_none, makes_none, starts_plain}
+use Rattle.hm_records.proofs.Begins.{begins, leaves_none, makes_none, starts_first}
 use Rattle.hm_records.proofs.records.begun.Goals as goal
 
 pub enter-requires-clause-legal : goal.enter-requires-clause-legal
 enter-requires-clause-legal c =
     begins c.args.entry.now c.in_ok-procedures.procedures.past c.args.sheets.now c.requires.starts c.in_ok-procedures.ensures c.requires.sheets
 
-pub enter-requires-clause-plain : goal.enter-requires-clause-plain
-enter-requires-clause-plain c = starts_plain c.args.entry.now c.args.sheets.now c.requires.starts
+pub enter-requires-clause-few : goal.enter-requires-clause-few
+enter-requires-clause-few c = starts_first c.args.entry.now c.in_ok-procedures.procedures.past c.args.sheets.now c.requires.starts c.in_ok-procedures.ensures
 
 pub enter-requires-clause-made : goal.enter-requires-clause-made
 enter-requires-clause-made c =

@@ -2,6 +2,7 @@ use Rattle.std.proofs.Common.{◌≡◌, ℕ, ◌+◌, ◌≤◌, [], ◌∷◌,
 use Rattle.hm_data.specs.declared.entry.Entry.{Entry}
 use Rattle.hm_model.specs.Journal.{Past}
 use Rattle.hm_model.specs.Rules.{IsLegal}
+use Rattle.hm_model.proofs.Plain.{no_editions}
 use Rattle.hm_undo.specs.Laws.{Tells}
 use Rattle.hm_procedures.specs.Kept.{args_made}
 use Rattle.hm_records.specs.Book.{AreRows, asks_in, asks_of}
@@ -30,6 +31,7 @@ invariant_of-self c =
     } in
     subst (λ (l : Past). AreRecords l beside) (sym after) (record {
       begun = λ e. cc;
+      plain = (c.self.invariant.plain, c.requires.plain);
       named = named_more entry J c.entry_names.ensures c.self.invariant.named;
       rows_are = c.set_rows.ensures.rows;
       stacks_tell = subst (λ (l : Past). Tells (is_open l) l c.enter_tree.new.stack.stacks) after c.enter_tree.ensures.tells;
@@ -57,7 +59,7 @@ returns-clause-spare c =
     let servers : f.servers.spare ≤ c.set_servers.new.servers.spare + size = omega (arith, c.set_servers.ensures.spare) in
     let nonces : f.nonces.spare ≤ c.add_nonce.new.nonces.spare + size = omega (arith, c.add_nonce.ensures.spare) in
     let drawn : f.drawn.spare ≤ c.count_ids.new.drawn.spare + size = omega (arith, c.count_ids.ensures.spare) in
-    let drafts : length (let parts = c.args.parts in let drafts = parts.drafts in let list = drafts.list in list.items) ≡ length (args_made [] entry) = ap length c.requires.parts.drafts ∙ drafts_count J entry in
+    let drafts : length (let parts = c.args.parts in let drafts = parts.drafts in let list = drafts.list in list.items) ≤ length (args_made [] entry) = (let same = ap length c.requires.parts.drafts in let few = drafts_count J entry in omega (arith, same, few)) in
     let asks : asks_in (let parts = c.args.parts in let drafts = parts.drafts in let list = drafts.list in list.items) ≡ asks_of entry = ap asks_in c.requires.parts.drafts ∙ asks_same entry J c.requires.legal.0 in
     let book : f.book.spare ≤ c.release_ended.new.book.spare + size = omega (arith, c.enlist_made.ensures.spare, c.release_ended.ensures.spare.0, drafts) in
     let more : f.book.spare_asks ≤ c.release_ended.new.book.spare_asks + size = omega (arith, c.enlist_made.ensures.asks, c.release_ended.ensures.spare.1, asks) in
@@ -69,10 +71,11 @@ pub enlist_made-requires-clause-spare : goal.enlist_made-requires-clause-spare
 enlist_made-requires-clause-spare c =
     let J : Past = c.args.self.now.past in
     let entry : Entry = c.args.entry.now in
-    let count = ap length c.requires.parts.drafts ∙ drafts_count J entry in
+    let same = ap length c.requires.parts.drafts in
+    let count = drafts_count J entry in
     let spare = ap (λ (v : RecordsView). v.spare) c.self.view_is in
     let room = c.requires.room in
-    omega (arith, count, spare, room)
+    omega (arith, same, count, spare, room)
 
 pub enlist_made-requires-clause-asks : goal.enlist_made-requires-clause-asks
 enlist_made-requires-clause-asks c =
@@ -82,3 +85,9 @@ enlist_made-requires-clause-asks c =
     let spare = ap (λ (v : RecordsView). v.spare) c.self.view_is in
     let room = c.requires.room in
     omega (arith, count, spare, room)
+
+pub enter_tree-requires-clause-few : goal.enter_tree-requires-clause-few
+enter_tree-requires-clause-few c =
+    let J : Past = c.self.inside.procedures.past in
+    let none = no_editions (c.args.entry.now ∷ J) (c.self.invariant.plain, c.requires.plain) in
+    omega (arith, none)
