@@ -70,19 +70,15 @@ child_low pid pick out J legal i args is =
 
 -- so can those of all that a plain entry makes
 pub made_fits : (entry : Entry) (J : Past) → IsLegal (entry ∷ J) → IsPlain entry → (k : ℕ) (args : Args) → slice_get (args_made J entry) k ≡ Some args → has_first args ≡ true
-made_fits (entry_is.Start sheets) J legal plain k args is = absurd (none-some args is)
 made_fits (entry_is.Submit nonce request) J legal plain zero args is = ap has_first (sym (same_Some (args_are.Root request (first_of J (table_of_request request))) args is)) ∙ first_fits J legal.0 (table_of_request request)
 made_fits (entry_is.Submit nonce request) J legal plain (suc k) args is = absurd (none-some args is)
 made_fits (entry_is.Step pid pick out) J legal plain k args is =
     low_fits args (child_low pid pick out J legal k args is)
 made_fits (entry_is.Undo pid row out) J legal plain k args is = low_fits args (quiet_low out.followers (undo_quiet pid row out J legal) k args is)
-made_fits (entry_is.Report call told) J legal plain k args is = absurd (none-some args is)
-made_fits (entry_is.Up server) J legal plain k args is = absurd (none-some args is)
 made_fits (entry_is.Down server) J legal plain zero args is = ap has_first (sym (same_Some (args_are.Crash server) args is))
 made_fits (entry_is.Down server) J legal plain (suc k) args is = absurd (none-some args is)
-made_fits (entry_is.Abort pid) J legal plain k args is = absurd (none-some args is)
-made_fits (entry_is.Adopt sheets) J legal plain k args is = absurd (none-some args is)
 made_fits (entry_is.Base part) J legal plain k args is = absurd plain
+made_fits entry J legal plain k args is = absurd (none-some args is)
 
 -- a node that is new has the row of its draft
 drafts_row : (p : ℕ) (above : List ℕ) (args : Args) (root first : ℕ) → has_first args ≡ true
@@ -124,7 +120,6 @@ above_is J p x is goes =
 -- the procedures that an entry makes have the rows of its drafts
 fresh_row : (entry : Entry) (J : Past) → IsLegal (entry ∷ J) → (p : ℕ) → made J < p
     → book_row false false p (node_of (entry ∷ J) p) ≡ option_map (drafted p) (slice_get (drafts_of J entry) (p - made J - 1))
-fresh_row (entry_is.Start sheets) J legal p behind = ap (book_row false false p) ((grown_all J legal.0).numbered p behind)
 fresh_row (entry_is.Submit nonce request) J legal p behind =
     one_row J p behind (args_are.Root request (first_of J (table_of_request request))) (first_of J (table_of_request request)) (first_fits J legal.0 (table_of_request request))
     (node_of (entry_is.Submit nonce request ∷ J) p) (submit_new nonce request J p) (λ e. submit_old nonce request J p e ∙ (grown_all J legal.0).numbered p behind)
@@ -136,13 +131,10 @@ fresh_row (entry_is.Step pid pick out) J legal p behind =
     ∙ sym (ap (λ (l : List ℕ). option_map (drafted p) (slice_get (map (draft_of (pid.0 ∷ l)) (args_in out.children)) (p - made J - 1))) (above_is J pid.0 me.0 me.1 (stepper_open pid pick out J legal)))
 fresh_row (entry_is.Undo pid row out) J legal p behind =
     ap (book_row false false p) (undo_new pid row out J p behind) ∙ many_rows p [] p 1 (args_in out.followers) (p - made J - 1) (made_fits (entry_is.Undo pid row out) J legal tt (p - made J - 1))
-fresh_row (entry_is.Report call told) J legal p behind = ap (book_row false false p) ((grown_all J legal.0).numbered p behind)
-fresh_row (entry_is.Up server) J legal p behind = ap (book_row false false p) ((grown_all J legal.0).numbered p behind)
 fresh_row (entry_is.Down server) J legal p behind =
     one_row J p behind (args_are.Crash server) 1 refl (node_of (entry_is.Down server ∷ J) p) (down_new server J p) (λ e. down_old server J p e ∙ (grown_all J legal.0).numbered p behind)
-fresh_row (entry_is.Abort pid) J legal p behind = ap (book_row false false p) ((grown_all J legal.0).numbered p behind)
-fresh_row (entry_is.Adopt sheets) J legal p behind = ap (book_row false false p) ((grown_all J legal.0).numbered p behind)
 fresh_row (entry_is.Base part) J legal p behind = refl
+fresh_row entry J legal p behind = ap (book_row false false p) ((grown_all J legal.0).numbered p behind)
 
 module _ (entry : Entry) (J : Past) (legal : IsLegal (entry ∷ J)) (p : ℕ) where
   abbrev after : Past

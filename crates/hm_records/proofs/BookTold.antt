@@ -86,17 +86,9 @@ module _ (past : Past) (rows : List Row) (are : AreRows past rows) where
     stepper_free law = (law past [] rows pid.0 book_of stepper_listed).1 (step_free pid pick out past legal)
 
   pub stepper_can : FreeIsFree → (entry : Entry) → IsLegal (entry ∷ past) → (pid : Pid) → stepper_of entry ≡ Some pid → IsEnlisted rows pid.0 × IsFree rows pid.0
-  stepper_can law (entry_is.Start sheets) legal pid is = absurd (none-some pid is)
-  stepper_can law (entry_is.Submit nonce request) legal pid is = absurd (none-some pid is)
   stepper_can law (entry_is.Step own pick out) legal pid is =
       subst (λ (q : Pid). IsEnlisted rows q.0 × IsFree rows q.0) (same_Some own pid is) (stepper_listed own pick out legal, stepper_free own pick out legal law)
-  stepper_can law (entry_is.Undo own row out) legal pid is = absurd (none-some pid is)
-  stepper_can law (entry_is.Report call told) legal pid is = absurd (none-some pid is)
-  stepper_can law (entry_is.Up server) legal pid is = absurd (none-some pid is)
-  stepper_can law (entry_is.Down server) legal pid is = absurd (none-some pid is)
-  stepper_can law (entry_is.Abort own) legal pid is = absurd (none-some pid is)
-  stepper_can law (entry_is.Adopt sheets) legal pid is = absurd (none-some pid is)
-  stepper_can law (entry_is.Base part) legal pid is = absurd (none-some pid is)
+  stepper_can law entry legal pid is = absurd (none-some pid is)
 
 -- who takes holds
 pub taken_rows : (old new : List Row) (pid : Pid) → AreChanged old pid.0 (option_map (holding true) (row_of old pid.0)) new → (p : ℕ) → row_of new p ≡ or_taken (Some pid) p (row_of old p)
@@ -123,12 +115,4 @@ unlisted (Some row) e = absurd (true≢false e)
 pub first_told : (args : Args) → has_first args ≡ true → HasFirst args
 first_told (args_are.Root request first) is =
     let parts = and_parts (nat_lt 0 first) (nat_lt first 4294967296) is in (grind (arith, nat_tests, parts), grind (arith, nat_tests, parts))
-first_told (args_are.Transit region goal to) is = tt
-first_told (args_are.Crash server) is = tt
-first_told (args_are.AddRegions table first bounds) is = tt
-first_told (args_are.DropRegions table ids) is = tt
-first_told (args_are.AssignCall region server) is = tt
-first_told (args_are.CloseCall region server) is = tt
-first_told (args_are.FenceCall server) is = tt
-first_told (args_are.LayoutCall root) is = tt
-first_told (args_are.SweepLayout root) is = tt
+first_told args is = tt

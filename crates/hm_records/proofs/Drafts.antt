@@ -66,16 +66,8 @@ merge_many (region ∷ more) n m = ap (λ k. suc (suc k)) (last (map _ _) _ _)
     last xs a b = let one = length-append xs (a ∷ []) in let two = length-append xs (b ∷ []) in omega (arith, one, two)
 
 request_many : (request : Request) (n m : ℕ) → length (request_asks request n) ≡ length (request_asks request m)
-request_many (request_is.CreateNamespace ns) n m = refl
-request_many (request_is.DropNamespace ns) n m = refl
-request_many (request_is.CreateTable table keys) n m = refl
-request_many (request_is.DeleteTable table) n m = refl
-request_many (request_is.EnableTable table) n m = refl
-request_many (request_is.DisableTable table) n m = refl
-request_many (request_is.ModifyTable table version) n m = refl
-request_many (request_is.SplitRegion region key) n m = refl
 request_many (request_is.MergeRegions regions) n m = merge_many regions n m
-request_many (request_is.Move region to) n m = refl
+request_many request n m = refl
 
 root_asks : (J : Past) → IsLegal J → (request : Request) → length (asked (args_are.Root request (first_of J (table_of_request request)))) ≡ length (request_asks request 1)
 root_asks J legal request =
@@ -87,16 +79,9 @@ submit_asks J legal request = asks_one (draft_of [] (args_are.Root request (firs
 
 -- what an entry makes asks for as much, whatever was before it
 pub asks_same : (entry : Entry) (J : Past) → IsLegal J → asks_in (drafts_of J entry) ≡ asks_of entry
-asks_same (entry_is.Start sheets) J legal = refl
 asks_same (entry_is.Submit nonce request) J legal = submit_asks J legal request ∙ sym (submit_asks [] tt request)
 asks_same (entry_is.Step pid pick out) J legal = asks_above (above_made J (Some pid)) (above_made [] (Some pid)) (args_in out.children)
-asks_same (entry_is.Undo pid row out) J legal = refl
-asks_same (entry_is.Report call told) J legal = refl
-asks_same (entry_is.Up server) J legal = refl
-asks_same (entry_is.Down server) J legal = refl
-asks_same (entry_is.Abort pid) J legal = refl
-asks_same (entry_is.Adopt sheets) J legal = refl
-asks_same (entry_is.Base part) J legal = refl
+asks_same entry J legal = refl
 
 get_push : {X : Type 0} (xs : List X) (y : X) (k : ℕ) → slice_get (xs ++ y ∷ []) k ≡ cond (eqb (length xs) k) (Some y) (slice_get xs k)
 get_push [] y zero = refl

@@ -62,28 +62,13 @@ table_ties a b = by (same_table a b) refl
 
 module _ (J : Past) where
   pub draws_none : (entry : Entry) → IsPlain entry → ids_drawn entry ≡ None → (t : TableName) → drawn (entry ∷ J) t ≡ drawn J t
-  draws_none (entry_is.Start sheets) plain none t = refl
   draws_none (entry_is.Submit nonce request) plain none t = let zero_is = none_for (table_of_request request) (new_ids request) none t in omega (arith, zero_is)
-  draws_none (entry_is.Step pid pick out) plain none t = refl
-  draws_none (entry_is.Undo pid row out) plain none t = refl
-  draws_none (entry_is.Report call told) plain none t = refl
-  draws_none (entry_is.Up server) plain none t = refl
-  draws_none (entry_is.Down server) plain none t = refl
-  draws_none (entry_is.Abort pid) plain none t = refl
-  draws_none (entry_is.Adopt sheets) plain none t = refl
   draws_none (entry_is.Base part) plain none t = absurd plain
+  draws_none entry plain none t = refl
 
   pub draws_some : (entry : Entry) (ids : TableName × ℕ) → ids_drawn entry ≡ Some ids → (t : TableName) → drawn (entry ∷ J) t ≡ drawn J t + (if same_table ids.0 t then ids.1 else 0)
-  draws_some (entry_is.Start sheets) ids is t = absurd (none-some ids is)
   draws_some (entry_is.Submit nonce request) ids is t = ap (λ n. drawn J t + n) (some_for (table_of_request request) (new_ids request) ids is t)
-  draws_some (entry_is.Step pid pick out) ids is t = absurd (none-some ids is)
-  draws_some (entry_is.Undo pid row out) ids is t = absurd (none-some ids is)
-  draws_some (entry_is.Report call told) ids is t = absurd (none-some ids is)
-  draws_some (entry_is.Up server) ids is t = absurd (none-some ids is)
-  draws_some (entry_is.Down server) ids is t = absurd (none-some ids is)
-  draws_some (entry_is.Abort pid) ids is t = absurd (none-some ids is)
-  draws_some (entry_is.Adopt sheets) ids is t = absurd (none-some ids is)
-  draws_some (entry_is.Base part) ids is t = absurd (none-some ids is)
+  draws_some entry ids is t = absurd (none-some ids is)
 
   -- they stay within their limit
   pub few_drawn : (entry : Entry) (ids : TableName × ℕ) → ids_drawn entry ≡ Some ids → IsLegal (entry ∷ J) → drawn J ids.0 + ids.1 ≤ 4096

@@ -53,30 +53,15 @@ steps_or_not entry p = by (stepper_of entry) refl
 
 -- another's last answer stays
 pub last_stays : (entry : Entry) (J : Past) → IsLegal (entry ∷ J) → (p : ℕ) → ((pid : Pid) → stepper_of entry ≡ Some pid → pid.0 ≢ p) → last_answer (entry ∷ J) p ≡ last_answer J p
-last_stays (entry_is.Start sheets) J legal p other = refl
-last_stays (entry_is.Submit nonce request) J legal p other = refl
 last_stays (entry_is.Step pid pick out) J legal p other = cond-false (p == pid.0) (Some out.answer) (last_answer J p) (ne_eqb p pid.0 (λ e. other pid refl (sym e)))
-last_stays (entry_is.Undo pid row out) J legal p other = refl
-last_stays (entry_is.Report call told) J legal p other = refl
-last_stays (entry_is.Up server) J legal p other = refl
-last_stays (entry_is.Down server) J legal p other = refl
-last_stays (entry_is.Abort pid) J legal p other = refl
-last_stays (entry_is.Adopt sheets) J legal p other = refl
 last_stays (entry_is.Base part) J legal p other = sym (none_stepped part J legal p)
+last_stays entry J legal p other = refl
 
 -- who steps has a step
 last_comes : (entry : Entry) (J : Past) (p : ℕ) (pid : Pid) → stepper_of entry ≡ Some pid → pid.0 ≡ p → is_some (last_answer (entry ∷ J) p) ≡ true
-last_comes (entry_is.Start sheets) J p pid is same = absurd (none-some pid is)
-last_comes (entry_is.Submit nonce request) J p pid is same = absurd (none-some pid is)
 last_comes (entry_is.Step own pick out) J p pid is same =
     ap (λ b. is_some (if b then Some out.answer else last_answer J p)) (eq-eqb p own.0 (sym same ∙ ap (λ (q : Pid). q.0) (sym (same_Some own pid is))))
-last_comes (entry_is.Undo own row out) J p pid is same = absurd (none-some pid is)
-last_comes (entry_is.Report call told) J p pid is same = absurd (none-some pid is)
-last_comes (entry_is.Up server) J p pid is same = absurd (none-some pid is)
-last_comes (entry_is.Down server) J p pid is same = absurd (none-some pid is)
-last_comes (entry_is.Abort own) J p pid is same = absurd (none-some pid is)
-last_comes (entry_is.Adopt sheets) J p pid is same = absurd (none-some pid is)
-last_comes (entry_is.Base part) J p pid is same = absurd (none-some pid is)
+last_comes entry J p pid is same = absurd (none-some pid is)
 
 -- of another tree the procedure of the step alone ends
 pub ends_by : (entry : Entry) (J : Past) → IsLegal (entry ∷ J) → (p : ℕ) → p ≢ tree_of J entry → ((pid : Pid) → stepper_of entry ≡ Some pid → pid.0 ≢ p) → ended J p ≡ false → ended (entry ∷ J) p ≡ false
@@ -117,16 +102,12 @@ unless_none false = refl
 
 -- who isn't there up to the last number isn't there after an entry
 still_none : (entry : Entry) (J : Past) (p : ℕ) → p ≤ made J → node_of J p ≡ None → node_of (entry ∷ J) p ≡ None
-still_none (entry_is.Start sheets) J p within none = none
 still_none (entry_is.Submit nonce request) J p within none = submit_old nonce request J p (λ e. omega (arith, within, e)) ∙ none
 still_none (entry_is.Step pid pick out) J p within none = step_old pid pick out J p within ∙ none
 still_none (entry_is.Undo pid row out) J p within none = undo_old pid row out J p within ∙ none
-still_none (entry_is.Report call told) J p within none = none
-still_none (entry_is.Up server) J p within none = none
 still_none (entry_is.Down server) J p within none = down_old server J p (λ e. omega (arith, within, e)) ∙ none
-still_none (entry_is.Abort pid) J p within none = none
-still_none (entry_is.Adopt sheets) J p within none = none
 still_none (entry_is.Base part) J p within none = refl
+still_none entry J p within none = none
 
 module _ (entry : Entry) (J : Past) (legal : IsLegal (entry ∷ J)) (p : ℕ) where
   abbrev after : Past

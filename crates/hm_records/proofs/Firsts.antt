@@ -33,7 +33,6 @@ follower_first pid row out J legal p i x (Some args) is e = subst (λ (n : Node)
 -- of each procedure
 pub node_first : (J : Past) → IsLegal J → (p : ℕ) (x : Node) → node_of J p ≡ Some x → HasFirst x.args
 node_first [] legal p x is = absurd (none-some x is)
-node_first (entry_is.Start sheets ∷ J) legal p x is = node_first J legal.0 p x is
 node_first (entry_is.Submit nonce request ∷ J) legal p x is = elim (cases_eq p (made J + 1)) [
   | inl new ↦ subst (λ (n : Node). HasFirst n.args) (same_Some _ x (sym (submit_new nonce request J p new) ∙ is)) (first_told (args_are.Root request (first_of J (table_of_request request))) (first_fits J legal.0 (table_of_request request)))
   | inr old ↦ node_first J legal.0 p x (sym (submit_old nonce request J p old) ∙ is)
@@ -49,12 +48,9 @@ node_first (entry_is.Undo pid row out ∷ J) legal p x is = elim (le_or_lt p (ma
   | inl le ↦ node_first J legal.0 p x (sym (undo_old pid row out J p le) ∙ is)
   | inr lt ↦ follower_first pid row out J legal p (p - made J - 1) x (slice_get (args_in out.followers) (p - made J - 1)) refl (sym (undo_new pid row out J p lt) ∙ is)
 ]
-node_first (entry_is.Report call told ∷ J) legal p x is = node_first J legal.0 p x is
-node_first (entry_is.Up server ∷ J) legal p x is = node_first J legal.0 p x is
 node_first (entry_is.Down server ∷ J) legal p x is = elim (cases_eq p (made J + 1)) [
   | inl new ↦ subst (λ (n : Node). HasFirst n.args) (same_Some (root_node p (args_are.Crash server) 1) x (sym (down_new server J p new) ∙ is)) tt
   | inr old ↦ node_first J legal.0 p x (sym (down_old server J p old) ∙ is)
 ]
-node_first (entry_is.Abort pid ∷ J) legal p x is = node_first J legal.0 p x is
-node_first (entry_is.Adopt sheets ∷ J) legal p x is = node_first J legal.0 p x is
 node_first (entry_is.Base part ∷ J) legal p x is = absurd (none-some x is)
+node_first (entry ∷ J) legal p x is = node_first J legal.0 p x is

@@ -30,17 +30,11 @@ none_stacked = by_parts (λ J. (p : ℕ) → stack J p ≡ []) (λ p. refl) (λ 
 
 -- what is left of another tree stays
 stack_stays : (entry : Entry) (J : Past) → IsLegal (entry ∷ J) → (p : ℕ) → p ≢ tree_of J entry → stack (entry ∷ J) p ≡ stack J p
-stack_stays (entry_is.Start sheets) J legal p other = refl
-stack_stays (entry_is.Submit nonce request) J legal p other = refl
 stack_stays (entry_is.Step pid pick out) J legal p other =
     cond-false (root_of J pid.0 == p) (pushed (undo_of_next J pid.0 (node_of J pid.0)) (is_some (failing out.answer)) pid.0 (row_if_there J pid.0 (node_of J pid.0)) out.edits (stack J p)) (stack J p) (ne_eqb (root_of J pid.0) p (λ e. other (sym e)))
 stack_stays (entry_is.Undo pid row out) J legal p other = cond-false (root_of J pid.0 == p) (rest_of (stack J p)) (stack J p) (ne_eqb (root_of J pid.0) p (λ e. other (sym e)))
-stack_stays (entry_is.Report call told) J legal p other = refl
-stack_stays (entry_is.Up server) J legal p other = refl
-stack_stays (entry_is.Down server) J legal p other = refl
-stack_stays (entry_is.Abort pid) J legal p other = refl
-stack_stays (entry_is.Adopt sheets) J legal p other = refl
 stack_stays (entry_is.Base part) J legal p other = sym (none_stacked part J legal.1.0 p)
+stack_stays entry J legal p other = refl
 
 -- who is a root stays one
 root_stays : (entry : Entry) (J : Past) → IsLegal (entry ∷ J) → (p : ℕ) (x : Node) → node_of J p ≡ Some x → is_root (entry ∷ J) p ≡ is_root J p
@@ -62,8 +56,6 @@ root_is entry J legal p x is =
 -- nothing is left to undo of who is no root
 none_below : (J : Past) → IsLegal J → (p : ℕ) → is_root J p ≡ false → stack J p ≡ []
 none_below [] legal p rootless = refl
-none_below (entry_is.Start sheets ∷ J) legal p rootless = none_below J legal.0 p (was_no_root (entry_is.Start sheets) J legal p rootless)
-none_below (entry_is.Submit nonce request ∷ J) legal p rootless = none_below J legal.0 p (was_no_root (entry_is.Submit nonce request) J legal p rootless)
 none_below (entry_is.Step pid pick out ∷ J) legal p rootless =
     let me = stepper_there pid pick out J legal in
     stack_stays (entry_is.Step pid pick out) J legal p (λ same. true≢false (sym (root_is (entry_is.Step pid pick out) J legal pid.0 me.0 me.1) ∙ sym (ap (is_root (entry_is.Step pid pick out ∷ J)) same) ∙ rootless))
@@ -74,12 +66,8 @@ none_below (entry_is.Undo pid row out ∷ J) legal p rootless =
     let top : is_root (undone ∷ J) (root_of J pid.0) ≡ true = root_stays undone J legal (root_of J pid.0) root.0 root.1 ∙ ap is_root_in root.1 ∙ undone_root pid row out J legal in
     stack_stays undone J legal p (λ same. true≢false (sym top ∙ sym (ap (is_root (undone ∷ J)) same) ∙ rootless))
     ∙ none_below J legal.0 p (was_no_root undone J legal p rootless)
-none_below (entry_is.Report call told ∷ J) legal p rootless = none_below J legal.0 p (was_no_root (entry_is.Report call told) J legal p rootless)
-none_below (entry_is.Up server ∷ J) legal p rootless = none_below J legal.0 p (was_no_root (entry_is.Up server) J legal p rootless)
-none_below (entry_is.Down server ∷ J) legal p rootless = none_below J legal.0 p (was_no_root (entry_is.Down server) J legal p rootless)
-none_below (entry_is.Abort pid ∷ J) legal p rootless = none_below J legal.0 p (was_no_root (entry_is.Abort pid) J legal p rootless)
-none_below (entry_is.Adopt sheets ∷ J) legal p rootless = none_below J legal.0 p (was_no_root (entry_is.Adopt sheets) J legal p rootless)
 none_below (entry_is.Base part ∷ J) legal p rootless = refl
+none_below (entry ∷ J) legal p rootless = none_below J legal.0 p (was_no_root entry J legal p rootless)
 
 module _ (entry : Entry) (J : Past) (legal : IsLegal (entry ∷ J)) where
   -- who has ended is of another tree

@@ -24,16 +24,8 @@ use Rattle.hm_records.specs.Parts.{comes_up}
 
 -- the entry by which a server comes up
 pub up_is : (entry : Entry) (server : Server) → comes_up entry ≡ Some server → entry ≡ entry_is.Up server
-up_is (entry_is.Start sheets) server is = absurd (none-some server is)
-up_is (entry_is.Submit nonce request) server is = absurd (none-some server is)
-up_is (entry_is.Step pid pick out) server is = absurd (none-some server is)
-up_is (entry_is.Undo pid row out) server is = absurd (none-some server is)
-up_is (entry_is.Report call told) server is = absurd (none-some server is)
 up_is (entry_is.Up other) server is = ap (λ (s : Server). entry_is.Up s) (same_Some other server is)
-up_is (entry_is.Down other) server is = absurd (none-some server is)
-up_is (entry_is.Abort pid) server is = absurd (none-some server is)
-up_is (entry_is.Adopt sheets) server is = absurd (none-some server is)
-up_is (entry_is.Base part) server is = absurd (none-some server is)
+up_is entry server is = absurd (none-some server is)
 
 -- a row that isn't newer
 or_false : (a b : Bool) → (a || b) ≡ false → (a ≡ false) × (b ≡ false)
@@ -100,13 +92,8 @@ can_go_down J server tell live down_is.AlreadyDown gone = true≢false (sym (tel
 -- other plain entries leave the servers as they stand
 pub others_stand : (entry : Entry) (J : Past) (servers : List (Server × Standing)) → IsPlain entry → comes_up entry ≡ None
     → ((call : Pid) (told : Told) → entry ≡ entry_is.Report call told → ⊥) → ((server : Server) → entry ≡ entry_is.Down server → ⊥) → stand_behind J entry servers ≡ servers
-others_stand (entry_is.Start sheets) J servers plain up report down = refl
-others_stand (entry_is.Submit nonce request) J servers plain up report down = refl
-others_stand (entry_is.Step pid pick out) J servers plain up report down = refl
-others_stand (entry_is.Undo pid row out) J servers plain up report down = refl
 others_stand (entry_is.Report call told) J servers plain up report down = absurd (report call told refl)
 others_stand (entry_is.Up server) J servers plain up report down = absurd (none-some server (sym up))
 others_stand (entry_is.Down server) J servers plain up report down = absurd (down server refl)
-others_stand (entry_is.Abort pid) J servers plain up report down = refl
-others_stand (entry_is.Adopt sheets) J servers plain up report down = refl
 others_stand (entry_is.Base part) J servers plain up report down = absurd plain
+others_stand entry J servers plain up report down = refl

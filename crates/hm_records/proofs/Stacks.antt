@@ -80,31 +80,17 @@ some_steps (step ∷ below) some is = cc
 module _ (alive : Pid → Bool) (J : Past) (stacks : Stacks) (tells : Tells alive J stacks) where
   pub pushed : StepsPush → (entry : Entry) (step : Step) → step_left J entry ≡ Some step
       → (new : Stacks) → AreWith stacks (pid_of (tree_of J entry)) (step ∷ steps_of stacks (pid_of (tree_of J entry))) new → Tells alive (entry ∷ J) new
-  pushed push (entry_is.Start sheets) step left new with_it = absurd (none-some step left)
-  pushed push (entry_is.Submit nonce request) step left new with_it = absurd (none-some step left)
   pushed push (entry_is.Step pid pick out) step left new with_it =
       let is = step_is (leaves_undo J pid out) (next_step J pid out) step left in
       push alive J pid pick out stacks new is.0 tells (subst (λ (s : Step). AreWith stacks (pid_of (root_of J pid.0)) (s ∷ steps_of stacks (pid_of (root_of J pid.0))) new) (sym is.1) with_it)
-  pushed push (entry_is.Undo pid row out) step left new with_it = absurd (none-some step left)
-  pushed push (entry_is.Report call told) step left new with_it = absurd (none-some step left)
-  pushed push (entry_is.Up server) step left new with_it = absurd (none-some step left)
-  pushed push (entry_is.Down server) step left new with_it = absurd (none-some step left)
-  pushed push (entry_is.Abort pid) step left new with_it = absurd (none-some step left)
-  pushed push (entry_is.Adopt sheets) step left new with_it = absurd (none-some step left)
-  pushed push (entry_is.Base part) step left new with_it = absurd (none-some step left)
+  pushed push entry step left new with_it = absurd (none-some step left)
 
   pub unpushed : StepsLeave → OthersLeave → (entry : Entry) → IsLegal (entry ∷ J) → step_left J entry ≡ None
       → ((pid : Pid) (row : ℕ) (out : StepOut) → entry ≡ entry_is.Undo pid row out → ⊥) → Tells alive (entry ∷ J) stacks
-  unpushed leave others (entry_is.Start sheets) legal none undo = others alive J (entry_is.Start sheets) stacks refl tells
-  unpushed leave others (entry_is.Submit nonce request) legal none undo = others alive J (entry_is.Submit nonce request) stacks refl tells
   unpushed leave others (entry_is.Step pid pick out) legal none undo = leave alive J pid pick out stacks (step_none (leaves_undo J pid out) (next_step J pid out) none) tells
   unpushed leave others (entry_is.Undo pid row out) legal none undo = absurd (undo pid row out refl)
-  unpushed leave others (entry_is.Report call told) legal none undo = others alive J (entry_is.Report call told) stacks refl tells
-  unpushed leave others (entry_is.Up server) legal none undo = others alive J (entry_is.Up server) stacks refl tells
-  unpushed leave others (entry_is.Down server) legal none undo = others alive J (entry_is.Down server) stacks refl tells
-  unpushed leave others (entry_is.Abort pid) legal none undo = others alive J (entry_is.Abort pid) stacks refl tells
-  unpushed leave others (entry_is.Adopt sheets) legal none undo = others alive J (entry_is.Adopt sheets) stacks refl tells
   unpushed leave others (entry_is.Base part) legal none undo = λ root on. tells root on ∙ ap (map kept_of) (none_stacked part J legal.1.0 root.0)
+  unpushed leave others entry legal none undo = others alive J entry stacks refl tells
 
 -- there is a step to pop where one is undone
 module _ (J : Past) (stacks : Stacks) (tells : Tells (is_open J) J stacks) (pid : Pid) (row : ℕ) (out : StepOut) (legal : IsLegal (entry_is.Undo pid row out ∷ J)) where

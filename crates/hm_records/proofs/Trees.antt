@@ -157,7 +157,6 @@ root_is_there J p root = elim (there_or_not J p) [
 
 -- the root of the tree that an entry belongs to hasn't ended before it
 pub tree_open : (entry : Entry) (J : Past) → IsLegal (entry ∷ J) → ended J (tree_of J entry) ≡ false
-tree_open (entry_is.Start sheets) J legal = none_open J 0 (grown_all J legal.0).none
 tree_open (entry_is.Submit nonce request) J legal = none_open J (made J + 1) ((grown_all J legal.0).numbered (made J + 1) (omega arith))
 tree_open (entry_is.Step pid pick out) J legal =
     let me = stepper_there pid pick out J legal in
@@ -166,13 +165,11 @@ tree_open (entry_is.Undo pid row out) J legal = undone_open pid row out J legal
 tree_open (entry_is.Report call told) J legal =
     let x = caller_there call told J legal in
     ap (ended J) (ap root_in x.1) ∙ root_open J legal.0 call.0 x.0 x.1 legal.1.1.0.2
-tree_open (entry_is.Up server) J legal = none_open J 0 (grown_all J legal.0).none
 tree_open (entry_is.Down server) J legal = none_open J (made J + 1) ((grown_all J legal.0).numbered (made J + 1) (omega arith))
 tree_open (entry_is.Abort pid) J legal =
     let x = root_is_there J pid.0 legal.1.1.0.0 in
     ap (ended J) (ap root_in x.1) ∙ root_open J legal.0 pid.0 x.0 x.1 legal.1.1.0.1
-tree_open (entry_is.Adopt sheets) J legal = none_open J 0 (grown_all J legal.0).none
-tree_open (entry_is.Base part) J legal = none_open J 0 (grown_all J legal.0).none
+tree_open entry J legal = none_open J 0 (grown_all J legal.0).none
 
 -- the root of the tree that an entry belongs to is one, if it was there
 pub tree_root : (entry : Entry) (J : Past) → IsLegal (entry ∷ J) → (top : Node) → node_of J (tree_of J entry) ≡ Some top → top.above ≡ []
@@ -191,16 +188,13 @@ tree_root entry J legal top is = by entry legal is
     ]
 
     by : (one : Entry) → IsLegal (one ∷ J) → node_of J (tree_of J one) ≡ Some top → top.above ≡ []
-    by (entry_is.Start sheets) ok e = none e
     by (entry_is.Submit nonce request) ok e = new e
     by (entry_is.Step pid pick out) ok e = old pid.0 e
     by (entry_is.Undo pid row out) ok e = old pid.0 e
     by (entry_is.Report call told) ok e = old call.0 e
-    by (entry_is.Up server) ok e = none e
     by (entry_is.Down server) ok e = new e
     by (entry_is.Abort pid) ok e = old pid.0 e
-    by (entry_is.Adopt sheets) ok e = none e
-    by (entry_is.Base part) ok e = none e
+    by entry ok e = none e
 
 -- before a part of a base nobody has a step
 pub none_stepped : (part : Part) (J : Past) → IsLegal (entry_is.Base part ∷ J) → (p : ℕ) → last_answer J p ≡ None
@@ -208,21 +202,14 @@ none_stepped part J legal p = (grown_all J legal.0).unmade p (no_node part J leg
 
 -- who has stopped stays so
 pub stays_stopped : (entry : Entry) (J : Past) → IsLegal (entry ∷ J) → (p : ℕ) → is_stopped (last_answer J p) ≡ true → is_stopped (last_answer (entry ∷ J) p) ≡ true
-stays_stopped (entry_is.Start sheets) J legal p stopped = stopped
-stays_stopped (entry_is.Submit nonce request) J legal p stopped = stopped
 stays_stopped (entry_is.Step pid pick out) J legal p stopped = elim (cases_eq p pid.0) [
   | inl same ↦
       absurd (true≢false (sym stopped ∙ ap (λ q. is_stopped (last_answer J q)) same ∙ stepper_runs pid pick out J legal))
   | inr differs ↦ ap is_stopped (cond-false (p == pid.0) (Some out.answer) (last_answer J p) (ne_eqb p pid.0 differs)) ∙ stopped
 ]
-stays_stopped (entry_is.Undo pid row out) J legal p stopped = stopped
-stays_stopped (entry_is.Report call told) J legal p stopped = stopped
-stays_stopped (entry_is.Up server) J legal p stopped = stopped
-stays_stopped (entry_is.Down server) J legal p stopped = stopped
-stays_stopped (entry_is.Abort pid) J legal p stopped = stopped
-stays_stopped (entry_is.Adopt sheets) J legal p stopped = stopped
 stays_stopped (entry_is.Base part) J legal p stopped =
     absurd (true≢false (sym stopped ∙ ap is_stopped (none_stepped part J legal p)))
+stays_stopped entry J legal p stopped = stopped
 
 -- who has ended stays so
 pub stays_ended : (entry : Entry) (J : Past) → IsLegal (entry ∷ J) → (p : ℕ) → ended J p ≡ true → ended (entry ∷ J) p ≡ true
@@ -250,16 +237,9 @@ none_answers entry J legal p none = by entry legal
     was = (grown_all J legal.0).unmade p none
 
     by : (one : Entry) → IsLegal (one ∷ J) → last_answer (one ∷ J) p ≡ None
-    by (entry_is.Start sheets) ok = was
-    by (entry_is.Submit nonce request) ok = was
     by (entry_is.Step pid pick out) ok =
         let me = stepper_there pid pick out J ok in
         let differs : p ≢ pid.0 = λ same. none-some me.0 (sym none ∙ ap (node_of J) same ∙ me.1) in
         cond-false (p == pid.0) (Some out.answer) (last_answer J p) (ne_eqb p pid.0 differs) ∙ was
-    by (entry_is.Undo pid row out) ok = was
-    by (entry_is.Report call told) ok = was
-    by (entry_is.Up server) ok = was
-    by (entry_is.Down server) ok = was
-    by (entry_is.Abort pid) ok = was
-    by (entry_is.Adopt sheets) ok = was
     by (entry_is.Base part) ok = refl
+    by entry ok = was

@@ -25,16 +25,9 @@ sheets_stay entry J legal plain begun = refl
 
 -- an entry more names regions by their ids, where it alone does
 pub named_more : (entry : Entry) (J : Past) → AreNamed (entry ∷ []) → AreNamed J → AreNamed (entry ∷ J)
-named_more (entry_is.Start sheets) J one named = named
 named_more (entry_is.Submit nonce request) J one named = (one.0, named)
-named_more (entry_is.Step pid pick out) J one named = named
-named_more (entry_is.Undo pid row out) J one named = named
-named_more (entry_is.Report call told) J one named = named
-named_more (entry_is.Up server) J one named = named
-named_more (entry_is.Down server) J one named = named
-named_more (entry_is.Abort pid) J one named = named
-named_more (entry_is.Adopt sheets) J one named = named
 named_more (entry_is.Base part) J one named = tt
+named_more entry J one named = named
 
 -- how many procedures an entry makes, whatever was before it
 pub made_count : (J : Past) (entry : Entry) → length (args_made J entry) ≡ length (args_made [] entry)

@@ -36,29 +36,13 @@ ListOpen past rows = (p : ℕ) → IsEnlisted rows p ↔ ((node_of past p ≢ No
 
 -- the procedure whose step an entry is: the parent of all that the entry makes, which are roots where there is none
 abbrev pub stepper_of : Entry → Option Pid
-stepper_of (entry_is.Start sheets) = None
-stepper_of (entry_is.Submit nonce request) = None
 stepper_of (entry_is.Step pid pick out) = Some pid
-stepper_of (entry_is.Undo pid row out) = None
-stepper_of (entry_is.Report call told) = None
-stepper_of (entry_is.Up server) = None
-stepper_of (entry_is.Down server) = None
-stepper_of (entry_is.Abort pid) = None
-stepper_of (entry_is.Adopt sheets) = None
-stepper_of (entry_is.Base part) = None
+stepper_of entry = None
 
 -- a root's first region id is one that can be drawn
 abbrev pub has_first : Args → Bool
 has_first (args_are.Root request first) = nat_lt 0 first && nat_lt first (2 ^ 32)
-has_first (args_are.Transit region goal to) = true
-has_first (args_are.Crash server) = true
-has_first (args_are.AddRegions table first bounds) = true
-has_first (args_are.DropRegions table ids) = true
-has_first (args_are.AssignCall region server) = true
-has_first (args_are.CloseCall region server) = true
-has_first (args_are.FenceCall server) = true
-has_first (args_are.LayoutCall root) = true
-has_first (args_are.SweepLayout root) = true
+has_first args = true
 
 -- what a procedure asks for; nothing where its first region id can't be drawn
 abbrev pub asked : Args → List Ask

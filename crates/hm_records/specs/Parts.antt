@@ -18,42 +18,19 @@ use Rattle.hm_records.specs.declared.parts.Parts.{Parts}
 
 -- the edits of an entry
 abbrev pub edits_of : Entry → List Edit
-edits_of (entry_is.Start sheets) = []
-edits_of (entry_is.Submit nonce request) = []
 edits_of (entry_is.Step pid pick out) = out.edits
 edits_of (entry_is.Undo pid row out) = out.edits
-edits_of (entry_is.Report call told) = []
-edits_of (entry_is.Up server) = []
-edits_of (entry_is.Down server) = []
-edits_of (entry_is.Abort pid) = []
-edits_of (entry_is.Adopt sheets) = []
-edits_of (entry_is.Base part) = []
+edits_of entry = []
 
 -- the step that an entry leaves to be undone
 abbrev pub step_left : Past → Entry → Option Step
-step_left before (entry_is.Start sheets) = None
-step_left before (entry_is.Submit nonce request) = None
 step_left before (entry_is.Step pid pick out) = if leaves_undo before pid out then Some (next_step before pid out) else None
-step_left before (entry_is.Undo pid row out) = None
-step_left before (entry_is.Report call told) = None
-step_left before (entry_is.Up server) = None
-step_left before (entry_is.Down server) = None
-step_left before (entry_is.Abort pid) = None
-step_left before (entry_is.Adopt sheets) = None
-step_left before (entry_is.Base part) = None
+step_left before entry = None
 
 -- the nonce that an entry uses: one whose number is 0 is none
 abbrev pub nonce_used : Entry → Option Nonce
-nonce_used (entry_is.Start sheets) = None
 nonce_used (entry_is.Submit nonce request) = if nonce.number == 0 then None else Some nonce
-nonce_used (entry_is.Step pid pick out) = None
-nonce_used (entry_is.Undo pid row out) = None
-nonce_used (entry_is.Report call told) = None
-nonce_used (entry_is.Up server) = None
-nonce_used (entry_is.Down server) = None
-nonce_used (entry_is.Abort pid) = None
-nonce_used (entry_is.Adopt sheets) = None
-nonce_used (entry_is.Base part) = None
+nonce_used entry = None
 
 -- a table with a number of ids, where there are any
 abbrev pub counted_for : Option TableName → ℕ → Option (TableName × ℕ)
@@ -62,29 +39,13 @@ counted_for (Some table) count = if count == 0 then None else Some (table, count
 
 -- the table for which an entry draws region ids, and how many
 abbrev pub ids_drawn : Entry → Option (TableName × ℕ)
-ids_drawn (entry_is.Start sheets) = None
 ids_drawn (entry_is.Submit nonce request) = counted_for (table_of_request request) (new_ids request)
-ids_drawn (entry_is.Step pid pick out) = None
-ids_drawn (entry_is.Undo pid row out) = None
-ids_drawn (entry_is.Report call told) = None
-ids_drawn (entry_is.Up server) = None
-ids_drawn (entry_is.Down server) = None
-ids_drawn (entry_is.Abort pid) = None
-ids_drawn (entry_is.Adopt sheets) = None
-ids_drawn (entry_is.Base part) = None
+ids_drawn entry = None
 
 -- the server that comes up
 abbrev pub comes_up : Entry → Option Server
-comes_up (entry_is.Start sheets) = None
-comes_up (entry_is.Submit nonce request) = None
-comes_up (entry_is.Step pid pick out) = None
-comes_up (entry_is.Undo pid row out) = None
-comes_up (entry_is.Report call told) = None
 comes_up (entry_is.Up server) = Some server
-comes_up (entry_is.Down server) = None
-comes_up (entry_is.Abort pid) = None
-comes_up (entry_is.Adopt sheets) = None
-comes_up (entry_is.Base part) = None
+comes_up entry = None
 
 -- all that is kept of an entry
 pub record AreParts (before : Past) (entry : Entry) (parts : Parts) : Type 0 where
