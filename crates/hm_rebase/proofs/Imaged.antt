@@ -161,14 +161,17 @@ old_rising (entry_is.Base (part_is.Server server fenced) ∷ J) legal = subst (�
 old_rising (entry_is.Base (part_is.Root pid nonce args cause) ∷ J) legal = subst (λ n. AreRising 0 n (old_layouts J)) (offset_made J (by_parts (λ j. ends_parted j ≡ true) refl (λ o older. refl) (part_is.Root pid nonce args cause) J legal.1.0)) (old_rising J legal.0)
 old_rising (entry ∷ J) legal = old_rising J legal.0
 
-layouts_rising : (J : Past) → IsLegal J → AreRising 0 (made J) (filter (is_laid J) (old_layouts J ++ numbers_of J))
-layouts_rising J legal =
+-- so do they with the numbers behind it
+pub numbers_rising : (J : Past) → IsLegal J → AreRising 0 (made J) (old_layouts J ++ numbers_of J)
+numbers_rising J legal =
     let low = (grown_all J legal).low in
     let old = old_rising J legal in
     let end = last_within 0 (offset J) (old_layouts J) (omega arith) old in
-    rising_filter (is_laid J) 0 (made J) (old_layouts J ++ numbers_of J)
-    (rising_more 0 (made J) (old_layouts J) (numbers_of J) (rising_wide 0 (offset J) (made J) (old_layouts J) low old)
-    (rising_low (offset J) (last_of 0 (old_layouts J)) (made J) (numbers_of J) end (first_rising J (made J - offset J) (made J) (omega (arith, low))).0))
+    rising_more 0 (made J) (old_layouts J) (numbers_of J) (rising_wide 0 (offset J) (made J) (old_layouts J) low old)
+    (rising_low (offset J) (last_of 0 (old_layouts J)) (made J) (numbers_of J) end (first_rising J (made J - offset J) (made J) (omega (arith, low))).0)
+
+layouts_rising : (J : Past) → IsLegal J → AreRising 0 (made J) (filter (is_laid J) (old_layouts J ++ numbers_of J))
+layouts_rising J legal = rising_filter (is_laid J) 0 (made J) (old_layouts J ++ numbers_of J) (numbers_rising J legal)
 
 zero_or : (n : ℕ) → (n ≡ 0) ⊎ (n ≢ 0)
 zero_or zero = inl refl

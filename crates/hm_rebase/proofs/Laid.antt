@@ -192,7 +192,7 @@ first_has J (suc n) q low high = elim (cases_eq q (number_at J n)) [
   | inr differs ↦ in_left q (first_made J n) (number_at J n ∷ []) (first_has J n q low (omega (arith, high, differs)))
 ]
 
-laid_listed : (J : Past) → IsLegal J → (root : ℕ) → is_laid J root ≡ true → IsIn root (old_layouts J ++ numbers_of J)
+pub laid_listed : (J : Past) → IsLegal J → (root : ℕ) → is_laid J root ≡ true → IsIn root (old_layouts J ++ numbers_of J)
 laid_listed J legal root h = elim (laid_known J legal root h) [
   | inl old ↦ in_left root (old_layouts J) (numbers_of J) old
   | inr new ↦ let low = new.0 in let high = new.1 in in_right root (old_layouts J) (numbers_of J) (first_has J (made J - offset J) root low (omega (arith, low, high)))

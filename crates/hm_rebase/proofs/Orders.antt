@@ -1,11 +1,34 @@
 -- Lists in an order: each element stands once, and comes before those behind it.
-use Rattle.std.proofs.Common.{◌≡◌, List, [], ◌∷◌, refl, ap, sym, ◌∙◌, subst, inl, inr, ◌⊎◌}
+use Rattle.std.proofs.Common.{◌≡◌, List, [], ◌∷◌, Bool, true, false, cond, refl, ap, sym, ◌∙◌, subst, inl, inr, ◌⊎◌}
 use Rattle.std.specs.Cmp.{IsTotalOrder}
+use Rattle.std.specs.List.{filter}
 use Rattle.std.specs.Ordering.{ordering_reverse}
 use Rattle.std.specs.declared.cmp.Ordering.{Ordering}
 use Rattle.std.specs.declared.cmp.Ordering.TheVariants.{Equal, Greater, Less}
+use Rattle.std.proofs.lemmas.Bool.{false≢true}
 use Rattle.std.proofs.lemmas.Cmp.{tied_itself}
 use Rattle.hm_model.specs.Locks.{IsIn}
+
+-- what is in a list and passes a test is in what the test keeps of it
+in_kept : {A : Type 0} (test : A → Bool) (y : A) (list : List A) → IsIn y list → test y ≡ true → IsIn y (filter test list)
+in_kept test y [] h on = elim h [ ]
+in_kept test y (first ∷ more) h on = by (λ later. in_kept test y more later on) (test first) refl h
+  where
+    by : (IsIn y more → IsIn y (filter test more)) → (b : Bool) → test first ≡ b → IsIn y (first ∷ more) → IsIn y (cond b (first ∷ filter test more) (filter test more))
+    by rest true e (inl here) = inl here
+    by rest true e (inr later) = inr (rest later)
+    by rest false e (inl here) = absurd (false≢true (sym e ∙ ap test (sym here) ∙ on))
+    by rest false e (inr later) = rest later
+
+-- what it keeps passes
+from_kept : {A : Type 0} (test : A → Bool) (y : A) (list : List A) → IsIn y (filter test list) → test y ≡ true
+from_kept test y [] h = elim h [ ]
+from_kept test y (first ∷ more) h = by (from_kept test y more) (test first) refl h
+  where
+    by : (IsIn y (filter test more) → test y ≡ true) → (b : Bool) → test first ≡ b → IsIn y (cond b (first ∷ filter test more) (filter test more)) → test y ≡ true
+    by rest true e (inl here) = ap test here ∙ e
+    by rest true e (inr later) = rest later
+    by rest false e later = rest later
 
 module _ {A : Type 0} (cmp : A → A → Ordering) where
   -- each of a list comes after this one
@@ -41,6 +64,22 @@ module _ {A : Type 0} (cmp : A → A → Ordering) where
   pub from_with : (q x : A) (list : List A) → IsIn q (with_one x list) → (q ≡ x) ⊎ IsIn q list
   from_with q x [] h = h
   from_with q x (first ∷ more) h = from_at q x first more (with_one x more) (from_with q x more) (cmp x first) h
+
+  later_kept : (test : A → Bool) (x : A) (list : List A) → AllLater x list → AllLater x (filter test list)
+  later_kept test x [] all = tt
+  later_kept test x (first ∷ more) all = by (test first) (later_kept test x more all.1)
+    where
+      by : (b : Bool) → AllLater x (filter test more) → AllLater x (cond b (first ∷ filter test more) (filter test more))
+      by true on = (all.0, on)
+      by false on = on
+
+  order_kept : (test : A → Bool) (list : List A) → InOrder list → InOrder (filter test list)
+  order_kept test [] order = tt
+  order_kept test (x ∷ more) order = by (test x) (order_kept test more order.1)
+    where
+      by : (b : Bool) → InOrder (filter test more) → InOrder (cond b (x ∷ filter test more) (filter test more))
+      by true on = (later_kept test x more order.0, on)
+      by false on = on
 
   module _ (total : IsTotalOrder cmp) where
     later_on : (one x : A) (list : List A) → cmp one x ≡ Less → AllLater x list → AllLater one list
@@ -92,6 +131,13 @@ module _ {A : Type 0} (cmp : A → A → Ordering) where
                 cc
           ]
         ]
+
+    -- a test keeps the same of lists in order that each have all that passes
+    pub same_kept : (test : A → Bool) (one other : List A) → InOrder one → InOrder other → ((y : A) → test y ≡ true → IsIn y one) → ((y : A) → test y ≡ true → IsIn y other) → filter test one ≡ filter test other
+    same_kept test one other up down has too =
+        same_list (filter test one) (filter test other) (order_kept test one up) (order_kept test other down)
+        (λ y among. let on = from_kept test y one among in in_kept test y other (too y on) on)
+        (λ y among. let on = from_kept test y other among in in_kept test y one (has y on) on)
 
     module _ (ties : (x y : A) → cmp x y ≡ Equal → x ≡ y) where
       in_at : (q x first : A) (more rest : List A) → ((q ≡ x) ⊎ IsIn q more → IsIn q rest) → (o : Ordering) → cmp x first ≡ o → (q ≡ x) ⊎ IsIn q (first ∷ more) → IsIn q (with_at o x first more rest)

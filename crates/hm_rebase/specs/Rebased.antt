@@ -1,5 +1,5 @@
 -- Images of journals with nothing unfinished, and journals whose first entries are replaced by one.
-use Rattle.std.specs.Prelude.{◌≡◌, ◌≢◌, ℕ, ◌≤◌, List, Some, None, length, true, false, ◌⊎◌}
+use Rattle.std.specs.Prelude.{◌≡◌, ◌≢◌, ℕ, ◌≤◌, List, Some, None, length, true, false, ◌⊎◌, ◌↔◌}
 use Rattle.hm_names.specs.Region.{Region}
 use Rattle.hm_names.specs.Server.{Server}
 use Rattle.hm_names.specs.declared.range.KeyRange.{KeyRange}
@@ -54,3 +54,7 @@ RebasedAreAlike =
 -- in journals that read alike as many procedures are unfinished
 abbrev pub AlikeUnderWay : Type 0
 AlikeUnderWay = (J K : Past) → IsLegal J → IsLegal K → Alike J K → under_way J ≡ under_way K
+
+-- journals that read alike may take each other's place in a roll: both may roll or neither, and they have the same image
+abbrev pub AlikeImages : Type 0
+AlikeImages = (J K : Past) → IsLegal J → IsLegal K → Alike J K → (MayRoll J ↔ MayRoll K) × (image J ≡ image K)

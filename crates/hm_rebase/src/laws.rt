@@ -1,6 +1,6 @@
 //! The laws.
 ghost use Rattle.hm_rebase.specs.Alike.{AlikeAllow, AlikePlaces, AlikeStay, ForgottenAreRowless};
-ghost use Rattle.hm_rebase.specs.Rebased.{AlikeUnderWay, DownAreFenced, ImagesAreBases, OpenAreServed, ParentsAreFew, RebasedAreAlike, TablesAreSteady};
+ghost use Rattle.hm_rebase.specs.Rebased.{AlikeImages, AlikeUnderWay, DownAreFenced, ImagesAreBases, OpenAreServed, ParentsAreFew, RebasedAreAlike, TablesAreSteady};
 
 /// Journals that read alike allow the same next entries, parts of a base aside, read alike behind each, and have as many unfinished
 /// procedures. Regions with a row have the same place in both: one that a base has no row of, though its id was drawn before, never
@@ -25,6 +25,11 @@ pub fn settled_stand()
 /// The image of a journal is a whole base that reads as the journal does, unless it is refused.
 pub fn images_are_bases()
     ensures { ImagesAreBases }
+{}
+
+/// Journals that read alike have the same image, and where one may be replaced by it, so may the other.
+pub fn alike_have_one_image()
+    ensures { AlikeImages }
 {}
 
 /// A journal whose first entries are replaced by their image is legal and reads as before.

@@ -4,4 +4,6 @@
 
 mod laws;
 
-pub use laws::{alike_go_on, images_are_bases, rebased_are_alike, settled_stand};
+pub use laws::{
+    alike_go_on, alike_have_one_image, images_are_bases, rebased_are_alike, settled_stand,
+};
