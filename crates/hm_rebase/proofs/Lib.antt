@@ -28,4 +28,4 @@ mod Fixed
 mod Untold
 mod Imaged
 pub mod Rebased
-mod Shown
+pub mod Shown

@@ -10,13 +10,15 @@ use Rattle.hm_model.specs.Image.{counted, image}
 use Rattle.hm_model.specs.Journal.{Past}
 use Rattle.hm_model.specs.Laws.{is_part}
 use Rattle.hm_model.specs.Rebase.{based, rebase}
+use Rattle.hm_rebase.proofs.Shown.{alike_images}
 use Rattle.hm_world_model.specs.Events.{Abort, Adopt, Arm, Claim, Commit, Deliver, DeliverAgain, DeliverOld, Die, Ends, Event, Expire, Fault, Flush, Full, GiveUp, Hear, HearAgain, Ignore, Lives, Lose, Miss, Repeat, Roll, Send, SendOld, Start, Stop, Submit, Travels, Works, happens}
 use Rattle.hm_world_model.specs.Runs.{IsWork, May}
 use Rattle.hm_world_model.specs.Safe.{IsKept}
 use Rattle.hm_world_model.specs.World.{Claimed, World, own, rebased_by}
 use Rattle.hm_world_model.proofs.Rolling.{below_more, count_more, not_below}
-use Rattle.hm_rolled.specs.Own.{EventsRecord, LeavesRolled, OwnGoesOn, RollsToImage}
-use Rattle.hm_rolled.proofs.Rebasing.{rolled_past}
+use Rattle.hm_world_model.proofs.Tails.{safe_past}
+use Rattle.hm_rolled.specs.Own.{EventsRecord, LeavesRolled, OwnGoesOn, RollsOwn, RollsToImage}
+use Rattle.hm_rolled.proofs.Rebasing.{rebased_alike, rolled_past}
 
 -- what a start records: that an older server went down, and that the server came up
 abbrev started_with : Server → Option Server → Past
@@ -131,3 +133,10 @@ rolls_to_image w may = by w.past may.3
     by : (past : Past) → IsBegun past → rebase past (counted past) ≡ based (image past)
     by [] begun = absurd begun
     by (entry ∷ past) begun = cond-false (nat_lt (counted (entry ∷ past)) (counted (entry ∷ past))) (entry ∷ rebase past (counted (entry ∷ past))) (based (image (entry ∷ past))) (not_below (counted (entry ∷ past)))
+
+pub rolls_own : RollsOwn
+rolls_own w kept =
+    let safe = safe_past w kept in
+    let rolled = rebased_alike w.past safe.legal w.rolled (rolled_past w kept) in
+    let one = alike_images w.past (own w) safe.legal rolled.0 rolled.1 in
+    (one.0, ap based one.1)

@@ -1,9 +1,9 @@
 -- The master's own journal beside the history that it stands for.
-use Rattle.std.specs.Prelude.{◌≡◌, ℕ, ◌≤◌, ◌++◌, length, Some}
+use Rattle.std.specs.Prelude.{◌≡◌, ℕ, ◌≤◌, ◌++◌, length, Some, ◌↔◌}
 use Rattle.hm_model.specs.Base.{IsBegun}
 use Rattle.hm_model.specs.Image.{image}
 use Rattle.hm_model.specs.Journal.{Past}
-use Rattle.hm_model.specs.Rebase.{based}
+use Rattle.hm_model.specs.Rebase.{MayRoll, based}
 use Rattle.hm_model.specs.Rules.{IsLegal}
 use Rattle.hm_rebase.specs.Alike.{Alike}
 use Rattle.hm_world_model.specs.Events.{Ends, Event, Roll, Stop, Works, happens}
@@ -39,6 +39,10 @@ OwnGoesOn =
 -- a roll leaves the image of the history
 abbrev pub RollsToImage : Type 0
 RollsToImage = (w : World) → May w (Works Roll) → own (happens w (Works Roll)) ≡ based (image w.past)
+
+-- which is the image of the master's own journal too, and that may be replaced by it just where the history may
+abbrev pub RollsOwn : Type 0
+RollsOwn = (w : World) → IsKept w → (MayRoll w.past ↔ MayRoll (own w)) × (based (image w.past) ≡ based (image (own w)))
 
 -- nothing is held twice, by the ranges of its rows too
 abbrev pub NeverTwiceOwn : Type 0
