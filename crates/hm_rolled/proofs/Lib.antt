@@ -1,5 +1,5 @@
 mod Itself
-mod Recorded
+pub mod Recorded
 mod Rebasing
 mod Calls
 mod Told
