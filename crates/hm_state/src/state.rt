@@ -141,7 +141,7 @@ impl State {
     /// The number of the procedure that was made last; 0 where there is none.
     pub fn last_pid(&self) -> u64
         ensures last { result ≡ made (back self.now.entries) }
-        ensures small { result < 2 ^ 63 }
+        ensures small { result ≤ 2 ^ 63 + 2 ^ 48 }
     {
         self.procedures().last_pid()
     }
