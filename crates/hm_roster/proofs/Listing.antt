@@ -57,27 +57,28 @@ only_one own args zero is = (refl, same_Some own args is)
 only_one own args (suc i) is = absurd (none-some args is)
 
 -- what an entry makes, by its place
-pub is_made : (entry : Entry) (J : Past) → IsLegal (entry ∷ J) → (i : ℕ) (args : Args) → slice_get (args_made J entry) i ≡ Some args → IsMadeOf J entry i args
-is_made (entry_is.Submit nonce request) J legal i args is =
+pub is_made : (entry : Entry) (J : Past) → IsLegal (entry ∷ J) → IsPlain entry → (i : ℕ) (args : Args) → slice_get (args_made J entry) i ≡ Some args → IsMadeOf J entry i args
+is_made (entry_is.Submit nonce request) J legal plain i args is =
     let one = only_one _ args i is in
     (submitted J request (made J + 1 + i), submit_new nonce request J (made J + 1 + i) (ap (λ k. made J + 1 + k) one.0 ∙ first_place J), one.1, refl)
-is_made (entry_is.Step pid pick out) J legal i args is =
+is_made (entry_is.Step pid pick out) J legal plain i args is =
     let step = step_of pid pick out J (trees_grown J legal.0) legal in (
       child_of pid.0 step.node args,
       node_new pid pick out J step.node step.node_is (made J + 1 + i) (omega arith) ∙ ap (λ k. option_map (child_of pid.0 step.node) (slice_get (args_in out.children) k)) (place_back J i) ∙ ap (option_map (child_of pid.0 step.node)) is,
       refl,
       ap (above_node pid.0) step.node_is,
     )
-is_made (entry_is.Undo pid row out) J legal i args is = (
+is_made (entry_is.Undo pid row out) J legal plain i args is = (
   root_node (made J + 1 + i) args 1,
   undo_new pid row out J (made J + 1 + i) (omega arith) ∙ ap (λ k. option_map (λ args. root_node (made J + 1 + i) args 1) (slice_get (args_in out.followers) k)) (place_back J i) ∙ ap (option_map (λ args. root_node (made J + 1 + i) args 1)) is,
   refl,
   refl,
 )
-is_made (entry_is.Down server) J legal i args is =
+is_made (entry_is.Down server) J legal plain i args is =
     let one = only_one _ args i is in
     (root_node (made J + 1 + i) (args_are.Crash server) 1, down_new server J (made J + 1 + i) (ap (λ k. made J + 1 + k) one.0 ∙ first_place J), one.1, refl)
-is_made entry J legal i args is = absurd (none-some args is)
+is_made (entry_is.Base part) J legal plain i args is = absurd plain
+is_made entry J legal plain i args is = absurd (none-some args is)
 
 -- how many there are after an entry
 pub made_more : (entry : Entry) (J : Past) → IsPlain entry → made (entry ∷ J) ≡ made J + length (args_made J entry)
@@ -104,8 +105,8 @@ no_row J n roster legal tied p lt = by (row_of roster.rows p) refl
 
 module _ (J : Past) (legal : IsLegal J) (desk : Desk) where
   -- nobody more is enlisted
-  pub none_more : Follows J desk → HasMore J desk 0
-  none_more follows = record {
+  pub none_more : Follows J desk → made J < 2 ^ 64 → HasMore J desk 0
+  none_more follows small = record {
     was = rows_on desk;
     tied = follows.tied;
     kept = λ p le. refl;
@@ -144,7 +145,7 @@ module _ (J : Past) (legal : IsLegal J) (desk : Desk) where
       ]
 
   -- one more is enlisted
-  pub one_more : (place : ℕ) (new : Desk) (row : Row) → HasMore J desk place → IsSameButBook desk new → AreChanged (rows_on desk) (made J + 1 + place) (Some row) (rows_on new) → made J + place + 1 < pids_on desk → place + 1 < 2 ^ 63 → HasMore J new (place + 1)
+  pub one_more : (place : ℕ) (new : Desk) (row : Row) → HasMore J desk place → IsSameButBook desk new → AreChanged (rows_on desk) (made J + 1 + place) (Some row) (rows_on new) → made J + place + 1 < pids_on desk → made J + (place + 1) < 2 ^ 64 → HasMore J new (place + 1)
   one_more place new row more same changed room few = record {
     was = more.was;
     tied = book_tied J desk new more.was same more.tied;
@@ -201,7 +202,7 @@ pub lists_next : (J : Past) (old : List Row) (desk new : Desk) (entry : Entry) (
     → AreChanged (rows_on desk) (made J + 1 + place) (Some (new_row (rows_on desk) (made J + 1 + place) parent (asks args))) (rows_on new)
     → EnlistsBelow J (entry ∷ J) old (rows_on desk) (made J + 1 + place) → EnlistsBelow J (entry ∷ J) old (rows_on new) (made J + 1 + place + 1)
 lists_next J old desk new entry works parent place args legal more makes is changed below =
-    let its = is_made entry J (legal, makes.allowed) place args (ap (λ l. slice_get l place) makes.args ∙ is) in
+    let its = is_made entry J (legal, makes.allowed) makes.plain place args (ap (λ l. slice_get l place) makes.args ∙ is) in
     enlisting_goes_on J (entry ∷ J) old (rows_on desk) (rows_on new) (made J + 1 + place) its.0 parent below ((grown_all J legal).numbered (made J + 1 + place) (omega arith)) its.1
     (above_told J legal desk place more parent (λ pid e. made_parent entry J (legal, makes.allowed) pid (makes.above ∙ e)) ∙ ap (above_made J) (sym makes.above) ∙ its.3)
     (subst (λ (l : List Rattle.hm_model.specs.declared.lock.Ask.Ask). AreChanged (rows_on desk) (made J + 1 + place) (Some (new_row (rows_on desk) (made J + 1 + place) parent l)) (rows_on new)) (ap asks (sym its.2)) changed)

@@ -78,5 +78,5 @@ pub record HasMore (J : Past) (desk : Desk) (count : ℕ) : Type 0 where
   pub more : (p : ℕ) → made J < p → p ≤ made J + count → IsEnlisted (rows_on desk) p
   pub rest : (p : ℕ) → made J + count < p → row_of (rows_on desk) p ≡ None
   pub room : made J + count < pids_on desk
-  pub few : count < 2 ^ 63
+  pub few : made J + count < 2 ^ 64
   pub below : HasLists desk

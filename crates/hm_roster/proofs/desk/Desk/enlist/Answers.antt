@@ -15,16 +15,17 @@ pub loop-place-init : goal.loop-place-init
 loop-place-init c =
     let J = c.args.records.now.past in
     let start : made J + 1 ≡ made J + 1 + 0 = omega arith in
+    let last : c.last_pid-last.result ≡ made J = c.last_pid-last.ensures.last ∙ ap made c.procedures.ensures.past in
     record {
       same = book_self c.args.self.now;
-      more = none_more J c.procedures.ensures.legal c.args.self.now c.requires.follows;
+      more = none_more J c.procedures.ensures.legal c.args.self.now c.requires.follows (omega (arith, last));
       begun = λ entry makes. subst (λ k. EnlistsBelow J (entry ∷ J) (rows_on c.args.self.now) (rows_on c.args.self.now) k) start (lists_first J c.args.self.now entry c.args.made.now c.args.parent c.procedures.ensures.legal c.requires.follows makes);
     }
 
 pub enlist_one-requires-clause-first : goal.enlist_one-requires-clause-first
 enlist_one-requires-clause-first c =
     let next = c.requires.next in
-    made_first next.0 c.args.records.now.past (c.procedures.ensures.legal, next.1.allowed) c.loop-place.place c.index-made-place.result
+    made_first next.0 c.args.records.now.past (c.procedures.ensures.legal, next.1.allowed) next.1.plain c.loop-place.place c.index-made-place.result
     (ap (λ l. slice_get l c.loop-place.place) next.1.args ∙ get_is c.args.made.now c.loop-place.place c.index-made-place.result (omega arith) c.index-made-place.is)
 
 pub enlist_one-requires-clause-parent : goal.enlist_one-requires-clause-parent
@@ -54,7 +55,7 @@ loop-place-preserved c =
     let next : n + 1 ≡ made J + 1 + (c.loop-place.place + 1) = omega arith in
     record {
       same = book_on c.args.self.now c.loop-place.self c.enlist_one.new.self inv.same c.enlist_one.ensures.same;
-      more = one_more J c.procedures.ensures.legal c.loop-place.self c.loop-place.place c.enlist_one.new.self row inv.more c.enlist_one.ensures.same changed (omega (arith, pids)) (omega arith);
+      more = one_more J c.procedures.ensures.legal c.loop-place.self c.loop-place.place c.enlist_one.new.self row inv.more c.enlist_one.ensures.same changed (omega (arith, pids)) (omega (arith, last));
       begun = λ entry makes.
           subst (λ k. EnlistsBelow J (entry ∷ J) (rows_on c.args.self.now) (rows_on c.enlist_one.new.self) k) next
           (lists_next J (rows_on c.args.self.now) c.loop-place.self c.enlist_one.new.self entry c.args.made.now c.args.parent c.loop-place.place c.index-made-place.result c.procedures.ensures.legal inv.more makes got changed (inv.begun entry makes));
