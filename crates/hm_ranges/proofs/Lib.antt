@@ -1,0 +1,4 @@
+pub mod Swept
+mod Apart
+mod Beside
+mod Told
