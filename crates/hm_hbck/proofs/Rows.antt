@@ -22,11 +22,12 @@ use Rattle.hm_model.specs.Ranges.{IsLiveWith}
 use Rattle.hm_model.specs.RowsSaid.{Rows}
 use Rattle.hm_model.proofs.KeyTests.{same_table-is, same_table-refl}
 use Rattle.hm_model.proofs.Rows.{has_key}
+use Rattle.hm_ranges.specs.Holes.{IsOut}
 use Rattle.hm_catalog.specs.Kept.{is_region_of}
 use Rattle.hm_catalog.specs.Rows.{rows_in}
 use Rattle.hm_hbck.specs.Findings.{said}
 use Rattle.hm_hbck.specs.Found.{live_in}
-use Rattle.hm_hbck.specs.Holes.{IsHoleAmong, IsHoleAt, IsHoleOf, IsOut, ranges_in}
+use Rattle.hm_hbck.specs.Holes.{IsHoleAmong, IsHoleAt, IsHoleOf, ranges_in}
 use Rattle.hm_hbck.specs.declared.finding.Finding.{Finding}
 use Rattle.hm_hbck.specs.declared.finding.Finding.TheVariants as finding_is
 use Rattle.hm_hbck.proofs.Lists.{filter_in, filter_map_in, in_filter, in_filter_map}

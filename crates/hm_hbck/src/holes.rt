@@ -1,17 +1,16 @@
 //! The keys that the live regions of tables leave out.
-ghost use Rattle.std.specs.Prelude.{◌≡◌, ◌==◌, IfOk, OnOk, Some, if◌then◌else◌, length, map};
+ghost use Rattle.std.specs.Prelude.{◌≡◌, IfOk, OnOk, map};
 ghost use Rattle.std.specs.List.Sorted.{IsPermutation};
-ghost use Rattle.std.specs.Option.{option_copied};
-ghost use Rattle.std.specs.Ordering.{is_lt};
-ghost use Rattle.hm_names.specs.Order.{bytes_cmp};
-ghost use Rattle.hm_hbck.specs.Found.{Adds, live_in};
-ghost use Rattle.hm_hbck.specs.Holes.{IsHoleAmong, IsHoleAt, IsHoleOf, IsLeast, StartsRise, ranges_in};
+ghost use Rattle.hm_ranges.specs.Holes.{StartsRise};
+ghost use Rattle.hm_hbck.specs.Found.{Adds};
+ghost use Rattle.hm_hbck.specs.Holes.{IsHoleAmong, IsHoleAt, IsHoleOf, ranges_in};
 
 use crate::finding::Finding;
 use crate::holdings::live_range;
 use hm_catalog::{Catalog, Span};
 use hm_data::{CatKey, CatRow};
 use hm_names::{Copied, KeyRange, RowKey, TableName};
+use hm_ranges::least_left_out;
 use std::alloc::{AllocError, Global};
 
 // The ranges of a table's live regions, in the order of their names.
@@ -37,46 +36,6 @@ fn sort_ranges(ranges: &mut Vec<&KeyRange>) -> Result<(), AllocError>
     ensures same { IsPermutation ranges.old.items ranges.new.items }
 {
     ranges.sort_by(|one, other| one.start.cmp(&other.start))
-}
-
-// Whether a range starts after a key.
-fn starts_after(range: &KeyRange, key: &[u8]) -> bool
-    ensures { result ≡ is_lt (bytes_cmp key.now range.now.start) }
-{
-    key.cmp(range.start.as_bytes()).is_lt()
-}
-
-// Whether a range has no end.
-fn is_open(range: &KeyRange) -> bool
-    ensures { result ≡ (length range.now.end == 0) }
-{
-    range.end.as_bytes().is_empty()
-}
-
-// The greater of a key and where a range ends.
-fn further<'a>(range: &'a KeyRange, key: &'a [u8]) -> &'a [u8]
-    ensures { result.now ≡ (if is_lt (bytes_cmp key.now range.now.end) then range.now.end else key.now) }
-{
-    let end = range.end.as_bytes();
-    if key.cmp(end).is_lt() { end } else { key }
-}
-
-// The least key that none of the ranges has, which stand in the order in which they start.
-fn least_left_out<'a>(ranges: &[&'a KeyRange]) -> Option<&'a [u8]>
-    requires { StartsRise (map (λ range. range.now) ranges.now) }
-    ensures { IsLeast (map (λ range. range.now) ranges.now) (option_copied result) }
-{
-    let mut least = b"".as_slice();
-    for range in ranges {
-        if starts_after(range, least) {
-            return Some(least);
-        }
-        if is_open(range) {
-            return None;
-        }
-        least = further(range, least);
-    }
-    Some(least)
 }
 
 // Adds the hole of a table.

@@ -1,5 +1,5 @@
 use Rattle.std.proofs.Common.{map, None, Some, subst}
-use Rattle.hm_hbck.specs.Holes.{IsLeast}
+use Rattle.hm_ranges.specs.Holes.{IsLeast}
 use Rattle.hm_hbck.proofs.Least.{hole_added, least_sorted, limited_is, no_hole}
 use Rattle.hm_hbck.proofs.holes.add_hole.Goals as goal
 
