@@ -1,4 +1,4 @@
--- A region without a new call is held only where the base has it open.
+-- Where a region may be held there is its place, and without a new call it is held only where the base has it open.
 use Rattle.std.proofs.Common.{◌≡◌, ℕ, ◌≤◌, true, Option, Some, None, refl, ap, sym, ◌∙◌, subst, inl, inr, arith}
 use Rattle.std.proofs.lemmas.Bool.{and_parts, false≢true, true≢false}
 use Rattle.std.proofs.lemmas.Option.{none-some}
@@ -32,10 +32,21 @@ use Rattle.hm_single.proofs.Kin.{goes_holds}
 use Rattle.hm_single.proofs.Stage.{StageFor, child_of_step, work_of}
 use Rattle.hm_single.proofs.Transit.{AtRest, AtRow, CallIs, Calls, IsRest, at_place}
 use Rattle.hm_world_model.specs.Outside.{Outside}
+use Rattle.hm_world_model.specs.Points.{MayHold}
 use Rattle.hm_world_model.specs.Safe.{Runs, Safe}
 use Rattle.hm_world_model.proofs.Appending.{void_held}
 use Rattle.hm_world_model.proofs.Points.{held_at, points}
 use Rattle.hm_rolled.proofs.Calls.{last_on}
+
+-- where a region may be held there is its place: one whose place is idle may be held nowhere
+pub placed_own : (J K : Past) (o : Outside) → Safe J o → Alike J K → (r : Region) (s : Server) (a : Actor) → Runs J o s a → MayHold J a r s → is_at s (place_of K r) ≡ true
+placed_own J K o safe alike r s a run may = elim (alike.places r) [
+  | inl same ↦ subst (λ place. is_at s place ≡ true) same at
+  | inr forgotten ↦ absurd (true≢false (sym (and_parts (is_placed (place_of J r)) (is_the_server s (place_of J r).server) at).0 ∙ forgotten.one.unplaced))
+]
+  where
+    at : is_at s (place_of J r) ≡ true
+    at = (let all = points J o safe in let holders = all.holders in holders.placed r s a run may)
 
 module _ (J K : Past) (o : Outside) (safe : Safe J o) (legal : IsLegal K) (alike : Alike J K) (r : Region) (s : Server) (a : Actor) (none : last_call K r ≡ None) (run : Runs J o s a) (held : holds a r ≡ true) where
   same_place : place_of J r ≡ place_of K r
@@ -44,7 +55,7 @@ module _ (J K : Past) (o : Outside) (safe : Safe J o) (legal : IsLegal K) (alike
       alike_places J K alike r (λ gone. none-some _ (sym gone ∙ live.1.1))
 
   at_place_of : is_at s (place_of K r) ≡ true
-  at_place_of = subst (λ place. is_at s place ≡ true) same_place (let all = points J o safe in let holders = all.holders in holders.placed r s a run (inl held))
+  at_place_of = placed_own J K o safe alike r s a run (inl held)
 
   -- the last call of its history opened it, and is of a procedure that has ended
   not_void : IsVoid J r (last_call J r) → ⊥

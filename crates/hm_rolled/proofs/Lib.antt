@@ -1,6 +1,7 @@
 mod Itself
 pub mod Recorded
 mod Rebasing
+mod Fronts
 mod Calls
 mod Told
 mod Held

@@ -38,7 +38,7 @@ use Rattle.hm_world_model.proofs.Tails.{newer_of, safe_past}
 use Rattle.hm_rolled.specs.Own.{NeverTwiceOwn}
 use Rattle.hm_rolled.specs.Points.{OwnPoints, OwnPointsHold}
 use Rattle.hm_rolled.proofs.Calls.{calls_back, last_back, last_on, new_call, runs_back, same_call, same_peer}
-use Rattle.hm_rolled.proofs.Held.{held_based}
+use Rattle.hm_rolled.proofs.Held.{held_based, placed_own}
 use Rattle.hm_rolled.proofs.Rebasing.{rebased_alike, rolled_at, rolled_past}
 use Rattle.hm_rolled.proofs.Told.{IsTold, last_told}
 
@@ -90,6 +90,12 @@ module _ (J K : Past) (o : Outside) (safe : Safe J o) (legal : IsLegal K) (alike
           | inr differs ↦ safe.servers.done p r s a to_it run (λ e. differs (same_Some p last.0 (sym e ∙ last.1)))
         ]
 
+  -- what is held is live by the rows, which are the same
+  live_at : (r : Region) (s : Server) (a : Actor) → Runs J o s a → holds a r ≡ true → (range : KeyRange) × IsLiveWith (cat K) r range
+  live_at r s a run held =
+      let live = held_at J o safe r s a run held in
+      (live.0, (live.1.0, sym (alike.rows (key_is.Region r)) ∙ live.1.1))
+
   own_points : OwnPoints J K o
   own_points = record {
     new = new_call K legal;
@@ -100,13 +106,14 @@ module _ (J K : Past) (o : Outside) (safe : Safe J o) (legal : IsLegal K) (alike
     closed = closed;
     old = λ p r s a le verb peer run. old_served p r s a le verb peer (runs_back J K safe.legal legal alike o s a run);
     based = λ r s a none run held. held_based J K o safe legal alike r s a none (runs_back J K safe.legal legal alike o s a run) held;
+    placed = λ r s a run may. placed_own J K o safe alike r s a (runs_back J K safe.legal legal alike o s a run) may;
+    fenced = λ s gone. safe.fences_are s (alike.fenced s ∙ gone);
+    live = λ r s a run held. live_at r s a (runs_back J K safe.legal legal alike o s a run) held;
+    apart = never_overlap K legal;
   }
 
-  -- what is held is live by the rows, which are the same
   live_of : (r : Region) (s : Server) → Holds o s r → (range : KeyRange) × IsLiveWith (cat K) r range
-  live_of r s x =
-      let live = held_at J o safe r s x.0 (x.1, unfenced_of J o safe s x.3) x.2 in
-      (live.0, (live.1.0, sym (alike.rows (key_is.Region r)) ∙ live.1.1))
+  live_of r s x = live_at r s x.0 (x.1, unfenced_of J o safe s x.3) x.2
 
   own_not_twice : Twice K o → ⊥
   own_not_twice h =

@@ -76,7 +76,7 @@ work_plain past claim entry work = refl
 
 module _ (w : World) (kept : IsKept w) where
   -- an entry that is no part is recorded in the master's own journal
-  own_more : (entry : Entry) (past : Past) → is_part entry ≡ false → ((r : ℕ) → w.rolled ≡ Some r → r ≤ counted past) → rebased_by w.rolled (entry ∷ past) ≡ entry ∷ rebased_by w.rolled past
+  pub own_more : (entry : Entry) (past : Past) → is_part entry ≡ false → ((r : ℕ) → w.rolled ≡ Some r → r ≤ counted past) → rebased_by w.rolled (entry ∷ past) ≡ entry ∷ rebased_by w.rolled past
   own_more entry past other within = by w.rolled refl
     where
       by : (rolled : Option ℕ) → w.rolled ≡ rolled → rebased_by rolled (entry ∷ past) ≡ entry ∷ rebased_by rolled past

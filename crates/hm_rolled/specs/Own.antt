@@ -1,5 +1,5 @@
 -- The master's own journal beside the history that it stands for.
-use Rattle.std.specs.Prelude.{◌≡◌, ℕ, ◌≤◌, ◌++◌, length, Some, ◌↔◌}
+use Rattle.std.specs.Prelude.{◌≡◌, ℕ, ◌+◌, ◌≤◌, ◌++◌, length, drop, Some, ◌↔◌}
 use Rattle.hm_model.specs.Base.{IsBegun}
 use Rattle.hm_model.specs.Image.{image}
 use Rattle.hm_model.specs.Journal.{Past}
@@ -18,6 +18,12 @@ OwnIsAlike =
     (w : World) → IsKept w → (k : ℕ) → w.durable ≤ k → k ≤ length (whole w) → (r : ℕ) → w.rolled ≡ Some r
     → IsLegal (rebased_by w.rolled (first k (whole w))) × IsBegun (rebased_by w.rolled (first k (whole w)))
     × Alike (first k (whole w)) (rebased_by w.rolled (first k (whole w)))
+
+-- what a stop may leave of the history, rebased as the master's own journal was, is a front of that journal with its tail
+abbrev pub FrontsAreOwn : Type 0
+FrontsAreOwn =
+    (w : World) → IsKept w → (n : ℕ) → n + w.durable ≤ length (whole w)
+    → rebased_by w.rolled (drop n (whole w)) ≡ drop n (rebased_by w.rolled (whole w))
 
 -- an event neither rolls the journal nor stops the master
 abbrev pub LeavesRolled : Event → Type 0

@@ -2,15 +2,21 @@
 use Rattle.std.specs.Prelude.{◌≡◌, ◌≢◌, ℕ, ◌<◌, ◌≤◌, length, None, Some, true, false}
 use Rattle.hm_names.specs.Region.{Region}
 use Rattle.hm_names.specs.Server.{Server}
+use Rattle.hm_names.specs.declared.range.KeyRange.{KeyRange}
+use Rattle.hm_names.specs.declared.table.TableName.{TableName}
 use Rattle.hm_data.specs.declared.call.Call.{Call}
 use Rattle.hm_data.specs.declared.call.Peer.TheVariants as peer_is
 use Rattle.hm_data.specs.declared.call.Verb.{Verb}
 use Rattle.hm_data.specs.declared.call.Verb.TheVariants as verb_is
 use Rattle.hm_data.specs.declared.entry.Entry.TheVariants as entry_is
 use Rattle.hm_model.specs.Actors.{Actor, holds}
+use Rattle.hm_model.specs.Catalog.{cat}
+use Rattle.hm_model.specs.Fleet.{is_fenced}
 use Rattle.hm_model.specs.Journal.{Past}
 use Rattle.hm_model.specs.Locks.{IsIn}
+use Rattle.hm_model.specs.Places.{is_at, place_of}
 use Rattle.hm_model.specs.Procedures.{offset}
+use Rattle.hm_model.specs.Ranges.{IsLiveWith, NoneOverlap}
 use Rattle.hm_model.specs.Reports.{call_of, last_call, peer_of, verb_of}
 use Rattle.hm_model.specs.Rules.{Allowed}
 use Rattle.hm_model.specs.Single.{IsBasedAt}
@@ -44,6 +50,16 @@ pub record OwnPoints (J K : Past) (o : Outside) : Type 0 where
   -- a region without a new call is held only where the base has it open
   pub based : (region : Region) (server : Server) (actor : Actor)
       → last_call K region ≡ None → Runs K o server actor → holds actor region ≡ true → IsBasedAt K region server
+  -- where a region may be held there is its place
+  pub placed : (region : Region) (server : Server) (actor : Actor) → Runs K o server actor → MayHold J actor region server
+      → is_at server (place_of K region) ≡ true
+  -- who is fenced in its own journal is fenced
+  pub fenced : (server : Server) → is_fenced K server ≡ true → o.storage.fenced server ≡ true
+  -- a region that a running server holds, which isn't fenced, is live
+  pub live : (region : Region) (server : Server) (actor : Actor) → Runs K o server actor → holds actor region ≡ true
+      → (range : KeyRange) × IsLiveWith (cat K) region range
+  -- and live regions of one table don't overlap
+  pub apart : (table : TableName) → NoneOverlap (cat K) table
 
 -- they hold for each length that a stop may leave, rolled or not
 abbrev pub OwnPointsHold : Type 0

@@ -4,4 +4,4 @@
 
 mod laws;
 
-pub use laws::{own_goes_on, own_is_alike, own_is_never_twice, own_points_hold};
+pub use laws::{fronts_are_own, own_goes_on, own_is_alike, own_is_never_twice, own_points_hold};
