@@ -7,8 +7,8 @@ pub fn own_is_alike()
     ensures { OwnIsAlike }
 {}
 
-/// Each front of the history that a stop may leave, rebased as the master's own journal was, is that journal, with its tail, without
-/// as many of its newest entries.
+/// Each front of the history that a stop may leave, rebased as the master's own journal was, is that journal, with its tail,
+/// without as many of its newest entries.
 pub fn fronts_are_own()
     ensures { FrontsAreOwn }
 {}
