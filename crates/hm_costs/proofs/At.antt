@@ -47,9 +47,9 @@ use Rattle.hm_model.specs.Whereabouts.{moved_by}
 use Rattle.hm_model.proofs.ExactRows.{sheet_is, valid_by}
 use Rattle.hm_model.proofs.StepDoes.{calls as calls_part, crash as crash_part, lined as lined_part, moves as moves_part, part_of}
 use Rattle.hm_model.proofs.ValidSheets.{Leads, valid_leads}
+use Rattle.hm_model.proofs.Small.{cons_nil}
 use Rattle.hm_costs.proofs.Spend.{rows_counted, IsChildGoal, spend}
 use Rattle.std.proofs.lemmas.Bool.{and_parts}
-use Rattle.hm_data.specs.declared.sheet.Row.{Row}
 
 -- a call, its report and its end
 abbrev pub call_due : Option Answer → Option Told → ℕ
@@ -220,9 +220,6 @@ Fresh J r x = (IsFreshArgs x.args ⊎ IsFreshCrash J r x.args) × (x.above ≡ [
 ten_exact : exact_rows 10 ≡ [] → ⊥
 ten_exact e = cc
 
-exact_cons : (first : Row) (more : List Row) → first ∷ more ≡ [] → ⊥
-exact_cons first more e = cc
-
 pub crash_is : (args : Args) (server : Server) → crashed_in args ≡ Some server → args ≡ args_are.Crash server
 crash_is (args_are.Crash own) server c = ap args_are.Crash (same_Some own server c)
 crash_is args server c = absurd (none-some server c)
@@ -261,7 +258,7 @@ module _ (J : Past) (q : ℕ) (x : Node) (budget : ℕ) where
     | crash_part kind unmoved uncalled ↦ absurd (none-some verb (sym uncalled ∙ v))
     | moves_part r m kind uncalled ↦ absurd (none-some verb (sym uncalled ∙ v))
     | calls_part own w unmoved exact ↦ record {
-      lined = λ e. absurd (exact_cons exact.0 exact.1 (sym exact.2 ∙ e));
+      lined = λ e. absurd (cons_nil exact.0 exact.1 (sym exact.2 ∙ e));
       moves = λ region m. absurd (none-some region (sym unmoved ∙ m));
       calls = λ other u. is;
       crash = λ server c. absurd (none-some verb (sym (ap verb_in (crash_is x.args server c)) ∙ v));

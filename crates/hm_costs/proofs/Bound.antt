@@ -58,6 +58,7 @@ use Rattle.hm_costs.proofs.Stays.{all_stays}
 use Rattle.hm_costs.proofs.GoesOn.{sound_all}
 use Rattle.hm_costs.proofs.TransitPaid.{transit_paid}
 use Rattle.hm_model.proofs.RootTrees.{ended_by}
+use Rattle.hm_model.proofs.CallSteps.{fenced_only}
 use Rattle.hm_costs.proofs.Trees.{no_root_by_step, quiet_unaborted}
 
 -- a new root is one of these
@@ -196,11 +197,6 @@ steps_priced pid pick out J legal r top going all me is_me of budget at =
       | moves_part region m kind uncalled ↦ transit_paid pid pick out J legal r all me is_me of unaborted budget region m (at.moves region m)
       | calls_part verb v unmoved exact ↦ call_paid pid pick out J legal me is_me (live_unfenced J legal.0) unaborted budget verb v (at.calls verb v)
     ]
-
--- a fence is answered in one way
-pub fenced_only : (server : Server) (told : Told) → fits_verb (verb_is.Fence server) told ≡ true → (told_number told == told_number told_is.Fenced) ≡ true
-fenced_only server told_is.Fenced fits = refl
-fenced_only server told fits = absurd (false≢true fits)
 
 told_goes : (call : Pid) (told : Told) (J : Past) (me : Node) → node_of J call.0 ≡ Some me → (verb : Verb) → verb_in me.args ≡ Some verb → fits_verb verb told ≡ true → (args : Args) → me.args ≡ args → CallGoes J call.0 me args → CallGoes (entry_is.Report call told ∷ J) call.0 me args
 told_goes call told J me is verb v fits (args_are.AssignCall region server) e h = h

@@ -4,7 +4,6 @@ use Rattle.std.proofs.lemmas.Bool.{and_left, and_right, cases_eq, cond-false, co
 use Rattle.std.proofs.lemmas.Option.{none-some}
 use Rattle.std.specs.declared.cmp.Ordering.{Ordering}
 use Rattle.std.specs.declared.cmp.Ordering.TheVariants.{Equal, Greater, Less}
-use Rattle.hm_data.proofs.KeyOrder.{keys_total}
 use Rattle.hm_data.specs.Keys.{key_cmp}
 use Rattle.hm_data.specs.declared.answer.Answer.{Answer}
 use Rattle.hm_data.specs.declared.args.Args.{Args}
@@ -21,7 +20,7 @@ use Rattle.hm_model.specs.Costs.{by_64s, cost, cost_in, regions_lost}
 use Rattle.hm_model.specs.Journal.{Past}
 use Rattle.hm_model.specs.Locks.{IsIn}
 use Rattle.hm_model.specs.Reads.{is_region_in}
-use Rattle.hm_model.specs.RowLaws.{AllBehind, AreInOrder}
+use Rattle.hm_model.specs.RowLaws.{AreInOrder}
 use Rattle.hm_model.specs.RowsSaid.{Rows, all_among, keep_region, live_among, regions_among}
 use Rattle.hm_model.specs.Keys.{same_table}
 use Rattle.hm_names.specs.declared.pid.Pid.{Pid}
@@ -35,23 +34,11 @@ use Rattle.hm_data.specs.declared.catalog.CatKey.TheVariants as key_is
 use Rattle.hm_model.specs.Rules.{IsLegal}
 use Rattle.hm_model.specs.Tree.{Node, made, node_of}
 use Rattle.hm_model.proofs.KeyTests.{key_cmp-same}
-use Rattle.hm_model.proofs.Rows.{has_key, in_with_keys, keys_in_order}
+use Rattle.hm_model.proofs.Rows.{behind_further, behind_out, has_key, in_with_keys, keys_in_order, order_with}
 use Rattle.hm_model.proofs.Parted.{no_node}
 use Rattle.hm_model.proofs.Trees.{grown_all, is_there}
-use Rattle.std.specs.Ordering.{ordering_reverse}
 use Rattle.hm_model.proofs.Rows.{in_with_key}
 use Rattle.std.proofs.lemmas.Bool.{and_from}
-
-further : (k key : CatKey) (keys : List CatKey) → key_cmp k key ≡ Less → AllBehind key keys → AllBehind k keys
-further k key [] less behind = tt
-further k key (first ∷ more) less behind = (keys_total.trans k key first less behind.0, further k key more less behind.1)
-
-out_of : (key : CatKey) (keys : List CatKey) → AllBehind key keys → IsIn key keys → ⊥
-out_of key [] behind h = elim h [ ]
-out_of key (first ∷ more) behind h = elim h [
-  | inl here ↦ let tied : key_cmp key first ≡ Equal = key_cmp-same key first here in cc (tied, behind.0)
-  | inr later ↦ out_of key more behind.1 later
-]
 
 keep_none : (b : Bool) (key : CatKey) (row : Option CatRow) (more : List (CatKey × CatRow)) → (row ≢ None → ⊥) → keep b key row more ≡ more
 keep_none false key row more none = refl
@@ -64,31 +51,12 @@ more_rows asked there key [] order listed = keep_none (asked key) key (there key
 more_rows asked there key (first ∷ more) order listed = by (more_rows asked there key more order.1) (key_cmp key first) refl
   where
     by : ((there key ≢ None → IsIn key more) → rows_at asked there (with_key key more) ≡ rows_at asked there more) → (o : Ordering) → key_cmp key first ≡ o → rows_at asked there (with_key_at o key first more (with_key key more)) ≡ rows_at asked there (first ∷ more)
-    by on Less e = keep_none (asked key) key (there key) (rows_at asked there (first ∷ more)) (λ some. out_of key (first ∷ more) (e, further key first more e order.0) (listed some))
+    by on Less e = keep_none (asked key) key (there key) (rows_at asked there (first ∷ more)) (λ some. behind_out key (first ∷ more) (e, behind_further key first more e order.0) (listed some))
     by on Equal e = refl
     by on Greater e = ap (keep (asked first) first (there first)) (on (λ some. elim (listed some) [
       | inl here ↦ let tied : key_cmp key first ≡ Equal = key_cmp-same key first here in absurd (cc (tied, e))
       | inr later ↦ later
     ]))
-
-behind_with_at : (o : Ordering) (k key first : CatKey) (more rest : List CatKey) → key_cmp k key ≡ Less → key_cmp k first ≡ Less → AllBehind k more → AllBehind k rest → AllBehind k (with_key_at o key first more rest)
-behind_with_at Less k key first more rest less here behind on = (less, (here, behind))
-behind_with_at Equal k key first more rest less here behind on = (here, behind)
-behind_with_at Greater k key first more rest less here behind on = (here, on)
-
-behind_with : (k key : CatKey) (keys : List CatKey) → key_cmp k key ≡ Less → AllBehind k keys → AllBehind k (with_key key keys)
-behind_with k key [] less behind = (less, tt)
-behind_with k key (first ∷ more) less behind = behind_with_at (key_cmp key first) k key first more (with_key key more) less behind.0 behind.1 (behind_with k key more less behind.1)
-
--- one key more leaves keys in order
-pub order_with : (key : CatKey) (keys : List CatKey) → AreInOrder keys → AreInOrder (with_key key keys)
-order_with key [] order = (tt, tt)
-order_with key (first ∷ more) order = by (key_cmp key first) refl (order_with key more order.1)
-  where
-    by : (o : Ordering) → key_cmp key first ≡ o → AreInOrder (with_key key more) → AreInOrder (with_key_at o key first more (with_key key more))
-    by Less e on = ((e, further key first more e order.0), (order.0, order.1))
-    by Equal e on = (order.0, order.1)
-    by Greater e on = (behind_with first key more (keys_total.antisymm first key ∙ ap ordering_reverse e) order.0, on)
 
 -- edits add no row to those of a catalog whose keys are listed
 pub more_edits : (asked : CatKey → Bool) (there : Catalog) (edits : List Edit) (keys : List CatKey) → AreInOrder keys → ((key : CatKey) → there key ≢ None → IsIn key keys) → rows_at asked there (with_keys edits keys) ≡ rows_at asked there keys

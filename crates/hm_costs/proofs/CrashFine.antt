@@ -1,6 +1,6 @@
 -- Nothing that a crash makes fails, so it ends well.
-use Rattle.std.proofs.Common.{◌≡◌, ◌≢◌, ℕ, zero, suc, ◌-◌, ◌==◌, List, [], ◌∷◌, Bool, true, false, not, cond, Option, Some, None, is_some, refl, ap, sym, ◌∙◌, subst, arith, inl, inr, slice_get}
-use Rattle.std.proofs.lemmas.Bool.{and_right, cases_eq, cond-false, cond-true, eq-eqb, eqb-true, false≢true}
+use Rattle.std.proofs.Common.{◌≡◌, ◌≢◌, ℕ, ◌-◌, ◌==◌, List, [], ◌∷◌, Bool, true, false, not, Option, Some, None, is_some, refl, ap, sym, ◌∙◌, subst, arith, inl, inr, slice_get}
+use Rattle.std.proofs.lemmas.Bool.{cases_eq, cond-false, cond-true, eq-eqb, eqb-true, false≢true}
 use Rattle.std.proofs.lemmas.Option.{none-some, same_Some}
 use Rattle.hm_names.specs.Region.{Region}
 use Rattle.hm_names.specs.Server.{Server}
@@ -9,48 +9,42 @@ use Rattle.hm_data.specs.declared.act.Act.{Act}
 use Rattle.hm_data.specs.declared.act.Act.TheVariants as act_is
 use Rattle.hm_data.specs.declared.answer.Answer.{Answer}
 use Rattle.hm_data.specs.declared.answer.Answer.TheVariants as answer_is
-use Rattle.hm_data.specs.declared.answer.Cause.TheVariants as cause_is
 use Rattle.hm_data.specs.declared.args.Args.{Args}
 use Rattle.hm_data.specs.declared.args.Args.TheVariants as args_are
 use Rattle.hm_data.specs.declared.args.Child.{Child}
 use Rattle.hm_data.specs.declared.args.Child.TheVariants as child_is
-use Rattle.hm_data.specs.declared.call.Told.{Told}
 use Rattle.hm_data.specs.declared.call.Verb.{Verb}
 use Rattle.hm_data.specs.declared.entry.Entry.{Entry}
 use Rattle.hm_data.specs.declared.entry.Entry.TheVariants as entry_is
-use Rattle.hm_data.specs.declared.place.Goal.{Goal}
 use Rattle.hm_data.specs.declared.place.Goal.TheVariants as goal_is
-use Rattle.hm_data.specs.declared.place.Place.{Place}
 use Rattle.hm_data.specs.declared.sheet.Row.{Row}
 use Rattle.hm_data.specs.declared.step.StepIn.{StepIn}
 use Rattle.hm_data.specs.declared.step.StepOut.{StepOut}
 use Rattle.hm_model.specs.Acts.{act_answer}
-use Rattle.hm_model.specs.Answers.{failing, last_answer, no_row, row_after, row_of}
+use Rattle.hm_model.specs.Answers.{failing, last_answer, row_after, row_of}
 use Rattle.hm_model.specs.CrashActs.{reassign_all}
-use Rattle.hm_model.specs.Evaluation.{is_cut_off, row_answer}
 use Rattle.hm_model.specs.Inputs.{step_input}
 use Rattle.hm_model.specs.Journal.{Past}
 use Rattle.hm_model.specs.Kinds.{first_row_of, kind_of}
-use Rattle.hm_model.specs.Lists.{exact_rows, fixed}
+use Rattle.hm_model.specs.Lists.{exact_rows}
 use Rattle.hm_model.specs.Locks.{in_name_order}
-use Rattle.hm_model.specs.Outs.{fails, given, goes_on, ends_with, places, spawns}
+use Rattle.hm_model.specs.Outs.{given, spawns}
 use Rattle.hm_model.specs.Phase.{cause, or_else}
 use Rattle.hm_model.specs.Pieces.{batches, transits}
 use Rattle.hm_model.specs.Rules.{IsLegal}
-use Rattle.hm_model.specs.TransitActs.{behind_close, candidate, close_at, close_or_go, is_open, is_told, may_open_in, opened_or_not, told_place}
 use Rattle.hm_model.specs.Tree.{Node, args_in, made, node_of, root_in, root_of}
 use Rattle.hm_model.specs.Verbs.{verb_in}
-use Rattle.hm_model.specs.Views.{region_of}
-use Rattle.hm_model.specs.Wanted.{goal_in, server_of}
+use Rattle.hm_model.specs.Wanted.{server_of}
 use Rattle.hm_model.specs.Whereabouts.{moved_by}
-use Rattle.hm_model.proofs.CallSteps.{is_laying}
+use Rattle.hm_model.proofs.CallSteps.{is_laying, uncut}
 use Rattle.hm_model.proofs.ExactRows.{row_passes}
 use Rattle.hm_model.proofs.Grown.{nodes_stay}
 use Rattle.hm_model.proofs.LegalSteps.{StepFacts}
-use Rattle.hm_model.proofs.PlainActs.{is_caller}
+use Rattle.hm_model.proofs.PlainActs.{fine_on, is_caller}
 use Rattle.hm_model.proofs.RootTrees.{absent_all, tree_root}
 use Rattle.hm_model.proofs.StepDoes.{Does, GoesNear, IsMoveOut, bears_by, calls as calls_part, crash as crash_part, exact_row_is, is_moving as is_moving_act, lined as lined_part, move_act, move_fails, moves as moves_part, part_of, row_by}
 use Rattle.hm_model.proofs.Trees.{IsRooted, answer_now, does_of, down_rooted, grown_all, le_or_lt, new_child, node_same, old_or_new, other_answer, step_of, submit_rooted, undo_rooted}
+use Rattle.hm_model.proofs.FineMoves.{fine_move, late_move}
 use Rattle.hm_costs.proofs.Moves.{is_moving}
 use Rattle.hm_costs.proofs.Spend.{IsChildGoal}
 use Rattle.hm_costs.proofs.Each.{Each, each_at, each_opened}
@@ -77,18 +71,6 @@ of_exact (args_are.AssignCall region server) of e = cc
 of_exact (args_are.CloseCall region server) of e = cc
 of_exact args of e = of
 
--- a procedure that has no such part goes on
-on_fine : (next : ℕ) → failing (goes_on next).answer ≡ None
-on_fine next = by (next == no_row)
-  where
-    by : (b : Bool) → failing (cond b (answer_is.Done Rattle.hm_data.specs.declared.call.Told.TheVariants.Nothing) (answer_is.More next)) ≡ None
-    by true = refl
-    by false = refl
-
-given_fine : {A : Type 0} (o : Option A) (next : ℕ) (act : A → StepOut) → ((x : A) → failing (act x).answer ≡ None) → failing (given o next act).answer ≡ None
-given_fine None next act each = on_fine next
-given_fine (Some x) next act each = each x
-
 -- the acts of crashes
 abbrev is_crashing : Act → Bool
 is_crashing act_is.Fence = true
@@ -103,7 +85,7 @@ crash_fine : (act : Act) → is_crashing act ≡ true → (next : ℕ) (at : Ste
 crash_fine act_is.Fence h next at = by (server_of at.args)
   where
     by : (o : Option Server) → Fine (given o next (λ server. spawns next (child_is.One (args_are.FenceCall server) ∷ [])))
-    by None = record { fails = on_fine next; children = tt }
+    by None = record { fails = fine_on next []; children = tt }
     by (Some server) = record { fails = refl; children = (tt, tt) }
 crash_fine act_is.Reassign h next at = by (transits goal_is.Assign at.on_server) (each_opened IsOfCrash (λ region. tt) (batches (in_name_order at.on_server)))
   where
@@ -111,56 +93,6 @@ crash_fine act_is.Reassign h next at = by (transits goal_is.Assign at.on_server)
     by [] all = record { fails = refl; children = tt }
     by (child ∷ more) all = record { fails = refl; children = all }
 crash_fine act h next at = absurd (false≢true h)
-
--- the acts of transits but the check
-abbrev is_late : Act → Bool
-is_late act_is.GetAssignCandidate = true
-is_late act_is.Open = true
-is_late act_is.ConfirmOpened = true
-is_late act_is.Close = true
-is_late act_is.ConfirmClosed = true
-is_late act = false
-
-candidate_fine : (next : ℕ) (may : Bool) (place : Place) (fenced : Bool) (pick : Option Server) → failing (candidate next may place fenced pick).answer ≡ None
-candidate_fine next false place fenced pick = refl
-candidate_fine next true place fenced pick = by (is_open place fenced)
-  where
-    by : (b : Bool) → failing (cond b (ends_with Rattle.hm_data.specs.declared.call.Told.TheVariants.Nothing) (places (answer_is.More next) (Some (record { state = Rattle.hm_data.specs.declared.place.RegionState.TheVariants.Opening; server = pick })))).answer ≡ None
-    by true = refl
-    by false = refl
-
-behind_fine : (goal : Goal) (told : Told) → failing (behind_close goal told) ≡ None
-behind_fine goal_is.Assign told = refl
-behind_fine goal told = refl
-
-close_fine : (next : ℕ) (goal : Goal) (region : Region) (place : Place) (b : Bool) → failing (close_or_go next goal region place b).answer ≡ None
-close_fine next goal region place true = given_fine place.server next (close_at next region) (λ server. refl)
-close_fine next goal region place false = behind_fine goal _
-
-confirm_fine : (next : ℕ) (server : Option Server) (b : Bool) → failing (opened_or_not next server b).answer ≡ None
-confirm_fine next server true = refl
-confirm_fine next server false = refl
-
-late_fine : (act : Act) → is_late act ≡ true → (next : ℕ) (at : StepIn) → failing (act_answer act next at).answer ≡ None
-late_fine act_is.GetAssignCandidate h next at = given_fine (region_of at.args) next (λ region. candidate next (may_open_in at.rows region) (told_place at.place) at.fenced at.pick) (λ region. candidate_fine next (may_open_in at.rows region) (told_place at.place) at.fenced at.pick)
-late_fine act_is.Open h next at = given_fine (region_of at.args) next (λ region. given ((told_place at.place).server) next (λ server. spawns next (child_is.One (args_are.AssignCall region server) ∷ []))) (λ region. given_fine ((told_place at.place).server) next (λ server. spawns next (child_is.One (args_are.AssignCall region server) ∷ [])) (λ server. refl))
-late_fine act_is.ConfirmOpened h next at = confirm_fine next (told_place at.place).server (is_told Rattle.hm_data.specs.declared.call.Told.TheVariants.Opened at.ends)
-late_fine act_is.Close h next at = given_fine (region_of at.args) next (λ region. close_or_go next (goal_in at.args) region (told_place at.place) (is_open (told_place at.place) at.fenced)) (λ region. close_fine next (goal_in at.args) region (told_place at.place) (is_open (told_place at.place) at.fenced))
-late_fine act_is.ConfirmClosed h next at = behind_fine (goal_in at.args) _
-late_fine act h next at = absurd (false≢true h)
-
-late_row : (n : ℕ) (row : Row) → slice_get (exact_rows 10) n ≡ Some row → n ≢ 5 → (row.after ≡ true) × (is_late row.act ≡ true)
-late_row zero row is differs = (ap (λ (r : Row). r.after) (sym (same_Some (fixed act_is.GetAssignCandidate 1 true) row is)), ap (λ (r : Row). is_late r.act) (sym (same_Some (fixed act_is.GetAssignCandidate 1 true) row is)))
-late_row (suc zero) row is differs = (ap (λ (r : Row). r.after) (sym (same_Some (fixed act_is.Open 2 true) row is)), ap (λ (r : Row). is_late r.act) (sym (same_Some (fixed act_is.Open 2 true) row is)))
-late_row (suc (suc zero)) row is differs = (ap (λ (r : Row). r.after) (sym (same_Some (fixed act_is.ConfirmOpened 0 true) row is)), ap (λ (r : Row). is_late r.act) (sym (same_Some (fixed act_is.ConfirmOpened 0 true) row is)))
-late_row (suc (suc (suc zero))) row is differs = (ap (λ (r : Row). r.after) (sym (same_Some (fixed act_is.Close 4 true) row is)), ap (λ (r : Row). is_late r.act) (sym (same_Some (fixed act_is.Close 4 true) row is)))
-late_row (suc (suc (suc (suc zero)))) row is differs = (ap (λ (r : Row). r.after) (sym (same_Some (fixed act_is.ConfirmClosed 0 true) row is)), ap (λ (r : Row). is_late r.act) (sym (same_Some (fixed act_is.ConfirmClosed 0 true) row is)))
-late_row (suc (suc (suc (suc (suc zero))))) row is differs = absurd (differs refl)
-late_row (suc (suc (suc (suc (suc (suc n)))))) row is differs = absurd (none-some row is)
-
--- a row after the point isn't cut off
-pub uncut : (row : Row) (at : StepIn) → row.after ≡ true → row_answer row at ≡ act_answer row.act row.next at
-uncut row at late = cond-false (is_cut_off row at) (fails cause_is.Aborted) (act_answer row.act row.next at) (and_right at.aborted (not row.after) (ap not late))
 
 -- a transit is at its check only before its first step
 abbrev pub ChecksFirst : Past → Type 0
@@ -317,8 +249,9 @@ module _ (pid : Pid) (pick : Option Server) (out : StepOut) (J : Past) (legal : 
         let crashing = row_passes (λ row. is_crashing row.act) (exact_rows 11) refl (row_of J pid.0 its.node) its.row found in
         out_late (row_passes (λ row. row.after) (exact_rows 11) refl (row_of J pid.0 its.node) its.row found) (crash_fine its.row.act crashing its.row.next (seen pid pick out J legal)).fails
     | moves_part region m kind uncalled ↦
-        let late = late_row (row_of J pid.0 its.node) its.row (row_at pid pick out J legal 10 kind _ _ refl) (unchecked region m of) in
-        out_late late.0 (late_fine its.row.act late.1 its.row.next (seen pid pick out J legal))
+        let own = row_at pid pick out J legal 10 kind _ _ refl in
+        let late = late_move (row_of J pid.0 its.node) its.row own (unchecked region m of) in
+        out_late late.0 (fine_move its.row.act (row_passes (λ row. is_moving_act row.act) (exact_rows 10) refl (row_of J pid.0 its.node) its.row own) late.1 its.row.next (seen pid pick out J legal))
     | calls_part verb v unmoved exact ↦ call_fine verb v of
   ]
 

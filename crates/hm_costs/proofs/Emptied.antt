@@ -33,13 +33,14 @@ use Rattle.hm_model.proofs.LegalSteps.{StepFacts}
 use Rattle.hm_model.proofs.Listed.{transit_made}
 use Rattle.hm_model.proofs.StepDoes.{exact_row_is}
 use Rattle.hm_model.proofs.Trees.{answer_now, does_of, grown_all, other_answer, step_of}
+use Rattle.hm_model.proofs.Answered.{done_stops}
+use Rattle.hm_model.proofs.CallSteps.{uncut}
 use Rattle.hm_costs.specs.Theorem.{CrashesEmpty}
-use Rattle.hm_costs.proofs.CrashFine.{uncaused_all, uncut}
+use Rattle.hm_costs.proofs.CrashFine.{uncaused_all}
 use Rattle.hm_costs.proofs.Dead.{fencers_all}
 use Rattle.hm_costs.proofs.Live.{IsDead, fence_in}
 use Rattle.hm_costs.proofs.Lost.{at_listed}
 use Rattle.hm_costs.proofs.Opening.{none_comes}
-pub use Rattle.hm_costs.proofs.Trees.{done_stops}
 
 abbrev IsEmptied : Past → Type 0
 IsEmptied J =

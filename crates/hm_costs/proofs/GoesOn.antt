@@ -20,18 +20,14 @@ use Rattle.hm_model.specs.Tree.{Node, is_top, made, node_of, root_in, root_of}
 use Rattle.hm_model.specs.Undo.{is_empty, stack}
 use Rattle.hm_model.proofs.LegalSteps.{StepFacts}
 use Rattle.hm_model.proofs.StepDoes.{Does, IsStepAnswer}
-use Rattle.hm_model.proofs.Trees.{Grown, answer_now, does_of, down_rooted, grown_all, is_there, le_or_lt, node_same, old_or_new, other_answer, pid_there, step_of, still_there, submit_rooted, undo_rooted, new_child, IsRooted}
+use Rattle.hm_model.proofs.Trees.{Grown, IsRooted, all_below_from, answer_now, does_of, down_rooted, grown_all, is_there, le_or_lt, node_same, old_or_new, other_answer, step_of, still_there, submit_rooted, undo_rooted}
+use Rattle.hm_model.proofs.Answered.{or_some}
 use Rattle.hm_costs.specs.Theorem.{HasOneThatGoes, EachTreeGoesOn}
-use Rattle.hm_costs.proofs.Trees.{all_from}
 
 -- steps never answer that something is undone, and where one failed its tree has a cause
 pub record IsSoundJournal (J : Past) : Type 0 where
   pub undone : (p : ℕ) → last_answer J p ≡ Some answer_is.Undone → ⊥
   pub caused : (p : ℕ) (node : Node) → node_of J p ≡ Some node → (c : Cause) → last_answer J p ≡ Some (answer_is.Fail c) → cause J node.root ≢ None
-
-or_some : (c e : Option Cause) → c ≢ None → or_else c e ≢ None
-or_some None e some = absurd (some refl)
-or_some (Some c) e some = some
 
 or_new : (c e : Option Cause) → e ≢ None → or_else c e ≢ None
 or_new None e some = some
@@ -133,7 +129,7 @@ module _ (J : Past) (legal : IsLegal J) (r : ℕ) (node : Node) (is : node_of J 
   -- where all later ones of the tree have stopped, so have its children
   ended_from : (q : ℕ) (x : Node) → node_of J q ≡ Some x → x.root ≡ r → ((k : ℕ) → q < k → k < made J + 1 → is_still k ≡ true) → children_ended J q ≡ true
   unfolding is_still
-  ended_from q x at root rest = all_from (made J + 1) (λ k. not (child_in q (node_of J k)) || is_stopped (last_answer J k)) (λ k lt. by k lt (node_of J k) refl)
+  ended_from q x at root rest = all_below_from (made J + 1) (λ k. not (child_in q (node_of J k)) || is_stopped (last_answer J k)) (λ k lt. by k lt (node_of J k) refl)
     where
       by : (k : ℕ) → k < made J + 1 → (o : Option Node) → node_of J k ≡ o → (not (child_in q o) || is_stopped (last_answer J k)) ≡ true
       by k lt None e = refl

@@ -1,13 +1,12 @@
 -- A live server isn't fenced.
-use Rattle.std.proofs.Common.{◌≡◌, ℕ, List, [], ◌∷◌, Bool, true, false, not, ◌&&◌, ◌==◌, nat_lt, Option, Some, None, refl, ap, sym, ◌∙◌, subst, arith, inl, inr}
-use Rattle.std.specs.List.{list_any}
-use Rattle.std.proofs.lemmas.Bool.{and_from, and_parts, cases_Bool, false≢true, or_cases, or_left, or_right, true≢false}
+use Rattle.std.proofs.Common.{◌≡◌, ℕ, ◌∷◌, Bool, true, false, not, ◌&&◌, ◌==◌, Option, Some, None, refl, ap, sym, ◌∙◌, subst, inl, inr}
+use Rattle.std.proofs.lemmas.Bool.{and_parts, cases_Bool, false≢true, or_cases, true≢false}
 use Rattle.hm_names.specs.Server.{Server}
 use Rattle.hm_data.specs.declared.args.Args.{Args}
 use Rattle.hm_data.specs.declared.args.Args.TheVariants as args_are
 use Rattle.hm_data.specs.declared.entry.Entry.{Entry}
 use Rattle.hm_data.specs.declared.entry.Entry.TheVariants as entry_is
-use Rattle.hm_model.specs.Fleet.{came_up, fences_by, fences_if, has_newer, is_fenced, is_live, same_address, same_server, servers_of}
+use Rattle.hm_model.specs.Fleet.{came_up, fences_by, fences_if, has_newer, is_fenced, is_live, same_server, servers_of}
 use Rattle.hm_model.specs.Journal.{Past}
 use Rattle.hm_model.specs.Rules.{IsLegal}
 use Rattle.hm_model.specs.Tree.{Node, node_of}
@@ -15,8 +14,8 @@ use Rattle.hm_model.proofs.CameUp.{came_now, came_on, live_came}
 use Rattle.hm_model.specs.Base.{PartFits}
 use Rattle.hm_data.specs.declared.part.Part.{Part}
 use Rattle.hm_data.specs.declared.part.Part.TheVariants as part_is
-use Rattle.hm_model.proofs.NameTies.{same_server-is, same_server-refl}
-use Rattle.std.proofs.lemmas.Bool.{and_left, and_right, le-ltb, or_from}
+use Rattle.hm_model.proofs.NameTies.{newer_own, same_server-is, same_server-refl}
+use Rattle.std.proofs.lemmas.Bool.{and_left, and_right, or_from}
 use Rattle.hm_data.specs.Numbers.{told_number}
 use Rattle.hm_data.specs.declared.call.Told.TheVariants as told_is
 
@@ -24,20 +23,9 @@ use Rattle.hm_data.specs.declared.call.Told.TheVariants as told_is
 abbrev pub IsDead : Past → Server → Type 0
 IsDead J server = (came_up J server ≡ true) × (is_live J server ≡ false)
 
--- a server that came up comes up no second time
-newer_of : (server : Server) (list : List Server) → list_any (λ x. same_server server x) list ≡ true → list_any (λ x. same_address server x && not (nat_lt x.start server.start)) list ≡ true
-newer_of server [] h = absurd (false≢true h)
-newer_of server (x ∷ more) h = elim (or_cases (same_server server x) (list_any (λ y. same_server server y) more) h) [
-  | inl here ↦
-      let same = same_server-is server x here in
-      let address = (and_parts (same_address server x) (server.start == x.start) here).0 in
-      or_left (same_address server x && not (nat_lt x.start server.start)) _ (and_from (same_address server x) (not (nat_lt x.start server.start)) address (ap (λ (s : Server). not (nat_lt s.start server.start)) (sym same) ∙ ap not (le-ltb server.start server.start (omega arith))))
-  | inr later ↦ or_right (same_address server x && not (nat_lt x.start server.start)) _ (newer_of server more later)
-]
-
 -- a server that came up isn't that of a part
 not_again : (J : Past) (server other : Server) → came_up J server ≡ true → has_newer J other ≡ false → same_server server other ≡ true → ⊥
-not_again J server other came rule same = true≢false (sym (subst (λ s. has_newer J s ≡ true) (same_server-is server other same) (newer_of server (servers_of J) came)) ∙ rule)
+not_again J server other came rule same = true≢false (sym (subst (λ s. has_newer J s ≡ true) (same_server-is server other same) (newer_own server (servers_of J) came)) ∙ rule)
 
 dead_part : (part : Part) (J : Past) → PartFits part J → (server : Server) → IsDead J server → IsDead (entry_is.Base part ∷ J) server
 dead_part (part_is.Server other fenced) J fits server dead = (

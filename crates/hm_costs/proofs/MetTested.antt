@@ -8,8 +8,8 @@ use Rattle.hm_model.specs.Journal.{Past}
 use Rattle.hm_model.specs.Kinds.{kind_of}
 use Rattle.hm_model.specs.Phase.{ended, root_ended}
 use Rattle.hm_model.specs.Tree.{Node, is_top, node_of, root_of}
-use Rattle.hm_model.proofs.Forest.{top_is}
 use Rattle.hm_model.proofs.Played.{IsPlayed, played_legal}
+use Rattle.hm_model.proofs.Small.{top_is}
 use Rattle.hm_costs.specs.Met.{AllMet, IsMet}
 use Rattle.hm_costs.proofs.Scripted.{has_none}
 

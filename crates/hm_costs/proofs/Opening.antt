@@ -18,7 +18,7 @@ use Rattle.hm_data.specs.declared.place.RegionState.TheVariants as place_is
 use Rattle.hm_data.specs.declared.request.Request.TheVariants as request_is
 use Rattle.hm_data.specs.declared.sheet.Row.{Row}
 use Rattle.hm_data.specs.declared.step.StepOut.{StepOut}
-use Rattle.hm_model.specs.Answers.{done_with, failing, is_stopped, last_answer, no_row, row_after, row_of}
+use Rattle.hm_model.specs.Answers.{done_with, failing, is_stopped, last_answer, row_after, row_of}
 use Rattle.hm_model.specs.Fleet.{is_live, same_server}
 use Rattle.hm_model.specs.Holding.{HoldsWith}
 use Rattle.hm_model.specs.Journal.{Past}
@@ -47,7 +47,8 @@ use Rattle.hm_costs.proofs.Live.{IsDead}
 use Rattle.hm_costs.proofs.Moves.{comes_not, is_moving, opening_now}
 use Rattle.hm_costs.proofs.Prices.{Spares}
 use Rattle.hm_model.proofs.RootTrees.{absent_all, ended_by}
-use Rattle.hm_costs.proofs.Trees.{cons_nil}
+use Rattle.hm_model.proofs.Small.{cons_nil}
+use Rattle.hm_model.proofs.Answered.{stopped_row}
 
 -- what calls a region server never fails
 caller_fine : (J : Past) (p : ℕ) (x : Node) (rows : List Row) (out : StepOut) → Does J p x.args (last_answer J p) rows out → is_caller x.args ≡ true → failing out.answer ≡ None
@@ -127,14 +128,6 @@ fails_all [] legal p = λ x r is. absurd (none-some x is)
 fails_all (entry_is.Step pid pick out ∷ J) legal p = fails_step pid pick out J legal p (fails_all J legal.0 p)
 fails_all (entry_is.Base part ∷ J) legal p = λ x r is. absurd (none-some x is)
 fails_all (entry ∷ J) legal p = fails_calm entry J legal p refl refl (fails_all J legal.0 p)
-
--- who has stopped is at no row
-stopped_row : (first : ℕ) (last : Option Answer) → is_stopped last ≡ true → row_after first last ≡ no_row
-stopped_row first None h = absurd (false≢true h)
-stopped_row first (Some (answer_is.Done told)) h = refl
-stopped_row first (Some (answer_is.Fail c)) h = refl
-stopped_row first (Some answer_is.Undone) h = refl
-stopped_row first (Some answer) h = absurd (false≢true h)
 
 -- the row at which a transit begins
 first_row : (args : Args) (region : Region) → moved_by args ≡ Some region → (first_row_of args ≡ 0) ⊎ ((first_row_of args ≡ 3) ⊎ (first_row_of args ≡ 5))

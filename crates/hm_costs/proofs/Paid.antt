@@ -26,12 +26,13 @@ use Rattle.hm_model.proofs.Parted.{no_node}
 use Rattle.hm_model.proofs.Grown.{grown_all as made_all, made_up_to, nodes_stay}
 use Rattle.hm_model.proofs.LegalSteps.{StepFacts, ready_stops}
 use Rattle.hm_model.proofs.StepDoes.{Does, CallerAt, IsStepAnswer}
-use Rattle.hm_model.proofs.Trees.{Grown, IsRooted, answer_now, does_of, down_rooted, grown_all, is_there, le_or_lt, new_child, node_same, old_or_new, other_answer, step_of, submit_rooted, undo_rooted, at_top, some_of}
+use Rattle.hm_model.proofs.Trees.{Grown, IsRooted, all_below_from, answer_now, at_top, does_of, down_rooted, grown_all, is_there, le_or_lt, new_child, node_same, old_or_new, other_answer, some_of, step_of, submit_rooted, undo_rooted}
 use Rattle.hm_costs.proofs.Prices.{ArePriced, Going, IsPaid, Spares}
 use Rattle.hm_costs.proofs.Sums.{price_of, sum_append, sum_below, sum_same, sum_swap, sum_total, total}
 use Rattle.hm_model.proofs.RootTrees.{absent_all, ended_by, of_tree, over_stopped, step_root, call_root, undo_root}
-use Rattle.hm_costs.proofs.Trees.{all_from, done_stops, entries_other, no_root_by_step, one_if_true, quiet_before}
+use Rattle.hm_costs.proofs.Trees.{entries_other, no_root_by_step, one_if_true, quiet_before}
 use Rattle.hm_model.proofs.PlainActs.{ChildrenWait}
+use Rattle.hm_model.proofs.Answered.{done_stops}
 use Rattle.hm_data.specs.declared.act.Back.{Back}
 use Rattle.hm_data.specs.declared.catalog.Edit.{Edit}
 use Rattle.hm_data.specs.declared.act.Back.TheVariants as back_is
@@ -227,7 +228,7 @@ module _ (At : Past → ℕ → Node → ℕ → Type 0) (Fresh : Past → ℕ �
         let here : pid.0 ≡ r = sym (grown.tops pid.0 me is_me f.1) ∙ of in
         let alone = elim ready.first as (λ x. ((q : ℕ) (x : Node) → node_of J q ≡ Some x → x.root ≡ r → q ≡ r) × (stack J r ≡ [])) [ inl some ↦ absurd (some (ap (last_answer J) (sym here) ∙ f.0)) | inr a ↦ a ] in
         let none : out.children ≡ [] = childless out.answer refl c failed does.waits in
-        let stopped : all_stopped (entry_is.Step pid pick out ∷ J) r ≡ true = all_from (made (entry_is.Step pid pick out ∷ J) + 1) (stopped_in (entry_is.Step pid pick out ∷ J) r) (λ q lt. one q (node_of (entry_is.Step pid pick out ∷ J) q) refl alone.0 (omega (arith, lt, ap (λ l. length (args_in l)) none))) in
+        let stopped : all_stopped (entry_is.Step pid pick out ∷ J) r ≡ true = all_below_from (made (entry_is.Step pid pick out ∷ J) + 1) (stopped_in (entry_is.Step pid pick out ∷ J) r) (λ q lt. one q (node_of (entry_is.Step pid pick out ∷ J) q) refl alone.0 (omega (arith, lt, ap (λ l. length (args_in l)) none))) in
         let empty : stack (entry_is.Step pid pick out ∷ J) r ≡ [] = cond-true (root_of J pid.0 == r) _ (stack J r) mine ∙ unpushed _ (is_some (failing out.answer)) pid.0 _ out.edits (stack J r) (ap is_some failed) ∙ alone.1 in
         (here, ap (λ o. root_over o (rolled_back (entry_is.Step pid pick out ∷ J) r) (done_with (last_answer (entry_is.Step pid pick out ∷ J) r))) (cause_now ∙ failed) ∙ and_from (all_stopped (entry_is.Step pid pick out ∷ J) r) (is_empty (stack (entry_is.Step pid pick out ∷ J) r)) stopped (ap is_empty empty))
       where

@@ -37,9 +37,9 @@ use Rattle.hm_costs.proofs.Moves.{Says, answers, place_now, seen}
 use Rattle.hm_costs.proofs.Opening.{none_comes}
 use Rattle.hm_costs.proofs.Prices.{AllAt}
 use Rattle.hm_model.proofs.Parted.{no_node}
+use Rattle.hm_model.proofs.Small.{cons_nil}
 use Rattle.std.proofs.lemmas.Option.{none-some}
 use Rattle.hm_costs.proofs.Spend.{price}
-use Rattle.hm_costs.proofs.Trees.{cons_nil}
 
 -- the regions at a server that went down are among those that were there: a transit places its region at a live server, and
 -- what it opens or closes there was there before

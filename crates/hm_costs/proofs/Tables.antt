@@ -38,7 +38,7 @@ use Rattle.hm_costs.proofs.Edits.{AreEditsOf, ClosesItsOwn, act_edits, asked_clo
 use Rattle.hm_model.proofs.Transits.{caller_facts}
 use Rattle.hm_costs.proofs.Spend.{AreChildren, IsChild}
 use Rattle.hm_model.proofs.RootTrees.{absent_all, tree_root}
-use Rattle.hm_costs.proofs.Trees.{cons_nil}
+use Rattle.hm_model.proofs.Small.{cons_nil}
 use Rattle.hm_costs.proofs.Each.{each_at}
 
 -- what roots are: requests, followers of undos, and crashes

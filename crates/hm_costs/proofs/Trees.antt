@@ -1,40 +1,23 @@
 -- The entries of a tree, and its quiet, over an entry that isn't of it; and that a step makes no root.
-use Rattle.std.proofs.Common.{◌≡◌, ◌≢◌, ℕ, zero, suc, ◌+◌, ◌<◌, [], ◌∷◌, length, Bool, true, false, ◌||◌, ◌==◌, nat_lt, nat_le, List, Option, Some, None, is_some, arith, inl, inr, refl, ap, sym, ◌∙◌}
-use Rattle.std.proofs.lemmas.Bool.{and_from, cond-false, false≢true, le-ltb, ne_eqb, or_from, and_left}
+use Rattle.std.proofs.Common.{◌≡◌, ◌≢◌, ℕ, ◌+◌, [], ◌∷◌, length, Bool, true, false, ◌||◌, ◌==◌, nat_lt, nat_le, Option, Some, None, inl, inr, refl, ap, sym, ◌∙◌}
+use Rattle.std.proofs.lemmas.Bool.{cond-false, le-ltb, ne_eqb, or_from, and_left}
 use Rattle.std.proofs.lemmas.Option.{none-some}
 use Rattle.hm_names.specs.Server.{Server}
 use Rattle.hm_names.specs.declared.pid.Pid.{Pid}
-use Rattle.hm_data.specs.declared.answer.Answer.{Answer}
-use Rattle.hm_data.specs.declared.answer.Answer.TheVariants as answer_is
 use Rattle.hm_data.specs.declared.entry.Entry.{Entry}
 use Rattle.hm_data.specs.declared.entry.Entry.TheVariants as entry_is
 use Rattle.hm_data.specs.declared.step.StepOut.{StepOut}
-use Rattle.hm_model.specs.Answers.{done_with, is_aborted, is_stopped}
+use Rattle.hm_model.specs.Answers.{is_aborted}
 use Rattle.hm_model.specs.Apart.{tree_of}
 use Rattle.hm_model.specs.Counts.{one_if}
 use Rattle.hm_model.specs.Entries.{IsQuiet, entries_of, makes}
 use Rattle.hm_model.specs.Journal.{Past}
-use Rattle.hm_model.specs.Phase.{all_below}
 use Rattle.hm_model.specs.Rules.{IsLegal}
 use Rattle.hm_model.specs.Tree.{Node, args_in, made, node_of, root_of}
 use Rattle.hm_model.proofs.RootTrees.{step_root, zero_if_false}
 use Rattle.hm_model.proofs.Parted.{by_parts, no_node}
 use Rattle.hm_model.proofs.Trees.{grown_all, is_there, le_or_lt, new_child, node_same}
-
--- who has ancestors is no root
-pub cons_nil : (u : ℕ) (rest : List ℕ) → u ∷ rest ≡ [] → ⊥
-cons_nil u rest e = cc
-
--- what holds of each number holds of all
-pub all_from : (n : ℕ) (test : ℕ → Bool) → ((q : ℕ) → q < n → test q ≡ true) → all_below n test ≡ true
-all_from zero test each = refl
-all_from (suc n) test each = and_from (test n) (all_below n test) (each n (omega arith)) (all_from n test (λ q lt. each q (omega (arith, lt))))
-
--- what is done has stopped
-pub done_stops : (last : Option Answer) → is_some (done_with last) ≡ true → is_stopped last ≡ true
-done_stops None h = absurd (false≢true h)
-done_stops (Some (answer_is.Done told)) h = refl
-done_stops (Some answer) h = absurd (false≢true h)
+use Rattle.hm_model.proofs.Small.{cons_nil}
 
 pub one_if_true : (b : Bool) (n : ℕ) → b ≡ true → n + one_if b ≡ n + 1
 one_if_true b n on = ap (λ x. n + one_if x) on

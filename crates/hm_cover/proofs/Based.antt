@@ -1,8 +1,8 @@
 -- The regions of a base.
-use Rattle.std.proofs.Common.{◌≡◌, ◌≢◌, ℕ, ◌+◌, ◌<◌, ◌≤◌, ◌&&◌, [], ◌∷◌, List, Option, Some, None, Bool, true, false, if◌then◌else◌, is_some, refl, sym, ap, subst, ◌∙◌, arith, inl, inr, ◌⊎◌, zero, suc}
-use Rattle.std.proofs.lemmas.Bool.{cases_Bool, cases_eq, cond-false, cond-true, false≢true, true≢false}
-use Rattle.std.proofs.lemmas.Option.{none-some, same_Some}
-use Rattle.hm_names.specs.Ranges.{ends_behind, holds, overlaps}
+use Rattle.std.proofs.Common.{◌≡◌, ◌≢◌, ℕ, ◌<◌, ◌≤◌, [], ◌∷◌, List, Option, Some, None, true, false, is_some, refl, sym, ap, subst, ◌∙◌, arith, inl, inr, ◌⊎◌}
+use Rattle.std.proofs.lemmas.Bool.{and_from, cases_eq, cond-false, cond-true, false≢true, true≢false}
+use Rattle.std.proofs.lemmas.Option.{none-some}
+use Rattle.hm_names.specs.Ranges.{ends_behind, overlaps}
 use Rattle.hm_names.specs.Region.{Region}
 use Rattle.hm_names.proofs.Ranges.{shared_ends}
 use Rattle.hm_names.specs.declared.range.KeyRange.{KeyRange}
@@ -16,24 +16,22 @@ use Rattle.hm_data.specs.declared.catalog.Status.TheVariants as status_is
 use Rattle.hm_data.specs.declared.place.Place.{Place}
 use Rattle.hm_model.proofs.Rising.{table_new}
 use Rattle.hm_model.specs.Base.{HasNoHalfBase, IsWhole, PartFits, RangeFits}
-use Rattle.hm_model.specs.Catalog.{Catalog, cat}
+use Rattle.hm_model.specs.Catalog.{cat}
 use Rattle.hm_model.specs.Changes.{region_key}
 use Rattle.hm_model.specs.Counts.{count_below, one_if}
 use Rattle.hm_data.specs.declared.entry.Entry.TheVariants as entry_is
 use Rattle.hm_model.specs.Journal.{Past}
-use Rattle.hm_model.specs.Keys.{same_key, same_table}
+use Rattle.hm_model.specs.Keys.{same_key}
 use Rattle.hm_model.specs.Laws.{are_parts}
 use Rattle.hm_data.specs.declared.part.Part.{Part}
 use Rattle.hm_data.specs.declared.part.Part.TheVariants as part_is
 use Rattle.hm_model.specs.Parts.{part_row}
-use Rattle.hm_model.specs.Ranges.{IsCovered, IsLiveWith, NoneOverlap}
+use Rattle.hm_model.specs.Ranges.{IsLiveWith, NoneOverlap}
 use Rattle.hm_model.specs.Rules.{IsLegal}
-use Rattle.hm_model.specs.Tree.{drawn}
 use Rattle.hm_model.proofs.Grown.{all_parts, ids_within}
 use Rattle.hm_model.specs.Serial.{serial}
 use Rattle.hm_model.proofs.KeyTests.{cases_key, same_key-refl}
-use Rattle.hm_model.proofs.Counting.{count_none}
-use Rattle.hm_cover.proofs.Chains.{HasKey}
+use Rattle.hm_model.proofs.Counting.{count_most, count_none}
 use Rattle.hm_ids.proofs.DrawnAll.{ids_are_drawn}
 use Rattle.hm_cover.proofs.Tally.{one_place, serves}
 use Rattle.hm_cover.proofs.Whole.{IsFilled, Whole, serves_is}
@@ -136,28 +134,6 @@ parts_serial [] is key = refl
 parts_serial (entry_is.Base part ∷ J) is key = ap (part_row part key) (parts_serial J is key)
 parts_serial (entry ∷ J) is key = absurd (false≢true is)
 
--- at most one of some numbers passes
-at_most_one : (n : ℕ) (g : ℕ → Bool) → ((i j : ℕ) → i < n → j < n → g i ≡ true → g j ≡ true → i ≡ j) → count_below g n ≤ 1
-at_most_one zero g one = omega arith
-at_most_one (suc n) g one = elim (cases_Bool (g n)) [
-  | inl on ↦
-      let none = count_none n g (λ i lt. off i lt on (g i) refl) in
-      let last : one_if (g n) ≡ 1 = ap one_if on in
-      omega (arith, none, last)
-  | inr out ↦
-      let few = at_most_one n g (λ i j lt less. one i j (omega (arith, lt)) (omega (arith, less))) in
-      let last : one_if (g n) ≡ 0 = ap one_if out in
-      omega (arith, few, last)
-]
-  where
-    off : (i : ℕ) → i < n → g n ≡ true → (b : Bool) → g i ≡ b → g i ≡ false
-    off i lt on false e = e
-    off i lt on true e = let same = one i n (omega (arith, lt)) (omega arith) e on in absurd (omega (arith, lt, same))
-
-and_on : (a b : Bool) → a ≡ true → b ≡ true → (a && b) ≡ true
-and_on true b a_on b_on = b_on
-and_on false b a_on b_on = absurd (false≢true a_on)
-
 -- a whole base leaves each table whole
 pub base_whole : (n : ℕ) → 4096 < n → (J : Past) → IsLegal J → are_parts J ≡ true → IsWhole J → (t : TableName) → Whole n (cat J) t
 base_whole n big J legal is whole t = record {
@@ -195,7 +171,7 @@ base_whole n big J legal is whole t = record {
           let a = serves_is k (cat J (region_key t i)) on in
           let b = serves_is k (cat J (region_key t j)) up in
           let off = regions.apart t (record { table = t; id = i }) (record { table = t; id = j }) a.0 b.0 refl refl (λ e. differs (ap (λ (r : Region). r.id) e)) (a.1, a.2) (b.1, b.2) in
-          absurd (true≢false (sym (and_on (ends_behind a.0 b.0.start) (ends_behind b.0 a.0.start) (shared_ends a.0 b.0 k a.3 b.3) (shared_ends b.0 a.0 k b.3 a.3)) ∙ off))
+          absurd (true≢false (sym (and_from (ends_behind a.0 b.0.start) (ends_behind b.0 a.0.start) (shared_ends a.0 b.0 k a.3 b.3) (shared_ends b.0 a.0 k b.3 a.3)) ∙ off))
     ]
 
     by : (k : List ℕ) (o : Option CatRow) → cat J (key_is.Table t) ≡ o → count_below (λ i. serves k (cat J (region_key t i))) n ≡ one_if (is_some o)
@@ -206,7 +182,7 @@ base_whole n big J legal is whole t = record {
         row_none i (Some row) f = absurd (regions.homed (record { table = t; id = i }) (λ none. none-some row (sym none ∙ f)) e)
     by k (Some row) e =
         let at = whole.covered t (λ none. none-some row (sym none ∙ e)) k in
-        let most = at_most_one n (λ i. serves k (cat J (region_key t i))) (λ i j lt less on up. unique k i j on up) in
+        let most = count_most n (λ i. serves k (cat J (region_key t i))) (λ i j lt less on up. unique k i j on up) in
         let few = id_low at.0 at.1 at.2 at.3 in
         let here : serves k (cat J (region_key t at.0.id)) ≡ true = ap (λ o. serves k o) (row_at at.0 at.1 at.2 at.3) ∙ at.4 in
         let least = one_place n at.0.id (λ i. serves k (cat J (region_key t i))) few in

@@ -34,13 +34,15 @@ use Rattle.hm_model.proofs.Grown.{ids_within}
 use Rattle.hm_model.proofs.Rows.{has_key}
 use Rattle.hm_model.proofs.Trees.{grown_all, is_there}
 use Rattle.hm_kinds.proofs.Clause.{Deeds, Sight}
-use Rattle.hm_kinds.proofs.Covering.{covers_from, same_table-itself}
+use Rattle.hm_kinds.proofs.Covering.{covers_from}
 use Rattle.hm_kinds.proofs.Roots.{Stage, serves}
 use Rattle.hm_kinds.proofs.Within.{within_others}
 use Rattle.hm_serial.proofs.Apart.{Aside, aside_from}
 use Rattle.hm_serial.proofs.FallAll.{falls_all}
 use Rattle.hm_serial.proofs.Frame.{cover_guards}
 use Rattle.hm_model.proofs.Tops.{TopHolds}
+use Rattle.hm_model.proofs.Answered.{running_undone}
+use Rattle.hm_model.proofs.KeyTests.{same_table-refl}
 use Rattle.hm_serial.proofs.StandAll.{stands_all}
 use Rattle.hm_serial.proofs.Stands.{At, Pending}
 use Rattle.hm_serial.proofs.StandStep.{touches_rows}
@@ -49,7 +51,7 @@ use Rattle.hm_ids.proofs.DrawnAll.{DrawnIn, drawn_all}
 use Rattle.hm_cover.proofs.Going.{goes_all}
 use Rattle.hm_cover.proofs.Holding.{holds_or}
 use Rattle.hm_cover.proofs.Local.{asks_regions, covers_new, local_free, stage_ready}
-use Rattle.hm_cover.proofs.SerialWhole.{asked_ids, running_undone, whole_all}
+use Rattle.hm_cover.proofs.SerialWhole.{asked_ids, whole_all}
 use Rattle.hm_cover.proofs.Spared.{is_local, spared, spared_all, wide_covers}
 use Rattle.hm_cover.proofs.Whole.{Whole, whole_same}
 
@@ -88,7 +90,7 @@ module _ (n : ℕ) (big : 4096 < n) (J : Past) (legal : IsLegal J) (begun : HasN
     none_pending key p =
         let t = touches_rows p.1.args key p.6 in
         let among = (falls_all J legal).falls.belongs p.0 p.1 p.2 t.0 t.1 node (ap (node_of J) p.3 ∙ acts.0.0.0) in
-        true≢false (sym (covers_from node.args (resource_is.Table t.0) (key_is.Table t.0) among (same_table-itself t.0)) ∙ local_free node.args acts.1 t.0)
+        true≢false (sym (covers_from node.args (resource_is.Table t.0) (key_is.Table t.0) among (same_table-refl t.0)) ∙ local_free node.args acts.1 t.0)
 
     -- it stands where it began
     stays : ((u : TableName) (id : ℕ) → covers node.args (region_key u id) ≡ true → cat J (region_key u id) ≡ was J r (region_key u id)) → Adds node there

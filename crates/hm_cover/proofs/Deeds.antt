@@ -1,9 +1,9 @@
 -- Each deed leaves each table whole, and gives rows to no regions but those that are there and those that were drawn.
-use Rattle.std.proofs.Common.{◌≡◌, ◌≢◌, ℕ, suc, ◌+◌, ◌<◌, ◌≤◌, Bool, true, false, not, ◌==◌, ◌||◌, cond, List, [], ◌∷◌, ◌++◌, length, length-append, Option, Some, None, refl, sym, ap, subst, ◌∙◌, arith}
+use Rattle.std.proofs.Common.{◌≡◌, ◌≢◌, ℕ, suc, ◌+◌, ◌<◌, ◌≤◌, Bool, true, false, not, ◌==◌, cond, List, [], ◌∷◌, ◌++◌, length, length-append, Option, Some, None, refl, sym, ap, subst, ◌∙◌, arith}
 use Rattle.std.specs.Prelude.{is_none}
 use Rattle.std.specs.List.{list_all, list_any}
 use Rattle.std.specs.declared.result.Result.TheVariants.{Ok}
-use Rattle.std.proofs.lemmas.Bool.{and_parts, cond-false, eq-eqb, false≢true, true≢false, not-true}
+use Rattle.std.proofs.lemmas.Bool.{and_parts, cond-false, eq-eqb, not-true, or_parts, true≢false}
 use Rattle.std.proofs.lemmas.Option.{none-some}
 use Rattle.hm_names.specs.Region.{Region}
 use Rattle.hm_names.specs.declared.table.TableName.{TableName}
@@ -19,6 +19,7 @@ use Rattle.hm_data.specs.declared.request.Request.{Request}
 use Rattle.hm_data.specs.declared.request.Request.TheVariants as request_is
 use Rattle.hm_model.proofs.KeyTests.{same_table-is}
 use Rattle.hm_model.proofs.Siblings.{merge_is}
+use Rattle.hm_model.proofs.Answered.{or_none}
 use Rattle.hm_model.specs.Catalog.{Catalog, edited, set_to}
 use Rattle.hm_model.specs.Changes.{add_ranges, changed, merge_edits, region_key, remove_regions, split_edits}
 use Rattle.hm_model.specs.Checks.{are_adjacent, by_start, can_split, namespace_empty, namespace_free, namespace_there, parts_of, region_ready, regions_live, rows_of, table_absent, table_disabled, table_enabled, table_free}
@@ -27,17 +28,18 @@ use Rattle.hm_model.specs.Keys.{same_table}
 use Rattle.hm_model.specs.Kinds.{table_of_first, table_of_request}
 use Rattle.hm_model.specs.Locks.{IsIn}
 use Rattle.hm_model.specs.NamespaceActs.{has_table}
-use Rattle.hm_model.specs.Pieces.{ranges_between, ranges_from}
+use Rattle.hm_model.specs.Pieces.{ranges_between}
 use Rattle.hm_model.specs.Phase.{or_else}
 use Rattle.hm_model.specs.Requests.{are_apart, are_siblings, rise, wrong_in, wrong_keys}
 use Rattle.hm_model.specs.RowsSaid.{in_state, in_version, is_live_status, status_in}
 use Rattle.hm_model.specs.Tree.{new_ids}
 use Rattle.hm_ids.proofs.Drawn.{AllDrawn, IsFirstDrawn, SeenDrawn, between_fine, merge_fine, remove_fine, split_fine}
-use Rattle.hm_cover.proofs.Edits.{neither, unless_ok}
+use Rattle.hm_cover.proofs.Edits.{unless_ok}
 use Rattle.hm_cover.proofs.MergeDeeds.{Distinct, Each, IsLiveOf, merge_whole}
 use Rattle.hm_cover.proofs.SplitDeeds.{cut_is, enabled_there, live_first, split_whole}
 use Rattle.hm_cover.proofs.TableDeeds.{altered_whole, created_off, created_own, namespace_whole, removed_off, removed_own}
 use Rattle.hm_cover.proofs.Whole.{Whole}
+use Rattle.hm_kinds.proofs.Covering.{ranges_length}
 
 -- what is known where a deed is done: its request may be submitted, the ids that it drew have no rows, and all rows are
 -- listed
@@ -47,12 +49,8 @@ pub record MayDo (n : ℕ) (there : Catalog) (keys : List CatKey) (request : Req
   pub low : (u : TableName) → table_of_request request ≡ Some u → (i : ℕ) → first ≤ i → i < first + new_ids request → i < n
   pub listed : (key : CatKey) → there key ≢ None → IsIn key keys
 
-from_length : (start : List ℕ) (bounds : List (List ℕ)) → length (ranges_from start bounds) ≡ length bounds
-from_length start [] = refl
-from_length start (end ∷ bounds) = ap suc (from_length end bounds)
-
 pub between_length : (keys : List (List ℕ)) → length (ranges_between ([] ∷ keys ++ [] ∷ [])) ≡ length keys + 1
-between_length keys = from_length [] (keys ++ [] ∷ []) ∙ length-append keys ([] ∷ [])
+between_length keys = ranges_length [] (keys ++ [] ∷ []) ∙ length-append keys ([] ∷ [])
 
 pub keys_rise : (keys : List (List ℕ)) → wrong_keys keys ≡ None → rise [] keys ≡ true
 keys_rise keys e = by (rise [] keys) e
@@ -92,15 +90,11 @@ both_false true b one other e = absurd (none-some one (sym e))
 both_false false true one other e = absurd (none-some other (sym e))
 both_false false false one other e = (refl, refl)
 
-or_second : (a b : Bool) → (a || b) ≡ false → b ≡ false
-or_second true b e = absurd (true≢false e)
-or_second false b e = e
-
 live_rest : (o : Option CatRow) (more : List (Option CatRow)) → regions_live (o ∷ more) ≡ None → regions_live more ≡ None
 live_rest o more e =
     let parts = both_false (list_any (λ row. is_none (status_in row)) (o ∷ more)) (list_any (λ row. not (is_live_status (status_in row))) (o ∷ more)) cause_is.RegionMissing cause_is.RegionNotLive e in
-    let one : list_any (λ row. is_none (status_in row)) more ≡ false = or_second (is_none (status_in o)) (list_any (λ row. is_none (status_in row)) more) parts.0 in
-    let two : list_any (λ row. not (is_live_status (status_in row))) more ≡ false = or_second (not (is_live_status (status_in o))) (list_any (λ row. not (is_live_status (status_in row))) more) parts.1 in
+    let one : list_any (λ row. is_none (status_in row)) more ≡ false = (or_parts (is_none (status_in o)) (list_any (λ row. is_none (status_in row)) more) parts.0).1 in
+    let two : list_any (λ row. not (is_live_status (status_in row))) more ≡ false = (or_parts (not (is_live_status (status_in o))) (list_any (λ row. not (is_live_status (status_in row))) more) parts.1).1 in
     cond-false (list_any (λ row. is_none (status_in row)) more) (Some cause_is.RegionMissing) _ one ∙ cond-false (list_any (λ row. not (is_live_status (status_in row))) more) (Some cause_is.RegionNotLive) None two
 
 pub live_each : (there : Catalog) (u : TableName) (regions : List Region) → Each (λ r. r.table ≡ u) regions → regions_live (rows_of there regions) ≡ None → Each (IsLiveOf there u) regions
@@ -142,8 +136,8 @@ module _ (n : ℕ) (there : Catalog) (keys : List CatKey) (whole : (t : TableNam
   merge_stays [] first may none t = let many = (merge_is [] may.sound).many in absurd (omega (arith, many))
   merge_stays (region ∷ more) first may none t =
       let siblings = (merge_is (region ∷ more) may.sound).siblings in
-      let one = neither (table_enabled (there (key_is.Table region.table))) (or_else (regions_live (rows_of there (region ∷ more))) (are_adjacent (by_start (parts_of there (region ∷ more))))) none in
-      let two = neither (regions_live (rows_of there (region ∷ more))) (are_adjacent (by_start (parts_of there (region ∷ more)))) one.1 in
+      let one = or_none (table_enabled (there (key_is.Table region.table))) (or_else (regions_live (rows_of there (region ∷ more))) (are_adjacent (by_start (parts_of there (region ∷ more))))) none in
+      let two = or_none (regions_live (rows_of there (region ∷ more))) (are_adjacent (by_start (parts_of there (region ∷ more)))) one.1 in
       let low : first < n = may.low region.table refl first (omega arith) (omega arith) in
       merge_whole there n first region more (live_each there region.table (region ∷ more) (siblings_own region more siblings) two.0) (siblings_distinct (region ∷ more) siblings) two.1 (enabled_there (there (key_is.Table region.table)) one.0) (may.free region.table refl first (omega arith) (omega arith)) low t (whole region.table) (whole t)
 
@@ -158,7 +152,7 @@ module _ (n : ℕ) (there : Catalog) (keys : List CatKey) (whole : (t : TableNam
   deed_stays (request_is.DropNamespace ns) first may done e = let u = unless_ok (namespace_empty (there (key_is.Ns ns)) (has_table ns (rows_in_ns ns keys there))) _ done e in on_done (set_to there (key_is.Ns ns) None ∷ []) done u.1 (λ t. namespace_whole n there ns None t (whole t))
   deed_stays (request_is.CreateTable u split) first may done e =
       let ok = unless_ok (table_free (there (key_is.Ns u.ns)) (there (key_is.Table u))) _ done e in
-      let gone = absent_is (there (key_is.Table u)) (neither (namespace_there (there (key_is.Ns u.ns))) (table_absent (there (key_is.Table u))) ok.0).1 in
+      let gone = absent_is (there (key_is.Table u)) (or_none (namespace_there (there (key_is.Ns u.ns))) (table_absent (there (key_is.Table u))) ok.0).1 in
       on_done _ done ok.1 (create_stays u split first may gone)
   deed_stays (request_is.DeleteTable u) first may done e = let ok = unless_ok (table_disabled (there (key_is.Table u))) _ done e in on_done _ done ok.1 (delete_stays u may.listed)
   deed_stays (request_is.EnableTable u) first may done e = let ok = unless_ok (table_disabled (there (key_is.Table u))) _ done e in on_done (changed there (key_is.Table u) (in_state state_is.Enabled) ∷ []) done ok.1 (λ t. altered_whole n there u (in_state state_is.Enabled) t (whole t))

@@ -1,7 +1,6 @@
 -- Edits of other tables, and edits of different keys that tell what was there.
 use Rattle.std.proofs.Common.{◌≡◌, ◌≢◌, ℕ, Bool, true, false, cond, is_some, List, [], ◌∷◌, ◌++◌, Option, Some, None, refl, sym, ap, ◌∙◌, inl, inr}
 use Rattle.std.proofs.lemmas.Bool.{cond-false, true≢false}
-use Rattle.std.proofs.lemmas.Option.{none-some}
 use Rattle.hm_names.specs.declared.table.TableName.{TableName}
 use Rattle.hm_data.specs.declared.answer.Cause.{Cause}
 use Rattle.hm_data.specs.declared.catalog.CatKey.{CatKey}
@@ -14,7 +13,6 @@ use Rattle.hm_model.specs.Changes.{region_key}
 use Rattle.hm_model.specs.Deeds.{unless}
 use Rattle.hm_model.specs.Keys.{same_key}
 use Rattle.hm_model.specs.Reads.{is_over}
-use Rattle.hm_model.specs.Phase.{or_else}
 use Rattle.hm_model.specs.Serial.{edits_in}
 use Rattle.hm_model.specs.declared.lock.Resource.TheVariants as resource_is
 use Rattle.std.specs.declared.result.Result.TheVariants.{Ok}
@@ -80,11 +78,3 @@ tells_apart (edit ∷ edits) there reads apart = (reads.0, tells_apart edits (λ
 pub unless_ok : (cause : Option Cause) (edits done : List Edit) → unless cause edits ≡ Ok done → (cause ≡ None) × (edits ≡ done)
 unless_ok None edits done e = (refl, ap edits_in e)
 unless_ok (Some cause) edits done e = absurd (cc)
-
-pub neither : (a b : Option Cause) → or_else a b ≡ None → (a ≡ None) × (b ≡ None)
-neither None b e = (refl, e)
-neither (Some cause) b e = absurd (none-some cause (sym e))
-
-pub some_is : (o : Option CatRow) → o ≢ None → is_some o ≡ true
-some_is None some = absurd (some refl)
-some_is (Some row) some = refl

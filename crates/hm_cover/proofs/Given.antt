@@ -25,8 +25,9 @@ use Rattle.hm_model.specs.Lists.{exact_rows}
 use Rattle.hm_model.specs.Pieces.{ranges_between}
 use Rattle.hm_model.specs.RowsSaid.{Rows}
 use Rattle.hm_model.specs.Views.{regions_in}
-use Rattle.hm_model.proofs.ExactRows.{cons_nil, is_listed}
+use Rattle.hm_model.proofs.ExactRows.{is_listed}
 use Rattle.hm_model.proofs.KeyTests.{cases_key}
+use Rattle.hm_model.proofs.Small.{cons_nil}
 use Rattle.hm_kinds.proofs.Shares.{add_effect, added_row, remove_effect, row_or, touches, value}
 use Rattle.hm_kinds.proofs.Editless.{no_adds, no_drops}
 use Rattle.hm_serial.proofs.Kinship.{is_kid}

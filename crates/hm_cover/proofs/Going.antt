@@ -16,9 +16,9 @@ use Rattle.hm_model.specs.Rules.{IsLegal}
 use Rattle.hm_model.specs.Tree.{Node, is_top, root_in, root_of}
 use Rattle.hm_model.proofs.LegalSteps.{StepFacts, ready_stops}
 use Rattle.hm_model.proofs.StepDoes.{Does, IsStepAnswer}
-use Rattle.hm_model.proofs.Trees.{answer_now, does_of, down_rooted, grown_all, other_answer, step_of, submit_rooted}
+use Rattle.hm_model.proofs.Trees.{answer_now, does_of, down_rooted, grown_all, other_answer, start_none, step_of, submit_rooted}
 use Rattle.hm_serial.proofs.Apart.{step_top}
-use Rattle.hm_serial.proofs.FallAll.{held_before, falls_all, none_at, step_aside, undo_back}
+use Rattle.hm_serial.proofs.FallAll.{held_before, falls_all, step_aside, undo_back}
 use Rattle.hm_serial.proofs.Fallen.{some_cons}
 use Rattle.hm_serial.proofs.FallStep.{kid_not_root}
 use Rattle.hm_model.proofs.Tops.{TopHolds}
@@ -77,7 +77,7 @@ module _ (pid : Pid) (pick : Option Server) (out : StepOut) (J : Past) (legal : 
 -- in every legal journal
 pub goes_all : (J : Past) → IsLegal J → (r : ℕ) (node : Node) → TopHolds J r node → Goes J r
 goes_all [] legal r node h = absurd (none-some node h.0.0)
-goes_all (entry_is.Start sheets ∷ J) legal r node h = absurd (none-some node (sym (none_at J legal.1.0.0 r) ∙ h.0.0))
+goes_all (entry_is.Start sheets ∷ J) legal r node h = absurd (none-some node (sym (start_none J legal.1.0.0 r) ∙ h.0.0))
 goes_all (entry_is.Submit nonce request ∷ J) legal r node h = goes_all J legal.0 r node (held_before J (entry_is.Submit nonce request ∷ J) (submit_rooted nonce request J (grown_all J legal.0)) (grown_all J legal.0) r node refl refl refl h)
 goes_all (entry_is.Step pid pick out ∷ J) legal r node h = step_goes pid pick out J legal (goes_all J legal.0) r node h
 goes_all (entry_is.Undo pid row out ∷ J) legal r node h = goes_all J legal.0 r node (undo_back pid row out J legal (grown_all J legal.0) (falls_all J legal.0).falls r node h)

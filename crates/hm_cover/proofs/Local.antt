@@ -1,5 +1,5 @@
 -- Roots that ask for regions alone: splits, merges, moves and all that isn't a request. Where one that goes on is.
-use Rattle.std.proofs.Common.{◌≡◌, ◌≢◌, ℕ, ◌+◌, ◌<◌, ◌≤◌, List, [], ◌∷◌, ◌++◌, ◌&&◌, Bool, true, false, map, Option, Some, None, refl, ap, sym, ◌∙◌, subst, inl, inr, ◌⊎◌, arith}
+use Rattle.std.proofs.Common.{◌≡◌, ◌≢◌, ℕ, ◌+◌, ◌<◌, ◌≤◌, List, [], ◌∷◌, ◌++◌, ◌&&◌, Bool, true, false, map, Some, refl, ap, ◌∙◌, subst, inl, inr, ◌⊎◌, arith}
 use Rattle.std.proofs.lemmas.Bool.{cases_eq, false≢true, true≢false}
 use Rattle.std.proofs.lemmas.Option.{none-some, same_Some}
 use Rattle.std.specs.List.{list_any}
@@ -21,11 +21,12 @@ use Rattle.hm_model.specs.Reads.{covers, is_over}
 use Rattle.hm_model.specs.Tree.{new_ids}
 use Rattle.hm_model.specs.declared.lock.Ask.{Ask}
 use Rattle.hm_model.specs.declared.lock.Resource.TheVariants as resource_is
-use Rattle.hm_kinds.proofs.Covering.{covers_from, merge_new, same_region-itself}
+use Rattle.hm_kinds.proofs.Covering.{covers_from, merge_new}
 use Rattle.hm_kinds.proofs.MergeRegions.{Merging}
 use Rattle.hm_kinds.proofs.Roots.{Stage}
 use Rattle.hm_kinds.proofs.SplitRegion.{Splitting}
 use Rattle.hm_cover.proofs.Spared.{is_local}
+use Rattle.hm_model.proofs.KeyTests.{same_region-refl}
 
 abbrev pub asks_regions : Args → Bool
 asks_regions (args_are.Root request first) = is_local request
@@ -61,12 +62,12 @@ own_id args t first i e c = ap (λ j. covers args (region_key t j)) e ∙ c
 -- they ask for each region that they draw
 pub covers_new : (request : Request) (first : ℕ) → is_local request ≡ true → (t : TableName) → table_of_request request ≡ Some t → (i : ℕ) → first ≤ i → i < first + new_ids request → covers (args_are.Root request first) (region_key t i) ≡ true
 covers_new (request_is.SplitRegion region key) first h t is i low high = subst (λ x. covers (args_are.Root (request_is.SplitRegion region key) first) (region_key x i) ≡ true) (same_Some region.table t is) (elim (cases_eq i first) [
-  | inl same ↦ own_id (args_are.Root (request_is.SplitRegion region key) first) region.table first i same (covers_from (args_are.Root (request_is.SplitRegion region key) first) (resource_is.Region (record { table = region.table; id = first })) (region_key region.table first) (inr (inr (inr (inl refl)))) (same_region-itself (record { table = region.table; id = first })))
-  | inr differs ↦ own_id (args_are.Root (request_is.SplitRegion region key) first) region.table (first + 1) i (omega (arith, low, high, differs)) (covers_from (args_are.Root (request_is.SplitRegion region key) first) (resource_is.Region (record { table = region.table; id = first + 1 })) (region_key region.table (first + 1)) (inr (inr (inr (inr (inl refl))))) (same_region-itself (record { table = region.table; id = first + 1 })))
+  | inl same ↦ own_id (args_are.Root (request_is.SplitRegion region key) first) region.table first i same (covers_from (args_are.Root (request_is.SplitRegion region key) first) (resource_is.Region (record { table = region.table; id = first })) (region_key region.table first) (inr (inr (inr (inl refl)))) (same_region-refl (record { table = region.table; id = first })))
+  | inr differs ↦ own_id (args_are.Root (request_is.SplitRegion region key) first) region.table (first + 1) i (omega (arith, low, high, differs)) (covers_from (args_are.Root (request_is.SplitRegion region key) first) (resource_is.Region (record { table = region.table; id = first + 1 })) (region_key region.table (first + 1)) (inr (inr (inr (inr (inl refl))))) (same_region-refl (record { table = region.table; id = first + 1 })))
 ])
 covers_new (request_is.MergeRegions []) first h t is i low high = absurd (none-some t is)
 covers_new (request_is.MergeRegions (region ∷ more)) first h t is i low high = subst (λ x. covers (args_are.Root (request_is.MergeRegions (region ∷ more)) first) (region_key x i) ≡ true) (same_Some region.table t is)
-    (own_id (args_are.Root (request_is.MergeRegions (region ∷ more)) first) region.table first i (omega (arith, low, high)) (covers_from (args_are.Root (request_is.MergeRegions (region ∷ more)) first) (resource_is.Region (record { table = region.table; id = first })) (region_key region.table first) (merge_new region more first) (same_region-itself (record { table = region.table; id = first }))))
+    (own_id (args_are.Root (request_is.MergeRegions (region ∷ more)) first) region.table first i (omega (arith, low, high)) (covers_from (args_are.Root (request_is.MergeRegions (region ∷ more)) first) (resource_is.Region (record { table = region.table; id = first })) (region_key region.table first) (merge_new region more first) (same_region-refl (record { table = region.table; id = first }))))
 covers_new (request_is.Move region to) first h t is i low high = absurd (omega (arith, low, high))
 covers_new request first h t is i low high = absurd (false≢true h)
 

@@ -1,6 +1,6 @@
 -- A merge of any number of regions keeps the ranges of their table.
-use Rattle.std.proofs.Common.{◌≡◌, ◌≢◌, ℕ, zero, suc, ◌+◌, ◌<◌, ◌≤◌, Bool, true, is_some, List, [], ◌∷◌, Option, Some, None, refl, sym, ap, subst, ◌∙◌, inl, inr, arith}
-use Rattle.std.proofs.lemmas.Bool.{and_from, cases_Bool, cases_eq, true≢false}
+use Rattle.std.proofs.Common.{◌≡◌, ◌≢◌, ℕ, suc, ◌+◌, ◌<◌, ◌≤◌, true, List, [], ◌∷◌, Option, Some, None, refl, sym, ap, subst, ◌∙◌, inl, inr, arith}
+use Rattle.std.proofs.lemmas.Bool.{and_from, cases_eq, true≢false}
 use Rattle.std.proofs.lemmas.Option.{none-some}
 use Rattle.hm_names.specs.Ranges.{ends_behind}
 use Rattle.hm_names.specs.Region.{Region}
@@ -13,36 +13,19 @@ use Rattle.hm_data.specs.declared.catalog.Status.TheVariants as status_is
 use Rattle.hm_model.specs.Catalog.{Catalog, edited}
 use Rattle.hm_model.specs.Changes.{mark_merged, merge_edits, merged_of, region_key}
 use Rattle.hm_model.specs.Checks.{are_adjacent, by_start, can_merge, parts_of, regions_live, rows_of, table_enabled}
-use Rattle.hm_model.specs.Counts.{count_below, one_if}
 use Rattle.hm_model.specs.Locks.{IsIn, in_name_order}
 use Rattle.hm_model.specs.Phase.{or_else}
 use Rattle.hm_model.specs.declared.merged.Merged.{Merged}
-use Rattle.hm_model.proofs.Counting.{count_none, count_some}
+use Rattle.hm_model.proofs.Counting.{count_most, count_some}
 use Rattle.hm_model.proofs.Trees.{le_or_lt}
+use Rattle.hm_model.proofs.Answered.{or_none}
+use Rattle.hm_model.proofs.Small.{some_one}
 use Rattle.hm_kinds.proofs.Within.{edited-append}
 use Rattle.hm_cover.specs.Merges.{AreOf, HasRanges, MergesKeepRanges}
 use Rattle.hm_cover.proofs.Deeds.{live_each}
-use Rattle.hm_cover.proofs.Edits.{neither}
 use Rattle.hm_cover.proofs.MergeDeeds.{Distinct, Each, merge_whole}
 use Rattle.hm_cover.proofs.Tally.{serves}
 use Rattle.hm_cover.proofs.Whole.{IsFilled, Whole, covered, filled_key, key_of_id, none_overlap, serves_is}
-
--- a test that at most one number passes
-count_most : (n : ℕ) (test : ℕ → Bool) → ((i j : ℕ) → i < n → j < n → test i ≡ true → test j ≡ true → i ≡ j) → count_below test n ≤ 1
-count_most zero test one = omega arith
-count_most (suc n) test one = elim (cases_Bool (test n)) [
-  | inr off ↦ (
-      let rest = count_most n test (λ i j li lj ti tj. one i j (omega (arith, li)) (omega (arith, lj)) ti tj) in
-      let none : one_if (test n) ≡ 0 = ap one_if off in
-      omega (arith, rest, none))
-  | inl on ↦ (
-      let rest = count_none n test (λ q lt. elim (cases_Bool (test q)) [
-        | inr off ↦ off
-        | inl too ↦ (let same = one q n (omega (arith, lt)) (omega arith) too on in absurd (omega (arith, lt, same)))
-      ]) in
-      let here : one_if (test n) ≡ 1 = ap one_if on in
-      omega (arith, rest, here))
-]
 
 -- what is said in words, in counts
 module _ (there : Catalog) (t : TableName) (has : HasRanges there t) (n : ℕ) (high : has.ends.0 ≤ n) where
@@ -68,10 +51,6 @@ module _ (there : Catalog) (t : TableName) (has : HasRanges there t) (n : ℕ) (
       let row : there (region_key t c.0.id) ≡ Some (row_is.Region c.1 status_is.Live c.3.0) = ap there (key_of_id c.0 t c.2) ∙ c.3.1 in
       (c.0.id, elim (le_or_lt n c.0.id) [ inl le ↦ absurd (none-some _ (sym (low_row c.0.id le) ∙ row)) | inr lt ↦ lt ], ap (serves k) row ∙ c.4)
 
-  present_one : (o : Option CatRow) → o ≢ None → one_if (is_some o) ≡ 1
-  present_one None some = absurd (some refl)
-  present_one (Some row) some = refl
-
   filled_row : (id : ℕ) (o : Option CatRow) → there (region_key t id) ≡ o → IsFilled o
   filled_row id None e = tt
   filled_row id (Some row_is.Ns) e = tt
@@ -86,9 +65,9 @@ module _ (there : Catalog) (t : TableName) (has : HasRanges there t) (n : ℕ) (
         let some = some_serves k in
         let least = count_some n (λ i. serves k (there (region_key t i))) some.0 some.1 some.2 in
         let most = count_most n (λ i. serves k (there (region_key t i))) (λ i j li lj si sj. alone k i j si sj) in
-        let row = present_one (there (key_is.Table t)) has.present in
+        let row = some_one (there (key_is.Table t)) has.present in
         omega (arith, least, most, row));
-    bare = λ none. (let row = present_one (there (key_is.Table t)) has.present in absurd (omega (arith, none, row)));
+    bare = λ none. (let row = some_one (there (key_is.Table t)) has.present in absurd (omega (arith, none, row)));
     filled = λ id. filled_row id (there (region_key t id)) refl;
     low = low_row;
   }
@@ -121,10 +100,10 @@ module _ (there : Catalog) (t : TableName) (region : Region) (more : List Region
   after key = edited (merge_edits there (region ∷ more) first) key (there key)
 
   one : (table_enabled (there (key_is.Table t)) ≡ None) × (or_else (regions_live (rows_of there (region ∷ more))) (are_adjacent (by_start (parts_of there (region ∷ more)))) ≡ None)
-  one = neither (table_enabled (there (key_is.Table t))) (or_else (regions_live (rows_of there (region ∷ more))) (are_adjacent (by_start (parts_of there (region ∷ more))))) can
+  one = or_none (table_enabled (there (key_is.Table t))) (or_else (regions_live (rows_of there (region ∷ more))) (are_adjacent (by_start (parts_of there (region ∷ more))))) can
 
   two : (regions_live (rows_of there (region ∷ more)) ≡ None) × (are_adjacent (by_start (parts_of there (region ∷ more))) ≡ None)
-  two = neither (regions_live (rows_of there (region ∷ more))) (are_adjacent (by_start (parts_of there (region ∷ more)))) one.1
+  two = or_none (regions_live (rows_of there (region ∷ more))) (are_adjacent (by_start (parts_of there (region ∷ more)))) one.1
 
   its : t ≡ region.table
   its = sym own.0

@@ -35,17 +35,18 @@ use Rattle.hm_model.proofs.Apart.{others_stay}
 use Rattle.hm_model.proofs.KeyTests.{cases_key}
 use Rattle.hm_model.proofs.LegalSteps.{StepFacts, ready_stops}
 use Rattle.hm_model.proofs.StepDoes.{Does}
-use Rattle.hm_model.proofs.Trees.{Grown, IsRooted, IsWaiting, answer_now, does_of, down_rooted, grown_all, le_or_lt, new_child, node_same, old_or_new, other_answer, step_of, submit_rooted, undo_rooted}
+use Rattle.hm_model.proofs.Trees.{Grown, IsRooted, IsWaiting, answer_now, does_of, down_rooted, grown_all, le_or_lt, new_child, node_same, old_or_new, other_answer, start_none, step_of, submit_rooted, undo_rooted, waiting_some}
 use Rattle.hm_kinds.proofs.Roots.{Stage}
 use Rattle.hm_kinds.proofs.Shares.{touches, value}
 use Rattle.hm_kinds.proofs.Within.{edited-append, within_others}
 use Rattle.hm_serial.proofs.Apart.{Aside, step_top}
-use Rattle.hm_serial.proofs.FallAll.{All, held_before, edits_are, falls_all, none_at, stack_now, step_aside, top, u, undo_aside, undo_back, undo_within}
+use Rattle.hm_serial.proofs.FallAll.{All, held_before, edits_are, falls_all, stack_now, step_aside, top, u, undo_aside, undo_back, undo_within}
 use Rattle.hm_serial.proofs.Fallen.{root_of_node}
 use Rattle.hm_serial.proofs.FallStep.{belongs_here, kid_not_root, kid_of, kid_or_root, led_here, no_asks, own_args, own_aside, own_root, within_now}
 use Rattle.hm_serial.proofs.Frame.{cover_guards}
 use Rattle.hm_serial.proofs.Kinship.{editless, led_at}
 use Rattle.hm_model.proofs.Tops.{TopHolds, TopIs}
+use Rattle.hm_model.proofs.Small.{some_not}
 use Rattle.hm_serial.proofs.Standing.{holds_left, live_child, quiet_tree, step_left, step_open, waiting_runs}
 use Rattle.hm_serial.proofs.Stands.{At}
 use Rattle.hm_serial.proofs.StandAll.{stands_all}
@@ -119,10 +120,6 @@ waiting_fine : (answer : Answer) → IsWaiting (Some answer) → failing answer 
 waiting_fine (answer_is.Wait n) w = refl
 waiting_fine answer w = absurd w
 
-waiting_some : (o : Option Answer) → IsWaiting o → o ≢ None
-waiting_some None w e = w
-waiting_some (Some a) w e = none-some a (sym e)
-
 -- a step
 module _ (pid : Pid) (pick : Option Server) (out : StepOut) (J : Past) (legal : IsLegal (entry_is.Step pid pick out ∷ J)) (before : AllMixed J) where
   abbrev J' : Past
@@ -166,10 +163,6 @@ module _ (pid : Pid) (pick : Option Server) (out : StepOut) (J : Past) (legal : 
         let tree = before step.node.root node (at_top, some, step_open pid pick out J grown step does) wide in
         record { was_is = cond-false ((step.node.root == pid.0) && is_none (last_answer J pid.0)) (cat J) (was J step.node.root) (by h); rows = tree.rows; kids = tree.kids; mixes = tree.mixes }
       where
-        some_not : (o : Option Answer) → o ≢ None → is_none o ≡ false
-        some_not None some = absurd (some refl)
-        some_not (Some a) some = refl
-
         by : (step.node.root ≢ pid.0) ⊎ (last_answer J pid.0 ≢ None) → ((step.node.root == pid.0) && is_none (last_answer J pid.0)) ≡ false
         by (inl differs) = and_left (step.node.root == pid.0) (is_none (last_answer J pid.0)) (ne_eqb step.node.root pid.0 differs)
         by (inr some) = and_right (step.node.root == pid.0) (is_none (last_answer J pid.0)) (some_not (last_answer J pid.0) some)
@@ -359,7 +352,7 @@ made_mixed J J' rooted grown cats bases stacks r node tree = record {
 -- in every legal journal
 pub mixed_all : (J : Past) → IsLegal J → AllMixed J
 mixed_all [] legal r node h wide = absurd (none-some node h.0.0)
-mixed_all (entry_is.Start sheets ∷ J) legal r node h wide = absurd (none-some node (sym (none_at J legal.1.0.0 r) ∙ h.0.0))
+mixed_all (entry_is.Start sheets ∷ J) legal r node h wide = absurd (none-some node (sym (start_none J legal.1.0.0 r) ∙ h.0.0))
 mixed_all (entry_is.Submit nonce request ∷ J) legal r node h wide =
     let grown = grown_all J legal.0 in
     let rooted = submit_rooted nonce request J grown in

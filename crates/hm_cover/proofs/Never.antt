@@ -1,7 +1,7 @@
 -- Live regions of one table never overlap, also while the table is made, changed or deleted.
 use Rattle.hm_model.specs.Base.{HasNoHalfBase}
 use Rattle.hm_cover.proofs.Based.{half_or, parts_serial, regions_of_parts}
-use Rattle.std.proofs.Common.{◌≡◌, ◌≢◌, ℕ, ◌+◌, ◌<◌, ◌≤◌, List, [], ◌∷◌, ◌++◌, length, Bool, true, false, ◌||◌, is_some, Option, Some, None, refl, ap, sym, ◌∙◌, subst, inl, inr, ◌⊎◌, arith}
+use Rattle.std.proofs.Common.{◌≡◌, ◌≢◌, ℕ, ◌+◌, ◌<◌, ◌≤◌, List, [], ◌∷◌, ◌++◌, length, true, false, is_some, Option, Some, None, refl, ap, sym, ◌∙◌, subst, inl, inr, ◌⊎◌, arith}
 use Rattle.std.proofs.lemmas.Bool.{cases_Bool, false≢true, true≢false}
 use Rattle.std.proofs.lemmas.Option.{none-some}
 use Rattle.hm_names.specs.Region.{Region}
@@ -39,11 +39,11 @@ use Rattle.hm_kinds.proofs.Roots.{StageOf}
 use Rattle.hm_kinds.proofs.Shares.{add_effect}
 use Rattle.hm_serial.proofs.Frame.{cover_guards}
 use Rattle.hm_model.proofs.Tops.{TopHolds}
+use Rattle.hm_model.proofs.Answered.{or_none}
 use Rattle.hm_serial.proofs.StandAll.{stands_all}
 use Rattle.hm_cover.proofs.CatWhole.{cat_whole, wide_rows}
 use Rattle.hm_cover.proofs.Deeds.{absent_is, between_length, keys_rise}
 use Rattle.hm_ids.proofs.DrawnAll.{DrawnIn, drawn_all}
-use Rattle.hm_cover.proofs.Edits.{neither}
 use Rattle.hm_cover.proofs.Holding.{covered_or}
 use Rattle.hm_cover.proofs.Local.{asks_regions, local_free}
 use Rattle.hm_cover.proofs.Mixed.{IsMixed, mixed_all}
@@ -52,6 +52,7 @@ use Rattle.hm_cover.proofs.Stages.{IsAdded, IsLess, creating_row, deleting_row, 
 use Rattle.hm_cover.proofs.TableDeeds.{created_own}
 use Rattle.hm_cover.proofs.Whole.{IsFilled, Whole, bare_all, filled_key, key_of_id, none_overlap, whole_same}
 use Rattle.hm_cover.specs.Theorem.{LiveRangesHaveKeys, LiveRegionsNeverOverlap, RangesHaveKeys}
+use Rattle.std.proofs.Math.Bool.{or-false}
 
 -- each row of a table's regions is none, or that of another catalog
 abbrev IsPart : Catalog → Catalog → TableName → Type 0
@@ -79,11 +80,7 @@ part_tidy there over t part tidy = (
         ]
 
 free_absent : (there : Catalog) (u : TableName) → table_free (there (key_is.Ns u.ns)) (there (key_is.Table u)) ≡ None → there (key_is.Table u) ≡ None
-free_absent there u none = absent_is (there (key_is.Table u)) (neither (namespace_there (there (key_is.Ns u.ns))) (table_absent (there (key_is.Table u))) none).1
-
-over : (b : Bool) → (b || false) ≡ true → b ≡ true
-over true h = refl
-over false h = absurd (false≢true h)
+free_absent there u none = absent_is (there (key_is.Table u)) (or_none (namespace_there (there (key_is.Ns u.ns))) (table_absent (there (key_is.Table u))) none).1
 
 -- a root that holds and asks for the table alone
 module _ (n : ℕ) (big : 4096 < n) (J : Past) (legal : IsLegal J) (begun : HasNoHalfBase J) (r : ℕ) (node : Node) (holds : TopHolds J r node) (wide : asks_regions node.args ≡ false) (t : TableName) (c : covers node.args (key_is.Table t) ≡ true) where
@@ -157,7 +154,7 @@ module _ (n : ℕ) (big : 4096 < n) (J : Past) (legal : IsLegal J) (begun : HasN
         by (Some row) e = there_apart (λ none. none-some row (sym none ∙ e))
 
   by_args : (args : Args) → node.args ≡ args → IsTidy (cat J) t
-  by_args (args_are.Root (request_is.CreateTable u split) first) own = create_apart split first (own ∙ ap (λ x. args_are.Root (request_is.CreateTable x split) first) (same_table-is u t (over (same_table u t) (ap (λ a. covers a (key_is.Table t)) (sym own) ∙ c))))
+  by_args (args_are.Root (request_is.CreateTable u split) first) own = create_apart split first (own ∙ ap (λ x. args_are.Root (request_is.CreateTable x split) first) (same_table-is u t (sym (or-false (same_table u t)) ∙ ap (λ a. covers a (key_is.Table t)) (sym own) ∙ c)))
   by_args (args_are.Root (request_is.DeleteTable u) first) own = lessens (request_is.DeleteTable u) first own (λ lines then id stage. deleting_row (was J r) t id u lines then stage)
   by_args (args_are.Root (request_is.EnableTable u) first) own = lessens (request_is.EnableTable u) first own (λ lines then id stage. enabling_row (was J r) t id u lines then stage)
   by_args (args_are.Root (request_is.DisableTable u) first) own = lessens (request_is.DisableTable u) first own (λ lines then id stage. disabling_row (was J r) t id u lines then stage)

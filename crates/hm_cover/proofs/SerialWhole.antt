@@ -19,7 +19,6 @@ use Rattle.hm_data.specs.declared.act.Back.TheVariants as back_is
 use Rattle.hm_data.specs.declared.call.Told.{Told}
 use Rattle.hm_data.specs.declared.catalog.CatKey.{CatKey}
 use Rattle.hm_data.specs.declared.catalog.CatKey.TheVariants as key_is
-use Rattle.hm_data.specs.declared.catalog.CatRow.{CatRow}
 use Rattle.hm_data.specs.declared.catalog.Edit.{Edit}
 use Rattle.hm_data.specs.declared.entry.Entry.TheVariants as entry_is
 use Rattle.hm_data.specs.declared.place.Goal.TheVariants as goal_is
@@ -27,7 +26,7 @@ use Rattle.hm_data.specs.declared.request.Request.{Request}
 use Rattle.hm_data.specs.declared.step.StepOut.{StepOut}
 use Rattle.hm_model.proofs.Grown.{ids_within}
 use Rattle.hm_model.proofs.Rows.{has_key, in_with_keys}
-use Rattle.hm_model.proofs.Trees.{Grown, IsWaiting, all_below_at, answer_now, grown_all, is_there, le_or_lt, new_child, node_same, other_answer, step_of}
+use Rattle.hm_model.proofs.Trees.{Grown, IsWaiting, all_below_at, answer_now, grown_all, is_there, le_or_lt, new_child, node_same, other_answer, root_low, step_of}
 use Rattle.hm_model.proofs.UndoMakes.{undo_of}
 use Rattle.hm_model.specs.Answers.{done_with, failing, is_stopped, last_answer}
 use Rattle.hm_model.specs.Catalog.{Catalog, at_start, cat, edited, keys_of}
@@ -53,7 +52,7 @@ use Rattle.hm_serial.proofs.Kinship.{is_kid}
 use Rattle.hm_serial.proofs.Serial.{catalog_is}
 use Rattle.hm_serial.proofs.StandAll.{over_now, serials_now, stands_all}
 use Rattle.hm_model.proofs.Tops.{TopHolds}
-use Rattle.hm_serial.proofs.Standing.{live_child, root_low, waiting_runs}
+use Rattle.hm_serial.proofs.Standing.{live_child, waiting_runs}
 use Rattle.hm_model.proofs.LegalSteps.{StepFacts, ready_stops}
 use Rattle.hm_cover.proofs.Deeds.{MayDo, deed_drawn, deed_stays}
 use Rattle.hm_ids.proofs.Drawn.{ArgsDrawn, IsDrawnAt, SeenDrawn}
@@ -63,6 +62,8 @@ use Rattle.hm_cover.specs.Theorem.{DeedsKeepRanges}
 use Rattle.hm_model.specs.Base.{HasNoHalfBase}
 use Rattle.hm_model.proofs.Grown.{all_parts}
 use Rattle.hm_model.proofs.Parted.{no_half}
+use Rattle.hm_model.proofs.Small.{none_from}
+use Rattle.hm_model.proofs.Answered.{running_undone}
 use Rattle.hm_cover.proofs.Based.{base_whole}
 use Rattle.hm_model.specs.Ranges.{IsBare, IsCovered, NoneOverlap}
 
@@ -93,15 +94,6 @@ deed_or_none [] (answer_is.Done told) (Some a) keys there = by (deed a.request a
     by : (r : Deed) → deed a.request a.first keys there ≡ r → (edits_in (deed a.request a.first keys there) ≡ []) ⊎ ((b : Asked) × (Some a ≡ Some b) × (t : Told) × (answer_is.Done told ≡ answer_is.Done t) × (◌≡◌ {A = List ℕ} [] []) × (deed b.request b.first keys there ≡ Ok (edits_in (deed a.request a.first keys there))))
     by (Ok edits) e = inr (a, refl, told, refl, refl, e ∙ ap (λ r. Ok (edits_in r)) (sym e))
     by (Err c) e = inl (ap edits_in e)
-
-pub running_undone : (o : Option Answer) → is_stopped o ≡ false → done_with o ≡ None
-running_undone None h = refl
-running_undone (Some (answer_is.More n)) h = refl
-running_undone (Some (answer_is.Wait n)) h = refl
-running_undone (Some (answer_is.Await n)) h = refl
-running_undone (Some (answer_is.Done told)) h = absurd (true≢false h)
-running_undone (Some (answer_is.Fail c)) h = absurd (true≢false h)
-running_undone (Some answer_is.Undone) h = absurd (true≢false h)
 
 waiting_undone : (o : Option Answer) → IsWaiting o → done_with o ≡ None
 waiting_undone o w = running_undone o (waiting_runs o w)
@@ -172,10 +164,6 @@ pub record IsWhole (n : ℕ) (J : Past) : Type 0 where
   pub free : (p : ℕ) (x : Node) (a : Asked) → node_of J p ≡ Some x → asked_of x.args ≡ Some a → done_with (last_answer J p) ≡ None → (u : TableName) (i : ℕ) → InRange a u i → serial J (region_key u i) ≡ None
   pub listed : (key : CatKey) → serial J key ≢ None → IsIn key (keys_of J)
   pub rows : SeenDrawn (DrawnIn J) (serial J)
-
-pub none_from : (o : Option CatRow) → (o ≢ None → ⊥) → o ≡ None
-none_from None h = refl
-none_from (Some row) h = absurd (h (λ e. none-some row (sym e)))
 
 -- a submission
 module _ (n : ℕ) (nonce : Nonce) (request : Request) (J : Past) (legal : IsLegal (entry_is.Submit nonce request ∷ J)) (kept : IsWhole n J) where

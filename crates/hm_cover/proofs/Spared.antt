@@ -11,7 +11,6 @@ use Rattle.hm_data.specs.declared.act.Act.TheVariants as act_is
 use Rattle.hm_data.specs.declared.act.Back.{Back}
 use Rattle.hm_data.specs.declared.act.Back.TheVariants as back_is
 use Rattle.hm_data.specs.declared.answer.Answer.{Answer}
-use Rattle.hm_data.specs.declared.answer.Answer.TheVariants as answer_is
 use Rattle.hm_data.specs.declared.answer.Cause.{Cause}
 use Rattle.hm_data.specs.declared.answer.Cause.TheVariants as cause_is
 use Rattle.hm_data.specs.declared.args.Args.{Args}
@@ -23,7 +22,6 @@ use Rattle.hm_data.specs.declared.entry.Entry.TheVariants as entry_is
 use Rattle.hm_data.specs.declared.request.Request.{Request}
 use Rattle.hm_data.specs.declared.request.Request.TheVariants as request_is
 use Rattle.hm_data.specs.declared.sheet.Row.{Row}
-use Rattle.hm_data.specs.declared.sheet.Sheet.{Sheet}
 use Rattle.hm_data.specs.declared.step.StepOut.{StepOut}
 use Rattle.hm_model.specs.ActSorts.{is_edit}
 use Rattle.hm_model.specs.Acts.{act_answer}
@@ -34,7 +32,7 @@ use Rattle.hm_model.specs.Changes.{region_key}
 use Rattle.hm_model.specs.Inputs.{step_input}
 use Rattle.hm_model.specs.Journal.{Past}
 use Rattle.hm_model.specs.Kinds.{first_row_of, kind_of}
-use Rattle.hm_model.specs.Lists.{Line, exact_rows}
+use Rattle.hm_model.specs.Lists.{exact_rows}
 use Rattle.hm_model.specs.Locks.{IsIn, asks, exclusive}
 use Rattle.hm_model.specs.Outs.{fails}
 use Rattle.hm_model.specs.Phase.{cause, or_else}
@@ -44,25 +42,25 @@ use Rattle.hm_model.specs.Sheets.{next_row, row_in, sheet_for, sheets_by, undo_b
 use Rattle.hm_model.specs.Tree.{Node, is_top, node_of, root_in, root_of}
 use Rattle.hm_model.specs.Undo.{Undoable, pushed, rest_of, row_if_there, stack}
 use Rattle.hm_model.specs.Undoing.{turned_round, undo_edits}
-use Rattle.hm_model.specs.Validity.{IsValid, is_among}
+use Rattle.hm_model.specs.Validity.{is_among}
 use Rattle.hm_model.specs.declared.lock.Resource.TheVariants as resource_is
-use Rattle.hm_model.proofs.ExactRows.{is_late_next, is_listed}
+use Rattle.hm_model.proofs.ExactRows.{is_listed}
 use Rattle.hm_model.proofs.LegalSteps.{StepFacts, ready_stops}
 use Rattle.hm_model.proofs.PlainActs.{GoesTo, plain_act}
 use Rattle.hm_model.proofs.StepDoes.{Does}
-use Rattle.hm_model.proofs.Trees.{Grown, answer_now, does_of, down_rooted, grown_all, sheets_stay, step_of, submit_rooted}
-use Rattle.hm_model.proofs.ValidSheets.{Leads, valid_end}
+use Rattle.hm_model.proofs.Trees.{Grown, answer_now, does_of, down_rooted, grown_all, sheets_stay, start_none, step_of, submit_rooted}
 use Rattle.hm_serial.proofs.Apart.{Aside, step_top}
 use Rattle.hm_kinds.proofs.Editless.{none_act}
 use Rattle.hm_serial.proofs.Editing.{covers_from, rows_table}
-use Rattle.hm_serial.proofs.FallAll.{held_before, falls_all, none_at, step_aside, undo_back}
+use Rattle.hm_serial.proofs.FallAll.{held_before, falls_all, step_aside, undo_back}
 use Rattle.hm_serial.proofs.Fallen.{Falls, MayFall, may_on, root_of_node}
-use Rattle.hm_serial.proofs.Falling.{IsPast, StepEdits, places_of}
+use Rattle.hm_serial.proofs.Falling.{IsPast, StepEdits, goes_past, late_behind, places_of}
 use Rattle.hm_serial.proofs.FallStep.{belongs_here, edits_of, kid_or_root, led_here, other_last, own_args, own_root}
 use Rattle.hm_serial.proofs.Frame.{unwound}
 use Rattle.hm_serial.proofs.Kinship.{editless, is_kid, is_lined, is_nil, kid_fails, kid_rows, led_at, lined_is, step_clean, step_within}
 use Rattle.hm_serial.proofs.Local.{Within, within_others, within_undo}
 use Rattle.hm_model.proofs.Tops.{TopHolds, TopIs}
+use Rattle.hm_model.proofs.Small.{cons_nil}
 use Rattle.hm_serial.proofs.Standing.{holds_left, step_left, step_open}
 
 -- undoing a step leaves the rows of the regions of tables that the root doesn't ask for alone
@@ -129,18 +127,6 @@ merge_edit act_is.Layout l e = absurd (false≢true e)
 merge_edit act_is.OpenMerged l e = absurd (false≢true e)
 merge_edit act_is.Finish l e = absurd (false≢true e)
 merge_edit act l e = absurd (false≢true l)
-
--- what follows is after the point
-late_row : (sheet : Sheet) → IsValid sheet → (lines : List Line) (place : ℕ) → is_late_next lines ≡ true → Leads sheet.rows place lines → (row : Row) → slice_get sheet.rows place ≡ Some row → row.after ≡ true
-late_row sheet valid [] place late leads row is = absurd (valid_end sheet valid row (ap (slice_get sheet.rows) (sym leads) ∙ is))
-late_row sheet valid (line ∷ lines) place late leads row is = ap (λ (r : Row). r.after) (sym (same_Some leads.0 row (sym leads.1 ∙ is))) ∙ leads.2.1 ∙ late
-
-late_answer : (rows : List Row) (first next : ℕ) (answer : Answer) → GoesTo next answer → ((row : Row) → slice_get rows next ≡ Some row → row.after ≡ true) → IsPast rows first answer
-late_answer rows first next (answer_is.Await n) goes late runs row is = absurd goes
-late_answer rows first next (answer_is.Done told) goes late runs row is = absurd (true≢false runs)
-late_answer rows first next (answer_is.Fail c) goes late runs row is = absurd (true≢false runs)
-late_answer rows first next answer_is.Undone goes late runs row is = absurd goes
-late_answer rows first next answer goes late runs row is = late row (ap (slice_get rows) (sym goes) ∙ is)
 
 nil_is : (rows : List Row) → is_nil rows ≡ true → rows ≡ []
 nil_is [] h = refl
@@ -222,8 +208,8 @@ module _ (pid : Pid) (pick : Option Server) (out : StepOut) (J : Past) (grown : 
         let led = led_at J pid.0 pick out step d led_now top.args args_now belongs_now exact in
         elim (cases_Bool (is_edit step.row.act)) [
           | inr off ↦ inl (ap (λ (o : StepOut). o.edits) is ∙ none_act step.row.act led.plain off step.row.next (step_input J pid.0 step.node pick))
-          | inl edit ↦ inr (late_answer step.sheet.rows (first_row_of step.node.args) step.row.next out.answer (subst (λ (o : StepOut). GoesTo step.row.next o.answer) (sym is) (plain_act step.row.act led.plain step.row.next (step_input J pid.0 step.node pick)).goes)
-              (λ row at. late_row step.sheet step.valid led.behind step.row.next ((places_of (kind_of step.node.args) step.sheet.rows step.row led).ends_late (ends step.row.act led.listed edit)) led.leads row at))
+          | inl edit ↦ inr (goes_past step.sheet.rows (first_row_of step.node.args) step.row.next out.answer (subst (λ (o : StepOut). GoesTo step.row.next o.answer) (sym is) (plain_act step.row.act led.plain step.row.next (step_input J pid.0 step.node pick)).goes)
+              (λ row at. late_behind step.sheet step.valid led.behind step.row.next ((places_of (kind_of step.node.args) step.sheet.rows step.row led).ends_late (ends step.row.act led.listed edit)) led.leads row at))
         ]
 
     local_edits : EndsLate (kind_of step.node.args) → (out.edits ≡ []) ⊎ IsPast step.sheet.rows (first_row_of step.node.args) out.answer
@@ -256,10 +242,10 @@ module _ (pid : Pid) (pick : Option Server) (out : StepOut) (J : Past) (grown : 
     by_args (args_are.Root (request_is.EnableTable table) first) own none may = wide_spares (request_is.EnableTable table) first (ap (λ (n : Node). n.args) (root_step e).1 ∙ own) refl
     by_args (args_are.Root (request_is.DisableTable table) first) own none may = wide_spares (request_is.DisableTable table) first (ap (λ (n : Node). n.args) (root_step e).1 ∙ own) refl
     by_args (args_are.Root (request_is.ModifyTable table version) first) own none may = wide_spares (request_is.ModifyTable table version) first (ap (λ (n : Node). n.args) (root_step e).1 ∙ own) refl
-    by_args (args_are.Root (request_is.Move region to) first) own none may = absurd (Rattle.hm_model.proofs.ExactRows.cons_nil _ _ (ap (λ a. exact_rows (kind_of a)) (sym own) ∙ exact))
+    by_args (args_are.Root (request_is.Move region to) first) own none may = absurd (cons_nil _ _ (ap (λ a. exact_rows (kind_of a)) (sym own) ∙ exact))
     by_args (args_are.AddRegions table first bounds) own none may = absurd (none-some table (sym none))
     by_args (args_are.DropRegions table ids) own none may = absurd (none-some table (sym none))
-    by_args args own none may = absurd (Rattle.hm_model.proofs.ExactRows.cons_nil _ _ (ap (λ a. exact_rows (kind_of a)) (sym own) ∙ exact))
+    by_args args own none may = absurd (cons_nil _ _ (ap (λ a. exact_rows (kind_of a)) (sym own) ∙ exact))
 
     lined_could : MayFall J' step.node.root top → MayFall J step.node.root top × EditsSpare top.args out.edits
     lined_could may = (
@@ -412,7 +398,7 @@ undo_spared pid row out J legal before r node h may =
 -- in every legal journal
 pub spared_all : (J : Past) → IsLegal J → AllSpared J
 spared_all [] legal r node h may = absurd (none-some node h.0.0)
-spared_all (entry_is.Start sheets ∷ J) legal r node h may = absurd (none-some node (sym (none_at J legal.1.0.0 r) ∙ h.0.0))
+spared_all (entry_is.Start sheets ∷ J) legal r node h may = absurd (none-some node (sym (start_none J legal.1.0.0 r) ∙ h.0.0))
 spared_all (entry_is.Submit nonce request ∷ J) legal r node h may =
     let held = held_before J (entry_is.Submit nonce request ∷ J) (submit_rooted nonce request J (grown_all J legal.0)) (grown_all J legal.0) r node refl refl refl h in
     spared_all J legal.0 r node held (may_on (entry_is.Submit nonce request ∷ J) J r node refl refl (sym (sheets_stay (entry_is.Submit nonce request) J legal r node held.0.0)) may)

@@ -15,15 +15,16 @@ use Rattle.hm_data.specs.declared.catalog.Edit.{Edit}
 use Rattle.hm_data.specs.declared.catalog.Status.TheVariants as status_is
 use Rattle.hm_model.proofs.KeyTests.{same_table-is}
 use Rattle.hm_model.proofs.Trees.{le_or_lt}
+use Rattle.hm_model.proofs.Answered.{or_none}
 use Rattle.hm_model.specs.Catalog.{Catalog, edited}
 use Rattle.hm_model.specs.Changes.{live_row, region_key, split_edits, split_range}
 use Rattle.hm_model.specs.Checks.{can_split, key_inside, region_ready, regions_live, table_enabled}
 use Rattle.hm_model.specs.Counts.{one_if}
 use Rattle.hm_model.specs.Keys.{same_table}
-use Rattle.hm_model.specs.RowsSaid.{in_status, range_in, table_state_in}
+use Rattle.hm_model.specs.RowsSaid.{in_status, range_in}
 use Rattle.hm_model.specs.GoingBack.{Tells}
 use Rattle.hm_cover.proofs.Chains.{parts_once}
-use Rattle.hm_cover.proofs.Edits.{IsOff, neither, tells_apart, whole_off}
+use Rattle.hm_cover.proofs.Edits.{IsOff, tells_apart, whole_off}
 use Rattle.hm_cover.proofs.Whole.{IsEven, Whole, whole_even}
 
 -- a table that is enabled is there
@@ -61,8 +62,8 @@ pub record IsCut (there : Catalog) (region : Region) (key : List ℕ) : Type 0 w
 
 pub cut_is : (there : Catalog) (region : Region) (key : List ℕ) → can_split (there (key_is.Table region.table)) (there (key_is.Region region)) key ≡ None → IsCut there region key
 cut_is there region key e =
-    let one = neither (region_ready (there (key_is.Table region.table)) (there (key_is.Region region))) (key_inside (range_in (there (key_is.Region region))) key) e in
-    let two = neither (table_enabled (there (key_is.Table region.table))) (regions_live (there (key_is.Region region) ∷ [])) one.0 in
+    let one = or_none (region_ready (there (key_is.Table region.table)) (there (key_is.Region region))) (key_inside (range_in (there (key_is.Region region))) key) e in
+    let two = or_none (table_enabled (there (key_is.Table region.table))) (regions_live (there (key_is.Region region) ∷ [])) one.0 in
     let live = live_first (there (key_is.Region region)) [] two.1 in
     record {
       present = enabled_there (there (key_is.Table region.table)) two.0;

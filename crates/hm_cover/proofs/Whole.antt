@@ -1,6 +1,6 @@
 -- Tables whose live regions have each key once, and edits that leave them so.
 use Rattle.std.proofs.Common.{◌≡◌, ◌≢◌, ℕ, ◌+◌, ◌<◌, ◌≤◌, Bool, true, false, if◌then◌else◌, is_some, List, [], ◌∷◌, Option, Some, None, refl, sym, ap, subst, ◌∙◌, inl, inr, ◌⊎◌, arith}
-use Rattle.std.proofs.lemmas.Bool.{cond-false, true≢false, false≢true, false_from_ne_true}
+use Rattle.std.proofs.lemmas.Bool.{cond-false, false≢true, false_from_ne_true}
 use Rattle.std.proofs.lemmas.Option.{none-some}
 use Rattle.hm_names.specs.Region.{Region}
 use Rattle.hm_names.specs.Ranges.{holds, overlaps}
@@ -16,6 +16,7 @@ use Rattle.hm_data.specs.declared.catalog.Status.{Status}
 use Rattle.hm_data.specs.declared.catalog.Status.TheVariants as status_is
 use Rattle.hm_model.proofs.Counting.{count_same, count_none, find_below}
 use Rattle.hm_model.proofs.KeyTests.{cases_key}
+use Rattle.hm_model.proofs.Small.{none_told, some_one}
 use Rattle.hm_model.specs.Catalog.{Catalog, edited}
 use Rattle.hm_model.specs.Changes.{region_key}
 use Rattle.hm_model.specs.Counts.{count_below, one_if}
@@ -191,10 +192,6 @@ serves_is k (Some (row_is.Region range status_is.Live parents)) e = (range, pare
 serves_is k (Some (row_is.Region range status_is.Split parents)) e = absurd (false≢true e)
 serves_is k (Some (row_is.Region range status_is.Merged parents)) e = absurd (false≢true e)
 
-some_one : (o : Option CatRow) → o ≢ None → one_if (is_some o) ≡ 1
-some_one None some = absurd (some refl)
-some_one (Some row) some = refl
-
 pub covered : (n : ℕ) (there : Catalog) (t : TableName) → Whole n there t → there (key_is.Table t) ≢ None → IsCovered there t
 covered n there t whole some k = elim (find_below n (λ i. serves k (there (region_key t i)))) [
   | inl at ↦
@@ -208,17 +205,13 @@ covered n there t whole some k = elim (find_below n (λ i. serves k (there (regi
       absurd (omega (arith, zero_now, once, one))
 ]
 
-none_is : (o : Option CatRow) → is_some o ≡ false → o ≡ None
-none_is None e = refl
-none_is (Some row) e = absurd (true≢false e)
-
 pub bare_all : (n : ℕ) (there : Catalog) (t : TableName) → Whole n there t → there (key_is.Table t) ≡ None → (id : ℕ) → there (region_key t id) ≡ None
 bare_all n there t whole gone id = elim (Rattle.hm_model.proofs.Trees.le_or_lt n id) [
   | inl le ↦ whole.low id le
   | inr lt ↦
       let zero_now = whole.bare (ap (λ o. one_if (is_some o)) gone) in
       let here = one_place n id (λ i. is_some (there (region_key t i))) lt in
-      none_is (there (region_key t id)) (none_by (is_some (there (region_key t id))) (omega (arith, zero_now, here)))
+      none_told (there (region_key t id)) (none_by (is_some (there (region_key t id))) (omega (arith, zero_now, here)))
 ]
   where
     none_by : (b : Bool) → one_if b ≤ 0 → b ≡ false

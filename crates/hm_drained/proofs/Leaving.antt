@@ -42,6 +42,7 @@ use Rattle.hm_model.proofs.LegalSteps.{StepFacts, ready_stops}
 use Rattle.hm_model.proofs.Rows.{row_read}
 use Rattle.hm_model.proofs.Tops.{TopHolds}
 use Rattle.hm_model.proofs.Trees.{answer_now, grown_all, other_answer, step_of}
+use Rattle.hm_model.proofs.Answered.{done_stops}
 use Rattle.hm_serial.proofs.FallAll.{falls_all, step_aside}
 use Rattle.hm_serial.proofs.Fallen.{root_of_node}
 use Rattle.hm_serial.proofs.StandAll.{stands_all}
@@ -50,9 +51,8 @@ use Rattle.hm_single.proofs.All.{kept_all, one_transit_is, place_by_row}
 use Rattle.hm_single.proofs.Kin.{goes_holds}
 use Rattle.hm_single.proofs.Live.{all_live, all_on}
 use Rattle.hm_single.proofs.Placing.{reads_own}
-use Rattle.hm_single.proofs.Trying.{goes_from}
+use Rattle.hm_single.proofs.Kept.{goes_from}
 use Rattle.hm_costs.proofs.CrashFine.{checks_all}
-use Rattle.hm_costs.proofs.Emptied.{done_stops}
 use Rattle.hm_costs.proofs.Moves.{Says, against, answers, place_now, place_still, row_now, seen}
 use Rattle.hm_costs.proofs.Opening.{fails_all}
 use Rattle.hm_drained.specs.Drained.{AllAvoid, Avoids, MovedAreElsewhere}

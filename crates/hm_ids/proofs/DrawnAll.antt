@@ -87,7 +87,7 @@ module _ (d : TableName → ℕ → Type 0) where
     | inr differs ↦ subst (IsDrawnAt d key) (sym (cond-false (same_key key edit.key) edit.after row differs.0)) at
   ])
 
-  pushed_drawn : (undo : Back) (failed : Bool) (p row : ℕ) (edits : List Edit) (below : List Undoable) → AllDrawn d edits → StackDrawn d below → StackDrawn d (pushed undo failed p row edits below)
+  pub pushed_drawn : (undo : Back) (failed : Bool) (p row : ℕ) (edits : List Edit) (below : List Undoable) → AllDrawn d edits → StackDrawn d below → StackDrawn d (pushed undo failed p row edits below)
   pushed_drawn back_is.Nothing failed p row edits below one all = all
   pushed_drawn back_is.Edits true p row edits below one all = all
   pushed_drawn back_is.Edits false p row edits below one all = (one, all)
@@ -96,20 +96,20 @@ module _ (d : TableName → ℕ → Type 0) where
   pushed_drawn back_is.Reopen true p row edits below one all = all
   pushed_drawn back_is.Reopen false p row edits below one all = (one, all)
 
-  rest_drawn : (steps : List Undoable) → StackDrawn d steps → StackDrawn d (rest_of steps)
+  pub rest_drawn : (steps : List Undoable) → StackDrawn d steps → StackDrawn d (rest_of steps)
   rest_drawn [] all = tt
   rest_drawn (step ∷ below) all = all.1
 
-  either_drawn : (b : Bool) (one other : List Undoable) → StackDrawn d one → StackDrawn d other → StackDrawn d (cond b one other)
+  pub either_drawn : (b : Bool) (one other : List Undoable) → StackDrawn d one → StackDrawn d other → StackDrawn d (cond b one other)
   either_drawn true one other h k = h
   either_drawn false one other h k = k
 
-  none_drawn : (key : CatKey) → IsDrawnAt d key None
+  pub none_drawn : (key : CatKey) → IsDrawnAt d key None
   none_drawn (key_is.Region region) = λ some. absurd (some refl)
   none_drawn key = tt
 
   -- what is read of a catalog
-  read_drawn : (asked : CatKey → Bool) (there : Catalog) (keys : List CatKey) → SeenDrawn d there → SeenDrawn d (row_at (rows_at asked there keys))
+  pub read_drawn : (asked : CatKey → Bool) (there : Catalog) (keys : List CatKey) → SeenDrawn d there → SeenDrawn d (row_at (rows_at asked there keys))
   read_drawn asked there [] rows key = none_drawn key
   read_drawn asked there (first ∷ keys) rows key = by (read_drawn asked there keys rows key) (asked first) (there first) refl
     where

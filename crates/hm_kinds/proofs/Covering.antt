@@ -1,9 +1,8 @@
 -- What exclusive asks cover, and which edits lie within them.
-use Rattle.std.proofs.Common.{◌≡◌, ℕ, ◌+◌, ◌-◌, ◌<◌, ◌≤◌, List, [], ◌∷◌, ◌++◌, true, ◌&&◌, nat_le, nat_lt, length, map, Option, Some, None, refl, ap, sym, ◌∙◌, subst, inl, inr, ◌⊎◌, arith}
+use Rattle.std.proofs.Common.{◌≡◌, ℕ, ◌+◌, ◌-◌, ◌<◌, ◌≤◌, List, [], ◌∷◌, true, ◌&&◌, nat_le, nat_lt, length, map, Option, Some, None, refl, ap, sym, ◌∙◌, subst, inl, inr, arith}
 use Rattle.std.specs.List.{list_any}
 use Rattle.std.proofs.lemmas.Bool.{and_from, le-leb, lt-ltb, or_left, or_right}
 use Rattle.hm_names.specs.Region.{Region}
-use Rattle.hm_names.specs.Order.{region_cmp}
 use Rattle.hm_names.specs.declared.range.KeyRange.{KeyRange}
 use Rattle.hm_names.specs.declared.table.TableName.{TableName}
 use Rattle.hm_data.specs.declared.args.Args.{Args}
@@ -16,8 +15,8 @@ use Rattle.hm_model.specs.Catalog.{Catalog}
 use Rattle.hm_model.specs.Changes.{add_merged, add_ranges, mark_merged, merge_edits, merged_of, region_key, remove_regions, split_edits, split_range}
 use Rattle.hm_model.specs.Checks.{by_start, parts_of}
 use Rattle.hm_model.specs.declared.merged.Merged.{Merged}
-use Rattle.hm_model.specs.Keys.{same_region, same_table}
-use Rattle.hm_model.specs.Locks.{IsIn, asks, exclusive, in_name_order, merge_asks, with_region, with_region_at}
+use Rattle.hm_model.specs.Keys.{same_table}
+use Rattle.hm_model.specs.Locks.{IsIn, asks, exclusive, in_name_order, merge_asks}
 use Rattle.hm_model.specs.Reads.{covers, is_over, reads}
 use Rattle.hm_model.specs.Pieces.{ranges_between, ranges_from}
 use Rattle.hm_model.specs.RowsSaid.{range_in}
@@ -25,7 +24,10 @@ use Rattle.hm_model.specs.Views.{regions_in}
 use Rattle.hm_model.specs.declared.lock.Ask.{Ask}
 use Rattle.hm_model.specs.declared.lock.Resource.{Resource}
 use Rattle.hm_model.specs.declared.lock.Resource.TheVariants as resource_is
-use Rattle.hm_model.proofs.KeyTests.{same_region-Decides, same_table-Decides}
+use Rattle.hm_model.proofs.KeyTests.{same_region-refl, same_table-refl}
+use Rattle.hm_model.proofs.Small.{in_left, in_map, in_right}
+use Rattle.hm_model.proofs.Listed.{in_ordered}
+use Rattle.hm_model.proofs.Distinct.{out_ordered}
 use Rattle.hm_kinds.proofs.Within.{Within, within_append}
 
 -- an exclusive ask that is over a row covers it
@@ -40,15 +42,9 @@ covers_from args resource key among over = covers_in (asks args) resource key am
 pub one_within : (args : Args) (edit : Edit) → covers args edit.key ≡ true → Within args (edit ∷ [])
 one_within args edit h = (h, tt)
 
-pub same_table-itself : (t : TableName) → same_table t t ≡ true
-same_table-itself t = (same_table-Decides t t).1 refl
-
-pub same_region-itself : (r : Region) → same_region r r ≡ true
-same_region-itself r = (same_region-Decides r r).1 refl
-
 -- a region's row of a table that a root asks for alone
 pub table_region : (args : Args) (table : TableName) (id : ℕ) → IsIn (exclusive (resource_is.Table table)) (asks args) → covers args (region_key table id) ≡ true
-table_region args table id among = covers_from args (resource_is.Table table) (region_key table id) among (same_table-itself table)
+table_region args table id among = covers_from args (resource_is.Table table) (region_key table id) among (same_table-refl table)
 
 -- regions that are added, all of one table
 pub add_within : (args : Args) (table : TableName) → IsIn (exclusive (resource_is.Table table)) (asks args) → (there : Catalog) (n : ℕ) (ranges : List KeyRange) → Within args (add_ranges there table n ranges)
@@ -69,76 +65,30 @@ between_length (start ∷ bounds) = (let e = ranges_length start bounds in omega
 
 pub in_reads : (table : TableName) (first : ℕ) (bounds : List (List ℕ)) (m : ℕ) → first ≤ m → m < first + length (ranges_between bounds) → reads (args_are.AddRegions table first bounds) (region_key table m) ≡ true
 in_reads table first bounds m low high =
-    and_from (same_table table table) (nat_le first m && nat_lt (m + 1) (first + length bounds)) (same_table-itself table)
+    and_from (same_table table table) (nat_le first m && nat_lt (m + 1) (first + length bounds)) (same_table-refl table)
     (and_from (nat_le first m) (nat_lt (m + 1) (first + length bounds)) (le-leb first m low) (lt-ltb (m + 1) (first + length bounds) (let e = between_length bounds in omega (arith, high, e))))
 
 -- the regions that a merge asks for
-pub name_at : (o : Rattle.std.specs.declared.cmp.Ordering.Ordering) (one region first : Region) (more rest : List Region) → ((one ≡ region) ⊎ IsIn one (first ∷ more)) → (((one ≡ region) ⊎ IsIn one more) → IsIn one rest) → IsIn one (with_region_at o region first more rest)
-name_at Rattle.std.specs.declared.cmp.Ordering.TheVariants.Less one region first more rest h k = h
-name_at Rattle.std.specs.declared.cmp.Ordering.TheVariants.Equal one region first more rest h k = h
-name_at Rattle.std.specs.declared.cmp.Ordering.TheVariants.Greater one region first more rest (inl same) k = inr (k (inl same))
-name_at Rattle.std.specs.declared.cmp.Ordering.TheVariants.Greater one region first more rest (inr (inl same)) k = inl same
-name_at Rattle.std.specs.declared.cmp.Ordering.TheVariants.Greater one region first more rest (inr (inr among)) k = inr (k (inr among))
-
-pub name_with : (one region : Region) (list : List Region) → (one ≡ region) ⊎ IsIn one list → IsIn one (with_region region list)
-name_with one region [] (inl same) = inl same
-name_with one region [] (inr among) = absurd among
-name_with one region (first ∷ more) h = name_at (region_cmp region first) one region first more (with_region region more) h (λ k. name_with one region more k)
-
-pub in_order_has : (one : Region) (list : List Region) → IsIn one list → IsIn one (in_name_order list)
-in_order_has one [] among = absurd among
-in_order_has one (region ∷ more) (inl same) = name_with one region (in_name_order more) (inl same)
-in_order_has one (region ∷ more) (inr among) = name_with one region (in_name_order more) (inr (in_order_has one more among))
-
-pub in_left : {A : Type 0} (x : A) (xs ys : List A) → IsIn x xs → IsIn x (xs ++ ys)
-in_left x [] ys h = absurd h
-in_left x (z ∷ zs) ys (inl same) = inl same
-in_left x (z ∷ zs) ys (inr among) = inr (in_left x zs ys among)
-
-pub in_right : {A : Type 0} (x : A) (xs ys : List A) → IsIn x ys → IsIn x (xs ++ ys)
-in_right x [] ys h = h
-in_right x (z ∷ zs) ys h = inr (in_right x zs ys h)
-
-pub in_map : {A B : Type 0} (f : A → B) (x : A) (xs : List A) → IsIn x xs → IsIn (f x) (map f xs)
-in_map f x [] h = absurd h
-in_map f x (z ∷ zs) (inl same) = inl (ap f same)
-in_map f x (z ∷ zs) (inr among) = inr (in_map f x zs among)
-
 pub merge_own : (regions : List Region) (first : ℕ) (one : Region) → IsIn one regions → IsIn (exclusive (resource_is.Region one)) (merge_asks regions first)
 merge_own [] first one among = absurd among
 merge_own (region ∷ more) first one among =
-    inr (inr (in_left (exclusive (resource_is.Region one)) (map (λ r. exclusive (resource_is.Region r)) (in_name_order (region ∷ more))) _ (in_map (λ r. exclusive (resource_is.Region r)) one (in_name_order (region ∷ more)) (in_order_has one (region ∷ more) among))))
+    inr (inr (in_left (exclusive (resource_is.Region one)) (map (λ r. exclusive (resource_is.Region r)) (in_name_order (region ∷ more))) _ (in_map (λ r. exclusive (resource_is.Region r)) one (in_name_order (region ∷ more)) (in_ordered one (region ∷ more) among))))
 
 pub merge_new : (region : Region) (more : List Region) (first : ℕ) → IsIn (exclusive (resource_is.Region (record { table = region.table; id = first }))) (merge_asks (region ∷ more) first)
 merge_new region more first = inr (inr (in_right _ (map (λ r. exclusive (resource_is.Region r)) (in_name_order (region ∷ more))) _ (inl refl)))
 
--- who is in the list by name is in it
-pub order_at : (o : Rattle.std.specs.declared.cmp.Ordering.Ordering) (one region first : Region) (more rest : List Region) → IsIn one (with_region_at o region first more rest) → (IsIn one rest → (one ≡ region) ⊎ IsIn one more) → (one ≡ region) ⊎ IsIn one (first ∷ more)
-order_at Rattle.std.specs.declared.cmp.Ordering.TheVariants.Less one region first more rest h k = h
-order_at Rattle.std.specs.declared.cmp.Ordering.TheVariants.Equal one region first more rest h k = h
-order_at Rattle.std.specs.declared.cmp.Ordering.TheVariants.Greater one region first more rest (inl same) k = inr (inl same)
-order_at Rattle.std.specs.declared.cmp.Ordering.TheVariants.Greater one region first more rest (inr among) k = elim (k among) [ inl same ↦ inl same | inr m ↦ inr (inr m) ]
-
-pub order_with : (one region : Region) (list : List Region) → IsIn one (with_region region list) → (one ≡ region) ⊎ IsIn one list
-order_with one region [] h = h
-order_with one region (first ∷ more) h = order_at (region_cmp region first) one region first more (with_region region more) h (λ k. order_with one region more k)
-
-pub order_has : (one : Region) (list : List Region) → IsIn one (in_name_order list) → IsIn one list
-order_has one [] h = h
-order_has one (region ∷ more) h = elim (order_with one region (in_name_order more) h) [ inl same ↦ inl same | inr among ↦ inr (order_has one more among) ]
-
 pub mark_within : (args : Args) (there : Catalog) (list : List Region) → ((r : Region) → IsIn r list → IsIn (exclusive (resource_is.Region r)) (asks args)) → Within args (mark_merged there list)
 mark_within args there [] each = tt
-mark_within args there (region ∷ more) each = (covers_from args (resource_is.Region region) (key_is.Region region) (each region (inl refl)) (same_region-itself region), mark_within args there more (λ r among. each r (inr among)))
+mark_within args there (region ∷ more) each = (covers_from args (resource_is.Region region) (key_is.Region region) (each region (inl refl)) (same_region-refl region), mark_within args there more (λ r among. each r (inr among)))
 
 pub merge_within : (there : Catalog) (regions : List Region) (first f : ℕ) → Within (args_are.Root (request_is.MergeRegions regions) first) (merge_edits there regions first)
 merge_within there regions first f = within_append (args_are.Root (request_is.MergeRegions regions) first) (mark_merged there (in_name_order regions)) (add_merged there first regions regions)
-    (mark_within (args_are.Root (request_is.MergeRegions regions) first) there (in_name_order regions) (λ r among. merge_own regions first r (order_has r regions among)))
+    (mark_within (args_are.Root (request_is.MergeRegions regions) first) there (in_name_order regions) (λ r among. merge_own regions first r (out_ordered r regions among)))
     (added regions refl)
   where
     one_merged : (region : Region) (more : List Region) → regions ≡ region ∷ more → (parts : List Merged) → Within (args_are.Root (request_is.MergeRegions regions) first) (merged_of there region.table first parts)
     one_merged region more e [] = tt
-    one_merged region more e (part ∷ parts) = (covers_from (args_are.Root (request_is.MergeRegions regions) first) (resource_is.Region (record { table = region.table; id = first })) (region_key region.table first) (subst (λ l. IsIn (exclusive (resource_is.Region (record { table = region.table; id = first }))) (merge_asks l first)) (sym e) (merge_new region more first)) (same_region-itself (record { table = region.table; id = first })), tt)
+    one_merged region more e (part ∷ parts) = (covers_from (args_are.Root (request_is.MergeRegions regions) first) (resource_is.Region (record { table = region.table; id = first })) (region_key region.table first) (subst (λ l. IsIn (exclusive (resource_is.Region (record { table = region.table; id = first }))) (merge_asks l first)) (sym e) (merge_new region more first)) (same_region-refl (record { table = region.table; id = first })), tt)
 
     added : (list : List Region) → regions ≡ list → Within (args_are.Root (request_is.MergeRegions regions) first) (add_merged there first list regions)
     added [] e = tt
@@ -150,11 +100,11 @@ split_within there region key first = by (range_in (there (key_is.Region region)
     by : (o : Option KeyRange) → Within (args_are.Root (request_is.SplitRegion region key) first) (split_range there region key first o)
     by None = tt
     by (Some range) = (
-      covers_from (args_are.Root (request_is.SplitRegion region key) first) (resource_is.Region region) (key_is.Region region) (inr (inr (inl refl))) (same_region-itself region),
+      covers_from (args_are.Root (request_is.SplitRegion region key) first) (resource_is.Region region) (key_is.Region region) (inr (inr (inl refl))) (same_region-refl region),
       (
-        covers_from (args_are.Root (request_is.SplitRegion region key) first) (resource_is.Region (record { table = region.table; id = first })) (region_key region.table first) (inr (inr (inr (inl refl)))) (same_region-itself (record { table = region.table; id = first })),
+        covers_from (args_are.Root (request_is.SplitRegion region key) first) (resource_is.Region (record { table = region.table; id = first })) (region_key region.table first) (inr (inr (inr (inl refl)))) (same_region-refl (record { table = region.table; id = first })),
         (
-          covers_from (args_are.Root (request_is.SplitRegion region key) first) (resource_is.Region (record { table = region.table; id = first + 1 })) (region_key region.table (first + 1)) (inr (inr (inr (inr (inl refl))))) (same_region-itself (record { table = region.table; id = first + 1 })),
+          covers_from (args_are.Root (request_is.SplitRegion region key) first) (resource_is.Region (record { table = region.table; id = first + 1 })) (region_key region.table (first + 1)) (inr (inr (inr (inr (inl refl))))) (same_region-refl (record { table = region.table; id = first + 1 })),
           tt,
         ),
       ),

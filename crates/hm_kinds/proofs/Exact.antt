@@ -1,5 +1,5 @@
 -- The kinds of exact rows: a move, whose deed is no edit where the region was ready; others have no deed.
-use Rattle.std.proofs.Common.{◌≡◌, ℕ, List, [], ◌∷◌, true, false, ◌||◌, cond, Option, Some, None, refl, ap, sym, ◌∙◌, subst, slice_get}
+use Rattle.std.proofs.Common.{◌≡◌, ℕ, List, [], true, false, cond, Option, Some, None, refl, ap, sym, ◌∙◌, slice_get}
 use Rattle.std.specs.Prelude.{Ok}
 use Rattle.std.proofs.lemmas.Bool.{or_left, or_right, true≢false}
 use Rattle.std.proofs.lemmas.Option.{none-some, same_Some}
@@ -40,7 +40,7 @@ IsExactKind args = exact_rows (kind_of args) ≡ [] → ⊥
 guards_read : (args : Args) (key : CatKey) → reads args key ≡ true → guards args key ≡ true
 guards_read args key on = or_right (Rattle.hm_model.specs.Reads.covers args key) (reads args key) on
 
-unfailed : (next : ℕ) (cause : Option Cause) → failing (checked next cause).answer ≡ None → cause ≡ None
+pub unfailed : (next : ℕ) (cause : Option Cause) → failing (checked next cause).answer ≡ None → cause ≡ None
 unfailed next None h = refl
 unfailed next (Some cause) h = absurd (none-some cause (sym h))
 

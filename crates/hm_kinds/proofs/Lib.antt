@@ -19,3 +19,4 @@ pub mod Roots
 pub mod Effects
 pub mod Kids
 pub mod Editless
+pub mod Laying

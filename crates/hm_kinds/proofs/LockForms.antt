@@ -1,5 +1,5 @@
 -- Who covers a row clashes with everybody who guards it: by the forms of what each kind asks for.
-use Rattle.std.proofs.Common.{◌≡◌, ℕ, ◌+◌, List, [], ◌∷◌, ◌++◌, Bool, true, false, ◌&&◌, ◌||◌, ◌==◌, not, map, Option, Some, None, cond, refl, ap, sym, ◌∙◌, subst, inl, inr, ◌⊎◌}
+use Rattle.std.proofs.Common.{◌≡◌, ℕ, ◌+◌, List, [], ◌∷◌, ◌++◌, true, ◌&&◌, ◌||◌, map, None, refl, ap, sym, subst, inl, inr, ◌⊎◌}
 use Rattle.std.specs.List.{list_any}
 use Rattle.std.proofs.lemmas.Bool.{and_parts, false≢true, or_cases, or_right, true≢false}
 use Rattle.std.proofs.lemmas.Option.{none-some}
@@ -11,7 +11,6 @@ use Rattle.hm_data.specs.declared.args.Args.TheVariants as args_are
 use Rattle.hm_data.specs.declared.catalog.CatKey.{CatKey}
 use Rattle.hm_data.specs.declared.catalog.CatKey.TheVariants as key_is
 use Rattle.hm_data.specs.declared.request.Request.TheVariants as request_is
-use Rattle.hm_model.specs.Keys.{same_table}
 use Rattle.hm_model.specs.Locks.{Clash, IsIn, asks, exclusive, in_name_order, region_alone, request_asks, shared, table_alone, table_shared}
 use Rattle.hm_model.specs.Reads.{covers, guards, is_over, is_ns, is_ns_or_table_in, is_region, is_table, reads}
 use Rattle.hm_model.specs.Requests.{wrong_in}
@@ -20,7 +19,8 @@ use Rattle.hm_model.specs.declared.lock.Resource.{Resource}
 use Rattle.hm_model.specs.declared.lock.Resource.TheVariants as resource_is
 use Rattle.hm_model.proofs.KeyTests.{bytes_eq-is, same_region-is, same_table-is}
 use Rattle.hm_model.proofs.Siblings.{merge_is, one_table}
-use Rattle.hm_kinds.proofs.Covering.{order_has, rows_table}
+use Rattle.hm_model.proofs.Distinct.{out_ordered}
+use Rattle.hm_kinds.proofs.Covering.{rows_table}
 
 -- a request that can be submitted; any other procedure
 abbrev pub IsRight : Args → Type 0
@@ -151,7 +151,7 @@ merge_founded [] first sound = λ resource never. absurd never
 merge_founded (region ∷ more) first sound =
     regions_founded region.table (map (λ r. exclusive (resource_is.Region r)) (in_name_order (region ∷ more)) ++ region_alone region.table first ∷ [])
     (all_map region.table (in_name_order (region ∷ more)) (region_alone region.table first ∷ [])
-    (λ r among. sym (one_table region more (merge_is (region ∷ more) sound).siblings r (order_has r (region ∷ more) among)))
+    (λ r among. sym (one_table region more (merge_is (region ∷ more) sound).siblings r (out_ordered r (region ∷ more) among)))
     (all_cons region.table (record { table = region.table; id = first }) [] refl (all_none region.table)))
 
 server_founded : (server : Server) → Founded (exclusive (resource_is.Server server) ∷ [])

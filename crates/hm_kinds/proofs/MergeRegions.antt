@@ -36,8 +36,9 @@ use Rattle.hm_model.specs.Views.{regions_in}
 use Rattle.hm_model.specs.declared.merged.Merged.{Merged}
 use Rattle.hm_model.proofs.KeyTests.{same_region-refl, same_table-refl}
 use Rattle.hm_model.proofs.ValidSheets.{is_last}
+use Rattle.hm_model.proofs.Distinct.{out_ordered}
 use Rattle.hm_kinds.proofs.Clause.{Serves, Sight, Stepped, checks_so, done_so, edits_so, knows, one_order, quiet_so, sees}
-use Rattle.hm_kinds.proofs.Covering.{merge_within, order_has}
+use Rattle.hm_kinds.proofs.Covering.{merge_within}
 use Rattle.hm_kinds.proofs.Quiet.{quiet_layout, quiet_moves}
 use Rattle.hm_kinds.proofs.Within.{Alike, alike_append, alike_edited}
 
@@ -87,7 +88,7 @@ mark_alike (region ∷ more) one other same = (refl, ap (option_map (in_status s
 
 merge_alike : (regions : List Region) (first : ℕ) (one other : Catalog) → Agree regions one other → Alike (merge_edits one regions first) (merge_edits other regions first)
 merge_alike regions first one other same = alike_append (mark_merged one (in_name_order regions)) (mark_merged other (in_name_order regions)) (add_merged one first regions regions) (add_merged other first regions regions)
-    (mark_alike (in_name_order regions) one other (λ r among. same r (order_has r regions among))) (by regions)
+    (mark_alike (in_name_order regions) one other (λ r among. same r (out_ordered r regions among))) (by regions)
   where
     parts : (table : TableName) (list : List Merged) → Alike (merged_of one table first list) (merged_of other table first list)
     parts table [] = tt

@@ -1,5 +1,5 @@
 -- All kinds of roots that list their rows: how far one is, and its clause.
-use Rattle.std.proofs.Common.{◌≡◌, ℕ, List, [], ◌∷◌, None, sym}
+use Rattle.std.proofs.Common.{◌≡◌, ℕ, List, [], None, sym}
 use Rattle.std.proofs.lemmas.Option.{none-some}
 use Rattle.hm_data.specs.declared.args.Args.{Args}
 use Rattle.hm_data.specs.declared.args.Args.TheVariants as args_are
@@ -9,7 +9,6 @@ use Rattle.hm_data.specs.declared.request.Request.TheVariants as request_is
 use Rattle.hm_model.specs.Catalog.{Catalog}
 use Rattle.hm_model.specs.Kinds.{kind_of}
 use Rattle.hm_model.specs.Lists.{Line, exact_rows}
-use Rattle.hm_model.proofs.ExactRows.{cons_nil}
 use Rattle.hm_kinds.proofs.Clause.{Serves}
 use Rattle.hm_kinds.proofs.Covering.{rows_table}
 use Rattle.hm_kinds.proofs.CreateNamespace.{Making, create_namespace_serves}
@@ -21,6 +20,7 @@ use Rattle.hm_kinds.proofs.DisableTable.{Disabling, disable_table_serves}
 use Rattle.hm_kinds.proofs.ModifyTable.{Modifying, modify_table_serves}
 use Rattle.hm_kinds.proofs.SplitRegion.{Splitting, split_region_serves}
 use Rattle.hm_kinds.proofs.MergeRegions.{Merging, merge_regions_serves}
+use Rattle.hm_model.proofs.Small.{cons_nil}
 
 -- how far a request is
 abbrev pub StageOf : Request → ℕ → Catalog → List Line → List Edit → Type 0

@@ -1,8 +1,8 @@
 -- What an entry leaves alone of other trees.
 use Rattle.hm_model.proofs.Parted.{no_node}
-use Rattle.std.proofs.Common.{Bool, List, None, Option, Some, [], ap, arith, false, if◌then◌else◌, inl, inr, is_none, not, refl, slice_get, subst, suc, sym, true, zero, ℕ, ◌&&◌, ◌+◌, ◌-◌, ◌<◌, ◌==◌, ◌||◌, ◌∙◌, ◌∷◌, ◌≡◌, ◌≢◌}
+use Rattle.std.proofs.Common.{Bool, List, None, Option, Some, [], ap, arith, false, if◌then◌else◌, inl, inr, is_none, not, refl, slice_get, subst, sym, true, ℕ, ◌&&◌, ◌+◌, ◌-◌, ◌==◌, ◌||◌, ◌∙◌, ◌∷◌, ◌≡◌, ◌≢◌}
 use Rattle.std.specs.Option.{option_map, option_or}
-use Rattle.std.proofs.lemmas.Bool.{and_from, and_left, cases_eq, cases_lt, cond-false, eq-eqb, false≢true, ne_eqb, true≢false}
+use Rattle.std.proofs.lemmas.Bool.{and_left, cases_eq, cases_lt, cond-false, eq-eqb, false≢true, ne_eqb, true≢false}
 use Rattle.std.proofs.lemmas.Option.{none-some, same_Some}
 use Rattle.hm_data.specs.declared.args.Args.{Args}
 use Rattle.hm_data.specs.declared.args.Args.TheVariants as args_are
@@ -17,15 +17,16 @@ use Rattle.hm_model.specs.Catalog.{cat, was}
 use Rattle.hm_model.specs.Forest.{IsForest, Stands}
 use Rattle.hm_model.specs.Journal.{Past}
 use Rattle.hm_model.specs.Laws.{IsGrown}
-use Rattle.hm_model.specs.Phase.{all_below, all_stopped, cause, child_in, children_ended, ended, ended_node, in_tree, is_parent, own_phase, phase, phase_table, root_ended, root_over, stopped_in}
+use Rattle.hm_model.specs.Phase.{all_stopped, cause, child_in, children_ended, ended, ended_node, in_tree, is_parent, own_phase, phase, phase_table, root_ended, root_over, stopped_in}
 use Rattle.hm_model.specs.Places.{has_failed, one_more, tries_of}
 use Rattle.hm_model.specs.Reports.{verb_of}
 use Rattle.hm_model.specs.Rules.{IsLegal}
 use Rattle.hm_model.specs.Tree.{Node, args_in, child_of, children_of, is_top, made, node_of, root_in, root_node, root_of, submitted}
 use Rattle.hm_model.specs.Undo.{is_empty, stack}
 use Rattle.hm_model.proofs.Forest.{forest_all}
-use Rattle.hm_model.proofs.Trees.{all_below_at}
+use Rattle.hm_model.proofs.Trees.{all_below_at, all_below_from}
 use Rattle.hm_model.proofs.Grown.{down_new, down_old, grown_all, made_up_to, nodes_stay, not_stepped, step_new, step_old, submit_new, submit_old, undo_new, undo_old}
+use Rattle.hm_model.proofs.Small.{from_test, implied, top_is}
 
 -- a child that is there
 pub child_is : (pid : ℕ) (up : Option Node) (args : Option Args) (node : Node) → children_of pid up args ≡ Some node → (x : Node) × (a : Args) × (up ≡ Some x) × (args ≡ Some a) × (node ≡ child_of pid x a)
@@ -38,18 +39,9 @@ same_test true b to from = sym (to refl)
 same_test false true to from = from refl
 same_test false false to from = refl
 
-all_below-low : (n : ℕ) (test : ℕ → Bool) → ((q : ℕ) → q < n → test q ≡ true) → all_below n test ≡ true
-all_below-low zero test each = refl
-all_below-low (suc n) test each = and_from (test n) (all_below n test) (each n (omega arith)) (all_below-low n test (λ q lt. each q (omega (arith, lt))))
-
 -- each other procedure of the tree has stopped
 abbrev AllStopped : Past → ℕ → Type 0
 AllStopped J r = (q : ℕ) (x : Node) → node_of J q ≡ Some x → x.root ≡ r → q ≢ r → is_stopped (last_answer J q) ≡ true
-
-from_test : (a b c : Bool) → a ≡ true → b ≡ false → (not a || (b || c)) ≡ true → c ≡ true
-from_test true false c ea eb h = h
-from_test true true c ea eb h = absurd (true≢false eb)
-from_test false b c ea eb h = absurd (false≢true ea)
 
 to_test : (a b c : Bool) → (a ≡ true → b ≡ false → c ≡ true) → (not a || (b || c)) ≡ true
 to_test false b c h = refl
@@ -62,15 +54,11 @@ all_tells J grown r all q x is of differs =
     from_test (in_tree r (node_of J q)) (q == r) (is_stopped (last_answer J q)) (ap (in_tree r) is ∙ eq-eqb x.root r of) (ne_eqb q r differs) (all_below_at (made J + 1) (stopped_in J r) q all (omega (arith, few)))
 
 all_from : (J : Past) (r : ℕ) → AllStopped J r → all_stopped J r ≡ true
-all_from J r each = all_below-low (made J + 1) (stopped_in J r) (λ q lt. one q (node_of J q) refl)
+all_from J r each = all_below_from (made J + 1) (stopped_in J r) (λ q lt. one q (node_of J q) refl)
   where
     one : (q : ℕ) (o : Option Node) → node_of J q ≡ o → (not (in_tree r o) || ((q == r) || is_stopped (last_answer J q))) ≡ true
     one q None e = refl
     one q (Some x) e = to_test (x.root == r) (q == r) (is_stopped (last_answer J q)) (λ of differs. each q x e (elim (cases_eq x.root r) [ inl same ↦ same | inr other ↦ absurd (true≢false (sym of ∙ ne_eqb x.root r other)) ]) (λ same. absurd (true≢false (sym (eq-eqb q r same) ∙ differs))))
-
-from_child : (a b : Bool) → a ≡ true → (not a || b) ≡ true → b ≡ true
-from_child true b e h = h
-from_child false b e h = absurd (false≢true e)
 
 to_child : (a b : Bool) → (a ≡ true → b ≡ true) → (not a || b) ≡ true
 to_child false b h = refl
@@ -79,10 +67,10 @@ to_child true b h = h refl
 child_tells : (J : Past) → IsGrown J → (p : ℕ) → children_ended J p ≡ true → (q : ℕ) (x : Node) → node_of J q ≡ Some x → is_parent p x.above ≡ true → is_stopped (last_answer J q) ≡ true
 child_tells J grown p all q x is parent =
     let few = (made_up_to J grown q x is).1 in
-    from_child (child_in p (node_of J q)) (is_stopped (last_answer J q)) (ap (child_in p) is ∙ parent) (all_below_at (made J + 1) (λ q. not (child_in p (node_of J q)) || is_stopped (last_answer J q)) q all (omega (arith, few)))
+    implied (child_in p (node_of J q)) (is_stopped (last_answer J q)) (ap (child_in p) is ∙ parent) (all_below_at (made J + 1) (λ q. not (child_in p (node_of J q)) || is_stopped (last_answer J q)) q all (omega (arith, few)))
 
 child_from : (J : Past) (p : ℕ) → ((q : ℕ) (x : Node) → node_of J q ≡ Some x → is_parent p x.above ≡ true → is_stopped (last_answer J q) ≡ true) → children_ended J p ≡ true
-child_from J p each = all_below-low (made J + 1) (λ q. not (child_in p (node_of J q)) || is_stopped (last_answer J q)) (λ q lt. one q (node_of J q) refl)
+child_from J p each = all_below_from (made J + 1) (λ q. not (child_in p (node_of J q)) || is_stopped (last_answer J q)) (λ q lt. one q (node_of J q) refl)
   where
     one : (q : ℕ) (o : Option Node) → node_of J q ≡ o → (not (child_in p o) || is_stopped (last_answer J q)) ≡ true
     one q None e = refl
@@ -140,10 +128,6 @@ module _ (J J' : Past) (grown : IsGrown J) (grown' : IsGrown J') (forest : IsFor
           let own : node.root ≡ p = subst (λ l. Stands J p l node.root) (top_is node.above e) (forest.stands p node is) in
           let here : p ≡ s = sym own ∙ of in
           rw e (ap (root_ended J') here ∙ same_root_ended node (ap (node_of J) (sym here) ∙ is) of ∙ ap (root_ended J) (sym here))
-        where
-          top_is : (above : List ℕ) → is_top above ≡ true → above ≡ []
-          top_is [] e = refl
-          top_is (up ∷ above) e = absurd (false≢true e)
 
   pub same_tree : IsSameTree J J' s
   same_tree = record {

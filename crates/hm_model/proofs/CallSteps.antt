@@ -1,5 +1,5 @@
 -- One step of a procedure that makes a call, by its row alone.
-use Rattle.std.proofs.Common.{◌≡◌, ◌≢◌, ℕ, List, [], Bool, true, false, not, Option, Some, None, refl, ap, sym, ◌∙◌, subst, inl, inr, ◌⊎◌, slice_get}
+use Rattle.std.proofs.Common.{Bool, List, None, Option, Some, [], ap, false, inl, inr, not, refl, slice_get, subst, sym, true, ℕ, ◌==◌, ◌∙◌, ◌≡◌, ◌≢◌, ◌⊎◌}
 use Rattle.std.proofs.lemmas.Bool.{and_right, cond-false, cond-true, false≢true, true≢false}
 use Rattle.std.proofs.lemmas.Option.{none-some, same_Some}
 use Rattle.hm_names.specs.Server.{Server}
@@ -13,9 +13,11 @@ use Rattle.hm_data.specs.declared.args.Args.TheVariants as args_are
 use Rattle.hm_data.specs.declared.call.Told.{Told}
 use Rattle.hm_data.specs.declared.call.Told.TheVariants as told_is
 use Rattle.hm_data.specs.declared.call.Verb.{Verb}
+use Rattle.hm_data.specs.declared.call.Verb.TheVariants as verb_is
 use Rattle.hm_data.specs.declared.sheet.Row.{Row}
 use Rattle.hm_data.specs.declared.step.StepIn.{StepIn}
 use Rattle.hm_data.specs.declared.step.StepOut.{StepOut}
+use Rattle.hm_data.specs.Numbers.{told_number}
 use Rattle.hm_model.specs.Acts.{act_answer}
 use Rattle.hm_model.specs.Answers.{last_answer, report_of, row_after, row_of}
 use Rattle.hm_model.specs.CallActs.{ends_as_told, settle_layout, unless_gone}
@@ -31,6 +33,8 @@ use Rattle.hm_model.specs.Outs.{fails}
 use Rattle.hm_model.specs.Tree.{Node}
 use Rattle.hm_model.specs.Whereabouts.{called_by}
 use Rattle.hm_model.specs.Verbs.{verb_in}
+use Rattle.hm_model.specs.Wanted.{server_of}
+use Rattle.hm_model.specs.Reports.{fits_verb}
 use Rattle.hm_model.proofs.PlainActs.{is_caller}
 
 abbrev pub node_at : List ℕ → ℕ → Args → ℕ → Node
@@ -44,6 +48,17 @@ is_laying args = false
 pub laying_not_caller : (args : Args) → is_laying args ≡ true → is_caller args ≡ false
 laying_not_caller (args_are.LayoutCall own) h = refl
 laying_not_caller args h = absurd (false≢true h)
+
+-- whose server is called is of that server
+pub called_server : (args : Args) (server : Server) → called_by args ≡ Some server → server_of args ≡ Some server
+called_server (args_are.AssignCall region server) s is = is
+called_server (args_are.CloseCall region server) s is = is
+called_server args s is = absurd (none-some s is)
+
+-- a fencing is only ever told as done
+pub fenced_only : (server : Server) (told : Told) → fits_verb (verb_is.Fence server) told ≡ true → (told_number told == told_number told_is.Fenced) ≡ true
+fenced_only server told_is.Fenced fits = refl
+fenced_only server told fits = absurd (false≢true fits)
 
 -- the answer ends the procedure: its server is fenced, it has the report, or it failed
 abbrev pub Ending : Past → ℕ → Args → Option Answer → Answer → Type 0
@@ -63,8 +78,8 @@ pub record CallOut (J : Past) (p : ℕ) (args : Args) (verb : Verb) (was : Optio
 abbrev pub CallReady : Past → ℕ → Node → Option Answer → Type 0
 CallReady J p node was = (was ≡ None) ⊎ ((was ≡ Some (answer_is.Await 1)) × IsAnswered J p node)
 
-not_cut : (row : Row) (at : StepIn) → row.after ≡ true → row_answer row at ≡ act_answer row.act row.next at
-not_cut row at late = cond-false (is_cut_off row at) (fails cause_is.Aborted) (act_answer row.act row.next at) (and_right at.aborted (not row.after) (ap not late))
+pub uncut : (row : Row) (at : StepIn) → row.after ≡ true → row_answer row at ≡ act_answer row.act row.next at
+uncut row at late = cond-false (is_cut_off row at) (fails cause_is.Aborted) (act_answer row.act row.next at) (and_right at.aborted (not row.after) (ap not late))
 
 module _ (J : Past) (p : ℕ) (args : Args) (verb : Verb) (was : Option Answer) (out : StepOut) where
   by_out : (made : StepOut) → out ≡ made → CallOut J p args verb was made → CallOut J p args verb was out
@@ -111,7 +126,7 @@ row_at kind place row expected n e there is = same_Some row expected (sym is ∙
 module _ (J : Past) (p : ℕ) (pick : Option Server) (out : StepOut) (row : Row) (above : List ℕ) (root first : ℕ) where
   -- the answer at a row after the point, by its act
   late_out : (args : Args) (expected : Row) → row ≡ expected → expected.after ≡ true → out ≡ row_answer row (step_input J p (node_at above root args first) pick) → out ≡ act_answer expected.act expected.next (step_input J p (node_at above root args first) pick)
-  late_out args expected same late is = is ∙ ap (λ x. row_answer x (step_input J p (node_at above root args first) pick)) same ∙ not_cut expected (step_input J p (node_at above root args first) pick) late
+  late_out args expected same late is = is ∙ ap (λ x. row_answer x (step_input J p (node_at above root args first) pick)) same ∙ uncut expected (step_input J p (node_at above root args first) pick) late
 
   early_out : (args : Args) (verb : Verb) (expected : Row) → row ≡ expected → is_laying args ≡ true → (b : Bool) → is_cut_off expected (step_input J p (node_at above root args first) pick) ≡ b
       → (out ≡ act_answer expected.act expected.next (step_input J p (node_at above root args first) pick) → CallOut J p args verb (last_answer J p) out)

@@ -1,11 +1,13 @@
 -- The calls of a legal journal, and their reports.
-use Rattle.hm_model.proofs.Parted.{by_parts, no_node}
+use Rattle.hm_model.proofs.Parted.{no_node}
 use Rattle.std.proofs.Common.{None, Option, Some, ap, inl, inr, sym, true, ℕ, ◌==◌, ◌∙◌, ◌∷◌, ◌≡◌, ◌≢◌}
 use Rattle.std.specs.Option.{option_or}
 use Rattle.std.proofs.lemmas.Bool.{cases_eq, cond-false, cond-true, eq-eqb, ne_eqb}
 use Rattle.std.proofs.lemmas.Option.{none-some, same_Some}
 use Rattle.hm_data.specs.declared.call.Told.{Told}
+use Rattle.hm_names.specs.Region.{Region}
 use Rattle.hm_data.specs.declared.call.Verb.{Verb}
+use Rattle.hm_data.specs.declared.call.Verb.TheVariants as verb_is
 use Rattle.hm_data.specs.declared.entry.Entry.{Entry}
 use Rattle.hm_data.specs.declared.entry.Entry.TheVariants as entry_is
 use Rattle.hm_model.specs.Answers.{report_of}
@@ -16,6 +18,10 @@ use Rattle.hm_model.specs.Tree.{Node, node_of}
 use Rattle.hm_model.specs.Verbs.{verb_in}
 use Rattle.hm_model.proofs.Grown.{nodes_stay}
 use Rattle.hm_model.proofs.Trees.{grown_all, some_of}
+
+-- to open a region is not to close it
+pub open_close : (r : Region) → verb_is.AssignRegion r ≡ verb_is.CloseRegion r → ⊥
+open_close r e = cc
 
 -- the verb of a call is its procedure's
 pub calls_own : (J : Past) → IsLegal J → (p : ℕ) (verb : Verb) → verb_of J p ≡ Some verb → (node : Node) × (node_of J p ≡ Some node) × (verb_in node.args ≡ Some verb)

@@ -1,5 +1,5 @@
 -- Each server that a procedure or a place of a legal journal names came up.
-use Rattle.std.proofs.lemmas.Bool.{false≢true}
+use Rattle.std.proofs.lemmas.Bool.{and_parts, false≢true, or_cases, or_left, or_right}
 use Rattle.hm_model.specs.Base.{IsBegun, IsWhole, MayStand, PartFits}
 use Rattle.hm_data.specs.declared.part.Part.{Part}
 use Rattle.hm_data.specs.declared.part.Part.TheVariants as part_is
@@ -10,7 +10,7 @@ use Rattle.hm_model.specs.Keys.{same_region}
 use Rattle.hm_model.specs.TransitActs.{is_placed, is_state}
 use Rattle.hm_data.specs.declared.place.Place.{Place}
 use Rattle.hm_data.specs.declared.place.RegionState.TheVariants as place_is
-use Rattle.std.proofs.Common.{◌≡◌, ℕ, ◌+◌, ◌-◌, List, [], ◌∷◌, ◌++◌, Bool, true, false, not, ◌&&◌, ◌||◌, ◌==◌, if◌then◌else◌, Option, Some, None, slice_get, refl, ap, sym, ◌∙◌, subst, inl, inr, ◌⊎◌, zero, suc}
+use Rattle.std.proofs.Common.{◌≡◌, ℕ, ◌+◌, ◌-◌, List, [], ◌∷◌, ◌++◌, Bool, true, false, not, ◌&&◌, ◌||◌, ◌==◌, if◌then◌else◌, Option, Some, None, slice_get, refl, ap, sym, ◌∙◌, subst, inl, inr, zero, suc}
 use Rattle.std.specs.List.{list_any}
 use Rattle.std.specs.declared.cmp.Ordering.{Ordering}
 use Rattle.std.specs.declared.cmp.Ordering.TheVariants.{Less, Equal, Greater}
@@ -73,26 +73,6 @@ any_with f server (first ∷ more) = by (server_cmp server first) refl (any_with
     by Greater e rest = ap (λ b. f first || b) rest ∙ swapped (f first) (f server) (list_any f more)
 
 -- who came up is so later too
-or_left : (a b : Bool) → a ≡ true → (a || b) ≡ true
-or_left true b e = refl
-or_left false b e = absurd (true≢false (sym e))
-
-or_right : (a b : Bool) → b ≡ true → (a || b) ≡ true
-or_right true b e = refl
-or_right false b e = e
-
-or_either : (a b : Bool) → (a || b) ≡ true → (a ≡ true) ⊎ (b ≡ true)
-or_either true b e = inl refl
-or_either false b e = inr e
-
-and_left : (a b : Bool) → (a && b) ≡ true → a ≡ true
-and_left true b e = refl
-and_left false b e = absurd (true≢false (sym e))
-
-and_right : (a b : Bool) → (a && b) ≡ true → b ≡ true
-and_right true b e = e
-and_right false b e = absurd (true≢false (sym e))
-
 pub came_on : (J : Past) (other s : Server) → came_up J s ≡ true → came_up (entry_is.Up other ∷ J) s ≡ true
 came_on J other s came = any_with (λ o. same_server s o) other (servers_of J) ∙ or_right (same_server s other) (came_up J s) came
 
@@ -113,7 +93,7 @@ fenced_stays entry J server fenced = fenced
 part_came : (o : Option (Server × Bool)) (J : Past) (s : Server) {was : Bool} → (was ≡ true → came_up J s ≡ true) → (test : Server × Bool → Bool) → ((both : Server × Bool) → test both ≡ true → same_server s both.0 ≡ true) → elim o as (λ x. Bool) [ None ↦ was | Some both ↦ test both || was ] ≡ true
     → list_any (λ other. same_server s other) (elim o as (λ x. List Server) [ None ↦ servers_of J | Some both ↦ with_server both.0 (servers_of J) ]) ≡ true
 part_came None J s came test own on = came on
-part_came (Some both) J s {was} came test own on = elim (or_either (test both) was on) [
+part_came (Some both) J s {was} came test own on = elim (or_cases (test both) was on) [
   | inl now ↦ any_with (λ o. same_server s o) both.0 (servers_of J) ∙ or_left (same_server s both.0) (came_up J s) (own both now)
   | inr old ↦ any_with (λ o. same_server s o) both.0 (servers_of J) ∙ or_right (same_server s both.0) (came_up J s) (came old)
 ]
@@ -121,12 +101,12 @@ part_came (Some both) J s {was} came test own on = elim (or_either (test both) w
 -- who is live came up
 pub live_came : (J : Past) (s : Server) → is_live J s ≡ true → came_up J s ≡ true
 live_came [] s live = absurd (true≢false (sym live))
-live_came (entry_is.Up other ∷ J) s live = elim (or_either (same_server s other) (is_live J s) live) [
+live_came (entry_is.Up other ∷ J) s live = elim (or_cases (same_server s other) (is_live J s) live) [
   | inl same ↦ any_with (λ o. same_server s o) other (servers_of J) ∙ or_left (same_server s other) (came_up J s) same
   | inr was ↦ came_on J other s (live_came J s was)
 ]
-live_came (entry_is.Down other ∷ J) s live = live_came J s (and_right (not (same_server s other)) (is_live J s) live)
-live_came (entry_is.Base part ∷ J) s live = part_came (part_server part) J s (live_came J s) (λ both. same_server s both.0 && not both.1) (λ both on. and_left (same_server s both.0) (not both.1) on) live
+live_came (entry_is.Down other ∷ J) s live = live_came J s (and_parts (not (same_server s other)) (is_live J s) live).1
+live_came (entry_is.Base part ∷ J) s live = part_came (part_server part) J s (live_came J s) (λ both. same_server s both.0 && not both.1) (λ both on. (and_parts (same_server s both.0) (not both.1) on).0) live
 live_came (entry ∷ J) s live = live_came J s live
 
 -- the args of children
@@ -163,8 +143,8 @@ module _ (J : Past) (legal : IsLegal J) (begun : IsBegun J) (was : NamedCame J) 
     pick_came : (o : Option Server) (needed : Bool) → is_pick_right J pid.0 facts.node o needed ≡ true → OfOption (Came J) o
     pick_came None needed right s e = absurd (none-some s e)
     pick_came (Some server) needed right s e =
-        let fits = and_right needed (pick_fits J pid.0 facts.node server) right in
-        subst (Came J) (same_Some server s e) (live_came J server (and_left (is_live J server) _ fits))
+        let fits = (and_parts needed (pick_fits J pid.0 facts.node server) right).1 in
+        subst (Came J) (same_Some server s e) (live_came J server (and_parts (is_live J server) _ fits).0)
 
     sees : SeesNamed (Came J) (step_input J pid.0 facts.node pick)
     sees = record {
@@ -286,10 +266,10 @@ fence_names J came p (Some node) is s e = came.args p node is s (fenced_server n
 
 pub fenced_came : (J : Past) → IsLegal J → (s : Server) → is_fenced J s ≡ true → came_up J s ≡ true
 fenced_came [] legal s e = absurd (true≢false (sym e))
-fenced_came (entry_is.Report call told ∷ J) legal s e = elim (or_either ((told_number told == told_number told_is.Fenced) && fences_if (node_of J call.0) s) (is_fenced J s) e) [
-  | inl now ↦ fence_names J (named_came J legal.0) call.0 (node_of J call.0) refl s (and_right (told_number told == told_number told_is.Fenced) (fences_if (node_of J call.0) s) now)
+fenced_came (entry_is.Report call told ∷ J) legal s e = elim (or_cases ((told_number told == told_number told_is.Fenced) && fences_if (node_of J call.0) s) (is_fenced J s) e) [
+  | inl now ↦ fence_names J (named_came J legal.0) call.0 (node_of J call.0) refl s (and_parts (told_number told == told_number told_is.Fenced) (fences_if (node_of J call.0) s) now).1
   | inr was ↦ fenced_came J legal.0 s was
 ]
 fenced_came (entry_is.Up other ∷ J) legal s e = came_on J other s (fenced_came J legal.0 s e)
-fenced_came (entry_is.Base part ∷ J) legal s e = part_came (part_server part) J s (fenced_came J legal.0 s) (λ both. same_server s both.0 && both.1) (λ both on. and_left (same_server s both.0) both.1 on) e
+fenced_came (entry_is.Base part ∷ J) legal s e = part_came (part_server part) J s (fenced_came J legal.0 s) (λ both. same_server s both.0 && both.1) (λ both on. (and_parts (same_server s both.0) both.1 on).0) e
 fenced_came (entry ∷ J) legal s e = fenced_came J legal.0 s e

@@ -1,14 +1,13 @@
 -- How many procedures haven't ended.
-use Rattle.std.proofs.Common.{Bool, List, [], None, Option, Some, ap, arith, false, inl, inr, is_some, not, refl, suc, sym, true, zero, ℕ, ◌&&◌, ◌||◌, ◌+◌, ◌<◌, ◌↔◌, ◌∙◌, ◌∷◌, ◌≡◌, ◌≢◌, ◌≤◌, ◌⊎◌}
+use Rattle.std.proofs.Common.{Bool, None, Option, Some, ap, arith, false, inl, inr, not, refl, suc, sym, true, zero, ℕ, ◌&&◌, ◌+◌, ◌<◌, ◌∙◌, ◌≡◌, ◌≢◌, ◌≤◌, ◌⊎◌}
 use Rattle.std.proofs.lemmas.Bool.{and_from, and_parts, cases_Bool, cases_eq, false_from_ne_true, false≢true, not-true, not_from_false, true_from_ne_false, true≢false}
-use Rattle.std.proofs.lemmas.Option.{none-some}
-use Rattle.hm_model.proofs.Grown.{grown_all, made_up_to, not_stepped, step_made, step_node, stepped, submit_new, submit_old}
+use Rattle.hm_model.proofs.Grown.{grown_all, made_up_to}
 use Rattle.hm_model.specs.Counts.{count_below, one_if}
 use Rattle.hm_model.specs.Journal.{Past}
-use Rattle.hm_model.specs.Phase.{cause, ended}
+use Rattle.hm_model.specs.Phase.{ended}
 use Rattle.hm_model.specs.Records.{unfinished}
 use Rattle.hm_model.specs.Rules.{IsLegal}
-use Rattle.hm_model.specs.Tree.{Node, is_root, is_root_in, is_top, made, node_of, submitted}
+use Rattle.hm_model.specs.Tree.{Node, is_root, is_root_in, made, node_of}
 
 pub count_same : (n : ℕ) (one other : ℕ → Bool) → ((q : ℕ) → q < n → one q ≡ other q) → count_below one n ≡ count_below other n
 count_same zero one other same = refl
@@ -39,6 +38,23 @@ count_none (suc n) test none =
     let here : one_if (test n) ≡ 0 = ap one_if (none n (omega arith)) in
     omega (arith, rest, here)
 
+-- at most one, where any two are the same
+pub count_most : (n : ℕ) (test : ℕ → Bool) → ((i j : ℕ) → i < n → j < n → test i ≡ true → test j ≡ true → i ≡ j) → count_below test n ≤ 1
+count_most zero test one = omega arith
+count_most (suc n) test one = elim (cases_Bool (test n)) [
+  | inr off ↦ (
+      let rest = count_most n test (λ i j li lj ti tj. one i j (omega (arith, li)) (omega (arith, lj)) ti tj) in
+      let none : one_if (test n) ≡ 0 = ap one_if off in
+      omega (arith, rest, none))
+  | inl on ↦ (
+      let rest = count_none n test (λ q lt. elim (cases_Bool (test q)) [
+        | inr off ↦ off
+        | inl too ↦ (let same = one q n (omega (arith, lt)) (omega arith) too on in absurd (omega (arith, lt, same)))
+      ]) in
+      let here : one_if (test n) ≡ 1 = ap one_if on in
+      omega (arith, rest, here))
+]
+
 -- one is found, or there is none
 pub find_below : (n : ℕ) (test : ℕ → Bool) → ((q : ℕ) × (q < n) × (test q ≡ true)) ⊎ ((q : ℕ) → q < n → test q ≡ false)
 find_below zero test = inr (λ q lt. absurd (omega (arith, lt)))
@@ -59,7 +75,7 @@ count_some (suc n) test p lt on = elim (cases_eq p n) [
   | inr differs ↦ let rest = count_some n test p (omega (arith, lt, differs)) on in omega (arith, rest)
 ]
 
-root_node_of : (J : Past) (q : ℕ) → is_root J q ≡ true → (node : Node) × (node_of J q ≡ Some node)
+pub root_node_of : (J : Past) (q : ℕ) → is_root J q ≡ true → (node : Node) × (node_of J q ≡ Some node)
 root_node_of J q on = by (node_of J q) refl on
   where
     by : (o : Option Node) → node_of J q ≡ o → is_root_in o ≡ true → (node : Node) × (node_of J q ≡ Some node)

@@ -1,14 +1,13 @@
 -- Of the procedures that a step makes at most one moves a region.
-use Rattle.std.proofs.Common.{◌≡◌, ℕ, zero, suc, ◌+◌, ◌-◌, ◌≤◌, ◌==◌, List, [], ◌∷◌, length, map, nat_le, take, drop, Bool, true, false, not, ◌&&◌, cond, Option, Some, None, refl, ap, sym, ◌∙◌, subst, arith, inl, inr, ◌⊎◌, slice_get}
+use Rattle.std.proofs.Common.{◌≡◌, ℕ, zero, suc, ◌+◌, ◌-◌, ◌≤◌, List, [], ◌∷◌, length, map, nat_le, take, drop, Bool, true, false, ◌&&◌, cond, Option, Some, None, refl, ap, sym, ◌∙◌, subst, arith, inl, inr, ◌⊎◌, slice_get}
 use Rattle.std.specs.List.{list_all}
-use Rattle.std.proofs.lemmas.Bool.{and_parts, eq-eqb, false≢true, not-true, true≢false}
+use Rattle.std.proofs.lemmas.Bool.{and_parts, false≢true}
 use Rattle.std.proofs.lemmas.Option.{none-some, same_Some}
 use Rattle.std.specs.declared.cmp.Ordering.{Ordering}
 use Rattle.std.specs.declared.cmp.Ordering.TheVariants.{Equal, Greater, Less}
 use Rattle.hm_names.specs.Order.{region_cmp}
 use Rattle.hm_names.specs.Region.{Region}
 use Rattle.hm_names.specs.declared.table.TableName.{TableName}
-use Rattle.hm_data.specs.Keys.{key_cmp}
 use Rattle.hm_data.specs.declared.act.Act.{Act}
 use Rattle.hm_data.specs.declared.act.Act.TheVariants as act_is
 use Rattle.hm_data.specs.declared.answer.Cause.{Cause}
@@ -40,17 +39,18 @@ use Rattle.hm_model.specs.Outs.{checked, edits_rows, given, spawns}
 use Rattle.hm_model.specs.Pieces.{Batch, adding, batches, by_64, dropping, numbers_from, ranges_between, transits, with_batch}
 use Rattle.hm_model.specs.RegionActs.{cut_of, merge_cause, regions_for}
 use Rattle.hm_model.specs.Requests.{are_apart, are_siblings, wrong_in}
-use Rattle.hm_model.specs.RowLaws.{AllBehind, AreInOrder}
+use Rattle.hm_model.specs.RowLaws.{AreInOrder}
 use Rattle.hm_model.specs.RowsSaid.{all_among, in_state, in_version, keep_region, live_among, regions_among}
 use Rattle.hm_model.specs.Tree.{args_in}
 use Rattle.hm_model.specs.Undoing.{closed_by}
 use Rattle.hm_model.specs.Views.{asked_of, bounds_of, first_id_of, namespace_of, region_of, regions_in, table_of}
 use Rattle.hm_model.specs.Wanted.{ids_of, server_of}
 use Rattle.hm_model.specs.Whereabouts.{moved_by}
-use Rattle.hm_model.proofs.KeyTests.{key_cmp-same, same_table-is}
+use Rattle.hm_model.proofs.KeyTests.{same_table-is}
 use Rattle.hm_model.proofs.PlainActs.{is_plain}
 use Rattle.hm_model.proofs.Siblings.{merge_is, not_among}
 use Rattle.hm_model.proofs.InOrder.{InOrder, not_later}
+use Rattle.hm_model.proofs.Rows.{behind_out}
 
 -- each region once
 abbrev pub AreDistinct : List Region → Type 0
@@ -71,7 +71,7 @@ distinct_taken zero list each = tt
 distinct_taken (suc n) [] each = tt
 distinct_taken (suc n) (x ∷ list) each = ((λ among. each.0 (in_taken x n list among)), distinct_taken n list each.1)
 
-out_with : (y region : Region) (list : List Region) → IsIn y (with_region region list) → (y ≡ region) ⊎ IsIn y list
+pub out_with : (y region : Region) (list : List Region) → IsIn y (with_region region list) → (y ≡ region) ⊎ IsIn y list
 out_with y region [] h = h
 out_with y region (first ∷ more) h = by (region_cmp region first) (out_with y region more) h
   where
@@ -89,7 +89,7 @@ distinct_with region (first ∷ more) new each = by (region_cmp region first) (d
     by Equal on = (new, each)
     by Greater on = ((λ h. elim (out_with first region more h) [ inl same ↦ new (inl (sym same)) | inr later ↦ each.0 later ]), on)
 
-out_ordered : (y : Region) (list : List Region) → IsIn y (in_name_order list) → IsIn y list
+pub out_ordered : (y : Region) (list : List Region) → IsIn y (in_name_order list) → IsIn y list
 out_ordered y [] h = h
 out_ordered y (region ∷ more) h = elim (out_with y region (in_name_order more) h) [ inl here ↦ inl here | inr later ↦ inr (out_ordered y more later) ]
 
@@ -127,13 +127,6 @@ among_keys table test asked there (key ∷ keys) y h = by (asked key) (there key
     by true None on h = inr (on h)
     by true (Some row) on h = by_keep key true row on h
 
-key_out : (key : CatKey) (keys : List CatKey) → AllBehind key keys → IsIn key keys → ⊥
-key_out key [] behind h = elim h [ ]
-key_out key (first ∷ keys) behind h = elim h [
-  | inl same ↦ let tied : key_cmp key first ≡ Equal = key_cmp-same key first same in cc (tied, behind.0)
-  | inr later ↦ key_out key keys behind.1 later
-]
-
 pub distinct_among : (table : TableName) (test : CatRow → Bool) (asked : CatKey → Bool) (there : Catalog) (keys : List CatKey) → AreInOrder keys → AreDistinct (regions_among table test (rows_at asked there keys))
 distinct_among table test asked there [] order = tt
 distinct_among table test asked there (key ∷ keys) order = by (asked key) (there key) (distinct_among table test asked there keys order.1)
@@ -142,7 +135,7 @@ distinct_among table test asked there (key ∷ keys) order = by (asked key) (the
     by_keep (key_is.Region region) row e on = at (same_table table region.table && test row)
       where
         at : (b : Bool) → AreDistinct (cond b (region ∷ regions_among table test (rows_at asked there keys)) (regions_among table test (rows_at asked there keys)))
-        at true = ((λ h. key_out key keys order.0 (subst (λ k. IsIn k keys) (sym e) (among_keys table test asked there keys region h))), on)
+        at true = ((λ h. behind_out key keys order.0 (subst (λ k. IsIn k keys) (sym e) (among_keys table test asked there keys region h))), on)
         at false = on
     by_keep key row e on = on
 

@@ -4,13 +4,11 @@ use Rattle.hm_data.specs.declared.part.Part.{Part}
 use Rattle.hm_data.specs.declared.part.Part.TheVariants as part_is
 use Rattle.std.proofs.Common.{◌≡◌, ℕ, zero, suc, ◌+◌, List, [], ◌∷◌, Bool, true, false, ◌&&◌, ◌==◌, nat_lt, Option, Some, None, cond, refl, ap, sym, ◌∙◌, subst, inl, inr, slice_get, not, ◌||◌}
 use Rattle.std.specs.List.{list_all, list_any}
-use Rattle.std.proofs.lemmas.Bool.{and_parts, cases_Bool, cond-false, cond-true, eqb-true, false≢true}
+use Rattle.std.proofs.lemmas.Bool.{and_parts, cases_Bool, cond-false, cond-true, eqb-true}
 use Rattle.std.proofs.lemmas.Option.{none-some, same_Some}
-use Rattle.hm_data.proofs.ActNumbers.{act_of-act_number}
-use Rattle.hm_data.specs.Numbers.{act_number, act_of, back_number, back_of}
+use Rattle.hm_data.specs.Numbers.{act_number, back_number}
 use Rattle.hm_data.specs.declared.act.Act.{Act}
 use Rattle.hm_data.specs.declared.act.Back.{Back}
-use Rattle.hm_data.specs.declared.act.Back.TheVariants as back_is
 use Rattle.hm_data.specs.declared.args.Args.{Args}
 use Rattle.hm_data.specs.declared.args.Args.TheVariants as args_are
 use Rattle.hm_data.specs.declared.entry.Entry.TheVariants as entry_is
@@ -27,12 +25,10 @@ use Rattle.hm_model.specs.Sheets.{sheet_for, sheets_by, sheets_of}
 use Rattle.hm_model.specs.Tree.{made}
 use Rattle.hm_model.specs.ActSorts.{is_check}
 use Rattle.hm_model.specs.Validity.{AllValid, IsValid, difference, is_among, longest_kept, misfit_in, same_flag, same_row}
-use Rattle.hm_model.proofs.ValidSheets.{Leads, if_none, is_last, valid_end, valid_fits, valid_leads}
+use Rattle.hm_model.proofs.ValidSheets.{Leads, if_none, is_last, same_act, same_back, same_flag-is, valid_end, valid_fits, valid_leads}
 use Rattle.hm_model.proofs.Siblings.{all_in}
 use Rattle.hm_model.proofs.PlainActs.{is_plain}
-
-pub cons_nil : {A : Type 0} (x : A) (xs : List A) → x ∷ xs ≡ [] → ⊥
-cons_nil x xs e = cc
+use Rattle.hm_model.proofs.Small.{cons_nil}
 
 -- the sheets in force are valid
 pub all_valid : (J : Past) → IsLegal J → AllValid (sheets_of J)
@@ -72,31 +68,15 @@ sheet_is (first ∷ more) valid kind sheet is = elim (cases_Bool (first.kind == 
 abbrev row_with : Act → ℕ → Bool → Back → Row
 row_with act next after undo = record { act = act; next = next; after = after; undo = undo }
 
-flag_is : (a b : Bool) → same_flag a b ≡ true → a ≡ b
-flag_is true true h = refl
-flag_is true false h = absurd (false≢true h)
-flag_is false true h = absurd (false≢true h)
-flag_is false false h = refl
-
-act_same : (a b : Act) → act_number a ≡ act_number b → a ≡ b
-act_same a b e = same_Some a b (sym (act_of-act_number a) ∙ ap act_of e ∙ act_of-act_number b)
-
-back_back : (undo : Back) → back_of (back_number undo) ≡ Some undo
-back_back back_is.Nothing = refl
-back_back undo = refl
-
-back_same : (a b : Back) → back_number a ≡ back_number b → a ≡ b
-back_same a b e = same_Some a b (sym (back_back a) ∙ ap back_of e ∙ back_back b)
-
 row_same : (a b : Row) → same_row a b ≡ true → a ≡ b
 row_same a b h =
     let p = and_parts (act_number a.act == act_number b.act) ((a.next == b.next) && (same_flag a.after b.after && (back_number a.undo == back_number b.undo))) h in
     let q = and_parts (a.next == b.next) (same_flag a.after b.after && (back_number a.undo == back_number b.undo)) p.1 in
     let r = and_parts (same_flag a.after b.after) (back_number a.undo == back_number b.undo) q.1 in
-    ap (λ x. row_with x a.next a.after a.undo) (act_same a.act b.act (eqb-true (act_number a.act) (act_number b.act) p.0))
+    ap (λ x. row_with x a.next a.after a.undo) (same_act a.act b.act (eqb-true (act_number a.act) (act_number b.act) p.0))
     ∙ ap (λ x. row_with b.act x a.after a.undo) (eqb-true a.next b.next q.0)
-    ∙ ap (λ x. row_with b.act b.next x a.undo) (flag_is a.after b.after r.0)
-    ∙ ap (λ x. row_with b.act b.next b.after x) (back_same a.undo b.undo (eqb-true (back_number a.undo) (back_number b.undo) r.1))
+    ∙ ap (λ x. row_with b.act b.next x a.undo) (same_flag-is a.after b.after r.0)
+    ∙ ap (λ x. row_with b.act b.next b.after x) (same_back a.undo b.undo (eqb-true (back_number a.undo) (back_number b.undo) r.1))
 
 no_difference : (exact rows : List Row) (place : ℕ) → difference exact rows place ≡ None → rows ≡ exact
 no_difference [] [] place h = refl

@@ -19,7 +19,7 @@ use Rattle.hm_model.specs.Inputs.{step_input}
 use Rattle.hm_model.specs.Journal.{Past}
 use Rattle.hm_model.specs.Phase.{cause}
 use Rattle.hm_model.specs.Rules.{IsLegal}
-use Rattle.hm_model.specs.Tree.{Node, is_root, is_root_in, is_top, node_of}
+use Rattle.hm_model.specs.Tree.{Node, is_root, is_root_in, node_of}
 
 -- whoever waits for children has answered so
 wait_is : (last : Option Answer) → IsWaiting last → IsWait last
@@ -69,10 +69,6 @@ pub steps_formed : (pid : Pid) (pick : Option Server) (out : StepOut) (before : 
 steps_formed pid pick out before legal =
     let step = step_of pid pick out before (grown_all before legal.0) legal in
     subst IsStepped (sym step.out_is) (row_formed step.row (step_input before pid.0 step.node pick)).stepped
-
-pub top_is : (above : List ℕ) → is_top above ≡ true → above ≡ []
-top_is [] e = refl
-top_is (up ∷ above) e = absurd (false≢true e)
 
 pub top_is_own : (J : Past) → IsForest J → (p : ℕ) (node : Node) → node_of J p ≡ Some node → node.above ≡ [] → node.root ≡ p
 top_is_own J forest p node is top = subst (λ l. Stands J p l node.root) top (forest.stands p node is)

@@ -1,26 +1,22 @@
 -- A step conflicts with nobody that holds what it asks for.
-use Rattle.std.proofs.Common.{◌≡◌, ◌≢◌, ℕ, List, [], ◌∷◌, false, cond, Option, Some, None, refl, ap, sym, ◌∙◌, subst, inl, inr, ◌⊎◌}
-use Rattle.std.proofs.lemmas.Bool.{cases_Bool, cases_eq, true≢false}
-use Rattle.std.proofs.lemmas.Option.{none-some}
+use Rattle.std.proofs.Common.{◌≡◌, ◌≢◌, ℕ, List, [], ◌∷◌, false, cond, Option, Some, refl, ap, sym, ◌∙◌, subst, inl, inr}
+use Rattle.std.proofs.lemmas.Bool.{cases_eq}
 use Rattle.hm_names.specs.Server.{Server}
 use Rattle.hm_names.specs.declared.pid.Pid.{Pid}
-use Rattle.hm_data.specs.declared.answer.Answer.{Answer}
-use Rattle.hm_data.specs.declared.entry.Entry.{Entry}
 use Rattle.hm_data.specs.declared.entry.Entry.TheVariants as entry_is
 use Rattle.hm_data.specs.declared.step.StepOut.{StepOut}
 use Rattle.hm_model.specs.Answers.{is_stopped, last_answer}
-use Rattle.hm_model.specs.Holding.{HoldsWith, InConflict, IsFree}
+use Rattle.hm_model.specs.Holding.{IsFree}
 use Rattle.hm_model.specs.Journal.{Past}
 use Rattle.hm_model.specs.Locks.{AsksClash, Clash, IsAbove, IsIn, asks}
-use Rattle.hm_model.specs.Phase.{ended, ended_node, root_ended}
+use Rattle.hm_model.specs.Phase.{ended_node, root_ended}
 use Rattle.hm_model.specs.Rules.{IsLegal}
-use Rattle.hm_model.specs.Tree.{Node, is_root_in, is_top, node_of, root_in}
+use Rattle.hm_model.specs.Tree.{Node, is_top, node_of}
 use Rattle.hm_model.proofs.LegalSteps.{StepFacts, ready_stops}
 use Rattle.hm_model.proofs.Trees.{grown_all, some_of, step_of}
 use Rattle.hm_model.proofs.Kin.{kin_clash}
-use Rattle.hm_model.proofs.Tops.{TopHolds, TopIs, ended_top, held, held_or, root_begun, step_open}
 use Rattle.hm_model.proofs.Transits.{root_above}
-use Rattle.hm_model.proofs.RootTrees.{over_stopped, tree_root}
+use Rattle.hm_model.proofs.Small.{cons_nil}
 
 -- who steps conflicts with none that holds
 pub step_free : (pid : Pid) (pick : Option Server) (out : StepOut) (J : Past) → IsLegal (entry_is.Step pid pick out ∷ J) → IsFree J [] pid.0
@@ -46,9 +42,6 @@ step_free pid pick out J legal q holds conflict = elim (cases_eq step.node.root 
 
     low_runs : (u : ℕ) (rest : List ℕ) → other.0.above ≡ u ∷ rest → is_stopped (last_answer J q) ≡ false
     low_runs u rest e = sym (ap (ended_node J q) other.1 ∙ ap (λ a. cond (is_top a) (root_ended J q) (is_stopped (last_answer J q))) e) ∙ holds.1
-
-    cons_nil : (u : ℕ) (rest : List ℕ) → u ∷ rest ≡ [] → ⊥
-    cons_nil u rest e = cc
 
     by : step.node.root ≡ other.0.root → (above : List ℕ) → step.node.above ≡ above → (below : List ℕ) → other.0.above ≡ below → ⊥
     by kin [] e below k = conflict.1.0 (above_all pid.0 q step.node other.0 step.node_is other.1 kin e conflict.0)

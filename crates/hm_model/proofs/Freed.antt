@@ -17,6 +17,7 @@ use Rattle.hm_model.specs.Tree.{Node, made, node_of}
 use Rattle.hm_model.proofs.KeyTests.{bytes_eq-refl, same_region-refl, same_table-refl}
 use Rattle.hm_model.proofs.NameTies.{same_server-refl}
 use Rattle.hm_model.proofs.Trees.{all_below_at, grown_all, is_there, some_of}
+use Rattle.hm_model.proofs.Small.{has_some}
 
 abbrev same_resource : Resource → Resource → Bool
 same_resource (resource_is.Ns a) (resource_is.Ns b) = bytes_eq a b
@@ -99,10 +100,6 @@ freed J legal p free q holds conflict =
   where
     stepped : last_answer J q ≢ None
     stepped = elim holds.2 [ inl has ↦ has | inr taken ↦ absurd taken ]
-
-    has_some : {A : Type 0} (o : Option A) → o ≢ None → is_some o ≡ true
-    has_some None none = absurd (none refl)
-    has_some (Some x) none = refl
 
     apart : (a b : ℕ) → (IsAbove a (node_of J b) → ⊥) → not (is_above a (node_of J b)) ≡ true
     apart a b far = elim (cases_Bool (is_above a (node_of J b))) [

@@ -1,5 +1,5 @@
 -- The steps of a failed tree are undone from the latest to the first.
-use Rattle.std.proofs.Common.{◌≡◌, ◌≢◌, ℕ, ◌+◌, List, [], ◌∷◌, ◌++◌, length, map, Bool, true, false, not, ◌&&◌, ◌||◌, ◌==◌, cond, if◌then◌else◌, Option, Some, None, is_some, refl, ap, sym, ◌∙◌, inl, inr, arith}
+use Rattle.std.proofs.Common.{◌≡◌, ◌≢◌, ℕ, ◌+◌, List, [], ◌∷◌, ◌++◌, length, map, Bool, true, false, not, ◌&&◌, ◌==◌, cond, if◌then◌else◌, Option, Some, None, is_some, refl, ap, sym, ◌∙◌, inl, inr, arith}
 use Rattle.std.proofs.lemmas.Bool.{and_parts, cases_Bool, cases_eq, cond-false, cond-true, eq-eqb, false≢true, ne_eqb, true≢false}
 use Rattle.std.proofs.lemmas.Option.{same_Some}
 use Rattle.hm_names.specs.Server.{Server}
@@ -28,6 +28,7 @@ use Rattle.hm_model.proofs.Tops.{undo_open}
 use Rattle.hm_model.proofs.Trees.{all_below_at, at_top, grown_all, is_there, step_of}
 use Rattle.hm_model.proofs.UndoMakes.{undo_of}
 use Rattle.hm_model.proofs.Waiting.{under_change, under_tells}
+use Rattle.hm_model.proofs.Small.{from_test}
 
 -- what takes a step back that is left to undo
 abbrev mark : Undoable → Reversal
@@ -81,13 +82,8 @@ not_over pid pick out J legal failed all =
           let differs : pid.0 ≢ root_of J pid.0 = λ same. true≢false (sym (ap (λ (n : Node). is_top n.above) (same_Some step.node root.root (sym step.node_is ∙ ap (node_of J) (same ∙ own) ∙ root.there)) ∙ ap is_top root.at_top) ∙ below) in
           let le = is_there J (grown_all J legal.0) pid.0 step.node step.node_is in
           let here = all_below_at (made J + 1) (stopped_in J (root_of J pid.0)) pid.0 all (omega (arith, le)) in
-          true≢false (sym (both (in_tree (root_of J pid.0) (node_of J pid.0)) (pid.0 == root_of J pid.0) (is_stopped (last_answer J pid.0)) (ap (in_tree (root_of J pid.0)) step.node_is ∙ eq-eqb step.node.root (root_of J pid.0) (sym own)) (ne_eqb pid.0 (root_of J pid.0) differs) here) ∙ ready_stops J pid.0 step.node (last_answer J pid.0) step.ready)
+          true≢false (sym (from_test (in_tree (root_of J pid.0) (node_of J pid.0)) (pid.0 == root_of J pid.0) (is_stopped (last_answer J pid.0)) (ap (in_tree (root_of J pid.0)) step.node_is ∙ eq-eqb step.node.root (root_of J pid.0) (sym own)) (ne_eqb pid.0 (root_of J pid.0) differs) here) ∙ ready_stops J pid.0 step.node (last_answer J pid.0) step.ready)
     ]
-  where
-    both : (a b c : Bool) → a ≡ true → b ≡ false → (not a || (b || c)) ≡ true → c ≡ true
-    both true false c ea eb h = h
-    both true true c ea eb h = absurd (true≢false eb)
-    both false b c ea eb h = absurd (false≢true ea)
 
 -- the undos of a tree took back its latest steps in turn, and what is left is left; after one the tree is failed, and all
 -- descendants have stopped

@@ -76,12 +76,12 @@ cases_key a b = elim (cases_Bool (same_key a b)) [
 ]
 
 -- what compares as equal in two parts does so in each
-both_equal : (o p : Ordering) → ordering_then o p ≡ Equal → (o ≡ Equal) × (p ≡ Equal)
+pub both_equal : (o p : Ordering) → ordering_then o p ≡ Equal → (o ≡ Equal) × (p ≡ Equal)
 both_equal Less p h = cc
 both_equal Equal p h = (refl, h)
 both_equal Greater p h = cc
 
-nat_cmp-is : (a b : ℕ) → nat_cmp a b ≡ Equal → a ≡ b
+pub nat_cmp-is : (a b : ℕ) → nat_cmp a b ≡ Equal → a ≡ b
 nat_cmp-is a b h = ranked a b Equal (sym h)
 
 bytes_cmp-is : (a b : List ℕ) → bytes_cmp a b ≡ Equal → a ≡ b

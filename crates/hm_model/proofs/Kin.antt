@@ -1,6 +1,6 @@
 -- In a tree no two that go on ask for what clashes, unless one is an ancestor of the other.
 use Rattle.std.proofs.Common.{◌≡◌, ◌≢◌, ℕ, ◌-◌, ◌<◌, ◌≤◌, List, [], ◌∷◌, true, false, ◌||◌, Option, Some, None, is_some, refl, ap, sym, ◌∙◌, subst, arith, inl, inr, ◌⊎◌, slice_get}
-use Rattle.std.proofs.lemmas.Bool.{cases_eq, false≢true, true≢false}
+use Rattle.std.proofs.lemmas.Bool.{false≢true, true≢false}
 use Rattle.std.proofs.lemmas.Option.{none-some, same_Some}
 use Rattle.hm_names.specs.Region.{Region}
 use Rattle.hm_names.specs.Server.{Server}
@@ -45,12 +45,13 @@ use Rattle.hm_model.proofs.LegalSteps.{ReadyBy, StepFacts, ready_stops}
 use Rattle.hm_model.proofs.PlainActs.{is_caller, is_high, is_plain}
 use Rattle.hm_model.proofs.Rows.{keys_in_order}
 use Rattle.hm_model.proofs.StepDoes.{Does, bears_by, calls as calls_part, crash as crash_part, lined as lined_part, moves as moves_part, part_of, row_by}
-use Rattle.hm_model.proofs.Trees.{Grown, IsRooted, IsWaiting, child_stopped, does_of, down_rooted, grown_all, le_or_lt, new_child, node_same, old_or_new, other_answer, step_of, submit_rooted, undo_rooted}
+use Rattle.hm_model.proofs.Trees.{Grown, IsRooted, IsWaiting, child_stopped, does_of, down_rooted, grown_all, le_or_lt, new_child, node_same, old_or_new, ran_before, step_of, submit_rooted, undo_rooted}
 use Rattle.hm_model.proofs.StepDoes.{exact_row_is}
 use Rattle.hm_model.proofs.Distinct.{AreDistinct, OnePerRegion, SeesEachOnce, act_one, distinct_among, distinct_order, distinct_taken}
 use Rattle.hm_model.proofs.InOrder.{at_order}
 use Rattle.hm_model.proofs.Highs.{own_all}
 use Rattle.hm_model.proofs.Transits.{caller_facts}
+use Rattle.hm_model.proofs.Small.{nil_cons, same_head}
 
 -- what a step sees has each region once
 sees_once : (J : Past) → IsLegal J → (p : ℕ) (x : Node) → node_of J p ≡ Some x → (pick : Option Server) → SeesEachOnce (step_input J p x pick)
@@ -142,12 +143,6 @@ AreFlat J = (q : ℕ) (x : Node) (u : ℕ) (rest : List ℕ) (region : Region) �
 abbrev AreApart : Past → Type 0
 AreApart J = (p q : ℕ) (x y : Node) (u : ℕ) (one other : List ℕ) (region : Region) → node_of J p ≡ Some x → node_of J q ≡ Some y → x.above ≡ u ∷ one → y.above ≡ u ∷ other → moved_by x.args ≡ Some region → moved_by y.args ≡ Some region → is_stopped (last_answer J p) ≡ false → is_stopped (last_answer J q) ≡ false → p ≡ q
 
-nil_cons : (u : ℕ) (rest : List ℕ) → [] ≡ u ∷ rest → ⊥
-nil_cons u rest e = cc
-
-heads : (a b : ℕ) (one other : List ℕ) → a ∷ one ≡ b ∷ other → a ≡ b
-heads a b one other e = cc
-
 -- entries that make only roots
 old_child : (entry : Entry) (J : Past) → IsLegal (entry ∷ J) → ((q : ℕ) (x : Node) → node_of (entry ∷ J) q ≡ Some x → (node_of J q ≡ Some x) ⊎ (x.above ≡ [])) → (q : ℕ) (x : Node) (u : ℕ) (rest : List ℕ) → node_of (entry ∷ J) q ≡ Some x → x.above ≡ u ∷ rest → node_of J q ≡ Some x
 old_child entry J legal roots q x u rest is above = elim (roots q x is) [ inl was ↦ was | inr top ↦ absurd (nil_cons u rest (sym top ∙ above)) ]
@@ -170,14 +165,8 @@ module _ (pid : Pid) (pick : Option Server) (out : StepOut) (J : Past) (legal : 
     | inr lt ↦
         let st = step pid pick out J legal in
         let c = new_child pid pick out J st.node st.node_is q lt x is in
-        let own : pid.0 ≡ u = heads pid.0 u st.node.above rest (ap (λ (n : Node). n.above) (sym c.2) ∙ above) in
+        let own : pid.0 ≡ u = same_head pid.0 u st.node.above rest (ap (λ (n : Node). n.above) (sym c.2) ∙ above) in
         (st.node, ap (node_of (entry_is.Step pid pick out ∷ J)) (sym own) ∙ nodes_stay (entry_is.Step pid pick out) J legal pid.0 st.node st.node_is, (makes_one pid pick out J legal).1 (q - made J - 1) c.0 region c.1 (ap (λ (n : Node). moved_by n.args) (sym c.2) ∙ m))
-  ]
-
-  ran : (q : ℕ) → is_stopped (last_answer (entry_is.Step pid pick out ∷ J) q) ≡ false → is_stopped (last_answer J q) ≡ false
-  ran q now = elim (cases_eq q pid.0) [
-    | inl mine ↦ ap (λ k. is_stopped (last_answer J k)) mine ∙ runs pid pick out J legal
-    | inr other ↦ ap is_stopped (sym (other_answer pid pick out J q other)) ∙ now
   ]
 
   waited : (o : Option Answer) (x : Node) → IsWaiting o → ReadyBy J pid.0 x o → children_ended J pid.0 ≡ true
@@ -200,15 +189,15 @@ module _ (pid : Pid) (pick : Option Server) (out : StepOut) (J : Past) (legal : 
   mixed p q x y u one other is lt there above below goes =
       let st = step pid pick out J legal in
       let c = new_child pid pick out J st.node st.node_is p lt x is in
-      none_older q y other there (below ∙ ap (λ k. k ∷ other) (sym (heads pid.0 u st.node.above one (ap (λ (n : Node). n.above) (sym c.2) ∙ above)))) goes
+      none_older q y other there (below ∙ ap (λ k. k ∷ other) (sym (same_head pid.0 u st.node.above one (ap (λ (n : Node). n.above) (sym c.2) ∙ above)))) goes
 
   apart_step : AreApart J → AreApart (entry_is.Step pid pick out ∷ J)
   apart_step apart p q x y u one other region is there above below m n goes on = by (le_or_lt p (made J)) (le_or_lt q (made J))
     where
       by : (p ≤ made J) ⊎ (made J < p) → (q ≤ made J) ⊎ (made J < q) → p ≡ q
-      by (inl le) (inl few) = apart p q x y u one other region (sym (node_same pid pick out J p le) ∙ is) (sym (node_same pid pick out J q few) ∙ there) above below m n (ran p goes) (ran q on)
-      by (inl le) (inr lt) = absurd (mixed q p y x u other one there lt (sym (node_same pid pick out J p le) ∙ is) below above (ran p goes))
-      by (inr lt) (inl few) = absurd (mixed p q x y u one other is lt (sym (node_same pid pick out J q few) ∙ there) above below (ran q on))
+      by (inl le) (inl few) = apart p q x y u one other region (sym (node_same pid pick out J p le) ∙ is) (sym (node_same pid pick out J q few) ∙ there) above below m n (ran_before pid pick out J (runs pid pick out J legal) p goes) (ran_before pid pick out J (runs pid pick out J legal) q on)
+      by (inl le) (inr lt) = absurd (mixed q p y x u other one there lt (sym (node_same pid pick out J p le) ∙ is) below above (ran_before pid pick out J (runs pid pick out J legal) p goes))
+      by (inr lt) (inl few) = absurd (mixed p q x y u one other is lt (sym (node_same pid pick out J q few) ∙ there) above below (ran_before pid pick out J (runs pid pick out J legal) q on))
       by (inr lt) (inr more) =
           let st = step pid pick out J legal in
           let c = new_child pid pick out J st.node st.node_is p lt x is in

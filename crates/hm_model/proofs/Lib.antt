@@ -1,3 +1,5 @@
+pub mod Small
+pub mod Answered
 pub mod Parted
 pub mod Rising
 pub mod KeyTests
@@ -26,6 +28,7 @@ pub mod CallSteps
 pub mod Said
 pub mod LegalSteps
 pub mod StepDoes
+pub mod FineMoves
 pub mod RootSheets
 pub mod Trees
 pub mod Editions

@@ -1,20 +1,22 @@
 -- Servers and regions compare as equal exactly where their tests call them the same.
-use Rattle.std.proofs.Common.{◌≡◌, ℕ, Bool, true, false, ◌&&◌, ◌==◌, refl, ap, sym, ◌∙◌, arith}
+use Rattle.std.proofs.Common.{Bool, List, [], ap, arith, false, inl, inr, nat_eq, nat_lt, not, refl, sym, true, ◌&&◌, ◌==◌, ◌∙◌, ◌∷◌, ◌≡◌}
 use Rattle.std.specs.Cmp.{IsTotalOrder}
 use Rattle.std.specs.Cmp.Lexicographic.{texts_ties}
 use Rattle.std.specs.Ordering.{is_eq, ordering_then, nat_cmp}
 use Rattle.std.specs.Str.{bytes_eq}
 use Rattle.std.specs.declared.cmp.Ordering.{Ordering}
 use Rattle.std.specs.declared.cmp.Ordering.TheVariants.{Less, Equal, Greater}
+use Rattle.std.specs.List.{list_any}
 use Rattle.std.proofs.lemmas.Bool.Decides.{nat_tests}
-use Rattle.std.proofs.lemmas.Cmp.{nat_list_cmp_total, nat_cmp_total, on_total, then_total, tied_itself, ranked}
+use Rattle.std.proofs.lemmas.Cmp.{nat_list_cmp_total, nat_cmp_total, on_total, then_total, tied_itself}
+use Rattle.std.proofs.lemmas.Bool.{and_from, and_parts, false≢true, or_cases, or_left, or_right}
 use Rattle.hm_names.specs.Order.{bytes_cmp, table_cmp, region_cmp, server_cmp}
 use Rattle.hm_names.specs.Region.{Region}
 use Rattle.hm_names.specs.Server.{Server}
 use Rattle.hm_names.specs.declared.table.TableName.{TableName}
-use Rattle.hm_model.specs.Fleet.{same_server}
+use Rattle.hm_model.specs.Fleet.{same_address, same_server}
 use Rattle.hm_model.specs.Keys.{same_region}
-use Rattle.hm_model.proofs.KeyTests.{bytes_eq-is, bytes_eq-refl, region_cmp-is, same_region-is, same_region-refl}
+use Rattle.hm_model.proofs.KeyTests.{both_equal, bytes_eq-is, bytes_eq-refl, nat_cmp-is, region_cmp-is, same_region-is, same_region-refl}
 
 pub tables_total : IsTotalOrder table_cmp
 tables_total = then_total (on_total (λ (t : TableName). t.ns) nat_list_cmp_total) (on_total (λ (t : TableName). t.qualifier) nat_list_cmp_total)
@@ -40,14 +42,6 @@ ties_by cmp same total is one itself a b false e = by (cmp a b) refl
 
 pub region_ties : (a b : Region) → is_eq (region_cmp a b) ≡ same_region a b
 region_ties a b = ties_by region_cmp same_region regions_total region_cmp-is same_region-is same_region-refl a b (same_region a b) refl
-
-both_equal : (o p : Ordering) → ordering_then o p ≡ Equal → (o ≡ Equal) × (p ≡ Equal)
-both_equal Less p h = cc
-both_equal Equal p h = (refl, h)
-both_equal Greater p h = cc
-
-nat_cmp-is : (a b : ℕ) → nat_cmp a b ≡ Equal → a ≡ b
-nat_cmp-is a b h = ranked a b Equal (sym h)
 
 by_parts : (a b : Server) → a.host ≡ b.host → a.port ≡ b.port → a.start ≡ b.start → a ≡ b
 by_parts a b one two three =
@@ -80,3 +74,14 @@ same_server-refl a = all (bytes_eq a.host a.host) (a.port == a.port) (a.start ==
 
 pub server_ties : (a b : Server) → is_eq (server_cmp a b) ≡ same_server a b
 server_ties a b = ties_by server_cmp same_server servers_total server_cmp-is same_server-is same_server-refl a b (same_server a b) refl
+
+-- where a server is listed, one of its host and port is with its start code or a greater one
+pub newer_own : (s : Server) (servers : List Server) → list_any (λ x. same_server s x) servers ≡ true → list_any (λ x. same_address s x && not (nat_lt x.start s.start)) servers ≡ true
+newer_own s [] h = absurd (false≢true h)
+newer_own s (first ∷ more) h = elim (or_cases (same_server s first) (list_any (λ x. same_server s x) more) h) [
+  | inl own ↦ or_left (same_address s first && not (nat_lt first.start s.start)) _ (and_from (same_address s first) (not (nat_lt first.start s.start)) (and_parts (same_address s first) (nat_eq s.start first.start) own).0 (not_older (same_server-is s first own)))
+  | inr later ↦ or_right (same_address s first && not (nat_lt first.start s.start)) _ (newer_own s more later)
+]
+  where
+    not_older : s ≡ first → not (nat_lt first.start s.start) ≡ true
+    not_older e = (let f : s.start ≡ first.start = ap (λ (x : Server). x.start) e in grind (arith, nat_tests, f))

@@ -50,6 +50,7 @@ use Rattle.hm_data.specs.declared.act.Back.TheVariants as back_is
 use Rattle.hm_names.specs.declared.table.TableName.{TableName}
 use Rattle.hm_model.specs.Locks.{in_name_order}
 use Rattle.std.proofs.Common.{Bool, List, None, Option, Some, [], true, false, if◌then◌else◌, length, map, take, drop, nat_le, refl, subst, zero, suc, ℕ, ◌+◌, ◌&&◌, ◌∷◌, ◌≡◌}
+use Rattle.std.proofs.lemmas.Option.{same_Some}
 
 -- what is there has the property
 abbrev pub OfOption : {A : Type 0} → (A → Type 0) → Option A → Type 0
@@ -78,9 +79,6 @@ pub record SeesNamed (P : Server → Type 0) (at : StepIn) : Type 0 where
   pub own : OfOption P (server_of at.args)
   pub place : OfOption P (told_place at.place).server
   pub pick : OfOption P at.pick
-
-Some-is : {A : Type 0} (a b : A) → Some a ≡ Some b → a ≡ b
-Some-is a b e = cc
 
 module _ (P : Server → Type 0) where
   plainly : (answer : Answer) (edits : List Edit) (place : Option Place) → IsPlacedAt P place → IsNamed P (record { answer = answer; edits = edits; children = []; call = None; place = place; followers = [] })
@@ -152,8 +150,8 @@ module _ (P : Server → Type 0) where
   closed : (next : ℕ) (goal : Goal) (region : Region) (place : Place) (is : Bool) → OfOption P place.server → IsNamed P (close_or_go next goal region place is)
   closed next goal region place true at =
       with_part place.server next (close_at next region) (λ server is. record {
-        children = ((λ s e. subst P (Some-is server s e) (at server is)), tt);
-        place = λ s e. subst P (Some-is server s e) (at server is);
+        children = ((λ s e. subst P (same_Some server s e) (at server is)), tt);
+        place = λ s e. subst P (same_Some server s e) (at server is);
       })
   closed next goal region place false at = record { children = tt; place = lost-named (is_state place_is.Opened place) }
 
@@ -255,7 +253,7 @@ module _ (P : Server → Type 0) where
   get_assign_candidate-named next args rows place fenced pick picked = with_part (region_of args) next (λ region. candidate next (may_open_in rows region) (told_place place) fenced pick) (λ region e. placed_at next (may_open_in rows region) (told_place place) fenced pick picked)
 
   open_there-named : (next : ℕ) (args : Args) (place : Option Place) → OfOption P (told_place place).server → IsNamed P (open_there next args place)
-  open_there-named next args place at = with_part (region_of args) next (λ region. given ((told_place place).server) next (λ server. spawns next (child_is.One (args_are.AssignCall region server) ∷ []))) (λ region e. with_part ((told_place place).server) next (λ server. spawns next (child_is.One (args_are.AssignCall region server) ∷ [])) (λ server is. one_child next (args_are.AssignCall region server) (λ s e. subst P (Some-is server s e) (at server is))))
+  open_there-named next args place at = with_part (region_of args) next (λ region. given ((told_place place).server) next (λ server. spawns next (child_is.One (args_are.AssignCall region server) ∷ []))) (λ region e. with_part ((told_place place).server) next (λ server. spawns next (child_is.One (args_are.AssignCall region server) ∷ [])) (λ server is. one_child next (args_are.AssignCall region server) (λ s e. subst P (same_Some server s e) (at server is))))
 
   confirm_opened-named : (next : ℕ) (ends : List (Pid × Told)) (place : Option Place) → OfOption P (told_place place).server → IsNamed P (confirm_opened next ends place)
   confirm_opened-named next ends place at = opened next (told_place place).server (is_told told_is.Opened ends) at
@@ -267,7 +265,7 @@ module _ (P : Server → Type 0) where
   check_move-named next args rows = with_part (region_of args) next (λ region. checked next (region_ready (row_at rows (key_is.Table region.table)) (row_at rows (key_is.Region region)))) (λ region e. checks next (region_ready (row_at rows (key_is.Table region.table)) (row_at rows (key_is.Region region))))
 
   fence-named : (next : ℕ) (args : Args) → OfOption P (server_of args) → IsNamed P (fence next args)
-  fence-named next args own = with_part (server_of args) next (λ server. spawns next (child_is.One (args_are.FenceCall server) ∷ [])) (λ server is. one_child next (args_are.FenceCall server) (λ s e. subst P (Some-is server s e) (own server is)))
+  fence-named next args own = with_part (server_of args) next (λ server. spawns next (child_is.One (args_are.FenceCall server) ∷ [])) (λ server is. one_child next (args_are.FenceCall server) (λ s e. subst P (same_Some server s e) (own server is)))
 
   reassign-named : (next : ℕ) (regions : List Region) → IsNamed P (reassign next regions)
   reassign-named next regions = reassigned next (transits goal_is.Assign regions) (transits_named goal_is.Assign regions)

@@ -41,6 +41,7 @@ use Rattle.hm_model.specs.Pieces.{Batch, adding, batches, by_64, dropping, numbe
 use Rattle.hm_model.specs.Locks.{in_name_order}
 use Rattle.hm_model.specs.Undoing.{closed_by}
 use Rattle.hm_model.specs.Tree.{args_in}
+use Rattle.hm_model.proofs.Answered.{done_or_on}
 
 -- a procedure calls a region server
 abbrev pub is_caller : Args → Bool
@@ -191,18 +192,14 @@ plain_act act h next at = absurd (false≢true h)
 abbrev pub IsFine : StepOut → Type 0
 IsFine out = failing out.answer ≡ None
 
-fine_on : (next : ℕ) (edits : List Edit) → IsFine (gives (on_to next) edits)
-fine_on next edits = by (next == no_row)
-  where
-    by : (b : Bool) → failing (cond b (answer_is.Done told_is.Nothing) (answer_is.More next)) ≡ None
-    by true = refl
-    by false = refl
+pub fine_on : (next : ℕ) (edits : List Edit) → IsFine (gives (on_to next) edits)
+fine_on next edits = done_or_on (next == no_row) told_is.Nothing next
 
 fine_spawns : (next : ℕ) (children : List Child) → IsFine (spawns next children)
 fine_spawns next [] = refl
 fine_spawns next (child ∷ more) = refl
 
-fine_given : {A : Type 0} (part : Option A) (next : ℕ) (act : A → StepOut) → ((x : A) → IsFine (act x)) → IsFine (given part next act)
+pub fine_given : {A : Type 0} (part : Option A) (next : ℕ) (act : A → StepOut) → ((x : A) → IsFine (act x)) → IsFine (given part next act)
 fine_given None next act each = fine_on next []
 fine_given (Some part) next act each = each part
 

@@ -1,6 +1,6 @@
 -- Roots of trees: each procedure has one, one that isn't there has no tree, and the tree of one that has ended stands still.
-use Rattle.std.proofs.Common.{◌≡◌, ◌≢◌, ℕ, ◌+◌, [], ◌∷◌, length, Bool, true, false, not, ◌||◌, ◌==◌, nat_lt, nat_le, Option, Some, None, is_some, refl, ap, sym, ◌∙◌, arith, inl, inr}
-use Rattle.std.proofs.lemmas.Bool.{and_parts, cases_Bool, cases_eq, cond-false, cond-true, eq-eqb, false≢true, leb-true, ltb-true, ne_eqb, or_from, true≢false}
+use Rattle.std.proofs.Common.{◌≡◌, ◌≢◌, ℕ, ◌+◌, [], ◌∷◌, length, Bool, true, false, ◌||◌, ◌==◌, nat_lt, nat_le, Option, Some, None, is_some, refl, ap, sym, ◌∙◌, arith, inl, inr}
+use Rattle.std.proofs.lemmas.Bool.{and_parts, cases_Bool, cases_eq, cond-false, cond-true, eq-eqb, leb-true, ltb-true, ne_eqb, or_from, true≢false}
 use Rattle.std.proofs.lemmas.Option.{none-some}
 use Rattle.hm_names.specs.Server.{Server}
 use Rattle.hm_names.specs.declared.pid.Pid.{Pid}
@@ -20,6 +20,7 @@ use Rattle.hm_model.specs.Undo.{is_empty, stack}
 use Rattle.hm_model.proofs.Forest.{rooted_all, roots_wait}
 use Rattle.hm_model.proofs.Grown.{grown_all as made_all, nodes_stay}
 use Rattle.hm_model.proofs.Trees.{grown_all, is_there, some_of, all_below_at}
+use Rattle.hm_model.proofs.Small.{from_test}
 
 pub zero_if_false : (b : Bool) (n : ℕ) → b ≡ false → n + one_if b ≡ n
 zero_if_false b n off = ap (λ x. n + one_if x) off ∙ omega arith
@@ -143,9 +144,4 @@ over_stopped J legal r top is at_top over q x at of differs = elim (cases_Bool (
         let all = (and_parts (all_stopped J r) (is_empty (stack J r)) rolled).0 in
         let le = is_there J (grown_all J legal) q x at in
         let here = all_below_at (made J + 1) (stopped_in J r) q all (omega (arith, le)) in
-        true≢false (sym (both (in_tree r (node_of J q)) (q == r) (is_stopped (last_answer J q)) (ap (in_tree r) at ∙ eq-eqb x.root r of) (ne_eqb q r differs) here) ∙ runs)
-      where
-        both : (a b c : Bool) → a ≡ true → b ≡ false → (not a || (b || c)) ≡ true → c ≡ true
-        both true false c ea eb h = h
-        both true true c ea eb h = absurd (true≢false eb)
-        both false b c ea eb h = absurd (false≢true ea)
+        true≢false (sym (from_test (in_tree r (node_of J q)) (q == r) (is_stopped (last_answer J q)) (ap (in_tree r) at ∙ eq-eqb x.root r of) (ne_eqb q r differs) here) ∙ runs)

@@ -2,8 +2,8 @@
 use Rattle.hm_data.specs.declared.part.Part.{Part}
 use Rattle.hm_data.specs.declared.part.Part.TheVariants as part_is
 use Rattle.hm_model.specs.Parts.{part_key, part_row, table_row}
-use Rattle.std.proofs.Common.{Bool, List, None, Option, Some, [], ap, bytes_eq, codes, false, if◌then◌else◌, inl, inr, refl, subst, sym, true, ℕ, ◌||◌, ◌∙◌, ◌∷◌, ◌≡◌, ◌≢◌, ◌⊎◌}
-use Rattle.std.proofs.lemmas.Bool.{cases_Bool, cond-false, cond-true, false_from_ne_true, false≢true, or_from}
+use Rattle.std.proofs.Common.{Bool, List, None, Option, Some, [], ap, bytes_eq, codes, false, if◌then◌else◌, inl, inr, refl, subst, sym, true, ◌||◌, ◌∙◌, ◌∷◌, ◌≡◌, ◌≢◌, ◌⊎◌}
+use Rattle.std.proofs.lemmas.Bool.{cases_Bool, cond-false, cond-true, or_from}
 use Rattle.std.proofs.lemmas.Option.{none-some}
 use Rattle.std.specs.Ordering.{ordering_reverse}
 use Rattle.std.specs.declared.cmp.Ordering.{Ordering}
@@ -14,17 +14,16 @@ use Rattle.hm_data.specs.declared.args.Args.{Args}
 use Rattle.hm_data.specs.declared.catalog.CatKey.{CatKey}
 use Rattle.hm_data.specs.declared.catalog.CatRow.{CatRow}
 use Rattle.hm_data.specs.declared.catalog.Edit.{Edit}
-use Rattle.hm_model.proofs.KeyTests.{bytes_eq-is, bytes_eq-refl, cases_key, key_cmp-is, key_cmp-same, same_key-refl}
+use Rattle.hm_model.proofs.KeyTests.{bytes_eq-is, cases_key, key_cmp-is, key_cmp-same, same_key-refl}
+use Rattle.hm_model.proofs.Small.{none_from}
 use Rattle.hm_model.specs.Catalog.{Catalog, at_start, cat, edited, keep, keys_of, row_at, rows_at, with_key, with_key_at, with_keys, part_keys}
 use Rattle.hm_model.specs.Inputs.{rows_read}
 use Rattle.hm_model.specs.Journal.{Past}
 use Rattle.hm_model.specs.Keys.{same_key}
 use Rattle.hm_model.specs.RowLaws.{AllBehind, AreInOrder}
 use Rattle.hm_model.specs.Locks.{IsIn}
-use Rattle.hm_model.specs.Reads.{is_ns, reads}
+use Rattle.hm_model.specs.Reads.{reads}
 use Rattle.hm_data.specs.declared.entry.Entry.TheVariants as entry_is
-use Rattle.hm_data.specs.declared.args.Args.TheVariants as args_are
-use Rattle.hm_data.specs.declared.request.Request.TheVariants as request_is
 use Rattle.hm_data.specs.declared.catalog.CatKey.TheVariants as key_is
 use Rattle.hm_data.specs.declared.catalog.CatRow.TheVariants as row_is
 
@@ -83,7 +82,7 @@ has_key (entry_is.Undo pid row out ∷ before) q some = edited_has q out.edits (
 has_key (entry_is.Base part ∷ before) q some = part_has part q (cat before q) (keys_of before) (has_key before q) some
 has_key (entry ∷ before) q some = has_key before q some
 
-behind_further : (k key : CatKey) (keys : List CatKey) → key_cmp k key ≡ Less → AllBehind key keys → AllBehind k keys
+pub behind_further : (k key : CatKey) (keys : List CatKey) → key_cmp k key ≡ Less → AllBehind key keys → AllBehind k keys
 behind_further k key [] less behind = tt
 behind_further k key (first ∷ more) less behind = (keys_total.trans k key first less behind.0, behind_further k key more less behind.1)
 
@@ -105,24 +104,24 @@ order_at Less key first more e behind order rest = ((e, behind_further key first
 order_at Equal key first more e behind order rest = (behind, order)
 order_at Greater key first more e behind order rest = (behind_with first key more (turned_back key first e) behind, rest)
 
-order_with : (key : CatKey) (keys : List CatKey) → AreInOrder keys → AreInOrder (with_key key keys)
+pub order_with : (key : CatKey) (keys : List CatKey) → AreInOrder keys → AreInOrder (with_key key keys)
 order_with key [] order = (tt, tt)
 order_with key (first ∷ more) order = order_at (key_cmp key first) key first more refl order.0 order.1 (order_with key more order.1)
 
-order_with_keys : (edits : List Edit) (keys : List CatKey) → AreInOrder keys → AreInOrder (with_keys edits keys)
+pub order_with_keys : (edits : List Edit) (keys : List CatKey) → AreInOrder keys → AreInOrder (with_keys edits keys)
 order_with_keys [] keys order = order
 order_with_keys (edit ∷ edits) keys order = order_with_keys edits (with_key edit.key keys) (order_with edit.key keys order)
+
+pub order_if : (o : Option CatKey) (keys : List CatKey) → AreInOrder keys → AreInOrder (elim o as (λ k. List CatKey) [ None ↦ keys | Some key ↦ with_key key keys ])
+order_if None keys order = order
+order_if (Some key) keys order = order_with key keys order
 
 -- the keys are in order, each once
 pub keys_in_order : (J : Past) → AreInOrder (keys_of J)
 keys_in_order [] = ((refl, tt), (tt, tt))
 keys_in_order (entry_is.Step pid pick out ∷ before) = order_with_keys out.edits (keys_of before) (keys_in_order before)
 keys_in_order (entry_is.Undo pid row out ∷ before) = order_with_keys out.edits (keys_of before) (keys_in_order before)
-keys_in_order (entry_is.Base part ∷ before) = by (part_key part) (keys_of before) (keys_in_order before)
-  where
-    by : (o : Option CatKey) (keys : List CatKey) → AreInOrder keys → AreInOrder (elim o as (λ k. List CatKey) [ None ↦ keys | Some key ↦ with_key key keys ])
-    by None keys order = order
-    by (Some key) keys order = order_with key keys order
+keys_in_order (entry_is.Base part ∷ before) = order_if (part_key part) (keys_of before) (keys_in_order before)
 keys_in_order (entry ∷ before) = keys_in_order before
 
 keep_other : (asked : Bool) (key first : CatKey) (row : Option CatRow) (more : List (CatKey × CatRow)) → same_key key first ≡ false → row_at (keep asked first row more) key ≡ row_at more key
@@ -136,11 +135,7 @@ keep_same key first (Some row) more same none = cond-true (same_key key first) (
 
 -- what is read of a key that is asked for is what is there
 pub row_at-rows : (asked : CatKey → Bool) (there : Catalog) (keys : List CatKey) (key : CatKey) → asked key ≡ true → (there key ≢ None → IsIn key keys) → row_at (rows_at asked there keys) key ≡ there key
-row_at-rows asked there [] key on has = sym (none_of (there key) has)
-  where
-    none_of : (o : Option CatRow) → (o ≢ None → ⊥) → o ≡ None
-    none_of None h = refl
-    none_of (Some row) h = absurd (h (λ e. cc))
+row_at-rows asked there [] key on has = sym (none_from (there key) has)
 row_at-rows asked there (first ∷ keys) key on has = elim (cases_key key first) [
   | inl same ↦
       let here : keep (asked first) first (there first) (rows_at asked there keys) ≡ keep true key (there key) (rows_at asked there keys) = ap (λ k. keep (asked k) k (there k) (rows_at asked there keys)) (sym same.1) ∙ ap (λ b. keep b key (there key) (rows_at asked there keys)) on in
@@ -155,7 +150,7 @@ row_at-rows asked there (first ∷ keys) key on has = elim (cases_key key first)
 pub row_read : (J : Past) (args : Args) (key : CatKey) → reads args key ≡ true → row_at (rows_read J args) key ≡ cat J key
 row_read J args key on = row_at-rows (reads args) (cat J) (keys_of J) key on (has_key J key)
 
-behind_out : (key : CatKey) (keys : List CatKey) → AllBehind key keys → IsIn key keys → ⊥
+pub behind_out : (key : CatKey) (keys : List CatKey) → AllBehind key keys → IsIn key keys → ⊥
 behind_out key [] behind h = elim h [ ]
 behind_out key (first ∷ more) behind h = elim h [
   | inl here ↦ let tied : key_cmp key first ≡ Equal = key_cmp-same key first here in cc (tied, behind.0)

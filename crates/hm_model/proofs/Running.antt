@@ -1,6 +1,6 @@
 -- Who runs, what it says of its tree, and who has none of its tree under way.
-use Rattle.std.proofs.Common.{Bool, List, None, Option, Some, [], ap, arith, false, if◌then◌else◌, inl, inr, is_some, not, refl, subst, sym, true, ℕ, ◌&&◌, ◌+◌, ◌==◌, ◌||◌, ◌∙◌, ◌∷◌, ◌≡◌, ◌≢◌, ◌⊎◌}
-use Rattle.std.proofs.lemmas.Bool.{and_parts, cases_Bool, cases_eq, cond-false, eq-eqb, eqb-true, false≢true, ne_eqb, not-true, true≢false}
+use Rattle.std.proofs.Common.{Bool, List, None, Option, Some, [], ap, arith, false, if◌then◌else◌, inl, inr, is_some, not, refl, sym, true, ℕ, ◌&&◌, ◌+◌, ◌==◌, ◌∙◌, ◌∷◌, ◌≡◌, ◌≢◌, ◌⊎◌}
+use Rattle.std.proofs.lemmas.Bool.{and_parts, and_right, cases_eq, cond-false, eq-eqb, false≢true, ne_eqb, not-true, true≢false}
 use Rattle.std.proofs.lemmas.Option.{none-some}
 use Rattle.hm_data.specs.declared.answer.Answer.{Answer}
 use Rattle.hm_data.specs.declared.answer.Answer.TheVariants as answer_is
@@ -13,17 +13,14 @@ use Rattle.hm_model.specs.Forest.{IsWait}
 use Rattle.hm_model.specs.Inputs.{undoes}
 use Rattle.hm_model.specs.Journal.{Past}
 use Rattle.hm_model.specs.Phase.{all_stopped, cause, children_ended, ended, ended_node, in_tree, or_else, own_phase, phase, phase_table, rolled_back, root_ended, root_over, stopped_in}
-use Rattle.hm_model.specs.Picks.{has_pick}
-use Rattle.hm_model.specs.Rest.{IsReady, MayStep, MayStepPicked}
+use Rattle.hm_model.specs.Rest.{IsReady, MayStep}
 use Rattle.hm_model.specs.Rules.{IsLegal}
-use Rattle.hm_model.specs.Tree.{Node, is_root_in, is_top, made, node_of, root_in, root_of}
+use Rattle.hm_model.specs.Tree.{Node, is_top, made, node_of, root_in, root_of}
 use Rattle.hm_model.specs.Undo.{is_empty, stack}
-use Rattle.hm_model.specs.Waiting.{is_open_under}
-use Rattle.hm_model.proofs.Counting.{count_none, find_below}
 use Rattle.hm_model.proofs.Grown.{not_stepped, stepped}
-use Rattle.hm_model.proofs.Forest.{forest_all, roots_wait, top_is, top_is_own}
-use Rattle.hm_model.proofs.Waiting.{under_tells}
-use Rattle.hm_model.proofs.Trees.{all_below_at, child_stopped, grown_all, is_there}
+use Rattle.hm_model.proofs.Forest.{forest_all, roots_wait, top_is_own}
+use Rattle.hm_model.proofs.Trees.{all_below_at, grown_all, is_there}
+use Rattle.hm_model.proofs.Small.{from_test, top_is}
 
 -- the phases in which a step may be made
 abbrev pub Runs : Phase → Type 0
@@ -125,13 +122,9 @@ undo_facts J p x on =
 pub undo_open : (J : Past) (p : ℕ) (x : Node) → undoes J p x ≡ true → root_ended J p ≡ false
 undo_open J p x on = let f = undo_facts J p x on in by (cause J p) f.1 f.3
   where
-    false_right : (a b : Bool) → b ≡ false → (a && b) ≡ false
-    false_right true b e = e
-    false_right false b e = refl
-
     by : (c : Option Cause) → is_some c ≡ true → is_empty (stack J p) ≡ false → root_over c (rolled_back J p) (done_with (last_answer J p)) ≡ false
     by None some left = absurd (false≢true some)
-    by (Some c) some left = false_right (all_stopped J p) (is_empty (stack J p)) left
+    by (Some c) some left = and_right (all_stopped J p) (is_empty (stack J p)) left
 
 -- who awaits made a call with its last step
 pub awaits_call : (J : Past) (p : ℕ) (x : Node) → phase J p x ≡ phase_is.Awaiting → (next : ℕ) × (last_answer J p ≡ Some (answer_is.Await next))
@@ -142,11 +135,6 @@ pub calm_stopped : (J : Past) → IsLegal J → (r q : ℕ) (y : Node) → node_
 calm_stopped J legal r q y is of differs all =
     let le = is_there J (grown_all J legal) q y is in
     from_test (in_tree r (node_of J q)) (q == r) (is_stopped (last_answer J q)) (ap (in_tree r) is ∙ eq-eqb y.root r of) (ne_eqb q r differs) (all_below_at (made J + 1) (stopped_in J r) q all (omega (arith, le)))
-  where
-    from_test : (a b c : Bool) → a ≡ true → b ≡ false → (not a || (b || c)) ≡ true → c ≡ true
-    from_test true false c ea eb h = h
-    from_test true true c ea eb h = absurd (true≢false eb)
-    from_test false b c ea eb h = absurd (false≢true ea)
 
 -- a tree fails by its steps alone, and the first is its root's
 pub unfailed : (J : Past) → IsLegal J → (r : ℕ) → last_answer J r ≡ None → cause J r ≡ None

@@ -46,6 +46,7 @@ use Rattle.hm_model.proofs.CallSteps.{CallOut, CallReady, caller_step}
 use Rattle.hm_model.proofs.ExactRows.{IsLed, exact_is, led_row, row_passes}
 use Rattle.hm_model.proofs.LegalSteps.{ReadyBy, StepFacts}
 use Rattle.hm_model.proofs.PlainActs.{ChildrenWait, GoesTo, IsPlainOut, is_caller, is_plain, is_high, plain_act, plain_fails, quiet_args, quiet_low}
+use Rattle.hm_model.proofs.Small.{cons_nil}
 
 -- an answer that a step may give
 abbrev pub IsStepAnswer : Answer → Type 0
@@ -276,16 +277,13 @@ module _ (J : Past) (p : ℕ) (args : Args) (was : Option Answer) (rows : List R
     bearing = λ i made is. absurd (no_args i made out.children call.childless is);
     low = λ i made is. absurd (no_args i made out.children call.childless is);
     single = λ r m. absurd (none-some r (sym unmoved ∙ m));
-    led = λ lined runs. absurd (listed exact.0 exact.1 (sym exact.2 ∙ lined));
+    led = λ lined runs. absurd (cons_nil exact.0 exact.1 (sym exact.2 ∙ lined));
     calls = λ other w. subst (λ x. CallOut J p args x was out) (same_Some verb other (sym v ∙ w)) call;
     editless = λ r m. absurd (none-some r (sym unmoved ∙ m));
     silent = λ e. absurd (none-some verb (sym e ∙ v));
     unplaced = λ e. call.unplaced;
   }
     where
-      listed : (first : Row) (more : List Row) → first ∷ more ≡ [] → ⊥
-      listed first more e = cc
-
       none_wait : (answer : Answer) → ChildrenWait answer out.children
       none_wait (answer_is.Wait n) = tt
       none_wait answer = call.childless

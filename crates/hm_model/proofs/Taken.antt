@@ -1,6 +1,6 @@
 -- No two that hold conflict, where whoever is taken was free when it was taken.
 use Rattle.hm_model.proofs.Parted.{no_node}
-use Rattle.std.proofs.Common.{◌≡◌, ◌≢◌, ℕ, List, [], ◌∷◌, Bool, true, false, ◌||◌, Option, Some, None, refl, ap, sym, ◌∙◌, subst, inl, inr, ◌⊎◌}
+use Rattle.std.proofs.Common.{◌≡◌, ◌≢◌, ℕ, List, [], ◌∷◌, true, false, Option, Some, None, refl, ap, sym, ◌∙◌, subst, inl, inr, ◌⊎◌}
 use Rattle.std.proofs.lemmas.Bool.{cases_Bool, cases_eq, cond-false, cond-true, false≢true, true≢false}
 use Rattle.std.proofs.lemmas.Option.{none-some}
 use Rattle.hm_names.specs.Server.{Server}
@@ -22,6 +22,7 @@ use Rattle.hm_model.proofs.LegalSteps.{ready_stops}
 use Rattle.hm_model.proofs.Tops.{root_stays}
 use Rattle.hm_model.proofs.Trees.{grown_all, other_answer, step_of}
 use Rattle.hm_model.specs.Taking.{IsTaken, NoneConflict, NoneOfLegalConflict, StepsFree, lets_go, nobody, records, takes}
+use Rattle.std.proofs.Math.Bool.{or_comm}
 
 pub some_node : (J : Past) (p : ℕ) → node_of J p ≢ None → (x : Node) × (node_of J p ≡ Some x)
 some_node J p there = by (node_of J p) refl
@@ -31,13 +32,7 @@ some_node J p there = by (node_of J p) refl
     by (Some x) e = (x, e)
 
 pub clash_sym : (one other : List Ask) → Clash one other → Clash other one
-clash_sym one other c = (c.1, c.0, c.3, c.2, sym c.4, flip c.0.exclusive c.1.exclusive c.5)
-  where
-    flip : (a b : Bool) → (a || b) ≡ true → (b || a) ≡ true
-    flip true true h = refl
-    flip true false h = refl
-    flip false true h = refl
-    flip false false h = h
+clash_sym one other c = (c.1, c.0, c.3, c.2, sym c.4, or_comm c.1.exclusive c.0.exclusive ∙ c.5)
 
 clash_back : (one other : Option Node) → AsksClash one other → AsksClash other one
 clash_back None other h = absurd h

@@ -1,17 +1,15 @@
 -- Roots that hold, and that those that have ended stay so.
 use Rattle.hm_model.proofs.Parted.{no_node}
-use Rattle.std.proofs.Common.{◌≡◌, ◌≢◌, ℕ, List, ◌+◌, ◌==◌, [], ◌∷◌, Bool, true, false, not, ◌&&◌, cond, Option, Some, None, is_some, refl, ap, sym, ◌∙◌, subst, inl, inr, ◌⊎◌, arith}
+use Rattle.std.proofs.Common.{◌≡◌, ◌≢◌, ℕ, ◌+◌, ◌==◌, [], ◌∷◌, Bool, true, false, not, ◌&&◌, cond, Option, Some, None, is_some, refl, ap, sym, ◌∙◌, subst, inl, inr, ◌⊎◌, arith}
 use Rattle.std.proofs.lemmas.Bool.{and_parts, cases_Bool, cases_eq, eqb-true, true≢false, false≢true}
 use Rattle.std.proofs.lemmas.Option.{none-some, same_Some}
 use Rattle.hm_names.specs.Server.{Server}
 use Rattle.hm_names.specs.declared.pid.Pid.{Pid}
-use Rattle.hm_data.specs.declared.answer.Answer.{Answer}
-use Rattle.hm_data.specs.declared.answer.Answer.TheVariants as answer_is
 use Rattle.hm_data.specs.declared.answer.Cause.{Cause}
 use Rattle.hm_data.specs.declared.entry.Entry.{Entry}
 use Rattle.hm_data.specs.declared.entry.Entry.TheVariants as entry_is
 use Rattle.hm_data.specs.declared.step.StepOut.{StepOut}
-use Rattle.hm_model.specs.Answers.{done_with, failing, is_stopped, last_answer}
+use Rattle.hm_model.specs.Answers.{failing, is_stopped, last_answer}
 use Rattle.hm_model.specs.Apart.{tree_of}
 use Rattle.hm_model.specs.Holding.{HoldsWith, InConflict}
 use Rattle.hm_model.specs.Journal.{Past}
@@ -27,6 +25,8 @@ use Rattle.hm_model.proofs.Grown.{nodes_stay}
 use Rattle.hm_model.proofs.LegalSteps.{ready_stops}
 use Rattle.hm_model.proofs.Trees.{answer_now, grown_all, is_there, other_answer, some_of, step_of}
 use Rattle.hm_model.proofs.RootTrees.{ended_by, over_stopped, tree_root}
+use Rattle.hm_model.proofs.Small.{top_is}
+use Rattle.hm_model.proofs.Answered.{done_stops}
 
 -- a root, by its number
 abbrev pub TopIs : Past → ℕ → Node → Type 0
@@ -57,15 +57,6 @@ step_open pid pick out J legal = elim (cases_Bool (root_ended J (root_of J pid.0
               let none = step.uncaused (ap (λ (n : Node). is_top n.above) (sym one) ∙ ap is_top t.2) in
               true≢false (sym (done_stops (last_answer J pid.0) (sym (ended_by J pid.0 none) ∙ ap (root_ended J) (mine ∙ sym root) ∙ over)) ∙ runs)
         ]
-      where
-        done_stops : (o : Option Answer) → is_some (done_with o) ≡ true → is_stopped o ≡ true
-        done_stops None h = absurd (false≢true h)
-        done_stops (Some (answer_is.More n)) h = absurd (false≢true h)
-        done_stops (Some (answer_is.Wait n)) h = absurd (false≢true h)
-        done_stops (Some (answer_is.Await n)) h = absurd (false≢true h)
-        done_stops (Some (answer_is.Done told)) h = refl
-        done_stops (Some (answer_is.Fail c)) h = refl
-        done_stops (Some answer_is.Undone) h = refl
 
 -- nor has one in which a step is undone
 pub undo_open : (pid : Pid) (row : ℕ) (out : StepOut) (J : Past) → IsLegal (entry_is.Undo pid row out ∷ J) → root_ended J (root_of J pid.0) ≡ false
@@ -162,15 +153,11 @@ undo_facts pid row out J legal =
     let l = legal.1.1.0 in
     let parts = and_parts (is_top l.0.above) (is_some (cause J (root_of J pid.0)) && (all_stopped J (root_of J pid.0) && not (is_empty (stack J (root_of J pid.0))))) l.2 in
     let c = by (cause J (root_of J pid.0)) (and_parts (is_some (cause J (root_of J pid.0))) (all_stopped J (root_of J pid.0) && not (is_empty (stack J (root_of J pid.0)))) parts.1).0 in
-    (l.0, (l.1, no_above l.0.above parts.0), c.0, c.1)
+    (l.0, (l.1, top_is l.0.above parts.0), c.0, c.1)
   where
     by : (o : Option Cause) → is_some o ≡ true → (c : Cause) × (o ≡ Some c)
     by None h = absurd (false≢true h)
     by (Some c) h = (c, refl)
-
-    no_above : (above : List ℕ) → is_top above ≡ true → above ≡ []
-    no_above [] h = refl
-    no_above (u ∷ rest) h = absurd (false≢true h)
 
 not_above : (J : Past) (s : ℕ) (x : Node) → TopIs J s x → (q : ℕ) → IsAbove q (node_of J s) → ⊥
 not_above J s x top q up = subst (IsIn q) top.1 (subst (IsAbove q) top.0 up)

@@ -1,6 +1,6 @@
 -- Who may come to go on, and who may end, by a step.
-use Rattle.std.proofs.Common.{Bool, None, Option, Some, [], ap, arith, false, if◌then◌else◌, inl, inr, is_some, length, not, refl, subst, sym, true, ℕ, ◌&&◌, ◌+◌, ◌==◌, ◌||◌, ◌∙◌, ◌∷◌, ◌≡◌, ◌≢◌, ◌⊎◌}
-use Rattle.std.proofs.lemmas.Bool.{and_parts, cases_Bool, cases_eq, eq-eqb, false≢true, ne_eqb, true≢false}
+use Rattle.std.proofs.Common.{Bool, None, Option, Some, [], ap, arith, false, if◌then◌else◌, inl, inr, is_some, length, not, refl, subst, sym, true, ℕ, ◌&&◌, ◌+◌, ◌==◌, ◌∙◌, ◌∷◌, ◌≡◌, ◌≢◌, ◌⊎◌}
+use Rattle.std.proofs.lemmas.Bool.{and_parts, cases_Bool, cases_eq, eq-eqb, ne_eqb, true≢false}
 use Rattle.std.proofs.lemmas.Option.{same_Some}
 use Rattle.hm_data.specs.declared.answer.Cause.{Cause}
 use Rattle.hm_data.specs.declared.entry.Entry.TheVariants as entry_is
@@ -21,11 +21,12 @@ use Rattle.hm_model.specs.Touched.{IsTouched}
 use Rattle.hm_model.specs.Tree.{Node, args_in, is_top, made, node_of, root_in, root_of}
 use Rattle.hm_model.specs.Undo.{is_empty, stack}
 use Rattle.hm_model.proofs.Apart.{others_stay}
-use Rattle.hm_model.proofs.Forest.{forest_all, rooted_all, top_is, top_is_own}
+use Rattle.hm_model.proofs.Forest.{forest_all, rooted_all, top_is_own}
 use Rattle.hm_model.proofs.Grown.{grown_all, made_up_to, nodes_stay, not_stepped}
 use Rattle.hm_model.proofs.LegalSteps.{ready_stops}
 use Rattle.hm_model.proofs.Trees.{all_below_at, grown_all as trees_all, some_of, step_of}
 use Rattle.hm_model.proofs.Waiting.{children_change, children_tell}
+use Rattle.hm_model.proofs.Small.{from_test, top_is}
 
 -- the phases in which a step may be made
 abbrev Runs : Phase → Type 0
@@ -42,11 +43,6 @@ own_there : (cause : Option Cause) (back : Bool) (own : Phase) → (cause ≡ No
 own_there None back own h = refl
 own_there (Some c) true own h = elim h [ inl e ↦ cc | inr e ↦ cc ]
 own_there (Some c) false own h = refl
-
-from_test : (a b c : Bool) → a ≡ true → b ≡ false → (not a || (b || c)) ≡ true → c ≡ true
-from_test true false c ea eb h = h
-from_test true true c ea eb h = absurd (true≢false eb)
-from_test false b c ea eb h = absurd (false≢true ea)
 
 module _ (pid : Pid) (pick : Option Server) (out : StepOut) (before : Past) (legal : IsLegal (entry_is.Step pid pick out ∷ before)) (me : Node) (is_me : node_of before pid.0 ≡ Some me) where
   abbrev after : Past

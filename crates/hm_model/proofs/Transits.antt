@@ -16,13 +16,14 @@ use Rattle.hm_model.specs.declared.lock.Resource.TheVariants as resource_is
 use Rattle.hm_model.proofs.PlainActs.{is_caller}
 use Rattle.hm_model.proofs.StepDoes.{bears_by}
 use Rattle.hm_model.proofs.Trees.{Grown}
+use Rattle.hm_model.proofs.Small.{cons_nil}
 
 pub caller_facts : (args : Args) → is_caller args ≡ true → (moved_by args ≡ None) × (is_some (verb_in args) ≡ true)
 caller_facts (args_are.AssignCall region server) h = (refl, refl)
 caller_facts (args_are.CloseCall region server) h = (refl, refl)
 caller_facts args h = absurd (false≢true h)
 
-asks_region : (args : Args) (r : Region) → moved_by args ≡ Some r → IsIn (exclusive (resource_is.Region r)) (asks args)
+pub asks_region : (args : Args) (r : Region) → moved_by args ≡ Some r → IsIn (exclusive (resource_is.Region r)) (asks args)
 asks_region (args_are.Transit region goal to) r m = inr (inr (inl (ap (λ x. exclusive (resource_is.Region x)) (sym (same_Some region r m)))))
 asks_region (args_are.Root (request_is.Move region to) first) r m = inr (inr (inl (ap (λ x. exclusive (resource_is.Region x)) (sym (same_Some region r m)))))
 asks_region (args_are.Root request first) r m = absurd (none-some r m)
@@ -57,6 +58,3 @@ root_above J grown (u ∷ []) q x is e some = let up = grown.ups q x is u [] e i
 root_above J grown (u ∷ v ∷ rest) q x is e some =
     let up = grown.ups q x is u (v ∷ rest) e in
     inr (subst (λ k. IsIn k (v ∷ rest)) up.3 (root_above J grown (v ∷ rest) u up.0 up.1 up.2 (λ h. cons_nil v rest h)))
-  where
-    cons_nil : (v : ℕ) (rest : List ℕ) → v ∷ rest ≡ [] → ⊥
-    cons_nil v rest h = cc

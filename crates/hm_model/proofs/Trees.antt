@@ -1,7 +1,7 @@
 -- What every legal journal keeps of its procedures and their calls, whatever its steps conflicted with.
 use Rattle.std.proofs.Common.{◌≡◌, ◌≢◌, ℕ, zero, suc, ◌+◌, ◌-◌, ◌<◌, ◌≤◌, List, [], ◌∷◌, Bool, true, false, not, ◌||◌, ◌==◌, nat_lt, Option, Some, None, option_map, refl, ap, sym, ◌∙◌, subst, inl, inr, ◌⊎◌, slice_get, arith}
 use Rattle.std.specs.Option.{option_or}
-use Rattle.std.proofs.lemmas.Bool.{and_parts, cases_Bool, cases_eq, cases_lt, cond-false, cond-true, eq-eqb, false≢true, le-ltb, lt-ltb, ne_eqb, not-true, or_cases, true≢false}
+use Rattle.std.proofs.lemmas.Bool.{and_from, and_parts, cases_Bool, cases_eq, cases_lt, cond-false, cond-true, eq-eqb, false≢true, le-ltb, lt-ltb, ne_eqb, not-true, or_cases, true≢false}
 use Rattle.std.proofs.lemmas.Option.{none-some, same_Some, slice_get_past}
 use Rattle.hm_names.specs.Region.{Region}
 use Rattle.hm_names.specs.Server.{Server}
@@ -36,6 +36,7 @@ use Rattle.hm_model.proofs.ExactRows.{IsLed, sheet_is, start_led, valid_by}
 use Rattle.hm_model.proofs.LegalSteps.{ReadyBy, StepFacts, legal_step, ready_stops}
 use Rattle.hm_model.proofs.PlainActs.{ChildrenWait}
 use Rattle.hm_model.proofs.RootSheets.{by_stays, not_next}
+use Rattle.hm_model.proofs.Small.{cons_nil, nil_cons, top_is}
 
 -- it waits for children
 abbrev pub IsWaiting : Option Answer → Type 0
@@ -46,6 +47,10 @@ IsWaiting (Some (answer_is.Await n)) = ⊥
 IsWaiting (Some (answer_is.Done told)) = ⊥
 IsWaiting (Some (answer_is.Fail cause)) = ⊥
 IsWaiting (Some answer_is.Undone) = ⊥
+
+pub waiting_some : (last : Option Answer) → IsWaiting last → last ≢ None
+waiting_some None w e = w
+waiting_some (Some answer) w e = none-some answer (sym e)
 
 pub record Grown (J : Past) : Type 0 where
   pub numbered : (p : ℕ) → made J < p → node_of J p ≡ None
@@ -82,18 +87,18 @@ pub is_there : (J : Past) → Grown J → (p : ℕ) (node : Node) → node_of J 
 is_there J grown p node is = elim (le_or_lt p (made J)) [ inl le ↦ le | inr lt ↦ absurd (none-some node (sym (grown.numbered p lt) ∙ is)) ]
 
 -- nor is its root above what was made
-root_up : (J : Past) → Grown J → (above : List ℕ) (p : ℕ) (node : Node) → node_of J p ≡ Some node → node.above ≡ above → node.root ≤ p
-root_up J grown [] p node is e = let own = grown.tops p node is e in omega (arith, own)
-root_up J grown (u ∷ rest) p node is e =
+pub root_low : (J : Past) → Grown J → (above : List ℕ) (p : ℕ) (node : Node) → node_of J p ≡ Some node → node.above ≡ above → node.root ≤ p
+root_low J grown [] p node is e = let own = grown.tops p node is e in omega (arith, own)
+root_low J grown (u ∷ rest) p node is e =
     let up = grown.ups p node is u rest e in
     let later = grown.later p node is u rest e in
-    let le = root_up J grown rest u up.0 up.1 up.2 in
+    let le = root_low J grown rest u up.0 up.1 up.2 in
     let same = up.3 in
     omega (arith, le, later, same)
 
 pub root_within : (J : Past) → Grown J → (p : ℕ) (node : Node) → node_of J p ≡ Some node → node.root ≤ made J
 root_within J grown p node is =
-    let up = root_up J grown node.above p node is refl in
+    let up = root_low J grown node.above p node is refl in
     let le = is_there J grown p node is in
     omega (arith, up, le)
 
@@ -108,6 +113,10 @@ all_below_at (suc n) test q all lt = elim (cases_eq q n) [
   | inl same ↦ ap test same ∙ (and_parts (test n) (all_below n test) all).0
   | inr differs ↦ all_below_at n test q (and_parts (test n) (all_below n test) all).1 (omega (arith, lt, differs))
 ]
+
+pub all_below_from : (n : ℕ) (test : ℕ → Bool) → ((q : ℕ) → q < n → test q ≡ true) → all_below n test ≡ true
+all_below_from zero test each = refl
+all_below_from (suc n) test each = and_from (test n) (all_below n test) (each n (omega arith)) (all_below_from n test (λ q lt. each q (omega (arith, lt))))
 
 -- the children of one whose children have ended have stopped
 pub child_stopped : (J : Past) → Grown J → (p : ℕ) → children_ended J p ≡ true → (q : ℕ) (node : Node) → node_of J q ≡ Some node → (rest : List ℕ) → node.above ≡ p ∷ rest → is_stopped (last_answer J q) ≡ true
@@ -146,9 +155,6 @@ module _ (J J' : Past) (rooted : IsRooted J J') (grown : Grown J) where
 
   root_above : (p : ℕ) (node : Node) (args : Args) (first u : ℕ) (rest : List ℕ) → node ≡ root_node p args first → node.above ≡ u ∷ rest → ⊥
   root_above p node args first u rest is above = nil_cons u rest (ap (λ (n : Node). n.above) (sym is) ∙ above)
-    where
-      nil_cons : (u : ℕ) (rest : List ℕ) → [] ≡ u ∷ rest → ⊥
-      nil_cons u rest e = cc
 
   pub grown_rooted : ((root : ℕ) → AllValid (sheets_by J' root)) → Grown J'
   grown_rooted valid = record {
@@ -246,6 +252,13 @@ module _ (pid : Pid) (pick : Option Server) (out : StepOut) (J : Past) where
   pub other_answer : (q : ℕ) → q ≢ pid.0 → last_answer (entry_is.Step pid pick out ∷ J) q ≡ last_answer J q
   other_answer q differs = cond-false (q == pid.0) (Some out.answer) (last_answer J q) (ne_eqb q pid.0 differs)
 
+  -- who goes on behind a step of somebody who went on did so before
+  pub ran_before : is_stopped (last_answer J pid.0) ≡ false → (q : ℕ) → is_stopped (last_answer (entry_is.Step pid pick out ∷ J) q) ≡ false → is_stopped (last_answer J q) ≡ false
+  ran_before runs q now = elim (cases_eq q pid.0) [
+    | inl same ↦ ap (λ x. is_stopped (last_answer J x)) same ∙ runs
+    | inr differs ↦ ap is_stopped (sym (other_answer q differs)) ∙ now
+  ]
+
   pub node_same : (q : ℕ) → q ≤ made J → node_of (entry_is.Step pid pick out ∷ J) q ≡ node_of J q
   node_same q le = cond-false (nat_lt (made J) q) (children_of pid.0 (node_of J pid.0) (slice_get (args_in out.children) (q - made J - 1))) (node_of J q) (le-ltb (made J) q le)
 
@@ -260,6 +273,17 @@ module _ (pid : Pid) (pick : Option Server) (out : StepOut) (J : Past) where
 
   pub other_verb : (q : ℕ) → q ≢ pid.0 → verb_of (entry_is.Step pid pick out ∷ J) q ≡ verb_of J q
   other_verb q differs = cond-false (q == pid.0) (option_or out.call (verb_of J q)) (verb_of J q) (ne_eqb q pid.0 differs)
+
+  -- a call was there before a step, or is the one that it makes
+  pub verb_was : (q : ℕ) (verb : Verb) → verb_of (entry_is.Step pid pick out ∷ J) q ≡ Some verb → (verb_of J q ≡ Some verb) ⊎ ((q ≡ pid.0) × (out.call ≡ Some verb))
+  verb_was q verb is = elim (cases_eq q pid.0) [
+    | inl same ↦ by same out.call refl (sym verb_now ∙ ap (verb_of (entry_is.Step pid pick out ∷ J)) (sym same) ∙ is)
+    | inr differs ↦ inl (sym (other_verb q differs) ∙ is)
+  ]
+    where
+      by : q ≡ pid.0 → (o : Option Verb) → out.call ≡ o → option_or o (verb_of J pid.0) ≡ Some verb → (verb_of J q ≡ Some verb) ⊎ ((q ≡ pid.0) × (out.call ≡ Some verb))
+      by same None e h = inl (ap (verb_of J) same ∙ h)
+      by same (Some v) e h = inr (same, e ∙ h)
 
   pub node_new : (node : Node) → node_of J pid.0 ≡ Some node → (q : ℕ) → made J < q → node_of (entry_is.Step pid pick out ∷ J) q ≡ option_map (child_of pid.0 node) (slice_get (args_in out.children) (q - made J - 1))
   node_new node is q lt = cond-true (nat_lt (made J) q) (children_of pid.0 (node_of J pid.0) (slice_get (args_in out.children) (q - made J - 1))) (node_of J q) (lt-ltb (made J) q lt) ∙ ap (λ n. children_of pid.0 n (slice_get (args_in out.children) (q - made J - 1))) is ∙ by (slice_get (args_in out.children) (q - made J - 1))
@@ -320,20 +344,13 @@ module _ (pid : Pid) (pick : Option Server) (out : StepOut) (J : Past) where
         heads : pid.0 ∷ step.node.above ≡ u ∷ rest → (pid.0 ≡ u) × (step.node.above ≡ rest)
         heads e = (cc, cc)
 
-    -- it hadn't stopped before
-    ran : (q : ℕ) → is_stopped (last_answer (entry_is.Step pid pick out ∷ J) q) ≡ false → is_stopped (last_answer J q) ≡ false
-    ran q now = elim (cases_eq q pid.0) [
-      | inl same ↦ ap (λ x. is_stopped (last_answer J x)) same ∙ runs
-      | inr differs ↦ ap is_stopped (sym (other_answer q differs)) ∙ now
-    ]
-
     waits_now : (q : ℕ) (n : Node) → node_of (entry_is.Step pid pick out ∷ J) q ≡ Some n → (u : ℕ) (rest : List ℕ) → n.above ≡ u ∷ rest → is_stopped (last_answer (entry_is.Step pid pick out ∷ J) q) ≡ false → IsWaiting (last_answer (entry_is.Step pid pick out ∷ J) u)
     waits_now q n is u rest above now = elim (le_or_lt q (made J)) [
       | inl le ↦
           let was = sym (node_same q le) ∙ is in
-          let waited = grown.waits q n was u rest above (ran q now) in
+          let waited = grown.waits q n was u rest above (ran_before runs q now) in
           elim (cases_eq u pid.0) [
-            | inl same ↦ absurd (true≢false (sym (child_stopped J grown pid.0 (waits_ready (last_answer J pid.0) (subst (λ x. IsWaiting (last_answer J x)) same waited) step.ready) q n was rest (above ∙ ap (λ x. x ∷ rest) same)) ∙ ran q now))
+            | inl same ↦ absurd (true≢false (sym (child_stopped J grown pid.0 (waits_ready (last_answer J pid.0) (subst (λ x. IsWaiting (last_answer J x)) same waited) step.ready) q n was rest (above ∙ ap (λ x. x ∷ rest) same)) ∙ ran_before runs q now))
             | inr differs ↦ subst IsWaiting (sym (other_answer u differs)) waited
           ]
       | inr lt ↦
@@ -352,7 +369,7 @@ module _ (pid : Pid) (pick : Option Server) (out : StepOut) (J : Past) where
           (subst (λ (s : Sheet). IsLed (kind_of n.args) s.rows (row_after (first_row_of n.args) (Some out.answer))) sheets
           (subst (λ (x : Node). IsLed (kind_of x.args) step.sheet.rows (row_after (first_row_of x.args) (Some out.answer))) one (d.led (ap (λ (x : Node). exact_rows (kind_of x.args)) one ∙ lined) (ap is_stopped (sym now_is) ∙ now))))
       | inr differs ↦ elim (le_or_lt q (made J)) [
-        | inl le ↦ subst (λ o. IsLed (kind_of n.args) sheet.rows (row_after (first_row_of n.args) o)) (sym (other_answer q differs)) (grown.led q n (sym (node_same q le) ∙ is) lined sheet found (ran q now))
+        | inl le ↦ subst (λ o. IsLed (kind_of n.args) sheet.rows (row_after (first_row_of n.args) o)) (sym (other_answer q differs)) (grown.led q n (sym (node_same q le) ∙ is) lined sheet found (ran_before runs q now))
         | inr lt ↦
             let v = sheet_is (sheets_by J n.root) valid (kind_of n.args) sheet found in
             subst (λ o. IsLed (kind_of n.args) sheet.rows (row_after (first_row_of n.args) o)) (sym (unmade_now q lt)) (start_led n.args lined sheet v.0 v.1)
@@ -376,17 +393,6 @@ module _ (pid : Pid) (pick : Option Server) (out : StepOut) (J : Past) where
       where
         by : (verb : Verb) → verb_of J pid.0 ≡ Some verb → out.call ≡ None → option_or out.call (verb_of J pid.0) ≡ Some verb
         by verb was none = ap (λ o. option_or o (verb_of J pid.0)) none ∙ was
-
-    -- a call is an old one, or the one that is made now
-    pub verb_or : (q : ℕ) (verb : Verb) → verb_of (entry_is.Step pid pick out ∷ J) q ≡ Some verb → (verb_of J q ≡ Some verb) ⊎ ((q ≡ pid.0) × (out.call ≡ Some verb))
-    verb_or q verb is = elim (cases_eq q pid.0) [
-      | inl same ↦ by same out.call refl (sym verb_now ∙ ap (verb_of (entry_is.Step pid pick out ∷ J)) (sym same) ∙ is)
-      | inr differs ↦ inl (sym (other_verb q differs) ∙ is)
-    ]
-      where
-        by : q ≡ pid.0 → (o : Option Verb) → out.call ≡ o → option_or o (verb_of J pid.0) ≡ Some verb → (verb_of J q ≡ Some verb) ⊎ ((q ≡ pid.0) × (out.call ≡ Some verb))
-        by same None e h = inl (ap (verb_of J) same ∙ h)
-        by same (Some v) e h = inr (same, e ∙ h)
 
     -- who makes a call is for it, and made none before
     pub call_mine : (verb : Verb) → out.call ≡ Some verb → (verb_in step.node.args ≡ Some verb) × (last_answer J pid.0 ≡ None) × (out.answer ≡ answer_is.Await 1) × (verb_of J pid.0 ≡ None)
@@ -466,23 +472,16 @@ module _ (pid : Pid) (pick : Option Server) (out : StepOut) (J : Past) where
       waits = waits_now;
       led = λ q n is lined sheet found now. led_now q n is lined sheet found (valid n.root) now;
       calls = calls_now;
-      verbs = λ q verb is. elim (verb_or q verb is) [
+      verbs = λ q verb is. elim (verb_was q verb is) [
         | inl was ↦ let v = grown.verbs q verb was in (v.0, still_there q v.0 v.1, v.2)
         | inr new ↦ (step.node, ap (node_of (entry_is.Step pid pick out ∷ J)) new.0 ∙ still_there pid.0 step.node step.node_is, (call_mine verb new.1).0)
       ];
       fits = λ q told is. let f = grown.fits q told is in (f.0, verb_stays q f.0 f.1, f.2);
       last_is = last_now;
     }
-      where
-        cons_nil : (u : ℕ) (rest : List ℕ) → u ∷ rest ≡ [] → ⊥
-        cons_nil u rest e = cc
 
 pub at_top : (J : Past) → Grown J → (p : ℕ) (node : Node) → node_of J p ≡ Some node → is_top node.above ≡ true → node.root ≡ p
-at_top J grown p node is top = grown.tops p node is (by node.above top)
-  where
-    by : (above : List ℕ) → is_top above ≡ true → above ≡ []
-    by [] h = refl
-    by (u ∷ rest) h = absurd (false≢true h)
+at_top J grown p node is top = grown.tops p node is (top_is node.above top)
 
 pub step_of : (pid : Pid) (pick : Option Server) (out : StepOut) (J : Past) → Grown J → IsLegal (entry_is.Step pid pick out ∷ J) → StepFacts J pid.0 pick out
 step_of pid pick out J grown legal = legal_step pid pick out J (λ node is top. at_top J grown pid.0 node is top) (λ node is lined sheet found runs. grown.led pid.0 node is lined sheet found runs) legal
@@ -503,7 +502,7 @@ pub some_of : {A : Type 0} (o : Option A) → o ≢ None → (x : A) × (o ≡ S
 some_of None h = absurd (h refl)
 some_of (Some x) h = (x, refl)
 
-start_none : (J : Past) → J ≡ [] → (p : ℕ) → node_of J p ≡ None
+pub start_none : (J : Past) → J ≡ [] → (p : ℕ) → node_of J p ≡ None
 start_none J e p = ap (λ j. node_of j p) e
 
 pub grown_all : (J : Past) → IsLegal J → Grown J

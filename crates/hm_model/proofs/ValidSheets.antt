@@ -13,9 +13,8 @@ use Rattle.hm_model.specs.Answers.{no_row}
 use Rattle.hm_model.specs.Lists.{Line, exact_rows, orders_of}
 use Rattle.hm_model.specs.Base.{AreSheets}
 use Rattle.hm_model.specs.Locks.{IsIn}
-use Rattle.hm_model.specs.Sheets.{row_in, sheet_for}
+use Rattle.hm_model.specs.Sheets.{sheet_for}
 use Rattle.hm_model.specs.Validity.{AllValid, IsValid, astray, first_broken, fits, is_not, kept, longest_kept, misfit, misfit_in, row_rules, rules_of_row, same_flag}
-use Rattle.hm_data.specs.declared.act.Act.TheVariants as act_is
 use Rattle.hm_data.specs.declared.args.Args.{Args}
 use Rattle.hm_data.specs.declared.args.Args.TheVariants as args_are
 use Rattle.hm_data.specs.declared.request.Request.{Request}
@@ -23,7 +22,7 @@ use Rattle.hm_data.specs.declared.request.Request.TheVariants as request_is
 use Rattle.hm_model.specs.Kinds.{all_kinds, kind_of, request_kind}
 use Rattle.hm_data.specs.declared.act.Back.TheVariants as back_is
 
-first_holds : (n : ℕ) (b : Bool) (more : List (ℕ × Bool)) → first_broken ((n, b) ∷ more) ≡ None → (b ≡ true) × (first_broken more ≡ None)
+pub first_holds : (n : ℕ) (b : Bool) (more : List (ℕ × Bool)) → first_broken ((n, b) ∷ more) ≡ None → (b ≡ true) × (first_broken more ≡ None)
 first_holds n true more h = (refl, h)
 first_holds n false more h = absurd (none-some n (sym h))
 
@@ -76,20 +75,20 @@ Leads rows place [] = place ≡ no_row
 Leads rows place (line ∷ lines) =
     (row : Row) × (slice_get rows place ≡ Some row) × Fits line row × ((row.next == no_row) ≡ is_last lines) × Leads rows row.next lines
 
-same_flag-is : (a b : Bool) → same_flag a b ≡ true → a ≡ b
+pub same_flag-is : (a b : Bool) → same_flag a b ≡ true → a ≡ b
 same_flag-is true true h = refl
 same_flag-is true false h = absurd (false≢true h)
 same_flag-is false true h = absurd (false≢true h)
 same_flag-is false false h = refl
 
-same_act : (a b : Act) → act_number a ≡ act_number b → a ≡ b
+pub same_act : (a b : Act) → act_number a ≡ act_number b → a ≡ b
 same_act a b e = same_Some a b (sym (act_of-act_number a) ∙ ap act_of e ∙ act_of-act_number b)
 
 back_of-back_number : (undo : Back) → back_of (back_number undo) ≡ Some undo
 back_of-back_number back_is.Nothing = refl
 back_of-back_number undo = refl
 
-same_back : (a b : Back) → back_number a ≡ back_number b → a ≡ b
+pub same_back : (a b : Back) → back_number a ≡ back_number b → a ≡ b
 same_back a b e = same_Some a b (sym (back_of-back_number a) ∙ ap back_of e ∙ back_of-back_number b)
 
 fits_is : (line : Line) (row : Row) → fits line row ≡ true → Fits line row

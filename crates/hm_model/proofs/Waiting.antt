@@ -29,16 +29,13 @@ use Rattle.hm_model.proofs.Forest.{rooted_all}
 use Rattle.hm_model.proofs.Grown.{down_new, down_old, grown_all, made_up_to, not_stepped, step_new, step_old, stepped, submit_new, submit_old, undo_new, undo_old}
 use Rattle.hm_model.proofs.Trees.{grown_all as trees_all, step_of}
 use Rattle.hm_model.proofs.LegalSteps.{ready_stops}
+use Rattle.std.proofs.Math.Bool.{and-true, and_assoc, not-not}
 
 -- none is counted exactly where each passes the other test
 none_counted : (n : ℕ) (all some : ℕ → Bool) → ((q : ℕ) → some q ≡ not (all q)) → all_below n all ≡ (count_below some n == 0)
 none_counted zero all some each = refl
-none_counted (suc n) all some each = ap (λ b. b && all_below n all) (sym (twice (all n)) ∙ ap not (sym (each n))) ∙ by (some n) (count_below some n) (all_below n all) (none_counted n all some each)
+none_counted (suc n) all some each = ap (λ b. b && all_below n all) (sym (not-not (all n)) ∙ ap not (sym (each n))) ∙ by (some n) (count_below some n) (all_below n all) (none_counted n all some each)
   where
-    twice : (b : Bool) → not (not b) ≡ b
-    twice true = refl
-    twice false = refl
-
     by : (b : Bool) (rest : ℕ) (a : Bool) → a ≡ (rest == 0) → (not b && a) ≡ (rest + one_if b == 0)
     by true rest a e = sym (ne_eqb (rest + 1) 0 (λ h. omega (arith, h)))
     by false rest a e = e ∙ ap (λ n. n == 0) {x = rest} {y = rest + 0} (omega arith)
@@ -145,18 +142,10 @@ module _ (pid : Pid) (pick : Option Server) (out : StepOut) (before : Past) (leg
         ap (λ n. count_below other n + one_if (one pid.0 && is_stop out.answer)) place ∙ omega (arith, more, ends)
 
   parts_own : (a : Bool) → (a && not (is_stop out.answer)) ≡ ((a && not (is_stopped (last_answer before pid.0))) && not (is_stop out.answer))
-  parts_own a = ap (λ b. b && not (is_stop out.answer)) (by a ∙ ap (λ s. a && not s) (sym ran))
-    where
-      by : (a : Bool) → a ≡ (a && true)
-      by true = refl
-      by false = refl
+  parts_own a = ap (λ b. b && not (is_stop out.answer)) (sym (and-true a) ∙ ap (λ s. a && not s) (sym ran))
 
   parts_end : (a : Bool) → ((a && not (is_stopped (last_answer before pid.0))) && is_stop out.answer) ≡ (a && is_stop out.answer)
-  parts_end a = ap (λ b. b && is_stop out.answer) (ap (λ s. a && not s) ran ∙ by a)
-    where
-      by : (a : Bool) → (a && true) ≡ a
-      by true = refl
-      by false = refl
+  parts_end a = ap (λ b. b && is_stop out.answer) (ap (λ s. a && not s) ran ∙ and-true a)
 
   here : node_of after pid.0 ≡ node_of before pid.0
   here = step_old pid pick out before pid.0 (made_up_to before grown pid.0 me is_me).1
@@ -167,22 +156,18 @@ module _ (pid : Pid) (pick : Option Server) (out : StepOut) (before : Past) (leg
       ∙ count_step (is_open_child before p) (is_open_child after p) (pid.0 == p)
       (λ q le differs. ap (λ o. child_in p o && not (is_stopped (last_answer after q))) (step_old pid pick out before q le) ∙ ap (λ l. child_in p (node_of before q) && not (is_stopped l)) (not_stepped pid pick out before q differs))
       (ap (λ o. child_in p o && not (is_stopped (last_answer after pid.0))) here ∙ ap (λ l. child_in p (node_of before pid.0) && not (is_stopped l)) (stepped pid pick out before) ∙ parts_own (child_in p (node_of before pid.0)))
-      (λ q lt le. let c = new_child q lt le in ap (λ o. child_in p o && not (is_stopped (last_answer after q))) c.1 ∙ ap (λ l. (pid.0 == p) && not (is_stopped l)) c.2 ∙ and_true (pid.0 == p))
-    where
-      and_true : (a : Bool) → (a && true) ≡ a
-      and_true true = refl
-      and_true false = refl
+      (λ q lt le. let c = new_child q lt le in ap (λ o. child_in p o && not (is_stopped (last_answer after q))) c.1 ∙ ap (λ l. (pid.0 == p) && not (is_stopped l)) c.2 ∙ and-true (pid.0 == p))
 
   under_step : (r : ℕ) → open_under after r + one_if ((in_tree r (node_of before pid.0) && not (pid.0 == r)) && is_stop out.answer) ≡ open_under before r + (if in_tree r (node_of before pid.0) then length (args_in out.children) else 0)
   under_step r =
-      ap (λ b. open_under after r + one_if b) (sym (parts_end (in_tree r (node_of before pid.0) && not (pid.0 == r))) ∙ ap (λ b. b && is_stop out.answer) (grouped (in_tree r (node_of before pid.0)) (not (pid.0 == r)) (not (is_stopped (last_answer before pid.0)))))
+      ap (λ b. open_under after r + one_if b) (sym (parts_end (in_tree r (node_of before pid.0) && not (pid.0 == r))) ∙ ap (λ b. b && is_stop out.answer) (and_assoc (in_tree r (node_of before pid.0)) (not (pid.0 == r)) (not (is_stopped (last_answer before pid.0)))))
       ∙ count_step (is_open_under before r) (is_open_under after r) (in_tree r (node_of before pid.0))
       (λ q le differs. ap (λ o. in_tree r o && (not (q == r) && not (is_stopped (last_answer after q)))) (step_old pid pick out before q le) ∙ ap (λ l. in_tree r (node_of before q) && (not (q == r) && not (is_stopped l))) (not_stepped pid pick out before q differs))
       (ap (λ o. in_tree r o && (not (pid.0 == r) && not (is_stopped (last_answer after pid.0)))) here
       ∙ ap (λ l. in_tree r (node_of before pid.0) && (not (pid.0 == r) && not (is_stopped l))) (stepped pid pick out before)
-      ∙ sym (grouped (in_tree r (node_of before pid.0)) (not (pid.0 == r)) (not (is_stop out.answer)))
+      ∙ sym (and_assoc (in_tree r (node_of before pid.0)) (not (pid.0 == r)) (not (is_stop out.answer)))
       ∙ parts_own (in_tree r (node_of before pid.0) && not (pid.0 == r))
-      ∙ ap (λ b. b && not (is_stop out.answer)) (grouped (in_tree r (node_of before pid.0)) (not (pid.0 == r)) (not (is_stopped (last_answer before pid.0)))))
+      ∙ ap (λ b. b && not (is_stop out.answer)) (and_assoc (in_tree r (node_of before pid.0)) (not (pid.0 == r)) (not (is_stopped (last_answer before pid.0)))))
       (λ q lt le.
       let c = new_child q lt le in
       ap (λ o. in_tree r o && (not (q == r) && not (is_stopped (last_answer after q)))) c.1
@@ -190,14 +175,6 @@ module _ (pid : Pid) (pick : Option Server) (out : StepOut) (before : Past) (leg
       ∙ apart q lt
       ∙ ap (in_tree r) (sym is_me))
     where
-      grouped : (a b c : Bool) → ((a && b) && c) ≡ (a && (b && c))
-      grouped true b c = refl
-      grouped false b c = refl
-
-      and_true : (a : Bool) → (a && true) ≡ a
-      and_true true = refl
-      and_true false = refl
-
       -- a new child isn't the root of its tree
       apart : (q : ℕ) → made before < q → ((me.root == r) && (not (q == r) && true)) ≡ (me.root == r)
       apart q lt = elim (cases_eq me.root r) [
@@ -205,7 +182,7 @@ module _ (pid : Pid) (pick : Option Server) (out : StepOut) (before : Past) (leg
             let root = rooted_all before legal.0 pid.0 me is_me in
             let few = (made_up_to before grown me.root root.root root.there).1 in
             let differs : q ≢ r = λ e. omega (arith, lt, few, of, e) in
-            ap (λ b. (me.root == r) && (not b && true)) (ne_eqb q r differs) ∙ and_true (me.root == r)
+            ap (λ b. (me.root == r) && (not b && true)) (ne_eqb q r differs) ∙ and-true (me.root == r)
         | inr other ↦ ap (λ b. b && (not (q == r) && true)) (ne_eqb me.root r other) ∙ sym (ne_eqb me.root r other)
       ]
 

@@ -32,14 +32,16 @@ region_count table keys there = length (all_among table (region_rows table keys 
 
 -- the entries that a request costs, in the catalog just before its first step
 abbrev pub request_cost : Request → List CatKey → Catalog → ℕ
+request_cost (request_is.CreateNamespace ns) keys there = 3
+request_cost (request_is.DropNamespace ns) keys there = 3
 request_cost (request_is.CreateTable table split) keys there = 11 + by_64s (length split + 1) + 6 * (length split + 1)
 request_cost (request_is.DeleteTable table) keys there = 4 + by_64s (region_count table keys there)
 request_cost (request_is.EnableTable table) keys there = 5 + 6 * live_count table keys there
 request_cost (request_is.DisableTable table) keys there = 5 + 5 * live_count table keys there
+request_cost (request_is.ModifyTable table version) keys there = 3
 request_cost (request_is.SplitRegion region key) keys there = 27
 request_cost (request_is.MergeRegions regions) keys there = 16 + 5 * length regions
 request_cost (request_is.Move region to) keys there = 13
-request_cost request keys there = 3
 
 -- how many regions were at the server of a crash when it went down
 abbrev pub regions_lost : Past → ℕ → ℕ

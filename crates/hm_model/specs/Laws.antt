@@ -29,7 +29,8 @@ use Rattle.hm_model.specs.Sheets.{sheets_of}
 use Rattle.hm_model.specs.Tree.{Node, drawn, is_root, made, node_of, submitted}
 use Rattle.hm_data.specs.declared.entry.Entry.TheVariants as entry_is
 
--- what a journal made: procedures numbered from 1 on, one after another; no steps, calls, reports or aborts but theirs
+-- what a journal made: procedures numbered one after another, from 1 or from behind the last number of its base; no steps,
+-- calls, reports or aborts but theirs
 pub record IsGrown (J : Past) : Type 0 where
   pub none : node_of J 0 ≡ None
   pub low : offset J ≤ made J

@@ -25,6 +25,7 @@ pub mod GoingBack
 pub mod Rest
 pub mod Counts
 pub mod Records
+pub mod OldRoots
 pub mod Views
 pub mod Wanted
 pub mod Outs

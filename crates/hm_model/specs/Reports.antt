@@ -30,9 +30,16 @@ verb_of (entry ∷ before) p = verb_of before p
 
 -- who is called: the server of a call about a region, and the storage for all others
 abbrev pub peer_in : Args → Peer
+peer_in (args_are.Root request first) = peer_is.Storage
+peer_in (args_are.Transit region goal to) = peer_is.Storage
+peer_in (args_are.Crash server) = peer_is.Storage
+peer_in (args_are.AddRegions table first bounds) = peer_is.Storage
+peer_in (args_are.DropRegions table ids) = peer_is.Storage
 peer_in (args_are.AssignCall region server) = peer_is.Server server
 peer_in (args_are.CloseCall region server) = peer_is.Server server
-peer_in args = peer_is.Storage
+peer_in (args_are.FenceCall server) = peer_is.Storage
+peer_in (args_are.LayoutCall root) = peer_is.Storage
+peer_in (args_are.SweepLayout root) = peer_is.Storage
 
 -- whom a procedure, if there is one, calls
 abbrev pub peer_if : Option Node → Option Verb → Option Peer

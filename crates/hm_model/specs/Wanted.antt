@@ -32,8 +32,16 @@ wanted_of args = None
 
 -- the goal of a transit; a root's is a move
 abbrev pub goal_in : Args → Goal
+goal_in (args_are.Root request first) = goal_is.Move
 goal_in (args_are.Transit region goal to) = goal
-goal_in args = goal_is.Move
+goal_in (args_are.Crash server) = goal_is.Move
+goal_in (args_are.AddRegions table first bounds) = goal_is.Move
+goal_in (args_are.DropRegions table ids) = goal_is.Move
+goal_in (args_are.AssignCall region server) = goal_is.Move
+goal_in (args_are.CloseCall region server) = goal_is.Move
+goal_in (args_are.FenceCall server) = goal_is.Move
+goal_in (args_are.LayoutCall root) = goal_is.Move
+goal_in (args_are.SweepLayout root) = goal_is.Move
 
 -- the ids of the regions that a procedure removes
 abbrev pub ids_of : Args → List ℕ

@@ -27,8 +27,9 @@ pub fn parts_are_legal()
     ensures push { PushIsNewest }
 {}
 
-/// Procedures are numbered from 1 without a gap, and what was never made makes no steps; a journal begins with its only
-/// start; what is found under a nonce was submitted under it; region ids stay within their limit.
+/// Procedures are numbered without a gap, from 1 or from behind the last number of the base; what was never made makes no
+/// steps; a journal begins with its only start or with a base; what is found under a nonce was submitted under it; region ids
+/// stay within their limit.
 pub fn journals_grow()
     ensures grown { AllGrown }
     ensures steppers { SteppersAreMade }

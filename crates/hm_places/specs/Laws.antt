@@ -104,6 +104,7 @@ pub record StandingsTell (J : Past) : Type 0 where
   pub others : (server : Server) → has_other_live_in (standings_of J) server ≡ has_other_live J server
   pub any : has_live_in (standings_of J) ≡ has_live J
 
+-- what is kept of servers tells the readings of every legal journal
 abbrev pub AllStandingsTell : Type 0
 AllStandingsTell = (J : Past) → IsLegal J → StandingsTell J
 

@@ -113,6 +113,7 @@ abbrev pub is_live_key : List (Server × Standing) → Option Server → Bool
 is_live_key servers None = false
 is_live_key servers (Some server) = is_live_in servers server
 
+-- a server other than this one is live
 abbrev pub is_live_but : Server → List (Server × Standing) → Option Server → Bool
 is_live_but server servers None = false
 is_live_but server servers (Some other) = not (is_eq (server_cmp server other)) && is_live_in servers other

@@ -18,7 +18,7 @@ use Rattle.hm_model.specs.Rules.{IsLegal}
 use Rattle.hm_model.proofs.Parted.{by_parts}
 use Rattle.hm_procedures.specs.Book.{IsAdopt, IsBased, IsRooting, SameBase}
 use Rattle.hm_procedures.specs.Kept.{AreElders, IsKept}
-use Rattle.hm_procedures.specs.OldRoots.{old_records, with_record}
+use Rattle.hm_model.specs.OldRoots.{old_records, with_record}
 use Rattle.hm_procedures.specs.declared.book.Book.{Book}
 use Rattle.hm_procedures.specs.declared.kept.Tracked.{Tracked}
 use Rattle.hm_procedures.proofs.Elders.{same_elders}

@@ -22,11 +22,12 @@ use Rattle.hm_model.specs.Rules.{IsLegal}
 use Rattle.hm_model.specs.Tree.{Node, args_in, is_top, made, node_of, root_in, root_node, root_of}
 use Rattle.hm_model.specs.Undo.{is_empty, stack}
 use Rattle.hm_model.proofs.Apart.{others_stay}
-use Rattle.hm_model.proofs.Forest.{forest_all, rooted_all, roots_wait, top_is, top_is_own}
+use Rattle.hm_model.proofs.Forest.{forest_all, rooted_all, roots_wait, top_is_own}
 use Rattle.hm_model.proofs.Grown.{grown_all, made_up_to, not_stepped, step_old, undo_new, undo_old}
 use Rattle.hm_model.proofs.LegalSteps.{ready_stops}
 use Rattle.hm_model.proofs.Trees.{grown_all as trees_all, new_child, step_of}
 use Rattle.hm_model.proofs.Waiting.{children_change, children_tell}
+use Rattle.hm_model.proofs.Small.{top_is}
 use Rattle.hm_procedures.specs.Changes.{is_this}
 use Rattle.hm_procedures.proofs.Blank.{IsBlank, blank_new}
 use Rattle.hm_procedures.proofs.Counts.{not_over}

@@ -16,7 +16,8 @@ use Rattle.hm_data.specs.declared.record.Record.{Record}
 use Rattle.hm_model.specs.Base.{PartFits, Rises, rises}
 use Rattle.hm_model.specs.Journal.{Past}
 use Rattle.hm_model.specs.Rules.{IsLegal}
-use Rattle.hm_procedures.specs.OldRoots.{AreRising, IsFound, old_record, old_record_of, old_records}
+use Rattle.hm_model.specs.OldRoots.{old_record, old_record_of, old_records}
+use Rattle.hm_procedures.specs.OldRoots.{AreRising, IsFound}
 use Rattle.hm_procedures.proofs.Places.{slice_get-high, slice_get-low}
 
 -- a part stands before a root of this number: a root of a lower one, or a part of another sort than layouts

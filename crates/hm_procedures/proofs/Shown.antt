@@ -15,10 +15,11 @@ use Rattle.hm_model.specs.Rules.{IsLegal}
 use Rattle.hm_model.specs.Tree.{Node, is_top, made, node_of, pid_of}
 use Rattle.hm_model.specs.Undo.{is_empty, stack}
 use Rattle.hm_model.specs.Waiting.{open_children, open_under}
-use Rattle.hm_model.proofs.Forest.{forest_all, rooted_all, top_is, top_is_own}
+use Rattle.hm_model.proofs.Forest.{forest_all, rooted_all, top_is_own}
 use Rattle.hm_model.proofs.Grown.{grown_all, made_up_to}
 use Rattle.hm_model.proofs.Trees.{all_below_at}
 use Rattle.hm_model.proofs.Waiting.{children_tell, under_tells}
+use Rattle.hm_model.proofs.Small.{top_is}
 use Rattle.hm_procedures.specs.Changes.{has_ended, is_rolled_back, is_shown, is_this, is_touched, is_undoing, phase_by, shown_if}
 use Rattle.hm_procedures.specs.Kept.{kept_at, kept_in}
 use Rattle.hm_procedures.specs.declared.kept.Tracked.{Tracked}

@@ -10,7 +10,8 @@ use Rattle.hm_model.specs.Pieces.{numbers_from}
 use Rattle.hm_model.specs.Procedures.{offset}
 use Rattle.hm_model.specs.Rules.{IsLegal}
 use Rattle.hm_model.specs.Tree.{Node, is_root, is_root_in, is_top, node_of, pid_of}
-use Rattle.hm_model.proofs.Forest.{forest_all, rooted_all, top_is, top_is_own}
+use Rattle.hm_model.proofs.Forest.{forest_all, rooted_all, top_is_own}
+use Rattle.hm_model.proofs.Small.{top_is}
 use Rattle.hm_procedures.proofs.Enters.{same_length}
 use Rattle.hm_procedures.proofs.Firsts.{none_low}
 use Rattle.hm_procedures.specs.Kept.{IsKept, kept_at, kept_of, root_shown}

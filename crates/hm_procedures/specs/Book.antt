@@ -7,7 +7,7 @@ use Rattle.hm_model.specs.Editions.{editions}
 use Rattle.hm_model.specs.Journal.{Past}
 use Rattle.hm_model.specs.Procedures.{offset}
 use Rattle.hm_procedures.specs.Kept.{AreElders, IsKept}
-use Rattle.hm_procedures.specs.OldRoots.{old_records}
+use Rattle.hm_model.specs.OldRoots.{old_records}
 use Rattle.hm_procedures.specs.declared.book.Book.{Book}
 
 -- where numbers begin, the edition in force, and the roots of the base, as the journal says

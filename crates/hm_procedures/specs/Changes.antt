@@ -97,6 +97,7 @@ noted p pid parent root out made count one =
 abbrev pub reported : Bool → Told → Tracked → Tracked
 reported own told one = record one { report = if own then Some told else one.report }
 
+-- where it is its own, it was aborted
 abbrev pub aborted : Bool → Tracked → Tracked
 aborted own one = record one { shown = record one.shown { aborted = if own then true else (let shown = one.shown in shown.aborted) } }
 

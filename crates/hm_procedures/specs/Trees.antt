@@ -10,6 +10,7 @@ pub record TreesView : Type 0 where
   pub spare : ℕ
   pub room : ℕ
 
+-- the roots of members
 abbrev pub roots_of : List Member → List Pid
 roots_of members = map (λ member. member.root) members
 

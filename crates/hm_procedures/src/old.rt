@@ -1,7 +1,8 @@
 //! The roots of a base, as they are shown.
 ghost use Rattle.std.specs.Prelude.{◌≡◌, ◌+◌, ◌-◌, ◌≤◌, ◌++◌, [], ◌∷◌, length, vec_capacity, vec_len};
 ghost use Rattle.std.specs.Option.{option_copied};
-ghost use Rattle.hm_procedures.specs.OldRoots.{AreRising, IsFound, old_phase, old_record};
+ghost use Rattle.hm_model.specs.OldRoots.{old_phase, old_record};
+ghost use Rattle.hm_procedures.specs.OldRoots.{AreRising, IsFound};
 ghost use Rattle.hm_data.specs.declared.args.Args.{Args as ArgsOf};
 
 use crate::kinds::kind_of;

@@ -15,7 +15,7 @@ ghost use Rattle.hm_model.specs.Undo.{is_empty, stack};
 ghost use Rattle.hm_model.specs.Waiting.{children_made, ends_one};
 ghost use Rattle.hm_procedures.specs.Below.{is_below};
 ghost use Rattle.hm_procedures.specs.Kept.{args_made, first_child_of, kept_of, made_in_step};
-ghost use Rattle.hm_procedures.specs.OldRoots.{old_record_of, old_records};
+ghost use Rattle.hm_model.specs.OldRoots.{old_record_of, old_records};
 ghost use Rattle.hm_procedures.specs.Procedures.{IsNextChild, children, roots, unfinished_procedures};
 
 use crate::book::{Book, less_if};

@@ -1,6 +1,6 @@
 -- Journals that read alike allow the same next entries.
 use Rattle.std.proofs.Common.{◌≡◌, ℕ, ◌+◌, ◌<◌, ◌≤◌, [], true, false, cond, Option, Some, None, refl, ap, sym, ◌∙◌, subst, inl, inr, arith}
-use Rattle.std.proofs.lemmas.Bool.{false≢true, true≢false}
+use Rattle.std.proofs.lemmas.Bool.{true≢false}
 use Rattle.hm_names.specs.Server.{Server}
 use Rattle.hm_names.specs.declared.nonce.Nonce.{Nonce}
 use Rattle.hm_names.specs.declared.pid.Pid.{Pid}
@@ -18,14 +18,15 @@ use Rattle.hm_model.specs.Phase.{ended, phase, root_ended}
 use Rattle.hm_model.specs.Procedures.{latest, left_to_undo, offset}
 use Rattle.hm_model.specs.Rest.{IsReady, MayStep}
 use Rattle.hm_model.specs.Rules.{Allowed, CanAbort, IsFresh, IsLatest, IsLegal, IsOutstanding}
-use Rattle.hm_model.specs.Tree.{Node, is_root, is_root_in, new_ids, node_of, root_in, root_of}
+use Rattle.hm_model.specs.Tree.{Node, new_ids, node_of, root_in, root_of}
 use Rattle.hm_model.specs.Undo.{stack}
 use Rattle.hm_model.specs.Whereabouts.{called_by}
-use Rattle.hm_model.proofs.Forest.{top_is}
 use Rattle.hm_model.proofs.Grown.{grown_all}
 use Rattle.hm_model.proofs.Running.{ready_runs, run_open, undo_facts, undo_open}
 use Rattle.hm_model.proofs.Tops.{ended_top}
 use Rattle.hm_model.proofs.Trees.{le_or_lt, some_of}
+use Rattle.hm_model.proofs.Counting.{root_node_of}
+use Rattle.hm_model.proofs.Small.{top_is}
 use Rattle.hm_rebase.specs.Alike.{Alike, AlikeAllow}
 use Rattle.hm_rebase.proofs.Bounds.{above_base, none_below, root_above, root_before}
 use Rattle.hm_rebase.proofs.Inputs.{answers_same, right_same}
@@ -77,15 +78,8 @@ module _ (J K : Past) (legal_J : IsLegal J) (legal_K : IsLegal K) (alike : Alike
   pub called_high : (p : ℕ) → IsOutstanding J p → offset K < p
   called_high p h = let there = some_of (node_of J p) (λ none. h.0 ((grown_all J legal_J).uncalled p none)) in high_of J K legal_J legal_K alike p there.0 there.1 h.2
 
-  is_there : (A : Past) (p : ℕ) → is_root A p ≡ true → (node : Node) × (node_of A p ≡ Some node)
-  is_there A p root = by (node_of A p) refl
-    where
-      by : (o : Option Node) → node_of A p ≡ o → (node : Node) × (node_of A p ≡ Some node)
-      by None e = absurd (false≢true (sym (ap is_root_in e) ∙ root))
-      by (Some x) e = (x, e)
-
   pub abort_high : (p : ℕ) → CanAbort J p → offset K < p
-  abort_high p h = let there = is_there J p h.0 in high_of J K legal_J legal_K alike p there.0 there.1 h.1
+  abort_high p h = let there = root_node_of J p h.0 in high_of J K legal_J legal_K alike p there.0 there.1 h.1
 
   left_same : (r : ℕ) → offset K < r → left_to_undo J r ≡ left_to_undo K r
   left_same r high = ap (λ b. cond b [] (stack J r)) (root_ended_same J K legal_J legal_K alike r high) ∙ ap (cond (root_ended K r) []) (alike.same r high).left
@@ -246,7 +240,7 @@ module _ (J K : Past) (legal_J : IsLegal J) (legal_K : IsLegal K) (alike : Alike
     allowed_from (entry_is.Up server) other a = (begun_J, (has_newer_same J K alike server ∙ a.1.0, (has_older_same J K alike server ∙ a.1.1.0, tt)))
     allowed_from (entry_is.Down server) other a = (begun_J, (alike.live server ∙ a.1.0, tt))
     allowed_from (entry_is.Abort pid) other a =
-        let there = is_there K pid.0 a.1.0.0 in
+        let there = root_node_of K pid.0 a.1.0.0 in
         let high = above_base K legal_K pid.0 there.0 there.1 in
         let s = alike.same pid.0 high in
         let at = a.1.1.0 in (

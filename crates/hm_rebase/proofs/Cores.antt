@@ -1,7 +1,8 @@
 -- The roots of a journal by their numbers, nonces and what they work on, in order: a base may have them.
 use Rattle.std.proofs.Common.{◌≡◌, ℕ, zero, suc, ◌+◌, ◌-◌, ◌<◌, ◌≤◌, List, [], ◌∷◌, ◌++◌, length, Bool, true, false, cond, not, ◌&&◌, ◌==◌, nat_lt, Option, Some, None, option_map, slice_get, refl, ap, sym, ◌∙◌, subst, inl, inr, arith}
-use Rattle.std.proofs.lemmas.Bool.{cond-false, cond-true, eq-eqb, false≢true, lt-ltb, ltb-true}
+use Rattle.std.proofs.lemmas.Bool.{and_right, cond-false, cond-true, false≢true, lt-ltb, ltb-true}
 use Rattle.std.proofs.lemmas.Bool.Decides.{nat_tests}
+use Rattle.std.proofs.lemmas.List.{append-nil}
 use Rattle.hm_names.specs.declared.nonce.Nonce.{Nonce}
 use Rattle.hm_names.specs.declared.pid.Pid.{Pid}
 use Rattle.hm_data.specs.declared.args.Args.{Args}
@@ -19,6 +20,7 @@ use Rattle.hm_model.specs.Rules.{IsLegal}
 use Rattle.hm_model.specs.Tree.{args_in, first_of, made, node_of, root_node}
 use Rattle.hm_model.proofs.Grown.{ends_parted, grown_all}
 use Rattle.hm_model.proofs.Parted.{by_parts}
+use Rattle.hm_model.proofs.Nonces.{no_nonce as zero_same}
 use Rattle.hm_costs.proofs.Dead.{IsFollower, follower_is}
 use Rattle.hm_rebase.proofs.Served.{IsMiddle}
 
@@ -63,20 +65,12 @@ good_more : (limit later low : ℕ) (used : Nonce → Option ℕ) (xs : List Cor
 good_more limit later low used [] le good = tt
 good_more limit later low used (core ∷ xs) le good = (let within = good.0.1 in (good.0.0, omega (arith, within, le), good.0.2, good.0.3), good_more limit later core.pid (λ n. cond (is_same core.nonce n) (Some core.pid) (used n)) xs le good.1)
 
--- a nonce with the number 0 is never used
-zero_same : (used nonce : Nonce) → nonce.number ≡ 0 → is_same used nonce ≡ false
-zero_same used nonce none = ap (λ b. (not b && (used.group == nonce.group)) && (used.number == nonce.number)) (eq-eqb nonce.number 0 none)
-
 none_same : (nonce : Nonce) → is_same no_nonce nonce ≡ false
 none_same nonce = by (nonce.number == 0) refl
   where
     by : (b : Bool) → (nonce.number == 0) ≡ b → ((not b && (0 == nonce.group)) && (0 == nonce.number)) ≡ false
     by true e = refl
-    by false e = and_last (0 == nonce.group) (0 == nonce.number) (grind (arith, nat_tests))
-      where
-        and_last : (x y : Bool) → y ≡ false → (x && y) ≡ false
-        and_last true y off = off
-        and_last false y off = refl
+    by false e = and_right (0 == nonce.group) (0 == nonce.number) (grind (arith, nat_tests))
 
 under_zero : (xs : List Core) (used : Nonce → Option ℕ) (nonce : Nonce) → nonce.number ≡ 0 → under xs used nonce ≡ used nonce
 under_zero [] used nonce none = refl
@@ -154,17 +148,13 @@ module _ (J : Past) (has : HasCores J) (list : List Args) (all : (k : ℕ) (args
     pub said : (nonce : Nonce) → under (cores J ++ followers (made J) list k) nobody nonce ≡ by_nonce J nonce
     pub low : top 0 (cores J ++ followers (made J) list k) ≤ made J + k
 
-  append_none : (xs : List Core) → xs ++ [] ≡ xs
-  append_none [] = refl
-  append_none (x ∷ xs) = ap (λ l. x ∷ l) (append_none xs)
-
   append_assoc : (xs ys zs : List Core) → (xs ++ ys) ++ zs ≡ xs ++ (ys ++ zs)
   append_assoc [] ys zs = refl
   append_assoc (x ∷ xs) ys zs = ap (λ l. x ∷ l) (append_assoc xs ys zs)
 
   follow_one : (k : ℕ) → Follow k → (o : Option Args) → slice_get list k ≡ o → (l : List Core) → l ≡ (cores J ++ followers (made J) list k) ++ if_args (made J + k + 1) o → Good (made J + suc k) 0 nobody l × ((nonce : Nonce) → under l nobody nonce ≡ by_nonce J nonce) × (top 0 l ≤ made J + suc k)
   follow_one k f None e l is =
-      let same = is ∙ append_none (cores J ++ followers (made J) list k) in
+      let same = is ∙ append-nil (cores J ++ followers (made J) list k) in
       let low = f.low in (
         subst (Good (made J + suc k) 0 nobody) (sym same) (good_more (made J + k) (made J + suc k) 0 nobody (cores J ++ followers (made J) list k) (omega arith) f.good),
         (λ n. ap (λ x. under x nobody n) same ∙ f.said n),
@@ -180,9 +170,9 @@ module _ (J : Past) (has : HasCores J) (list : List Args) (all : (k : ℕ) (args
 
   follow : (k : ℕ) → Follow k
   follow zero = record {
-    good = subst (Good (made J + 0) 0 nobody) (sym (append_none (cores J))) (good_more (made J) (made J + 0) 0 nobody (cores J) (omega arith) has.good);
-    said = λ n. ap (λ x. under x nobody n) (append_none (cores J)) ∙ has.said n;
-    low = (let t = ap (top 0) (append_none (cores J)) in let l = has.low in omega (arith, t, l));
+    good = subst (Good (made J + 0) 0 nobody) (sym (append-nil (cores J))) (good_more (made J) (made J + 0) 0 nobody (cores J) (omega arith) has.good);
+    said = λ n. ap (λ x. under x nobody n) (append-nil (cores J)) ∙ has.said n;
+    low = (let t = ap (top 0) (append-nil (cores J)) in let l = has.low in omega (arith, t, l));
   }
   follow (suc k) =
       let f = follow k in

@@ -1,6 +1,6 @@
 -- Where nothing is unfinished a server that went down is fenced, and whatever is open is open at a live one.
 use Rattle.std.proofs.Common.{◌≡◌, ℕ, ◌+◌, List, [], ◌∷◌, Bool, true, false, not, ◌&&◌, ◌||◌, ◌==◌, Some, refl, ap, sym, ◌∙◌, subst, inl, inr, ◌⊎◌}
-use Rattle.std.proofs.lemmas.Bool.{and_parts, and_from, cases_Bool, cond-true, eq-eqb, false≢true, or_left, or_right, true≢false}
+use Rattle.std.proofs.lemmas.Bool.{and_from, and_parts, cases_Bool, cond-true, eq-eqb, false≢true, or_left, or_parts, or_right, true≢false}
 use Rattle.hm_names.specs.Region.{Region}
 use Rattle.hm_names.specs.Server.{Server}
 use Rattle.hm_data.specs.declared.args.Args.TheVariants as args_are
@@ -21,10 +21,11 @@ use Rattle.hm_model.proofs.CameUp.{any_with, fenced_stays}
 use Rattle.hm_model.proofs.Grown.{nodes_stay}
 use Rattle.hm_model.proofs.NameTies.{same_server-is}
 use Rattle.hm_model.proofs.Tops.{ended_top}
+use Rattle.hm_model.proofs.Answered.{done_stops}
 use Rattle.hm_serial.proofs.FallAll.{falls_all}
 use Rattle.hm_serial.proofs.Kinship.{is_kid}
 use Rattle.hm_costs.proofs.CrashFine.{uncaused_all}
-use Rattle.hm_costs.proofs.Emptied.{crashes_empty_is, done_stops}
+use Rattle.hm_costs.proofs.Emptied.{crashes_empty_is}
 use Rattle.hm_costs.proofs.Opening.{none_comes_other}
 use Rattle.hm_rebase.proofs.Fencing.{crashed_all}
 
@@ -46,10 +47,6 @@ down_crash server J = record {
   crash = refl;
 }
 
-both_off : (a b : Bool) → (a || b) ≡ false → (a ≡ false) × (b ≡ false)
-both_off true b e = absurd (true≢false e)
-both_off false b e = (refl, e)
-
 or_off : (a b : Bool) → a ≡ false → (a || b) ≡ true → b ≡ true
 or_off true b off on = absurd (true≢false off)
 or_off false b off on = on
@@ -65,7 +62,7 @@ lost_on entry J legal server (inr fenced) = inr (fenced_stays entry J server fen
 downed : (J : Past) → IsLegal J → (server : Server) → came_up J server ≡ true → is_live J server ≡ false → IsLost J server
 downed [] legal server came off = absurd (false≢true came)
 downed (entry_is.Up other ∷ J) legal server came off =
-    let both = both_off (same_server server other) (is_live J server) off in
+    let both = or_parts (same_server server other) (is_live J server) off in
     lost_on (entry_is.Up other) J legal server (downed J legal.0 server (or_off (same_server server other) (came_up J server) both.0 (sym (any_with (λ o. same_server server o) other (servers_of J)) ∙ came)) both.1)
 downed (entry_is.Down other ∷ J) legal server came off = elim (cases_Bool (same_server server other)) [
   | inl same ↦ inl (subst (λ s. HasCrash (entry_is.Down other ∷ J) s) (sym (same_server-is server other same)) (down_crash other J))
@@ -73,10 +70,10 @@ downed (entry_is.Down other ∷ J) legal server came off = elim (cases_Bool (sam
 ]
 downed (entry_is.Base (part_is.Server other gone) ∷ J) legal server came off = elim (cases_Bool (same_server server other)) [
   | inl same ↦
-      let alive = both_off (same_server server other && not gone) (is_live J server) off in
+      let alive = or_parts (same_server server other && not gone) (is_live J server) off in
       inr (or_left (same_server server other && gone) (is_fenced J server) (and_from (same_server server other) gone same (by gone (sym (ap (λ b. b && not gone) same) ∙ alive.0))))
   | inr differs ↦
-      let alive = both_off (same_server server other && not gone) (is_live J server) off in
+      let alive = or_parts (same_server server other && not gone) (is_live J server) off in
       lost_on (entry_is.Base (part_is.Server other gone)) J legal server (downed J legal.0 server (or_off (same_server server other) (came_up J server) differs (sym (any_with (λ o. same_server server o) other (servers_of J)) ∙ came)) alive.1)
 ]
   where

@@ -6,10 +6,8 @@ use Rattle.hm_names.specs.Region.{Region}
 use Rattle.hm_names.specs.Server.{Server}
 use Rattle.hm_names.specs.declared.pid.Pid.{Pid}
 use Rattle.hm_data.specs.declared.act.Act.TheVariants as act_is
-use Rattle.hm_data.specs.declared.answer.Answer.{Answer}
 use Rattle.hm_data.specs.declared.answer.Answer.TheVariants as answer_is
 use Rattle.hm_data.specs.declared.answer.Cause.{Cause}
-use Rattle.hm_data.specs.declared.args.Args.{Args}
 use Rattle.hm_data.specs.declared.call.Told.TheVariants as told_is
 use Rattle.hm_data.specs.declared.catalog.CatKey.TheVariants as key_is
 use Rattle.hm_data.specs.declared.entry.Entry.TheVariants as entry_is
@@ -22,38 +20,34 @@ use Rattle.hm_data.specs.declared.sheet.Row.{Row}
 use Rattle.hm_data.specs.declared.step.StepIn.{StepIn}
 use Rattle.hm_data.specs.declared.step.StepOut.{StepOut}
 use Rattle.hm_model.specs.Acts.{act_answer}
-use Rattle.hm_model.specs.Answers.{is_stopped, last_answer, row_after, row_of}
+use Rattle.hm_model.specs.Answers.{last_answer, row_of}
 use Rattle.hm_model.specs.Base.{PartFits}
 use Rattle.hm_model.specs.Catalog.{row_at}
 use Rattle.hm_model.specs.Checks.{region_ready}
 use Rattle.hm_model.specs.Inputs.{place_if, step_input}
 use Rattle.hm_model.specs.Journal.{Past}
 use Rattle.hm_model.specs.Keys.{same_region, same_table}
-use Rattle.hm_model.specs.Kinds.{first_row_of}
 use Rattle.hm_model.specs.Lists.{exact_rows, fixed}
 use Rattle.hm_model.specs.Outs.{checked, ends_with, given, places}
 use Rattle.hm_model.specs.Places.{place_of, placed_by, region_if}
-use Rattle.hm_model.specs.Reports.{is_the_region, last_call}
+use Rattle.hm_model.specs.Reports.{is_the_region}
 use Rattle.hm_model.specs.Rules.{IsLegal}
 use Rattle.hm_model.specs.RowsSaid.{Rows}
 use Rattle.hm_model.specs.TransitActs.{candidate, close_or_go, is_open, is_placed, is_state, lost_if, may_open_in, nowhere, told_place}
-use Rattle.hm_model.specs.Tree.{Node, drawn, node_of}
+use Rattle.hm_model.specs.Tree.{drawn, node_of}
 use Rattle.hm_model.specs.Views.{region_of}
 use Rattle.hm_model.specs.Wanted.{goal_in}
-use Rattle.hm_model.specs.Whereabouts.{moved_by}
 use Rattle.hm_model.proofs.KeyTests.{same_region-Decides, same_table-is}
 use Rattle.hm_model.proofs.LegalSteps.{ready_stops}
 use Rattle.hm_model.proofs.Rising.{table_new}
 use Rattle.hm_model.proofs.Trees.{grown_all}
 use Rattle.hm_ids.proofs.DrawnAll.{ids_are_drawn}
 use Rattle.hm_single.proofs.All.{kept_all}
-use Rattle.hm_single.proofs.Kept.{IsGoing}
 use Rattle.hm_single.proofs.Live.{all_live}
 use Rattle.hm_single.proofs.Own.{cut_or, does, step}
-use Rattle.hm_single.proofs.Placing.{giver, own_row}
-use Rattle.hm_single.proofs.Rows.{first_free}
-use Rattle.hm_single.proofs.Stage.{StageFor, child_of_step, is_itself, the_region}
-use Rattle.hm_single.proofs.Transit.{AtRow, IsFreeRow}
+use Rattle.hm_single.proofs.Placing.{free_at, giver, own_row}
+use Rattle.hm_single.proofs.Stage.{is_itself, the_region}
+use Rattle.hm_single.proofs.Transit.{IsFreeRow}
 
 middle_off : (a b c : Bool) → (a || (b || c)) ≡ false → b ≡ false
 middle_off true b c e = absurd (true≢false e)
@@ -103,36 +97,6 @@ free_placed n row free is at off here e = by free
     by (inr (inl three)) = close_placed (region_of at.args) 4 (goal_in at.args) (told_place at.place) at.fenced off here (acted 3 (fixed act_is.Close 4 true) three refl)
     by (inr (inr five)) = check_placed (region_of at.args) 3 at.rows here (acted 5 (fixed act_is.CheckMove 3 false) five refl)
 
--- a region that isn't placed is at a row that looks at its place
-module _ (J : Past) (legal : IsLegal J) (region : Region) (off : is_placed (place_of J region) ≡ false) where
-  free_by : (p : ℕ) (args : Args) (o : Option Answer) (q : ℕ) (made : Option Node) (answer : Option Answer) → moved_by args ≡ Some region → is_stopped o ≡ false → AtRow J p region (place_of J region) (last_call J region) o q made answer → IsFreeRow (row_after (first_row_of args) o)
-  free_by p args None q made answer m runs h = first_free args region m
-  free_by p args (Some (answer_is.More n)) q made answer m runs (inl h) = h.0
-  free_by p args (Some (answer_is.More n)) q made answer m runs (inr h) = absurd (true≢false (ap is_placed (sym h.2) ∙ off))
-  free_by p args (Some (answer_is.Wait n)) q made answer m runs (inl h) = absurd (true≢false (ap is_placed (sym h.2) ∙ off))
-  free_by p args (Some (answer_is.Wait n)) q made answer m runs (inr h) = absurd (true≢false (ap is_placed (sym h.2) ∙ off))
-  free_by p args (Some (answer_is.Await n)) q made answer m runs h = absurd h
-  free_by p args (Some (answer_is.Done told)) q made answer m runs h = absurd (true≢false runs)
-  free_by p args (Some (answer_is.Fail cause)) q made answer m runs h = absurd (true≢false runs)
-  free_by p args (Some answer_is.Undone) q made answer m runs h = absurd (true≢false runs)
-
-  free_at : (p : ℕ) (node : Node) → node_of J p ≡ Some node → moved_by node.args ≡ Some region → is_stopped (last_answer J p) ≡ false → IsFreeRow (row_of J p node)
-  free_at p node is m runs = by (last_answer J p) refl runs
-    where
-      on : IsGoing (last_answer J p) → IsFreeRow (row_of J p node)
-      on going =
-          let kept = kept_all J legal in
-          free_by p node.args (last_answer J p) (child_of_step J p) (node_of J (child_of_step J p)) (last_answer J (child_of_step J p)) m runs (subst (StageFor J region) (kept.works p region (node, is, m) going) (kept.stage region))
-
-      by : (o : Option Answer) → last_answer J p ≡ o → is_stopped o ≡ false → IsFreeRow (row_of J p node)
-      by None l go = subst (λ o. IsFreeRow (row_after (first_row_of node.args) o)) (sym l) (first_free node.args region m)
-      by (Some (answer_is.More n)) l go = on (subst IsGoing (sym l) tt)
-      by (Some (answer_is.Wait n)) l go = on (subst IsGoing (sym l) tt)
-      by (Some (answer_is.Await n)) l go = on (subst IsGoing (sym l) tt)
-      by (Some (answer_is.Done told)) l go = absurd (true≢false go)
-      by (Some (answer_is.Fail cause)) l go = absurd (true≢false go)
-      by (Some answer_is.Undone) l go = absurd (true≢false go)
-
 -- a step leaves a region's place, or the region is placed before or behind it
 step_placed : (pid : Pid) (pick : Option Server) (out : StepOut) (J : Past) → IsLegal (entry_is.Step pid pick out ∷ J) → (region : Region)
     → (place_of (entry_is.Step pid pick out ∷ J) region ≡ place_of J region) ⊎ ((is_placed (place_of J region) ≡ true) ⊎ (is_placed (place_of (entry_is.Step pid pick out ∷ J) region) ≡ true))
@@ -142,7 +106,7 @@ step_placed pid pick out J legal region = elim (cases_Bool (is_placed (place_of 
     placed off here e own =
         let its = step pid pick out J legal in
         let m = giver pid pick out J (grown_all J legal.0) (kept_all J legal.0) its (does pid pick out J legal) region here e (ap region_if (sym its.node_is) ∙ own) in
-        let free = free_at J legal.0 region off pid.0 its.node its.node_is m (ready_stops J pid.0 its.node (last_answer J pid.0) its.ready) in
+        let free = free_at J region (kept_all J legal.0) off pid.0 its.node its.node_is m (ready_stops J pid.0 its.node (last_answer J pid.0) its.ready) in
         elim (cut_or pid pick out J legal) [
           | inl cut ↦ absurd (none-some here (sym (ap (λ (o : StepOut). o.place) cut) ∙ e))
           | inr acts ↦

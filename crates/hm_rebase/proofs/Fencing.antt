@@ -33,15 +33,13 @@ use Rattle.hm_model.specs.Rules.{IsLegal}
 use Rattle.hm_model.specs.Tree.{Node, args_in, child_of, made, node_of}
 use Rattle.hm_model.specs.Verbs.{verb_in}
 use Rattle.hm_model.specs.Whereabouts.{called_by}
-use Rattle.hm_model.proofs.CallSteps.{is_laying}
+use Rattle.hm_model.proofs.CallSteps.{fenced_only, is_laying, uncut}
 use Rattle.hm_model.proofs.CameUp.{fenced_stays}
 use Rattle.hm_model.proofs.NameTies.{same_server-refl}
 use Rattle.hm_model.proofs.Grown.{nodes_stay}
 use Rattle.hm_model.proofs.LegalSteps.{ReadyBy, StepFacts}
 use Rattle.hm_model.proofs.StepDoes.{exact_row_is}
 use Rattle.hm_model.proofs.Trees.{Grown, IsWaiting, answer_now, child_stopped, does_of, grown_all, node_new, other_answer, some_of, step_of}
-use Rattle.hm_costs.proofs.CrashFine.{uncut}
-use Rattle.hm_costs.proofs.Bound.{fenced_only}
 
 -- who has a call or a report was there before an entry
 was_there : (entry : Entry) (J : Past) → IsLegal (entry ∷ J) → (q : ℕ) (x : Node) → node_of (entry ∷ J) q ≡ Some x → (y : Node) → node_of J q ≡ Some y → node_of J q ≡ Some x

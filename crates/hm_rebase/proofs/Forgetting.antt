@@ -1,38 +1,32 @@
 -- No entry gives a row to a region that the base has no row of, though its id was drawn before.
-use Rattle.std.proofs.Common.{◌≡◌, ◌≢◌, ℕ, ◌+◌, ◌-◌, ◌<◌, ◌≤◌, ◌==◌, List, [], ◌∷◌, Bool, true, false, cond, nat_lt, Option, Some, None, option_map, slice_get, refl, ap, sym, ◌∙◌, subst, inl, inr, ◌⊎◌, arith}
+use Rattle.std.proofs.Common.{◌≡◌, ◌≢◌, ℕ, ◌+◌, ◌-◌, ◌<◌, ◌≤◌, ◌==◌, [], ◌∷◌, false, cond, nat_lt, Option, Some, None, option_map, slice_get, refl, ap, sym, ◌∙◌, subst, inl, inr, ◌⊎◌, arith}
 use Rattle.std.proofs.lemmas.Bool.{cases_eq, cond-false, cond-true, eq-eqb, le-ltb, lt-ltb, ne_eqb, true≢false}
 use Rattle.std.proofs.lemmas.Option.{none-some, same_Some}
 use Rattle.hm_names.specs.Server.{Server}
 use Rattle.hm_names.specs.declared.pid.Pid.{Pid}
 use Rattle.hm_names.specs.declared.table.TableName.{TableName}
-use Rattle.hm_data.specs.declared.act.Back.{Back}
-use Rattle.hm_data.specs.declared.act.Back.TheVariants as back_is
 use Rattle.hm_data.specs.declared.args.Args.{Args}
 use Rattle.hm_data.specs.declared.args.Args.TheVariants as args_are
-use Rattle.hm_data.specs.declared.catalog.CatKey.{CatKey}
 use Rattle.hm_data.specs.declared.catalog.CatKey.TheVariants as key_is
 use Rattle.hm_data.specs.declared.catalog.CatRow.{CatRow}
-use Rattle.hm_data.specs.declared.catalog.Edit.{Edit}
 use Rattle.hm_data.specs.declared.entry.Entry.{Entry}
 use Rattle.hm_data.specs.declared.entry.Entry.TheVariants as entry_is
 use Rattle.hm_data.specs.declared.request.Request.{Request}
 use Rattle.hm_data.specs.declared.step.StepOut.{StepOut}
-use Rattle.hm_model.specs.Catalog.{Catalog, cat, keep, keys_of, row_at, rows_at}
+use Rattle.hm_model.specs.Catalog.{cat, keys_of}
 use Rattle.hm_model.specs.Changes.{region_key}
 use Rattle.hm_model.specs.Inputs.{step_input}
 use Rattle.hm_model.specs.Journal.{Past}
-use Rattle.hm_model.specs.Keys.{same_key}
 use Rattle.hm_model.specs.Laws.{is_part}
 use Rattle.hm_model.specs.Reads.{reads}
 use Rattle.hm_model.specs.Rules.{IsLegal}
 use Rattle.hm_model.specs.Tree.{Node, args_in, drawn, first_of, made, node_of, root_node, root_of, submitted}
-use Rattle.hm_model.specs.Undo.{Undoable, pushed, rest_of, stack}
-use Rattle.hm_model.proofs.KeyTests.{cases_key}
+use Rattle.hm_model.specs.Undo.{rest_of, stack}
 use Rattle.hm_model.proofs.Trees.{grown_all, le_or_lt, new_child, node_same, step_of}
 use Rattle.hm_model.proofs.UndoMakes.{undo_of}
 use Rattle.hm_kinds.proofs.Kids.{AllMade, made_at}
-use Rattle.hm_ids.proofs.Drawn.{AllDrawn, ArgsDrawn, IsDrawnAt, IsFine, SeenDrawn, fine_row, followers_fine, undo_drawn}
-use Rattle.hm_ids.proofs.DrawnAll.{StackDrawn, edited_drawn}
+use Rattle.hm_ids.proofs.Drawn.{AllDrawn, ArgsDrawn, IsFine, SeenDrawn, fine_row, followers_fine, undo_drawn}
+use Rattle.hm_ids.proofs.DrawnAll.{StackDrawn, edited_drawn, either_drawn, pushed_drawn, read_drawn, rest_drawn}
 use Rattle.hm_rebase.specs.Alike.{ForgottenAreRowless, base_of}
 
 -- entries leave the base
@@ -49,41 +43,6 @@ drawn_base (entry ∷ J) t = drawn_base J t
 -- an id is drawn behind a base, or the base has a row of it
 abbrev IsNew : Past → TableName → ℕ → Type 0
 IsNew base t i = (drawn base t < i) ⊎ (cat base (region_key t i) ≢ None)
-
-module _ (d : TableName → ℕ → Type 0) where
-  pushed_drawn : (undo : Back) (failed : Bool) (p row : ℕ) (edits : List Edit) (below : List Undoable) → AllDrawn d edits → StackDrawn d below → StackDrawn d (pushed undo failed p row edits below)
-  pushed_drawn back_is.Nothing failed p row edits below one all = all
-  pushed_drawn back_is.Edits true p row edits below one all = all
-  pushed_drawn back_is.Edits false p row edits below one all = (one, all)
-  pushed_drawn back_is.Sweep true p row edits below one all = all
-  pushed_drawn back_is.Sweep false p row edits below one all = (one, all)
-  pushed_drawn back_is.Reopen true p row edits below one all = all
-  pushed_drawn back_is.Reopen false p row edits below one all = (one, all)
-
-  rest_drawn : (steps : List Undoable) → StackDrawn d steps → StackDrawn d (rest_of steps)
-  rest_drawn [] all = tt
-  rest_drawn (step ∷ below) all = all.1
-
-  either_drawn : (b : Bool) (one other : List Undoable) → StackDrawn d one → StackDrawn d other → StackDrawn d (cond b one other)
-  either_drawn true one other h k = h
-  either_drawn false one other h k = k
-
-  none_drawn : (key : CatKey) → IsDrawnAt d key None
-  none_drawn (key_is.Region region) = λ some. absurd (some refl)
-  none_drawn key = tt
-
-  -- what is read of a catalog
-  read_drawn : (asked : CatKey → Bool) (there : Catalog) (keys : List CatKey) → SeenDrawn d there → SeenDrawn d (row_at (rows_at asked there keys))
-  read_drawn asked there [] rows key = none_drawn key
-  read_drawn asked there (first ∷ keys) rows key = by (read_drawn asked there keys rows key) (asked first) (there first) refl
-    where
-      by : IsDrawnAt d key (row_at (rows_at asked there keys) key) → (b : Bool) (o : Option CatRow) → there first ≡ o → IsDrawnAt d key (row_at (keep b first o (rows_at asked there keys)) key)
-      by rest false o e = rest
-      by rest true None e = rest
-      by rest true (Some row) e = elim (cases_key key first) [
-        | inl same ↦ subst (IsDrawnAt d key) (sym (cond-true (same_key key first) (Some row) (row_at (rows_at asked there keys) key) same.0)) (subst (IsDrawnAt d key) e (subst (λ k. IsDrawnAt d key (there k)) same.1 (rows key)))
-        | inr differs ↦ subst (IsDrawnAt d key) (sym (cond-false (same_key key first) (Some row) (row_at (rows_at asked there keys) key) differs.0)) rest
-      ]
 
 -- rows, what procedures work on, and what can be undone are of new ids
 record AreNew (base J : Past) : Type 0 where

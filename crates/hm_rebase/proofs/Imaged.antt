@@ -1,7 +1,7 @@
 -- The image of a journal with nothing unfinished is a whole base, and reads alike.
 use Rattle.std.proofs.Common.{◌≡◌, ◌≢◌, ℕ, zero, suc, ◌+◌, ◌-◌, ◌<◌, ◌≤◌, List, [], ◌∷◌, ◌++◌, length, Bool, true, false, cond, ◌||◌, codes, bytes_eq, Option, Some, None, refl, ap, sym, ◌∙◌, subst, inl, inr, ◌⊎◌, arith}
 use Rattle.std.specs.List.{filter}
-use Rattle.std.proofs.lemmas.Bool.{false≢true, ltb-true}
+use Rattle.std.proofs.lemmas.Bool.{cases_eq, false≢true, ltb-true, or_right}
 use Rattle.std.proofs.lemmas.Option.{none-some}
 use Rattle.hm_names.specs.Region.{Region}
 use Rattle.hm_names.specs.Server.{Server}
@@ -173,10 +173,6 @@ numbers_rising J legal =
 layouts_rising : (J : Past) → IsLegal J → AreRising 0 (made J) (filter (is_laid J) (old_layouts J ++ numbers_of J))
 layouts_rising J legal = rising_filter (is_laid J) 0 (made J) (old_layouts J ++ numbers_of J) (numbers_rising J legal)
 
-zero_or : (n : ℕ) → (n ≡ 0) ⊎ (n ≢ 0)
-zero_or zero = inl refl
-zero_or (suc n) = inr (λ e. omega (arith, e))
-
 put_length : (P : Past) (parts : List Part) → length (put P parts) ≡ length P + length parts
 put_length P [] = omega arith
 put_length P (part ∷ parts) = (let on = put_length (entry_is.Base part ∷ P) parts in omega (arith, on))
@@ -212,7 +208,7 @@ module _ (J : Past) (legal : IsLegal J) (begun : IsBegun J) (may : MayRoll J) wh
     fresh = λ key among. refl;
     rows = λ key. by_row key (cat J key) refl;
     undrawn = λ t among. refl;
-    ids = λ t. elim (zero_or (drawn J t)) [ inl low ↦ inl (sym low) | inr some ↦ inr (named_drawn J t some) ];
+    ids = λ t. elim (cases_eq (drawn J t) 0) [ inl low ↦ inl (sym low) | inr some ↦ inr (named_drawn J t some) ];
     places = λ r. inr (refl, elim (by_row (key_is.Region r) (cat J (key_is.Region r)) refl) [ inl gone ↦ inl (sym gone) | inr among ↦ inr among ]);
     servers = refl;
     nonces = λ n. refl;
@@ -298,17 +294,13 @@ module _ (J : Past) (legal : IsLegal J) (begun : IsBegun J) (may : MayRoll J) wh
   pub whole : IsWhole (based (image J))
   whole = record {
     count = ap length (based_put (image J)) ∙ put_length [] (image J) ∙ one_more ∙ sym says.promised;
-    spaces = (space_there (codes "default") (ap (λ b. b || bytes_eq (codes "default") (codes "hbase")) (bytes_eq-refl (codes "default"))), space_there (codes "hbase") (or_last (bytes_eq (codes "hbase") (codes "default")) (bytes_eq (codes "hbase") (codes "hbase")) (bytes_eq-refl (codes "hbase"))));
+    spaces = (space_there (codes "default") (ap (λ b. b || bytes_eq (codes "default") (codes "hbase")) (bytes_eq-refl (codes "default"))), space_there (codes "hbase") (or_right (bytes_eq (codes "hbase") (codes "default")) (bytes_eq (codes "hbase") (codes "hbase")) (bytes_eq-refl (codes "hbase"))));
     covered = covers;
     opened = opens;
   }
     where
       one_more : length {A = Entry} [] + length (image J) ≡ length (shown J) + 1
       one_more = omega arith
-
-      or_last : (a b : Bool) → b ≡ true → (a || b) ≡ true
-      or_last true b on = refl
-      or_last false b on = on
 
   pub image_begun : IsBegun (based (image J))
   image_begun = subst IsBegun (sym imaged.is) (subst IsWhole imaged.is whole)

@@ -1,11 +1,9 @@
 -- Which layouts are there: those of the base and of roots that entries made; an image has just the same.
-use Rattle.std.proofs.Common.{◌≡◌, ℕ, zero, suc, ◌+◌, ◌-◌, ◌<◌, ◌≤◌, List, [], ◌∷◌, ◌++◌, ◌==◌, Bool, true, false, cond, is_some, map, slice_get, Option, Some, None, refl, ap, sym, ◌∙◌, subst, inl, inr, ◌⊎◌, arith}
+use Rattle.std.proofs.Common.{◌≡◌, ℕ, zero, suc, ◌+◌, ◌-◌, ◌<◌, ◌≤◌, List, [], ◌∷◌, ◌++◌, ◌==◌, Bool, true, false, cond, map, Option, Some, None, refl, ap, sym, ◌∙◌, subst, inl, inr, ◌⊎◌, arith}
 use Rattle.std.specs.List.{filter}
 use Rattle.std.proofs.lemmas.Bool.{cases_Bool, cases_eq, cond-false, cond-true, eq-eqb, false≢true, ne_eqb}
 use Rattle.std.proofs.lemmas.Option.{none-some, same_Some}
-use Rattle.hm_names.specs.Server.{Server}
 use Rattle.hm_names.specs.declared.pid.Pid.{Pid}
-use Rattle.hm_data.specs.declared.act.Act.TheVariants as act_is
 use Rattle.hm_data.specs.declared.args.Args.{Args}
 use Rattle.hm_data.specs.declared.args.Args.TheVariants as args_are
 use Rattle.hm_data.specs.declared.call.Told.{Told}
@@ -15,31 +13,21 @@ use Rattle.hm_data.specs.declared.call.Verb.TheVariants as verb_is
 use Rattle.hm_data.specs.declared.entry.Entry.TheVariants as entry_is
 use Rattle.hm_data.specs.declared.part.Part.{Part}
 use Rattle.hm_data.specs.declared.part.Part.TheVariants as part_is
-use Rattle.hm_data.specs.declared.step.StepOut.{StepOut}
-use Rattle.hm_model.specs.Acts.{act_answer}
-use Rattle.hm_model.specs.Answers.{last_answer, row_of}
 use Rattle.hm_model.specs.Image.{first_made, layout_parts, numbers_of, old_layouts, with_layout}
-use Rattle.hm_model.specs.Inputs.{step_input}
 use Rattle.hm_model.specs.Journal.{Past}
-use Rattle.hm_model.specs.Kinds.{kind_of}
 use Rattle.hm_model.specs.Layouts.{is_laid, laid_by, laid_if, layout_called}
-use Rattle.hm_model.specs.Lists.{exact_rows, fixed}
 use Rattle.hm_model.specs.Locks.{IsIn}
 use Rattle.hm_model.specs.Parts.{part_laid}
 use Rattle.hm_model.specs.Procedures.{number_at, offset}
 use Rattle.hm_model.specs.Reports.{fits_verb, verb_of}
 use Rattle.hm_model.specs.Rules.{IsLegal}
-use Rattle.hm_model.specs.Tree.{Node, args_in, made, node_of, pid_of, root_node, submitted}
+use Rattle.hm_model.specs.Tree.{Node, made, node_of, pid_of, root_node, submitted}
 use Rattle.hm_model.specs.Verbs.{verb_in}
-use Rattle.hm_model.proofs.ExactRows.{IsLed, led_row, row_passes}
 use Rattle.hm_model.proofs.Grown.{down_new, ends_parted, submit_new}
-use Rattle.hm_model.proofs.LegalSteps.{StepFacts, ready_stops}
 use Rattle.hm_model.proofs.Parted.{by_parts}
-use Rattle.hm_model.proofs.PlainActs.{is_caller, is_plain}
-use Rattle.hm_model.proofs.StepDoes.{bears_by, calls, crash, exact_row, lined, moves, part_of, row_by}
 use Rattle.hm_model.proofs.Trees.{does_of, grown_all, le_or_lt, new_child, node_same, old_or_new, root_within, some_of, step_of, undo_rooted}
-use Rattle.hm_kinds.proofs.Covering.{in_left, in_right}
-use Rattle.hm_kinds.proofs.Kids.{AllMade, IsChildOf, MadeBy, kids_act, made_at}
+use Rattle.hm_model.proofs.Small.{in_left, in_right}
+use Rattle.hm_kinds.proofs.Laying.{Lays as LaysOwn, child_lays}
 use Rattle.hm_costs.proofs.Dead.{IsFollower, follower_is}
 use Rattle.hm_rebase.proofs.Bounds.{root_above}
 use Rattle.hm_rebase.proofs.Cores.{Core}
@@ -51,50 +39,15 @@ abbrev Lays : ℕ → Args → Type 0
 Lays r (args_are.LayoutCall root) = root.0 ≡ r
 Lays r args = Unit {0}
 
-caller_lays : (r : ℕ) (args : Args) → is_caller args ≡ true → Lays r args
-caller_lays r (args_are.LayoutCall root) h = absurd (false≢true h)
-caller_lays r args h = tt
-
 follower_lays : (r : ℕ) (args : Args) → IsFollower args → Lays r args
 follower_lays r (args_are.LayoutCall root) h = absurd h
 follower_lays r args h = tt
 
--- so is each that a step makes
-module _ (pid : Pid) (pick : Option Server) (out : StepOut) (J : Past) (legal : IsLegal (entry_is.Step pid pick out ∷ J)) where
-  -- what is known of the step
-  abbrev s : StepFacts J pid.0 pick out
-  s = step_of pid pick out J (grown_all J legal.0) legal
+made_lays : (r : ℕ) (args : Args) → LaysOwn r args → Lays r args
+made_lays r (args_are.LayoutCall root) h = h
+made_lays r args h = tt
 
-  led_on : exact_rows (kind_of s.node.args) ≡ [] → IsLed (kind_of s.node.args) s.sheet.rows (row_of J pid.0 s.node)
-  led_on exact = (grown_all J legal.0).led pid.0 s.node s.node_is exact s.sheet s.sheet_is (ready_stops J pid.0 s.node (last_answer J pid.0) s.ready)
-
-  plain_lays : is_plain s.row.act ≡ true → (i : ℕ) (made : Args) → slice_get (args_in out.children) i ≡ Some made → Lays s.node.root made
-  plain_lays plain i made get = by made get (made_at (IsChildOf s.row.act s.node.args) out.children kids i made get)
-    where
-      kids : MadeBy s.row.act s.node.args out
-      kids = subst (MadeBy s.row.act s.node.args) (sym s.out_is) (row_by (MadeBy s.row.act s.node.args) s.row (step_input J pid.0 s.node pick) (λ c. tt) (kids_act s.row.act plain s.row.next (step_input J pid.0 s.node pick)))
-
-      own : s.row.act ≡ act_is.Layout → AllMade (Lays s.node.root) out.children
-      own is = subst (λ (o : StepOut). AllMade (Lays s.node.root) o.children) (sym s.out_is)
-          (row_by (λ (o : StepOut). AllMade (Lays s.node.root) o.children) s.row (step_input J pid.0 s.node pick) (λ c. tt) (subst (λ a. AllMade (Lays s.node.root) (act_answer a s.row.next (step_input J pid.0 s.node pick)).children) (sym is) (refl, tt)))
-
-      by : (made : Args) → slice_get (args_in out.children) i ≡ Some made → IsChildOf s.row.act s.node.args made → Lays s.node.root made
-      by (args_are.LayoutCall root) g k = made_at (Lays s.node.root) out.children (own k) i (args_are.LayoutCall root) g
-      by made g k = tt
-
-  child_lays : (i : ℕ) (made : Args) → slice_get (args_in out.children) i ≡ Some made → Lays s.node.root made
-  child_lays i made get = let d = does_of pid pick out J (grown_all J legal.0) s in elim (part_of s.node.args) [
-    | lined exact unmoved uncalled ↦ plain_lays (led_row (kind_of s.node.args) s.sheet s.valid (row_of J pid.0 s.node) (led_on exact) s.row s.row_is).plain i made get
-    | crash kind unmoved uncalled ↦ plain_lays (row_passes (λ row. is_plain row.act) (exact_rows 11) refl (row_of J pid.0 s.node) s.row (crash_row kind)) i made get
-    | moves r m kind uncalled ↦ caller_lays s.node.root made (sym (ap (λ o. bears_by (is_some o) (is_some (verb_in s.node.args)) (is_caller made)) m) ∙ d.bearing i made get)
-    | calls verb v unmoved exact ↦ absurd (none-some made (sym (ap (λ c. slice_get (args_in c) i) (d.calls verb v).childless) ∙ get))
-  ]
-    where
-      crash_row : kind_of s.node.args ≡ 11 → slice_get (exact_rows 11) (row_of J pid.0 s.node) ≡ Some s.row
-      crash_row kind = subst (λ k. slice_get (exact_rows k) (row_of J pid.0 s.node) ≡ Some s.row) kind
-          (exact_row J pid.0 pick out s led_on (λ verb v. (grown_all J legal.0).calls pid.0 s.node s.node_is verb v) (fixed act_is.Fence 1 true, fixed act_is.Reassign 1 true ∷ [], ap exact_rows kind))
-
--- and each of a legal journal
+-- so is each of a legal journal
 all_lay : (J : Past) → IsLegal J → (q : ℕ) (x : Node) → node_of J q ≡ Some x → Lays x.root x.args
 all_lay [] legal q x is = absurd (none-some x is)
 all_lay (entry_is.Submit nonce request ∷ J) legal q x is = elim (cases_eq q (made J + 1)) [
@@ -104,9 +57,10 @@ all_lay (entry_is.Submit nonce request ∷ J) legal q x is = elim (cases_eq q (m
 all_lay (entry_is.Step pid pick out ∷ J) legal q x is = elim (le_or_lt q (made J)) [
   | inl le ↦ all_lay J legal.0 q x (sym (node_same pid pick out J q le) ∙ is)
   | inr lt ↦
-      let s = step_of pid pick out J (grown_all J legal.0) legal in
+      let grown = grown_all J legal.0 in
+      let s = step_of pid pick out J grown legal in
       let c = new_child pid pick out J s.node s.node_is q lt x is in
-      subst (λ (n : Node). Lays n.root n.args) (sym c.2) (child_lays pid pick out J legal (q - made J - 1) c.0 c.1)
+      subst (λ (n : Node). Lays n.root n.args) (sym c.2) (made_lays s.node.root c.0 (child_lays pid pick out J grown s (does_of pid pick out J grown s) (q - made J - 1) c.0 c.1))
 ]
 all_lay (entry_is.Undo pid row out ∷ J) legal q x is =
     let grown = grown_all J legal.0 in

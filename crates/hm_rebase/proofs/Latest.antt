@@ -20,6 +20,7 @@ use Rattle.hm_model.proofs.CameUp.{any_with, live_came}
 use Rattle.hm_model.proofs.KeyTests.{bytes_eq-is, bytes_eq-refl, key_cmp-refl}
 use Rattle.hm_model.proofs.NameTies.{same_server-is, same_server-refl, servers_total}
 use Rattle.hm_rebase.proofs.Orders.{InOrder, order_with}
+use Rattle.std.proofs.Math.Bool.{and-true}
 
 pub servers_order : (J : Past) → InOrder server_cmp (servers_of J)
 servers_order [] = tt
@@ -122,11 +123,7 @@ module _ (J : Past) (o : Server) (alive : Bool) (old : IsLatest J) (newer : has_
 pub latest_all : (J : Past) → IsLegal J → IsLatest J
 latest_all [] legal y s came live near less = false≢true live
 latest_all (entry_is.Up o ∷ J) legal y s came live near less =
-    latest_with J o true (latest_all J legal.0) legal.1.1.0 legal.1.1.1.0 y s (sym (any_with (λ x. same_server s x) o (servers_of J)) ∙ came) (ap (λ b. b || is_live J y) (true_and (same_server y o)) ∙ live) near less
-  where
-    true_and : (b : Bool) → (b && true) ≡ b
-    true_and true = refl
-    true_and false = refl
+    latest_with J o true (latest_all J legal.0) legal.1.1.0 legal.1.1.1.0 y s (sym (any_with (λ x. same_server s x) o (servers_of J)) ∙ came) (ap (λ b. b || is_live J y) (and-true (same_server y o)) ∙ live) near less
 latest_all (entry_is.Down o ∷ J) legal y s came live near less = latest_all J legal.0 y s came (and_parts (not (same_server y o)) (is_live J y) live).1 near less
 latest_all (entry_is.Base (part_is.Server o gone) ∷ J) legal y s came live near less =
     latest_with J o (not gone) (latest_all J legal.0) legal.1.0.1 legal.1.0.2 y s (sym (any_with (λ x. same_server s x) o (servers_of J)) ∙ came) live near less

@@ -1,8 +1,8 @@
 -- The keys of an image: in order, with each that has a row, and with each table that ids were drawn for.
-use Rattle.std.proofs.Common.{◌≡◌, ◌≢◌, ℕ, zero, suc, List, [], ◌∷◌, Option, Some, None, refl, ap, sym, ◌∙◌, inl, inr, ◌⊎◌, arith}
+use Rattle.std.proofs.Common.{◌≡◌, ◌≢◌, ℕ, List, [], ◌∷◌, Option, Some, None, refl, ap, sym, ◌∙◌, inl, inr, ◌⊎◌, arith}
 use Rattle.std.specs.declared.cmp.Ordering.{Ordering}
 use Rattle.std.specs.declared.cmp.Ordering.TheVariants.{Equal, Greater, Less}
-use Rattle.std.proofs.lemmas.Bool.{cases_Bool, cond-false}
+use Rattle.std.proofs.lemmas.Bool.{cases_Bool, cases_eq, cond-false}
 use Rattle.hm_names.specs.declared.table.TableName.{TableName}
 use Rattle.hm_data.specs.Keys.{key_cmp}
 use Rattle.hm_data.specs.declared.catalog.CatKey.{CatKey}
@@ -21,16 +21,7 @@ use Rattle.hm_model.specs.Parts.{part_drawn, part_key}
 use Rattle.hm_model.specs.RowLaws.{AreInOrder}
 use Rattle.hm_model.specs.Tree.{drawn, ids_for, new_ids}
 use Rattle.hm_model.proofs.KeyTests.{same_table-is}
-use Rattle.hm_model.proofs.Rows.{has_key, in_with_key, in_with_keys}
-use Rattle.hm_costs.proofs.Counted.{order_with}
-
-order_with_keys : (edits : List Edit) (keys : List CatKey) → AreInOrder keys → AreInOrder (with_keys edits keys)
-order_with_keys [] keys order = order
-order_with_keys (edit ∷ edits) keys order = order_with_keys edits (with_key edit.key keys) (order_with edit.key keys order)
-
-order_if : (o : Option CatKey) (keys : List CatKey) → AreInOrder keys → AreInOrder (elim o as (λ k. List CatKey) [ None ↦ keys | Some key ↦ with_key key keys ])
-order_if None keys order = order
-order_if (Some key) keys order = order_with key keys order
+use Rattle.hm_model.proofs.Rows.{has_key, in_with_key, in_with_keys, order_if, order_with, order_with_keys}
 
 order_table : (o : Option TableName) (keys : List CatKey) → AreInOrder keys → AreInOrder (with_table o keys)
 order_table None keys order = order
@@ -102,13 +93,9 @@ drawn_part (part_is.Table own ids row) t n keys has some = elim (cases_Bool (sam
 drawn_part (part_is.Region region range status parents place) t n keys has some = in_with_key (key_is.Table t) (key_is.Region region) keys (inr (has some))
 drawn_part part t n keys has some = has some
 
-zero_or : (n : ℕ) → (n ≡ 0) ⊎ (n ≢ 0)
-zero_or zero = inl refl
-zero_or (suc n) = inr (λ e. omega (arith, e))
-
 pub named_drawn : (J : Past) (t : TableName) → drawn J t ≢ 0 → IsIn (key_is.Table t) (named_keys J)
 named_drawn [] t some = absurd (some refl)
-named_drawn (entry_is.Submit nonce request ∷ J) t some = elim (zero_or (drawn J t)) [
+named_drawn (entry_is.Submit nonce request ∷ J) t some = elim (cases_eq (drawn J t) 0) [
   | inr old ↦ table_more (table_of_request request) (named_keys J) (key_is.Table t) (named_drawn J t old)
   | inl none ↦ drawn_for (table_of_request request) (new_ids request) t (named_keys J) (λ e. some (omega (arith, e, none)))
 ]

@@ -8,7 +8,6 @@ use Rattle.hm_names.specs.declared.pid.Pid.{Pid}
 use Rattle.hm_data.specs.declared.act.Act.{Act}
 use Rattle.hm_data.specs.declared.act.Act.TheVariants as act_is
 use Rattle.hm_data.specs.declared.answer.Answer.TheVariants as answer_is
-use Rattle.hm_data.specs.declared.answer.Cause.{Cause}
 use Rattle.hm_data.specs.declared.args.Args.TheVariants as args_are
 use Rattle.hm_data.specs.declared.args.Child.TheVariants as child_is
 use Rattle.hm_data.specs.declared.call.Told.TheVariants as told_is
@@ -48,6 +47,7 @@ use Rattle.hm_single.proofs.All.{kept_all}
 use Rattle.hm_single.proofs.Own.{cut_or, does, step}
 use Rattle.hm_single.proofs.Placing.{own_row}
 use Rattle.hm_single.proofs.Stage.{moved_region}
+use Rattle.hm_single.proofs.Gives.{call_unplaced, check_unplaced}
 
 abbrev pub IsClean : RegionState → Option Server → Type 0
 IsClean place_is.Offline server = server ≡ None
@@ -94,21 +94,13 @@ clean_by : (act : Act) → is_moving act ≡ true → (next : ℕ) (at : StepIn)
 clean_by act_is.GetAssignCandidate h next at region own here e =
     candidate_clean next (may_open_in at.rows region) (told_place at.place) at.fenced at.pick here
     (ap (λ o. (given o next (λ r. candidate next (may_open_in at.rows r) (told_place at.place) at.fenced at.pick)).place) (sym own) ∙ e)
-clean_by act_is.Open h next at region own here e = absurd (by (told_place at.place).server (ap (λ o. (given o next (λ r. given (told_place at.place).server next (λ server. spawns next (child_is.One (args_are.AssignCall r server) ∷ [])))).place) (sym own) ∙ e))
-  where
-    by : (o : Option Server) → (given o next (λ server. spawns next (child_is.One (args_are.AssignCall region server) ∷ []))).place ≡ Some here → ⊥
-    by None e = none-some here e
-    by (Some server) e = none-some here e
+clean_by act_is.Open h next at region own here e = absurd (call_unplaced next region (told_place at.place).server here (ap (λ o. (given o next (λ r. given (told_place at.place).server next (λ server. spawns next (child_is.One (args_are.AssignCall r server) ∷ [])))).place) (sym own) ∙ e))
 clean_by act_is.ConfirmOpened h next at region own here e = confirm_clean next (told_place at.place).server (is_told told_is.Opened at.ends) here e
 clean_by act_is.Close h next at region own here e =
     close_clean next at region (told_place at.place) (is_open (told_place at.place) at.fenced) here
     (ap (λ o. (given o next (λ r. close_or_go next (goal_in at.args) r (told_place at.place) (is_open (told_place at.place) at.fenced))).place) (sym own) ∙ e)
 clean_by act_is.ConfirmClosed h next at region own here e = closed_clean (is_told told_is.Closed at.ends) here e
-clean_by act_is.CheckMove h next at region own here e = absurd (by (region_ready (row_at at.rows (key_is.Table region.table)) (row_at at.rows (key_is.Region region))) (ap (λ o. (given o next (λ r. checked next (region_ready (row_at at.rows (key_is.Table r.table)) (row_at at.rows (key_is.Region r))))).place) (sym own) ∙ e))
-  where
-    by : (c : Option Cause) → (checked next c).place ≡ Some here → ⊥
-    by None e = none-some here e
-    by (Some cause) e = none-some here e
+clean_by act_is.CheckMove h next at region own here e = absurd (check_unplaced next (region_ready (row_at at.rows (key_is.Table region.table)) (row_at at.rows (key_is.Region region))) here (ap (λ o. (given o next (λ r. checked next (region_ready (row_at at.rows (key_is.Table r.table)) (row_at at.rows (key_is.Region r))))).place) (sym own) ∙ e))
 clean_by act h next at region own here e = absurd (false≢true h)
 
 out_clean : (pid : Pid) (pick : Option Server) (out : StepOut) (J : Past) → IsLegal (entry_is.Step pid pick out ∷ J) → (here : Place) → out.place ≡ Some here → Clean here

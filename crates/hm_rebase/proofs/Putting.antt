@@ -1,6 +1,6 @@
 -- Parts put on a journal, in order.
 use Rattle.std.proofs.Common.{◌≡◌, List, [], ◌∷◌, ◌++◌, map, reverse, refl, ap, sym, ◌∙◌, append_assoc}
-use Rattle.std.proofs.lemmas.List.{reverse-append}
+use Rattle.std.proofs.lemmas.List.{append-nil, reverse-append}
 use Rattle.hm_data.specs.declared.entry.Entry.TheVariants as entry_is
 use Rattle.hm_data.specs.declared.part.Part.{Part}
 use Rattle.hm_model.specs.Journal.{Past}
@@ -21,10 +21,6 @@ put_reversed P (part ∷ parts) =
     ∙ sym (append_assoc (reverse (map (λ p. entry_is.Base p) parts)) (entry_is.Base part ∷ []) P)
     ∙ ap (λ l. l ++ P) (sym (reverse-append (entry_is.Base part ∷ []) (map (λ p. entry_is.Base p) parts)))
 
-append_none : (xs : Past) → xs ++ [] ≡ xs
-append_none [] = refl
-append_none (x ∷ xs) = ap (λ l. x ∷ l) (append_none xs)
-
 -- a base of them
 pub based_put : (parts : List Part) → based parts ≡ put [] parts
-based_put parts = sym (append_none (based parts)) ∙ sym (put_reversed [] parts)
+based_put parts = sym (append-nil (based parts)) ∙ sym (put_reversed [] parts)

@@ -1,5 +1,5 @@
 -- What is read of procedures in journals that read alike.
-use Rattle.std.proofs.Common.{◌≡◌, ℕ, zero, suc, ◌+◌, ◌<◌, ◌≤◌, List, [], ◌∷◌, ◌++◌, Bool, true, false, not, ◌&&◌, ◌||◌, cond, ◌==◌, nat_lt, Option, Some, None, is_some, refl, ap, sym, ◌∙◌, subst, inl, inr, arith}
+use Rattle.std.proofs.Common.{◌≡◌, ℕ, zero, suc, ◌+◌, ◌<◌, ◌≤◌, List, [], ◌∷◌, ◌++◌, true, false, not, ◌&&◌, ◌||◌, cond, ◌==◌, nat_lt, Option, Some, None, is_some, refl, ap, sym, ◌∙◌, subst, inl, inr, arith}
 use Rattle.std.proofs.lemmas.Bool.{ne_eqb}
 use Rattle.hm_data.specs.declared.sheet.Sheet.{Sheet}
 use Rattle.hm_model.specs.Answers.{done_with, is_stopped, last_answer, row_of, row_after}
@@ -17,10 +17,7 @@ use Rattle.hm_model.proofs.Forest.{forest_all, rooted_all}
 use Rattle.hm_model.proofs.Trees.{le_or_lt}
 use Rattle.hm_rebase.specs.Alike.{Alike}
 use Rattle.hm_rebase.proofs.Bounds.{all_same, none_below, root_above, root_before}
-
-and_false : (b : Bool) → (b && false) ≡ false
-and_false true = refl
-and_false false = refl
+use Rattle.std.proofs.Math.Bool.{and-false}
 
 module _ (J K : Past) (legal_J : IsLegal J) (legal_K : IsLegal K) (alike : Alike J K) where
   -- whoever goes on in one of them is the same in both
@@ -134,15 +131,15 @@ module _ (J K : Past) (legal_J : IsLegal J) (legal_K : IsLegal K) (alike : Alike
   new_child_same p q high = elim (le_or_lt q (offset K)) [
     | inr lt ↦ ap (λ m. nat_lt m q && child_in p (node_of J q)) (alike.same p high).stepped ∙ ap (λ o. nat_lt (made_at_step K p) q && child_in p o) (alike.same q lt).node
     | inl le ↦
-        ap (λ b. nat_lt (made_at_step J p) q && b) (old_child p q high le) ∙ and_false (nat_lt (made_at_step J p) q)
-        ∙ sym (ap (λ o. nat_lt (made_at_step K p) q && child_in p o) (none_below K legal_K q le) ∙ and_false (nat_lt (made_at_step K p) q))
+        ap (λ b. nat_lt (made_at_step J p) q && b) (old_child p q high le) ∙ and-false (nat_lt (made_at_step J p) q)
+        ∙ sym (ap (λ o. nat_lt (made_at_step K p) q && child_in p o) (none_below K legal_K q le) ∙ and-false (nat_lt (made_at_step K p) q))
   ]
 
   end_same : (p q : ℕ) → offset K < p → cond (is_new_child J p q) (end_of q (done_with (last_answer J q))) [] ≡ cond (is_new_child K p q) (end_of q (done_with (last_answer K q))) []
   end_same p q high = ap (λ b. cond b (end_of q (done_with (last_answer J q))) []) (new_child_same p q high) ∙ elim (le_or_lt q (offset K)) [
     | inr lt ↦ ap (λ a. cond (is_new_child K p q) (end_of q (done_with a)) []) (alike.same q lt).answer
     | inl le ↦
-        let none : is_new_child K p q ≡ false = ap (λ o. nat_lt (made_at_step K p) q && child_in p o) (none_below K legal_K q le) ∙ and_false (nat_lt (made_at_step K p) q) in
+        let none : is_new_child K p q ≡ false = ap (λ o. nat_lt (made_at_step K p) q && child_in p o) (none_below K legal_K q le) ∙ and-false (nat_lt (made_at_step K p) q) in
         ap (λ b. cond b (end_of q (done_with (last_answer J q))) []) none ∙ sym (ap (λ b. cond b (end_of q (done_with (last_answer K q))) []) none)
   ]
 

@@ -14,7 +14,7 @@ use Rattle.hm_data.specs.declared.entry.Entry.TheVariants as entry_is
 use Rattle.hm_data.specs.declared.part.Part.{Part}
 use Rattle.hm_data.specs.declared.part.Part.TheVariants as part_is
 use Rattle.hm_data.specs.declared.place.RegionState.TheVariants as place_is
-use Rattle.hm_model.specs.Base.{IsBegun, MayRoot, Rises, announced, rises}
+use Rattle.hm_model.specs.Base.{IsBegun, MayRoot, PartFits, Rises, announced, rises}
 use Rattle.hm_model.specs.Catalog.{cat}
 use Rattle.hm_model.specs.Fleet.{is_fenced, is_live, servers_of}
 use Rattle.hm_model.specs.Image.{counted}
@@ -80,13 +80,38 @@ module _ (J : Past) (legal : IsLegal J) (begun : IsBegun J) (none : under_way J 
     pub live : (s : Server) → is_live P s ≡ is_live J s
     pub fenced : (s : Server) → is_fenced P s ≡ is_fenced J s
 
-  pub record HasRooted (P : Past) (low : ℕ) (used : Nonce → Option ℕ) : Type 0 where
+  -- the part of a root or of a layout leaves what the others say
+  says_on : (part : Part) → (IsMiddle part → ⊥) → (P : Past) → Says P → PartFits part P → Says (entry_is.Base part ∷ P)
+  says_on (part_is.Head entries last parts sheets) late P s fits = absurd (late tt)
+  says_on (part_is.Namespace ns) late P s fits = absurd (late tt)
+  says_on (part_is.Table table drawn row) late P s fits = absurd (late tt)
+  says_on (part_is.Region region range status parents place) late P s fits = absurd (late tt)
+  says_on (part_is.Server server fenced) late P s fits = absurd (late tt)
+  says_on part late P s fits = record {
+    legal_now = (s.legal_now, (fits, tt));
+    last = s.last;
+    sheets = s.sheets;
+    counts = s.counts;
+    promised = s.promised;
+    rows = s.rows;
+    ids = s.ids;
+    places = s.places;
+    servers = s.servers;
+    live = s.live;
+    fenced = s.fenced;
+  }
+
+  -- the latest part, of which something holds with a number, what the parts say, and the nonces that they use
+  pub record HasParts (Before : Part → ℕ → Type 0) (P : Past) (low : ℕ) (used : Nonce → Option ℕ) : Type 0 where
     pub own : Part
     pub behind : Past
     pub is : P ≡ entry_is.Base own ∷ behind
     pub says : Says P
-    pub before : Lower own low
+    pub before : Before own low
     pub nonces : (nonce : Nonce) → by_nonce P nonce ≡ used nonce
+
+  abbrev pub HasRooted : Past → ℕ → (Nonce → Option ℕ) → Type 0
+  HasRooted = HasParts Lower
 
   pub first_rooted : (own : Part) (Q : Past) → Served J legal begun none size own Q [] → HasRooted (entry_is.Base own ∷ Q) 0 (λ n. None)
   first_rooted own Q k = record {
@@ -121,31 +146,13 @@ module _ (J : Past) (legal : IsLegal J) (begun : IsBegun J) (none : under_way J 
         own = part_is.Root pid nonce args cause;
         behind = P;
         is = refl;
-        says = record {
-          legal_now = (
-            s.legal_now,
-            (
-              (
-                rises_behind (rises_root h.own low pid nonce args cause h.before (omega (arith, above, p_is))),
-                omega (arith, above, p_is),
-                omega (arith, within, p_is, last),
-                h.nonces nonce ∙ ap used n_is ∙ good.2,
-                subst MayRoot (sym a_is) good.3,
-              ),
-              tt,
-            ),
-          );
-          last = s.last;
-          sheets = s.sheets;
-          counts = s.counts;
-          promised = s.promised;
-          rows = s.rows;
-          ids = s.ids;
-          places = s.places;
-          servers = s.servers;
-          live = s.live;
-          fenced = s.fenced;
-        };
+        says = says_on (part_is.Root pid nonce args cause) (λ middle. middle) P s (
+          rises_behind (rises_root h.own low pid nonce args cause h.before (omega (arith, above, p_is))),
+          omega (arith, above, p_is),
+          omega (arith, within, p_is, last),
+          h.nonces nonce ∙ ap used n_is ∙ good.2,
+          subst MayRoot (sym a_is) good.3,
+        );
         before = p_is;
         nonces = λ n. ap (λ x. cond (is_same x n) (Some pid.0) (by_nonce P n)) n_is ∙ ap (λ x. cond (is_same core.nonce n) (Some x) (by_nonce P n)) p_is ∙ ap (cond (is_same core.nonce n) (Some core.pid)) (h.nonces n);
       }
@@ -162,13 +169,8 @@ module _ (J : Past) (legal : IsLegal J) (begun : IsBegun J) (none : under_way J 
   root_all (part ∷ parts) list tells P low used good h = absurd tells
 
   -- behind the roots the layouts
-  pub record HasAll (P : Past) (low : ℕ) (used : Nonce → Option ℕ) : Type 0 where
-    pub own : Part
-    pub behind : Past
-    pub is : P ≡ entry_is.Base own ∷ behind
-    pub says : Says P
-    pub before : Under own low
-    pub nonces : (nonce : Nonce) → by_nonce P nonce ≡ used nonce
+  abbrev pub HasAll : Past → ℕ → (Nonce → Option ℕ) → Type 0
+  HasAll = HasParts Under
 
   pub first_all : (P : Past) (low : ℕ) (used : Nonce → Option ℕ) → HasRooted P low used → HasAll P 0 used
   first_all P low used h = record { own = h.own; behind = h.behind; is = h.is; says = h.says; before = lower_under h.own low h.before; nonces = h.nonces }
@@ -181,29 +183,11 @@ module _ (J : Past) (legal : IsLegal J) (begun : IsBegun J) (none : under_way J 
         own = part_is.Layout (pid_of root);
         behind = P;
         is = refl;
-        says = record {
-          legal_now = (
-            s.legal_now,
-            (
-              (
-                subst (λ X. Rises X (part_is.Layout (pid_of root))) (sym h.is) (rises_layout h.own low (pid_of root) h.before above),
-                omega (arith, above),
-                omega (arith, within, last),
-              ),
-              tt,
-            ),
-          );
-          last = s.last;
-          sheets = s.sheets;
-          counts = s.counts;
-          promised = s.promised;
-          rows = s.rows;
-          ids = s.ids;
-          places = s.places;
-          servers = s.servers;
-          live = s.live;
-          fenced = s.fenced;
-        };
+        says = says_on (part_is.Layout (pid_of root)) (λ middle. middle) P s (
+          subst (λ X. Rises X (part_is.Layout (pid_of root))) (sym h.is) (rises_layout h.own low (pid_of root) h.before above),
+          omega (arith, above),
+          omega (arith, within, last),
+        );
         before = omega arith;
         nonces = h.nonces;
       }

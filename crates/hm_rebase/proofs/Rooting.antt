@@ -3,6 +3,7 @@ use Rattle.std.proofs.Common.{◌≡◌, ℕ, zero, suc, ◌+◌, ◌-◌, ◌<�
 use Rattle.std.specs.List.{flat_map}
 use Rattle.std.proofs.lemmas.Grind.{flat_map-append}
 use Rattle.std.proofs.lemmas.Bool.{cond-false, cond-true, eq-eqb, false≢true, lt-ltb, ne_eqb}
+use Rattle.std.proofs.lemmas.List.{append-nil}
 use Rattle.hm_names.specs.Server.{Server}
 use Rattle.hm_names.specs.declared.nonce.Nonce.{Nonce}
 use Rattle.hm_names.specs.declared.pid.Pid.{Pid}
@@ -52,16 +53,12 @@ append_assoc : (xs ys zs : List ℕ) → (xs ++ ys) ++ zs ≡ xs ++ (ys ++ zs)
 append_assoc [] ys zs = refl
 append_assoc (x ∷ xs) ys zs = ap (λ l. x ∷ l) (append_assoc xs ys zs)
 
-append_none : {A : Type 0} (xs : List A) → xs ++ [] ≡ xs
-append_none [] = refl
-append_none (x ∷ xs) = ap (λ l. x ∷ l) (append_none xs)
-
 parts_assoc : (xs ys zs : List Part) → (xs ++ ys) ++ zs ≡ xs ++ (ys ++ zs)
 parts_assoc [] ys zs = refl
 parts_assoc (x ∷ xs) ys zs = ap (λ l. x ∷ l) (parts_assoc xs ys zs)
 
 first_split : (A : Past) (m k : ℕ) → first_made A (m + k) ≡ first_made A m ++ span (offset A + m) k
-first_split A m zero = (let e : m + 0 ≡ m = omega arith in ap (first_made A) e) ∙ sym (append_none (first_made A m))
+first_split A m zero = (let e : m + 0 ≡ m = omega arith in ap (first_made A) e) ∙ sym (append-nil (first_made A m))
 first_split A m (suc k) =
     let e : m + suc k ≡ suc (m + k) = omega arith in
     let number : offset A + (m + k) + 1 ≡ offset A + m + k + 1 = omega arith in
@@ -178,7 +175,7 @@ module _ (f : ℕ → Option Cause) where
       (tells_append (old_roots J ++ own_parts J) (flat_map (λ p. with_cause (entry ∷ J) p (node_of (entry ∷ J) p)) (span (made J) k)) (cores J) news before new))
 
   cores_none : (xs : List Core) → xs ≡ xs ++ []
-  cores_none xs = sym (append_none xs)
+  cores_none xs = sym (append-nil xs)
 
   -- children are no roots
   step_none : (pid : Pid) (pick : Option Server) (out : StepOut) (J : Past) → IsLegal (entry_is.Step pid pick out ∷ J) → (k : ℕ) → flat_map (λ p. with_cause (entry_is.Step pid pick out ∷ J) p (node_of (entry_is.Step pid pick out ∷ J) p)) (span (made J) k) ≡ []
@@ -232,8 +229,8 @@ module _ (f : ℕ → Option Cause) where
   tells_all (entry_is.Step pid pick out ∷ J) legal =
       tells_more (entry_is.Step pid pick out) J refl legal.0 (length (args_in out.children)) refl refl refl [] (cores_none (cores J)) (subst (λ l. Tells l []) (sym (step_none pid pick out J legal (length (args_in out.children)))) tt) (tells_all J legal.0)
   tells_all (entry_is.Base part ∷ J) legal =
-      let before = subst (λ l. Tells l (cores J)) (ap (λ l. old_roots J ++ l) (base_empty J (by_parts (λ j. ends_parted j ≡ true) refl (λ o older. refl) part J legal.1.0)) ∙ append_none (old_roots J)) (tells_all J legal.0) in
-      subst (λ l. Tells l (part_core part (cores J))) (sym (ap (λ l. with_root part (old_roots J) ++ l) (base_empty (entry_is.Base part ∷ J) refl) ∙ append_none (with_root part (old_roots J)))) (tells_part part (old_roots J) (cores J) before)
+      let before = subst (λ l. Tells l (cores J)) (ap (λ l. old_roots J ++ l) (base_empty J (by_parts (λ j. ends_parted j ≡ true) refl (λ o older. refl) part J legal.1.0)) ∙ append-nil (old_roots J)) (tells_all J legal.0) in
+      subst (λ l. Tells l (part_core part (cores J))) (sym (ap (λ l. with_root part (old_roots J) ++ l) (base_empty (entry_is.Base part ∷ J) refl) ∙ append-nil (with_root part (old_roots J)))) (tells_part part (old_roots J) (cores J) before)
   tells_all (entry ∷ J) legal = tells_more entry J refl legal.0 0 (omega arith) refl refl [] (cores_none (cores J)) tt (tells_all J legal.0)
 
 -- the parts of the roots tell just them

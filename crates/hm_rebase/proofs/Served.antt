@@ -38,6 +38,7 @@ use Rattle.hm_rebase.proofs.Latest.{any_none, came_in, in_came, latest_all, serv
 use Rattle.hm_rebase.proofs.Orders.{InOrder, from_with, in_with, later_in, same_list}
 use Rattle.hm_rebase.proofs.Putting.{put}
 use Rattle.hm_rebase.proofs.Still.{still}
+use Rattle.std.proofs.Math.Bool.{not-not, or-false}
 
 -- a part comes before that of a server
 abbrev pub Leads : Part → Server → Type 0
@@ -68,14 +69,6 @@ early_middle : (own : Part) → IsEarly own → IsMiddle own
 early_middle (part_is.Root pid nonce args cause) early = absurd early
 early_middle (part_is.Layout pid) early = absurd early
 early_middle part early = tt
-
-twice : (b : Bool) → not (not b) ≡ b
-twice true = refl
-twice false = refl
-
-or_none : (b : Bool) → (b || false) ≡ b
-or_none true = refl
-or_none false = refl
 
 module _ (J : Past) (legal : IsLegal J) (begun : IsBegun J) (none : under_way J ≡ 0) (size : ℕ) where
   -- what the parts so far say, where some servers are to come
@@ -176,7 +169,7 @@ module _ (J : Past) (legal : IsLegal J) (begun : IsBegun J) (none : under_way J 
 
     -- the part says whether it is live, and whether it is fenced
     live_said : not (not (is_live J s)) ≡ is_live J s
-    live_said = twice (is_live J s)
+    live_said = not-not (is_live J s)
 
     fenced_said : not (is_live J s) ≡ is_fenced J s
     fenced_said = elim (cases_Bool (is_live J s)) [
@@ -198,7 +191,7 @@ module _ (J : Past) (legal : IsLegal J) (begun : IsBegun J) (none : under_way J 
     reading said was now then old fresh is x = elim (cases_Bool (same_server x s)) [
       | inl same ↦
           let one = same_server-is x s same in
-          inl (ap (λ b. (b && said) || now x) same ∙ ap (λ y. said || now y) one ∙ ap (λ b. said || b) fresh ∙ or_none said ∙ is ∙ ap then (sym one))
+          inl (ap (λ b. (b && said) || now x) same ∙ ap (λ y. said || now y) one ∙ ap (λ b. said || b) fresh ∙ or-false said ∙ is ∙ ap then (sym one))
       | inr differs ↦ elim (old x) [
         | inl same ↦ inl (ap (λ b. (b && said) || now x) differs ∙ same)
         | inr among ↦ elim among [

@@ -33,7 +33,6 @@ use Rattle.hm_model.specs.Kinds.{table_of_first}
 use Rattle.hm_model.specs.Locks.{IsIn, in_name_order}
 use Rattle.hm_model.specs.NamespaceActs.{has_table}
 use Rattle.hm_model.specs.Parts.{part_row, table_row}
-use Rattle.hm_model.specs.Phase.{or_else}
 use Rattle.hm_model.specs.Pieces.{ranges_between}
 use Rattle.hm_model.specs.RowsSaid.{in_state, in_version, range_in}
 use Rattle.hm_model.specs.Reads.{is_ns_or_table_in}
@@ -43,6 +42,7 @@ use Rattle.hm_model.specs.Tree.{Node, node_of}
 use Rattle.hm_model.specs.Views.{Asked, asked_of}
 use Rattle.hm_model.proofs.KeyTests.{bytes_eq-is, bytes_eq-refl, cases_key}
 use Rattle.hm_model.proofs.Parted.{no_half, no_node}
+use Rattle.hm_model.proofs.Answered.{or_none}
 use Rattle.hm_serial.proofs.Serial.{catalog_is}
 use Rattle.hm_model.specs.RowsSaid.{is_table_in}
 use Rattle.hm_cover.proofs.SerialWhole.{whole_all}
@@ -85,14 +85,6 @@ some_from f (Some row) some = λ e. none-some row (sym e)
 there_is : (o : Option CatRow) → namespace_there o ≡ None → o ≢ None
 there_is None e = λ none. absurd (none-some _ (sym e))
 there_is (Some row) e = λ none. none-some row (sym none)
-
-first_none : (a b : Option Cause) → or_else a b ≡ None → a ≡ None
-first_none None b e = refl
-first_none (Some cause) b e = e
-
-second_none : (a b : Option Cause) → or_else a b ≡ None → b ≡ None
-second_none None b e = e
-second_none (Some cause) b e = absurd (none-some cause (sym e))
 
 untabled : (b : Bool) (cause : Cause) → cond b (Some cause) None ≡ None → b ≡ false
 untabled true cause e = absurd (none-some cause (sym e))
@@ -164,7 +156,7 @@ module _ (there : Catalog) (has : HasSpaces there) where
           absurd (true≢false (sym (found there ns t same some keys (listed (key_is.Table t) some)) ∙ empty))
 
   drop_if : (ns : List ℕ) (keys : List CatKey) → ((key : CatKey) → there key ≢ None → IsIn key keys) → (cause : Option Cause) → namespace_empty (there (key_is.Ns ns)) (has_table ns (rows_in_ns ns keys there)) ≡ cause → HasSpaces (Then (edits_in (unless cause (set_to there (key_is.Ns ns) None ∷ []))))
-  drop_if ns keys listed None e = dropped ns keys listed (untabled (has_table ns (rows_in_ns ns keys there)) _ (second_none (namespace_there (there (key_is.Ns ns))) _ e))
+  drop_if ns keys listed None e = dropped ns keys listed (untabled (has_table ns (rows_in_ns ns keys there)) _ (or_none (namespace_there (there (key_is.Ns ns))) _ e).1)
   drop_if ns keys listed (Some cause) e = has
 
   of_request : (request : Request) (first : ℕ) (keys : List CatKey) → ((key : CatKey) → there key ≢ None → IsIn key keys) → HasSpaces (Then (edits_in (deed request first keys there)))
@@ -172,7 +164,7 @@ module _ (there : Catalog) (has : HasSpaces there) where
   of_request (request_is.DropNamespace ns) first keys listed = drop_if ns keys listed (namespace_empty (there (key_is.Ns ns)) (has_table ns (rows_in_ns ns keys there))) refl
   of_request (request_is.CreateTable table bounds) first keys listed =
       if_none (table_free (there (key_is.Ns table.ns)) (there (key_is.Table table))) _ (λ e.
-      ((λ some. there_is (there (key_is.Ns table.ns)) (first_none (namespace_there (there (key_is.Ns table.ns))) (table_absent (there (key_is.Table table))) e)), ranges table first (ranges_between ([] ∷ bounds ++ [] ∷ []))))
+      ((λ some. there_is (there (key_is.Ns table.ns)) (or_none (namespace_there (there (key_is.Ns table.ns))) (table_absent (there (key_is.Table table))) e).0), ranges table first (ranges_between ([] ∷ bounds ++ [] ∷ []))))
   of_request (request_is.DeleteTable table) first keys listed =
       if_none (table_disabled (there (key_is.Table table))) _ (λ e. ((λ some. absurd (some refl)), removed (regions_of table keys there)))
   of_request (request_is.EnableTable table) first keys listed =

@@ -1,6 +1,6 @@
 -- What holds of a journal with nothing unfinished.
 use Rattle.std.proofs.Common.{◌≡◌, ◌≢◌, ℕ, ◌+◌, [], Bool, true, false, not, ◌&&◌, ◌||◌, Option, Some, None, is_some, refl, ap, sym, ◌∙◌, subst, inl, inr, ◌⊎◌, arith}
-use Rattle.std.proofs.lemmas.Bool.{and_from, cases_Bool, false≢true, or_left, or_right, true≢false}
+use Rattle.std.proofs.lemmas.Bool.{and_from, cases_Bool, false≢true, or_left, or_parts, or_right, true≢false}
 use Rattle.hm_names.specs.Region.{Region}
 use Rattle.hm_names.specs.Server.{Server}
 use Rattle.hm_names.specs.declared.range.KeyRange.{KeyRange}
@@ -82,15 +82,11 @@ module _ (J : Past) (legal : IsLegal J) (none : under_way J ≡ 0) where
   off_first true b e = absurd (true≢false e)
   off_first false b e = refl
 
-  off_second : (a b : Bool) → (a || b) ≡ false → b ≡ false
-  off_second true b e = absurd (true≢false e)
-  off_second false b e = e
-
   pub not_opening : (region : Region) → is_state place_is.Opening (place_of J region) ≡ false
   not_opening region = off_first (is_state place_is.Opening (place_of J region)) (is_state place_is.FailedOpen (place_of J region)) (tried_not region)
 
   pub not_failed : (region : Region) → is_state place_is.FailedOpen (place_of J region) ≡ false
-  not_failed region = off_second (is_state place_is.Opening (place_of J region)) (is_state place_is.FailedOpen (place_of J region)) (tried_not region)
+  not_failed region = (or_parts (is_state place_is.Opening (place_of J region)) (is_state place_is.FailedOpen (place_of J region)) (tried_not region)).1
 
   pub not_closing : (region : Region) → is_state place_is.Closing (place_of J region) ≡ false
   not_closing region = elim (cases_Bool (is_state place_is.Closing (place_of J region))) [

@@ -1,6 +1,6 @@
 -- Nothing is told of a procedure that isn't made yet.
-use Rattle.std.proofs.Common.{◌≡◌, ℕ, ◌<◌, [], ◌∷◌, Bool, false, ◌&&◌, ◌==◌, Option, Some, None, is_some, refl, ap, ◌∙◌, arith}
-use Rattle.std.proofs.lemmas.Bool.{cond-false, ne_eqb}
+use Rattle.std.proofs.Common.{◌≡◌, ℕ, ◌<◌, [], ◌∷◌, false, ◌&&◌, ◌==◌, Option, Some, None, is_some, refl, ap, ◌∙◌, arith}
+use Rattle.std.proofs.lemmas.Bool.{and_left, cond-false, ne_eqb}
 use Rattle.hm_data.specs.declared.entry.Entry.TheVariants as entry_is
 use Rattle.hm_model.specs.Answers.{failing}
 use Rattle.hm_model.specs.Inputs.{made_at_step}
@@ -20,9 +20,6 @@ pub record IsUntold (J : Past) (p : ℕ) : Type 0 where
   pub failure : cause J p ≡ None
   pub left : stack J p ≡ []
 
-and_off : (a b : Bool) → a ≡ false → (a && b) ≡ false
-and_off a b off = ap (λ x. x && b) off
-
 -- no root of a tree is above what was made
 root_low : (J : Past) → IsLegal J → (q p : ℕ) → made J < p → (root_of J q == p) ≡ false
 root_low J legal q p lt = by (node_of J q) refl
@@ -40,7 +37,7 @@ untold (entry_is.Step pid pick out ∷ J) legal p lt =
     let other : (p == pid.0) ≡ false = ne_eqb p pid.0 (λ same. omega (arith, same, within, low)) in
     let root = root_low J legal.0 pid.0 p low in
     record {
-      tries = cond-false ((p == pid.0) && has_failed out.place) (one_more (tries_of J p)) (tries_of J p) (and_off (p == pid.0) (has_failed out.place) other) ∙ u.tries;
+      tries = cond-false ((p == pid.0) && has_failed out.place) (one_more (tries_of J p)) (tries_of J p) (and_left (p == pid.0) (has_failed out.place) other) ∙ u.tries;
       stepped = cond-false (p == pid.0) (made J) (made_at_step J p) other ∙ u.stepped;
       failure = cond-false (root_of J pid.0 == p) (or_else (cause J p) (failing out.answer)) (cause J p) root ∙ u.failure;
       left = cond-false (root_of J pid.0 == p) (pushed (undo_of_next J pid.0 (node_of J pid.0)) (is_some (failing out.answer)) pid.0 (row_if_there J pid.0 (node_of J pid.0)) out.edits (stack J p)) (stack J p) root ∙ u.left;

@@ -37,10 +37,10 @@ use Rattle.hm_model.proofs.CallSteps.{node_at}
 use Rattle.hm_model.proofs.PlainActs.{is_plain}
 use Rattle.hm_model.proofs.Rows.{row_read}
 use Rattle.hm_model.proofs.ExactRows.{is_listed}
-use Rattle.hm_model.proofs.KeyTests.{same_key-Decides}
+use Rattle.hm_model.proofs.KeyTests.{same_key-Decides, same_table-refl}
 use Rattle.hm_serial.proofs.Local.{Within}
 use Rattle.hm_kinds.proofs.Editless.{no_adds, no_drops, none_act}
-use Rattle.hm_kinds.proofs.Covering.{in_reads, merge_within, same_table-itself, split_within}
+use Rattle.hm_kinds.proofs.Covering.{in_reads, merge_within, split_within}
 pub use Rattle.hm_kinds.proofs.Covering.{covers_from, table_region, add_within, remove_within}
 pub use Rattle.hm_kinds.proofs.Covering.{rows_table}
 use Rattle.hm_model.specs.GoingBack.{Tells}
@@ -92,21 +92,21 @@ module _ (J : Past) (p : ℕ) (pick : Option Server) (above : List ℕ) (top fir
   edit_act act_is.AddNamespace args h e own belongs next = absurd (false≢true h)
   edit_act act_is.DropNamespace (args_are.Root (request_is.DropNamespace ns) f) h e own belongs next = from_own root (args_are.Root (request_is.DropNamespace ns) f) act_is.DropNamespace (step_input J p (node_at above top (args_are.Root (request_is.DropNamespace ns) f) first) pick) _ (own refl) (one_edit (args_are.Root (request_is.DropNamespace ns) f) (args_are.Root (request_is.DropNamespace ns) f) act_is.DropNamespace (step_input J p (node_at above top (args_are.Root (request_is.DropNamespace ns) f) first) pick) (key_is.Ns ns) (row_at (rows_read J (args_are.Root (request_is.DropNamespace ns) f)) (key_is.Ns ns)) (None) (covers_from (args_are.Root (request_is.DropNamespace ns) f) (resource_is.Ns ns) (key_is.Ns ns) (inl refl) (ns_itself ns)) refl refl (λ t. absurd (false≢true t)))
   edit_act act_is.DropNamespace args h e own belongs next = absurd (false≢true h)
-  edit_act act_is.AddTable (args_are.Root (request_is.CreateTable table keys) f) h e own belongs next = from_own root (args_are.Root (request_is.CreateTable table keys) f) act_is.AddTable (step_input J p (node_at above top (args_are.Root (request_is.CreateTable table keys) f) first) pick) _ (own refl) (one_edit (args_are.Root (request_is.CreateTable table keys) f) (args_are.Root (request_is.CreateTable table keys) f) act_is.AddTable (step_input J p (node_at above top (args_are.Root (request_is.CreateTable table keys) f) first) pick) (key_is.Table table) (row_at (rows_read J (args_are.Root (request_is.CreateTable table keys) f)) (key_is.Table table)) (Some (row_is.Table state_is.Disabled 1)) (covers_from (args_are.Root (request_is.CreateTable table keys) f) (resource_is.Table table) (key_is.Table table) (inr (inl refl)) (same_table-itself table)) refl refl (λ t. or_right (Rattle.hm_model.specs.Reads.is_ns table.ns (key_is.Table table)) _ (same_table-itself table)))
+  edit_act act_is.AddTable (args_are.Root (request_is.CreateTable table keys) f) h e own belongs next = from_own root (args_are.Root (request_is.CreateTable table keys) f) act_is.AddTable (step_input J p (node_at above top (args_are.Root (request_is.CreateTable table keys) f) first) pick) _ (own refl) (one_edit (args_are.Root (request_is.CreateTable table keys) f) (args_are.Root (request_is.CreateTable table keys) f) act_is.AddTable (step_input J p (node_at above top (args_are.Root (request_is.CreateTable table keys) f) first) pick) (key_is.Table table) (row_at (rows_read J (args_are.Root (request_is.CreateTable table keys) f)) (key_is.Table table)) (Some (row_is.Table state_is.Disabled 1)) (covers_from (args_are.Root (request_is.CreateTable table keys) f) (resource_is.Table table) (key_is.Table table) (inr (inl refl)) (same_table-refl table)) refl refl (λ t. or_right (Rattle.hm_model.specs.Reads.is_ns table.ns (key_is.Table table)) _ (same_table-refl table)))
   edit_act act_is.AddTable args h e own belongs next = absurd (false≢true h)
-  edit_act act_is.SetEnabling (args_are.Root (request_is.CreateTable table keys) f) h e own belongs next = from_own root (args_are.Root (request_is.CreateTable table keys) f) act_is.SetEnabling (step_input J p (node_at above top (args_are.Root (request_is.CreateTable table keys) f) first) pick) _ (own refl) (one_edit (args_are.Root (request_is.CreateTable table keys) f) (args_are.Root (request_is.CreateTable table keys) f) act_is.SetEnabling (step_input J p (node_at above top (args_are.Root (request_is.CreateTable table keys) f) first) pick) (key_is.Table table) (row_at (rows_read J (args_are.Root (request_is.CreateTable table keys) f)) (key_is.Table table)) (Rattle.std.specs.Option.option_map (Rattle.hm_model.specs.RowsSaid.in_state state_is.Enabling) (row_at (rows_read J (args_are.Root (request_is.CreateTable table keys) f)) (key_is.Table table))) (covers_from (args_are.Root (request_is.CreateTable table keys) f) (resource_is.Table table) (key_is.Table table) (inr (inl refl)) (same_table-itself table)) refl refl (λ t. or_right (Rattle.hm_model.specs.Reads.is_ns table.ns (key_is.Table table)) _ (same_table-itself table)))
-  edit_act act_is.SetEnabling (args_are.Root (request_is.EnableTable table) f) h e own belongs next = from_own root (args_are.Root (request_is.EnableTable table) f) act_is.SetEnabling (step_input J p (node_at above top (args_are.Root (request_is.EnableTable table) f) first) pick) _ (own refl) (one_edit (args_are.Root (request_is.EnableTable table) f) (args_are.Root (request_is.EnableTable table) f) act_is.SetEnabling (step_input J p (node_at above top (args_are.Root (request_is.EnableTable table) f) first) pick) (key_is.Table table) (row_at (rows_read J (args_are.Root (request_is.EnableTable table) f)) (key_is.Table table)) (Rattle.std.specs.Option.option_map (Rattle.hm_model.specs.RowsSaid.in_state state_is.Enabling) (row_at (rows_read J (args_are.Root (request_is.EnableTable table) f)) (key_is.Table table))) (covers_from (args_are.Root (request_is.EnableTable table) f) (resource_is.Table table) (key_is.Table table) (inr (inl refl)) (same_table-itself table)) refl refl (λ t. same_table-itself table))
+  edit_act act_is.SetEnabling (args_are.Root (request_is.CreateTable table keys) f) h e own belongs next = from_own root (args_are.Root (request_is.CreateTable table keys) f) act_is.SetEnabling (step_input J p (node_at above top (args_are.Root (request_is.CreateTable table keys) f) first) pick) _ (own refl) (one_edit (args_are.Root (request_is.CreateTable table keys) f) (args_are.Root (request_is.CreateTable table keys) f) act_is.SetEnabling (step_input J p (node_at above top (args_are.Root (request_is.CreateTable table keys) f) first) pick) (key_is.Table table) (row_at (rows_read J (args_are.Root (request_is.CreateTable table keys) f)) (key_is.Table table)) (Rattle.std.specs.Option.option_map (Rattle.hm_model.specs.RowsSaid.in_state state_is.Enabling) (row_at (rows_read J (args_are.Root (request_is.CreateTable table keys) f)) (key_is.Table table))) (covers_from (args_are.Root (request_is.CreateTable table keys) f) (resource_is.Table table) (key_is.Table table) (inr (inl refl)) (same_table-refl table)) refl refl (λ t. or_right (Rattle.hm_model.specs.Reads.is_ns table.ns (key_is.Table table)) _ (same_table-refl table)))
+  edit_act act_is.SetEnabling (args_are.Root (request_is.EnableTable table) f) h e own belongs next = from_own root (args_are.Root (request_is.EnableTable table) f) act_is.SetEnabling (step_input J p (node_at above top (args_are.Root (request_is.EnableTable table) f) first) pick) _ (own refl) (one_edit (args_are.Root (request_is.EnableTable table) f) (args_are.Root (request_is.EnableTable table) f) act_is.SetEnabling (step_input J p (node_at above top (args_are.Root (request_is.EnableTable table) f) first) pick) (key_is.Table table) (row_at (rows_read J (args_are.Root (request_is.EnableTable table) f)) (key_is.Table table)) (Rattle.std.specs.Option.option_map (Rattle.hm_model.specs.RowsSaid.in_state state_is.Enabling) (row_at (rows_read J (args_are.Root (request_is.EnableTable table) f)) (key_is.Table table))) (covers_from (args_are.Root (request_is.EnableTable table) f) (resource_is.Table table) (key_is.Table table) (inr (inl refl)) (same_table-refl table)) refl refl (λ t. same_table-refl table))
   edit_act act_is.SetEnabling args h e own belongs next = absurd (false≢true h)
-  edit_act act_is.SetEnabled (args_are.Root (request_is.CreateTable table keys) f) h e own belongs next = from_own root (args_are.Root (request_is.CreateTable table keys) f) act_is.SetEnabled (step_input J p (node_at above top (args_are.Root (request_is.CreateTable table keys) f) first) pick) _ (own refl) (one_edit (args_are.Root (request_is.CreateTable table keys) f) (args_are.Root (request_is.CreateTable table keys) f) act_is.SetEnabled (step_input J p (node_at above top (args_are.Root (request_is.CreateTable table keys) f) first) pick) (key_is.Table table) (row_at (rows_read J (args_are.Root (request_is.CreateTable table keys) f)) (key_is.Table table)) (Rattle.std.specs.Option.option_map (Rattle.hm_model.specs.RowsSaid.in_state state_is.Enabled) (row_at (rows_read J (args_are.Root (request_is.CreateTable table keys) f)) (key_is.Table table))) (covers_from (args_are.Root (request_is.CreateTable table keys) f) (resource_is.Table table) (key_is.Table table) (inr (inl refl)) (same_table-itself table)) refl refl (λ t. absurd (false≢true t)))
-  edit_act act_is.SetEnabled (args_are.Root (request_is.EnableTable table) f) h e own belongs next = from_own root (args_are.Root (request_is.EnableTable table) f) act_is.SetEnabled (step_input J p (node_at above top (args_are.Root (request_is.EnableTable table) f) first) pick) _ (own refl) (one_edit (args_are.Root (request_is.EnableTable table) f) (args_are.Root (request_is.EnableTable table) f) act_is.SetEnabled (step_input J p (node_at above top (args_are.Root (request_is.EnableTable table) f) first) pick) (key_is.Table table) (row_at (rows_read J (args_are.Root (request_is.EnableTable table) f)) (key_is.Table table)) (Rattle.std.specs.Option.option_map (Rattle.hm_model.specs.RowsSaid.in_state state_is.Enabled) (row_at (rows_read J (args_are.Root (request_is.EnableTable table) f)) (key_is.Table table))) (covers_from (args_are.Root (request_is.EnableTable table) f) (resource_is.Table table) (key_is.Table table) (inr (inl refl)) (same_table-itself table)) refl refl (λ t. absurd (false≢true t)))
+  edit_act act_is.SetEnabled (args_are.Root (request_is.CreateTable table keys) f) h e own belongs next = from_own root (args_are.Root (request_is.CreateTable table keys) f) act_is.SetEnabled (step_input J p (node_at above top (args_are.Root (request_is.CreateTable table keys) f) first) pick) _ (own refl) (one_edit (args_are.Root (request_is.CreateTable table keys) f) (args_are.Root (request_is.CreateTable table keys) f) act_is.SetEnabled (step_input J p (node_at above top (args_are.Root (request_is.CreateTable table keys) f) first) pick) (key_is.Table table) (row_at (rows_read J (args_are.Root (request_is.CreateTable table keys) f)) (key_is.Table table)) (Rattle.std.specs.Option.option_map (Rattle.hm_model.specs.RowsSaid.in_state state_is.Enabled) (row_at (rows_read J (args_are.Root (request_is.CreateTable table keys) f)) (key_is.Table table))) (covers_from (args_are.Root (request_is.CreateTable table keys) f) (resource_is.Table table) (key_is.Table table) (inr (inl refl)) (same_table-refl table)) refl refl (λ t. absurd (false≢true t)))
+  edit_act act_is.SetEnabled (args_are.Root (request_is.EnableTable table) f) h e own belongs next = from_own root (args_are.Root (request_is.EnableTable table) f) act_is.SetEnabled (step_input J p (node_at above top (args_are.Root (request_is.EnableTable table) f) first) pick) _ (own refl) (one_edit (args_are.Root (request_is.EnableTable table) f) (args_are.Root (request_is.EnableTable table) f) act_is.SetEnabled (step_input J p (node_at above top (args_are.Root (request_is.EnableTable table) f) first) pick) (key_is.Table table) (row_at (rows_read J (args_are.Root (request_is.EnableTable table) f)) (key_is.Table table)) (Rattle.std.specs.Option.option_map (Rattle.hm_model.specs.RowsSaid.in_state state_is.Enabled) (row_at (rows_read J (args_are.Root (request_is.EnableTable table) f)) (key_is.Table table))) (covers_from (args_are.Root (request_is.EnableTable table) f) (resource_is.Table table) (key_is.Table table) (inr (inl refl)) (same_table-refl table)) refl refl (λ t. absurd (false≢true t)))
   edit_act act_is.SetEnabled args h e own belongs next = absurd (false≢true h)
-  edit_act act_is.DropTable (args_are.Root (request_is.DeleteTable table) f) h e own belongs next = from_own root (args_are.Root (request_is.DeleteTable table) f) act_is.DropTable (step_input J p (node_at above top (args_are.Root (request_is.DeleteTable table) f) first) pick) _ (own refl) (one_edit (args_are.Root (request_is.DeleteTable table) f) (args_are.Root (request_is.DeleteTable table) f) act_is.DropTable (step_input J p (node_at above top (args_are.Root (request_is.DeleteTable table) f) first) pick) (key_is.Table table) (row_at (rows_read J (args_are.Root (request_is.DeleteTable table) f)) (key_is.Table table)) (None) (covers_from (args_are.Root (request_is.DeleteTable table) f) (resource_is.Table table) (key_is.Table table) (inr (inl refl)) (same_table-itself table)) refl refl (λ t. absurd (false≢true t)))
+  edit_act act_is.DropTable (args_are.Root (request_is.DeleteTable table) f) h e own belongs next = from_own root (args_are.Root (request_is.DeleteTable table) f) act_is.DropTable (step_input J p (node_at above top (args_are.Root (request_is.DeleteTable table) f) first) pick) _ (own refl) (one_edit (args_are.Root (request_is.DeleteTable table) f) (args_are.Root (request_is.DeleteTable table) f) act_is.DropTable (step_input J p (node_at above top (args_are.Root (request_is.DeleteTable table) f) first) pick) (key_is.Table table) (row_at (rows_read J (args_are.Root (request_is.DeleteTable table) f)) (key_is.Table table)) (None) (covers_from (args_are.Root (request_is.DeleteTable table) f) (resource_is.Table table) (key_is.Table table) (inr (inl refl)) (same_table-refl table)) refl refl (λ t. absurd (false≢true t)))
   edit_act act_is.DropTable args h e own belongs next = absurd (false≢true h)
-  edit_act act_is.SetDisabling (args_are.Root (request_is.DisableTable table) f) h e own belongs next = from_own root (args_are.Root (request_is.DisableTable table) f) act_is.SetDisabling (step_input J p (node_at above top (args_are.Root (request_is.DisableTable table) f) first) pick) _ (own refl) (one_edit (args_are.Root (request_is.DisableTable table) f) (args_are.Root (request_is.DisableTable table) f) act_is.SetDisabling (step_input J p (node_at above top (args_are.Root (request_is.DisableTable table) f) first) pick) (key_is.Table table) (row_at (rows_read J (args_are.Root (request_is.DisableTable table) f)) (key_is.Table table)) (Rattle.std.specs.Option.option_map (Rattle.hm_model.specs.RowsSaid.in_state state_is.Disabling) (row_at (rows_read J (args_are.Root (request_is.DisableTable table) f)) (key_is.Table table))) (covers_from (args_are.Root (request_is.DisableTable table) f) (resource_is.Table table) (key_is.Table table) (inr (inl refl)) (same_table-itself table)) refl refl (λ t. same_table-itself table))
+  edit_act act_is.SetDisabling (args_are.Root (request_is.DisableTable table) f) h e own belongs next = from_own root (args_are.Root (request_is.DisableTable table) f) act_is.SetDisabling (step_input J p (node_at above top (args_are.Root (request_is.DisableTable table) f) first) pick) _ (own refl) (one_edit (args_are.Root (request_is.DisableTable table) f) (args_are.Root (request_is.DisableTable table) f) act_is.SetDisabling (step_input J p (node_at above top (args_are.Root (request_is.DisableTable table) f) first) pick) (key_is.Table table) (row_at (rows_read J (args_are.Root (request_is.DisableTable table) f)) (key_is.Table table)) (Rattle.std.specs.Option.option_map (Rattle.hm_model.specs.RowsSaid.in_state state_is.Disabling) (row_at (rows_read J (args_are.Root (request_is.DisableTable table) f)) (key_is.Table table))) (covers_from (args_are.Root (request_is.DisableTable table) f) (resource_is.Table table) (key_is.Table table) (inr (inl refl)) (same_table-refl table)) refl refl (λ t. same_table-refl table))
   edit_act act_is.SetDisabling args h e own belongs next = absurd (false≢true h)
-  edit_act act_is.SetDisabled (args_are.Root (request_is.DisableTable table) f) h e own belongs next = from_own root (args_are.Root (request_is.DisableTable table) f) act_is.SetDisabled (step_input J p (node_at above top (args_are.Root (request_is.DisableTable table) f) first) pick) _ (own refl) (one_edit (args_are.Root (request_is.DisableTable table) f) (args_are.Root (request_is.DisableTable table) f) act_is.SetDisabled (step_input J p (node_at above top (args_are.Root (request_is.DisableTable table) f) first) pick) (key_is.Table table) (row_at (rows_read J (args_are.Root (request_is.DisableTable table) f)) (key_is.Table table)) (Rattle.std.specs.Option.option_map (Rattle.hm_model.specs.RowsSaid.in_state state_is.Disabled) (row_at (rows_read J (args_are.Root (request_is.DisableTable table) f)) (key_is.Table table))) (covers_from (args_are.Root (request_is.DisableTable table) f) (resource_is.Table table) (key_is.Table table) (inr (inl refl)) (same_table-itself table)) refl refl (λ t. absurd (false≢true t)))
+  edit_act act_is.SetDisabled (args_are.Root (request_is.DisableTable table) f) h e own belongs next = from_own root (args_are.Root (request_is.DisableTable table) f) act_is.SetDisabled (step_input J p (node_at above top (args_are.Root (request_is.DisableTable table) f) first) pick) _ (own refl) (one_edit (args_are.Root (request_is.DisableTable table) f) (args_are.Root (request_is.DisableTable table) f) act_is.SetDisabled (step_input J p (node_at above top (args_are.Root (request_is.DisableTable table) f) first) pick) (key_is.Table table) (row_at (rows_read J (args_are.Root (request_is.DisableTable table) f)) (key_is.Table table)) (Rattle.std.specs.Option.option_map (Rattle.hm_model.specs.RowsSaid.in_state state_is.Disabled) (row_at (rows_read J (args_are.Root (request_is.DisableTable table) f)) (key_is.Table table))) (covers_from (args_are.Root (request_is.DisableTable table) f) (resource_is.Table table) (key_is.Table table) (inr (inl refl)) (same_table-refl table)) refl refl (λ t. absurd (false≢true t)))
   edit_act act_is.SetDisabled args h e own belongs next = absurd (false≢true h)
-  edit_act act_is.SetVersion (args_are.Root (request_is.ModifyTable table version) f) h e own belongs next = from_own root (args_are.Root (request_is.ModifyTable table version) f) act_is.SetVersion (step_input J p (node_at above top (args_are.Root (request_is.ModifyTable table version) f) first) pick) _ (own refl) (one_edit (args_are.Root (request_is.ModifyTable table version) f) (args_are.Root (request_is.ModifyTable table version) f) act_is.SetVersion (step_input J p (node_at above top (args_are.Root (request_is.ModifyTable table version) f) first) pick) (key_is.Table table) (row_at (rows_read J (args_are.Root (request_is.ModifyTable table version) f)) (key_is.Table table)) (Rattle.std.specs.Option.option_map (Rattle.hm_model.specs.RowsSaid.in_version version) (row_at (rows_read J (args_are.Root (request_is.ModifyTable table version) f)) (key_is.Table table))) (covers_from (args_are.Root (request_is.ModifyTable table version) f) (resource_is.Table table) (key_is.Table table) (inr (inl refl)) (same_table-itself table)) refl refl (λ t. absurd (false≢true t)))
+  edit_act act_is.SetVersion (args_are.Root (request_is.ModifyTable table version) f) h e own belongs next = from_own root (args_are.Root (request_is.ModifyTable table version) f) act_is.SetVersion (step_input J p (node_at above top (args_are.Root (request_is.ModifyTable table version) f) first) pick) _ (own refl) (one_edit (args_are.Root (request_is.ModifyTable table version) f) (args_are.Root (request_is.ModifyTable table version) f) act_is.SetVersion (step_input J p (node_at above top (args_are.Root (request_is.ModifyTable table version) f) first) pick) (key_is.Table table) (row_at (rows_read J (args_are.Root (request_is.ModifyTable table version) f)) (key_is.Table table)) (Rattle.std.specs.Option.option_map (Rattle.hm_model.specs.RowsSaid.in_version version) (row_at (rows_read J (args_are.Root (request_is.ModifyTable table version) f)) (key_is.Table table))) (covers_from (args_are.Root (request_is.ModifyTable table version) f) (resource_is.Table table) (key_is.Table table) (inr (inl refl)) (same_table-refl table)) refl refl (λ t. absurd (false≢true t)))
   edit_act act_is.SetVersion args h e own belongs next = absurd (false≢true h)
   edit_act act_is.UpdateSplitMeta (args_are.Root (request_is.SplitRegion region key) f) h e own belongs next = from_own root (args_are.Root (request_is.SplitRegion region key) f) act_is.UpdateSplitMeta (step_input J p (node_at above top (args_are.Root (request_is.SplitRegion region key) f) first) pick) _ (own refl) (record { within = split_within (row_at (rows_read J (args_are.Root (request_is.SplitRegion region key) f))) region key f; tells = λ t. absurd (false≢true t); some = inr refl })
   edit_act act_is.UpdateSplitMeta args h e own belongs next = absurd (false≢true h)

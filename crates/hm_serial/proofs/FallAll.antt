@@ -28,8 +28,8 @@ use Rattle.hm_model.specs.Locks.{in_name_order}
 use Rattle.hm_model.specs.Pieces.{Batch, batches}
 use Rattle.hm_model.specs.Undoing.{closed_by, undo_edits, undo_followers}
 use Rattle.hm_model.specs.Tree.{Node, args_in, is_top, made, node_of, root_node, root_of, submitted}
-use Rattle.hm_model.specs.Undo.{Undoable, is_empty, rest_of, stack}
-use Rattle.hm_model.proofs.Trees.{Grown, IsRooted, does_of, down_rooted, grown_all, le_or_lt, new_child, node_same, old_or_new, sheets_stay, step_of, still, submit_rooted, undo_rooted}
+use Rattle.hm_model.specs.Undo.{is_empty, rest_of, stack}
+use Rattle.hm_model.proofs.Trees.{Grown, IsRooted, does_of, down_rooted, grown_all, le_or_lt, new_child, node_same, old_or_new, sheets_stay, start_none, step_of, still, submit_rooted, undo_rooted}
 use Rattle.hm_model.proofs.UndoMakes.{IsUndoOf, undo_of}
 use Rattle.hm_kinds.proofs.LockForms.{IsRight}
 use Rattle.hm_serial.proofs.Apart.{Apart, Aside, Asked, apart_back, apart_step, aside_from, begins_apart, step_apart}
@@ -41,6 +41,7 @@ use Rattle.hm_serial.proofs.Frame.{AllWithin, cover_guards, unwound}
 use Rattle.hm_kinds.proofs.Kids.{AllMade, made_at}
 use Rattle.hm_serial.proofs.Local.{Within, within_others}
 use Rattle.hm_model.proofs.Tops.{TopHolds, TopIs}
+use Rattle.hm_model.proofs.Small.{cons_nil, top_is as none_above}
 use Rattle.hm_serial.proofs.Standing.{holds_left, rooted_left}
 
 -- an entry that makes roots
@@ -90,11 +91,7 @@ module _ (pid : Pid) (row : ℕ) (out : StepOut) (J : Past) (legal : IsLegal (en
   top_is =
       let latest = legal.1.1.0 in
       let parts = and_parts (is_top latest.0.above) (is_some (cause J R) && (all_stopped J R && not (is_empty (stack J R)))) latest.2 in
-      (latest.1, top_nil latest.0.above parts.0)
-    where
-      top_nil : (above : List ℕ) → is_top above ≡ true → above ≡ []
-      top_nil [] h = refl
-      top_nil (a ∷ rest) h = absurd (false≢true h)
+      (latest.1, none_above latest.0.above parts.0)
 
   is_sick : is_some (cause J (root_of J pid.0)) ≡ true
   is_sick =
@@ -163,12 +160,9 @@ module _ (pid : Pid) (row : ℕ) (out : StepOut) (J : Past) (legal : IsLegal (en
 
   empties : (p : ℕ) → stack J p ≡ [] → stack J' p ≡ []
   empties p none = elim (cases_eq p R) [
-    | inl same ↦ absurd (some_nil u.latest u.below (sym u.stack_is ∙ ap (stack J) (sym same) ∙ none))
+    | inl same ↦ absurd (cons_nil u.latest u.below (sym u.stack_is ∙ ap (stack J) (sym same) ∙ none))
     | inr differs ↦ stack_off p differs ∙ none
   ]
-    where
-      some_nil : (x : Undoable) (more : List Undoable) → x ∷ more ≡ [] → ⊥
-      some_nil x more e = cc
 
   module _ (aside : Aside J (root_of J pid.0) top) where
     other_now : (r : ℕ) (node : Node) → TopHolds J' r node → r ≢ R → Unwinds J' r node × AllWithin node.args (stack J' r)
@@ -222,18 +216,15 @@ down_rows server J grown p x lt is = elim (cases_eq p (made J + 1)) [
   | inr differs ↦ absurd (none-some x (sym (cond-false (p == made J + 1) (Some (root_node p (args_are.Crash server) 1)) (node_of J p) (ne_eqb p (made J + 1) differs) ∙ grown.numbered p lt) ∙ is))
 ]
 
-pub none_at : (J : Past) → J ≡ [] → (p : ℕ) → node_of J p ≡ None
-none_at J e p = ap (λ j. node_of j p) e
-
-kid_sound : (args : Args) → is_kid args ≡ true → IsRight args
+pub kid_sound : (args : Args) → is_kid args ≡ true → IsRight args
 kid_sound (args_are.Root request first) k = absurd (false≢true k)
 kid_sound args k = tt
 
-transits_sound : (goal : Goal) (list : List Batch) → AllMade IsRight (map (λ batch. child_is.Transits batch.table batch.ids goal) list)
+pub transits_sound : (goal : Goal) (list : List Batch) → AllMade IsRight (map (λ batch. child_is.Transits batch.table batch.ids goal) list)
 transits_sound goal [] = tt
 transits_sound goal (batch ∷ more) = ((λ id. tt), transits_sound goal more)
 
-followers_sound : (undo : Back) (args : Args) (root : Pid) → AllMade IsRight (undo_followers undo args root)
+pub followers_sound : (undo : Back) (args : Args) (root : Pid) → AllMade IsRight (undo_followers undo args root)
 followers_sound back_is.Sweep args root = (tt, tt)
 followers_sound back_is.Reopen args root = transits_sound goal_is.Assign (batches (in_name_order (closed_by args)))
 followers_sound undo args root = tt
@@ -294,7 +285,7 @@ falls_all [] legal = record { falls = falls_nothing; apart = λ s t x y h k diff
 falls_all (entry_is.Start sheets ∷ J) legal =
     let a = falls_all J legal.0 in
     let f = a.falls in
-    let none = none_at J legal.1.0.0 in
+    let none = start_none J legal.1.0.0 in
     record {
       falls = record {
         fresh = f.fresh;

@@ -1,6 +1,6 @@
 -- A step keeps that what may still be undone leads back.
 use Rattle.std.proofs.Common.{◌≡◌, ◌≢◌, ℕ, ◌-◌, ◌<◌, ◌≤◌, List, [], ◌∷◌, Bool, true, false, ◌&&◌, ◌==◌, Option, Some, None, is_some, is_none, refl, ap, sym, ◌∙◌, subst, inl, inr, ◌⊎◌, slice_get, arith}
-use Rattle.std.proofs.lemmas.Bool.{and_from, and_parts, and_right, cases_Bool, cases_eq, cond-false, cond-true, eq-eqb, eqb-true, false≢true, ne_eqb, true≢false}
+use Rattle.std.proofs.lemmas.Bool.{and_from, and_right, cases_Bool, cases_eq, cond-false, cond-true, eq-eqb, false≢true, ne_eqb, true≢false}
 use Rattle.std.proofs.lemmas.Option.{none-some, same_Some}
 use Rattle.hm_names.specs.Region.{Region}
 use Rattle.hm_names.specs.Server.{Server}
@@ -33,7 +33,7 @@ use Rattle.hm_model.specs.declared.lock.Resource.{Resource}
 use Rattle.hm_model.specs.declared.lock.Resource.TheVariants as resource_is
 use Rattle.hm_model.proofs.LegalSteps.{StepFacts, ready_stops}
 use Rattle.hm_model.proofs.StepDoes.{Does}
-use Rattle.hm_model.proofs.Trees.{Grown, IsWaiting, answer_now, le_or_lt, new_child, node_same, other_answer, pid_there, still_there}
+use Rattle.hm_model.proofs.Trees.{Grown, answer_now, le_or_lt, new_child, node_same, other_answer, pid_there, ran_before, root_low, still_there, waiting_some}
 use Rattle.hm_serial.proofs.Editing.{rows_table}
 use Rattle.hm_serial.proofs.Falling.{IsEarly, IsPast, StepEdits}
 use Rattle.hm_serial.proofs.Backs.{AllTell, push_tells}
@@ -43,7 +43,9 @@ use Rattle.hm_serial.proofs.Kinship.{NewKid, editless, is_bare, is_kid, is_lined
 use Rattle.hm_serial.proofs.Local.{Within, within_others}
 use Rattle.hm_model.specs.GoingBack.{Tells}
 use Rattle.hm_model.proofs.Tops.{TopHolds, TopIs}
-use Rattle.hm_serial.proofs.Standing.{Left, holds_left, live_child, quiet_tree, step_left, step_open, top_not_me}
+use Rattle.hm_model.proofs.Small.{some_not}
+use Rattle.hm_model.proofs.Answered.{or_some}
+use Rattle.hm_serial.proofs.Standing.{Left, holds_left, live_child, quiet_tree, step_left, step_open}
 use Rattle.hm_serial.proofs.Fallen.{Falls, MayFall, Unwinds, may_on, root_of_node, some_cons}
 
 -- what asks for a table is no descendant
@@ -155,20 +157,12 @@ module _ (pid : Pid) (pick : Option Server) (out : StepOut) (J : Past) (grown : 
   was_on : (step.node.root ≢ pid.0) ⊎ (last_answer J pid.0 ≢ None) → was J' step.node.root ≡ was J step.node.root
   was_on h = cond-false ((step.node.root == pid.0) && is_none (last_answer J pid.0)) (cat J) (was J step.node.root) (by h)
     where
-      some_not : (o : Option Answer) → o ≢ None → is_none o ≡ false
-      some_not None some = absurd (some refl)
-      some_not (Some a) some = refl
-
       by : (step.node.root ≢ pid.0) ⊎ (last_answer J pid.0 ≢ None) → ((step.node.root == pid.0) && is_none (last_answer J pid.0)) ≡ false
       by (inl differs) = Rattle.std.proofs.lemmas.Bool.and_left (step.node.root == pid.0) (is_none (last_answer J pid.0)) (ne_eqb step.node.root pid.0 differs)
       by (inr some) = and_right (step.node.root == pid.0) (is_none (last_answer J pid.0)) (some_not (last_answer J pid.0) some)
 
   ready_held : (step.node.root ≢ pid.0) ⊎ (last_answer J pid.0 ≢ None) → last_answer J step.node.root ≢ None → Ready (was J step.node.root)
   ready_held h some = let t = falls.tree step.node.root own_root.0 (own_root.1, some, step_open pid pick out J grown step d) in record { was_is = was_on h; unwinds = t.0; within = t.1 }
-
-  waiting_some : (o : Option Answer) → IsWaiting o → o ≢ None
-  waiting_some None w e = w
-  waiting_some (Some a) w e = none-some a (sym e)
 
   pub kid_not_root : step.node.above ≢ [] → step.node.root ≢ pid.0
   kid_not_root some same = by step.node.above refl
@@ -177,7 +171,7 @@ module _ (pid : Pid) (pick : Option Server) (out : StepOut) (J : Past) (grown : 
       by [] e = some e
       by (u ∷ rest) e =
           let up = grown.ups pid.0 step.node step.node_is u rest e in
-          let low = Rattle.hm_serial.proofs.Standing.root_low J grown rest u up.0 up.1 up.2 in
+          let low = root_low J grown rest u up.0 up.1 up.2 in
           let lt = grown.later pid.0 step.node step.node_is u rest e in
           let r = up.3 in
           omega (arith, low, lt, r, same)
@@ -349,15 +343,9 @@ module _ (pid : Pid) (pick : Option Server) (out : StepOut) (J : Past) (grown : 
   own_is : (y : Node) → node_of J' step.node.root ≡ Some y → y ≡ own_root.0
   own_is y at = sym (same_Some own_root.0 y (sym (still_there pid pick out J grown step d step.node.root own_root.0 own_root.1.0) ∙ at))
 
-  ran : (q : ℕ) → is_stopped (last_answer J' q) ≡ false → is_stopped (last_answer J q) ≡ false
-  ran q now = elim (cases_eq q pid.0) [
-    | inl same ↦ ap (λ p. is_stopped (last_answer J p)) same ∙ runs_now
-    | inr differs ↦ ap is_stopped (sym (other_answer pid pick out J q differs)) ∙ now
-  ]
-
   -- a descendant of the tree that hasn't stopped, where the root steps, is a new one
   root_quiet : step.node.above ≡ [] → (q : ℕ) (x : Node) → node_of J q ≡ Some x → x.root ≡ step.node.root → x.above ≢ [] → is_stopped (last_answer J' q) ≡ false → ⊥
-  root_quiet e q x is root some now = true≢false (sym (quiet_tree J grown pid.0 step.node step.ready q x is (root ∙ (root_step e).0) some) ∙ ran q now)
+  root_quiet e q x is root some now = true≢false (sym (quiet_tree J grown pid.0 step.node step.ready q x is (root ∙ (root_step e).0) some) ∙ ran_before pid pick out J runs_now q now)
 
   -- another tree is as it was
   left_of : (s : ℕ) (y : Node) → TopIs J s y → s ≢ step.node.root → Left J J' s
@@ -366,10 +354,6 @@ module _ (pid : Pid) (pick : Option Server) (out : StepOut) (J : Past) (grown : 
   kid_on : step.node.above ≢ [] → MayFall J step.node.root own_root.0 → MayFall J' step.node.root own_root.0
   kid_on kid (inl listless) = inl listless
   kid_on kid (inr (inl failed)) = inr (inl (λ none. or_some (cause J step.node.root) (failing out.answer) failed (sym cause_is ∙ none)))
-    where
-      or_some : (c e : Option Cause) → c ≢ None → or_else c e ≢ None
-      or_some None e some = absurd (some refl)
-      or_some (Some c) e some = some
   kid_on kid (inr (inr may)) = inr (inr (ap is_stopped (other_last kid) ∙ may.0, may.1, subst (λ o. row_in (sheet_for (sheets_by J own_root.0.root) (kind_of own_root.0.args)) (row_after (first_row_of own_root.0.args) o) ≡ Some may.1) (sym (other_last kid)) may.2, may.3))
 
   kid_made : step.node.above ≢ [] → (i : ℕ) (a : Args) → slice_get (args_in out.children) i ≡ Some a → (may_fail a ≡ false) × (is_bare a ≡ false)
@@ -396,12 +380,12 @@ module _ (pid : Pid) (pick : Option Server) (out : StepOut) (J : Past) (grown : 
           let y_old = same_root q x y old at in
           let r = root_of_node J grown q x old in
           let left = left_of x.root r.0 r.1 differs in
-          may_on J J' x.root y left.cause_is left.last refl (falls.safe q x old some (ran q now) may y y_old)
+          may_on J J' x.root y left.cause_is left.last refl (falls.safe q x old some (ran_before pid pick out J runs_now q now) may y y_old)
       by_old old (inl root) = elim kid_or_root [
         | inl e ↦ absurd (root_quiet e q x old root some now)
         | inr kid ↦
             let y_is = own_is y (ap (node_of (entry_is.Step pid pick out ∷ J)) (sym root) ∙ at) in
-            subst (λ k. MayFall J' k y) (sym root) (subst (MayFall J' step.node.root) (sym y_is) (kid_on kid (subst (λ k. MayFall J k own_root.0) root (falls.safe q x old some (ran q now) may own_root.0 (ap (node_of J) root ∙ own_root.1.0)))))
+            subst (λ k. MayFall J' k y) (sym root) (subst (MayFall J' step.node.root) (sym y_is) (kid_on kid (subst (λ k. MayFall J k own_root.0) root (falls.safe q x old some (ran_before pid pick out J runs_now q now) may own_root.0 (ap (node_of J) root ∙ own_root.1.0)))))
       ]
 
   bare_now : (q : ℕ) (x : Node) → node_of J' q ≡ Some x → x.above ≢ [] → is_stopped (last_answer J' q) ≡ false → is_bare x.args ≡ true → (y : Node) → node_of J' x.root ≡ Some y → MayFall J' x.root y → ⊥
@@ -427,13 +411,13 @@ module _ (pid : Pid) (pick : Option Server) (out : StepOut) (J : Past) (grown : 
           let y_old = same_root q x y old at in
           let r = root_of_node J grown q x old in
           let left = left_of x.root r.0 r.1 differs in
-          falls.bare q x old some (ran q now) bare y y_old (may_on J' J x.root y (sym left.cause_is) (sym left.last) refl may)
+          falls.bare q x old some (ran_before pid pick out J runs_now q now) bare y y_old (may_on J' J x.root y (sym left.cause_is) (sym left.last) refl may)
       by_old old (inl root) = elim kid_or_root [
         | inl e ↦ root_quiet e q x old root some now
         | inr kid ↦
             let y_is = own_is y (ap (node_of (entry_is.Step pid pick out ∷ J)) (sym root) ∙ at) in
             let here : MayFall J' step.node.root own_root.0 = subst (MayFall J' step.node.root) y_is (subst (λ k. MayFall J' k y) root may) in
-            falls.bare q x old some (ran q now) bare own_root.0 (ap (node_of J) root ∙ own_root.1.0) (subst (λ k. MayFall J k own_root.0) (sym root) (kid_back kid here))
+            falls.bare q x old some (ran_before pid pick out J runs_now q now) bare own_root.0 (ap (node_of J) root ∙ own_root.1.0) (subst (λ k. MayFall J k own_root.0) (sym root) (kid_back kid here))
       ]
 
   near_now : (q : ℕ) (x : Node) → node_of J' q ≡ Some x → x.above ≢ [] → (r : Region) → moved_by x.args ≡ Some r → row_of J' q x ≢ 5

@@ -34,18 +34,15 @@ use Rattle.hm_model.specs.Validity.{IsValid, ends_root, first_broken, is_among, 
 use Rattle.hm_model.specs.declared.lock.Resource.TheVariants as resource_is
 use Rattle.hm_model.proofs.ExactRows.{IsLedRow, is_late_next, is_listed}
 use Rattle.hm_model.proofs.LegalSteps.{StepFacts}
-use Rattle.hm_model.proofs.PlainActs.{GoesTo, IsPlainOut, fine_act, is_plain, plain_act, plain_fails}
-use Rattle.hm_model.proofs.ValidSheets.{Leads, is_last, valid_end}
+use Rattle.hm_model.proofs.PlainActs.{GoesTo, fine_act, plain_act}
+use Rattle.hm_model.proofs.ValidSheets.{Leads, first_holds, is_last, valid_end}
 use Rattle.hm_kinds.proofs.Editless.{no_adds}
 use Rattle.hm_serial.proofs.Editing.{IsEdit, edit_step, is_telling, rows_table}
 use Rattle.hm_model.proofs.Rows.{row_read}
+use Rattle.hm_model.proofs.Small.{implied}
 use Rattle.hm_kinds.proofs.Kids.{MadeBy, kids_act}
 use Rattle.hm_serial.proofs.Local.{Within}
 use Rattle.hm_model.specs.GoingBack.{Tells}
-
-first_of : (n : ℕ) (b : Bool) (more : List (ℕ × Bool)) → first_broken ((n, b) ∷ more) ≡ None → (b ≡ true) × (first_broken more ≡ None)
-first_of n true more h = (refl, h)
-first_of n false more h = absurd (none-some n (sym h))
 
 -- the sixth of rules holds, if there are so many
 abbrev SixthHolds : List (ℕ × Bool) → Type 0
@@ -54,12 +51,12 @@ SixthHolds rules = Unit {0}
 
 six_hold : (rules : List (ℕ × Bool)) → first_broken rules ≡ None → SixthHolds rules
 six_hold ((m1, a) ∷ (m2, b) ∷ (m3, c) ∷ (m4, d) ∷ (m5, e) ∷ (m6, f) ∷ more) h =
-    let one = first_of m1 a ((m2, b) ∷ (m3, c) ∷ (m4, d) ∷ (m5, e) ∷ (m6, f) ∷ more) h in
-    let two = first_of m2 b ((m3, c) ∷ (m4, d) ∷ (m5, e) ∷ (m6, f) ∷ more) one.1 in
-    let three = first_of m3 c ((m4, d) ∷ (m5, e) ∷ (m6, f) ∷ more) two.1 in
-    let four = first_of m4 d ((m5, e) ∷ (m6, f) ∷ more) three.1 in
-    let five = first_of m5 e ((m6, f) ∷ more) four.1 in
-    (first_of m6 f more five.1).0
+    let one = first_holds m1 a ((m2, b) ∷ (m3, c) ∷ (m4, d) ∷ (m5, e) ∷ (m6, f) ∷ more) h in
+    let two = first_holds m2 b ((m3, c) ∷ (m4, d) ∷ (m5, e) ∷ (m6, f) ∷ more) one.1 in
+    let three = first_holds m3 c ((m4, d) ∷ (m5, e) ∷ (m6, f) ∷ more) two.1 in
+    let four = first_holds m4 d ((m5, e) ∷ (m6, f) ∷ more) three.1 in
+    let five = first_holds m5 e ((m6, f) ∷ more) four.1 in
+    (first_holds m6 f more five.1).0
 six_hold rules h = tt
 
 front_holds : (rules : List (ℕ × Bool)) (k : ℕ) (b : Bool) → first_broken (rules ++ (k, b) ∷ []) ≡ None → first_broken rules ≡ None
@@ -95,7 +92,7 @@ IsPast rows first answer = is_stop answer ≡ false → (row : Row) → slice_ge
 abbrev pub IsEarly : List Row → ℕ → Answer → Type 0
 IsEarly rows first answer = (is_stop answer ≡ false) × (row : Row) × (slice_get rows (row_after first (Some answer)) ≡ Some row) × (row.after ≡ false)
 
-late_behind : (sheet : Sheet) → IsValid sheet → (lines : List Line) (place : ℕ) → is_late_next lines ≡ true → Leads sheet.rows place lines → (row : Row) → slice_get sheet.rows place ≡ Some row → row.after ≡ true
+pub late_behind : (sheet : Sheet) → IsValid sheet → (lines : List Line) (place : ℕ) → is_late_next lines ≡ true → Leads sheet.rows place lines → (row : Row) → slice_get sheet.rows place ≡ Some row → row.after ≡ true
 late_behind sheet valid [] place late leads row is = absurd (valid_end sheet valid row (ap (slice_get sheet.rows) (sym leads) ∙ is))
 late_behind sheet valid (line ∷ lines) place late leads row is = ap (λ (r : Row). r.after) (sym (same_Some leads.0 row (sym leads.1 ∙ is))) ∙ leads.2.1 ∙ late
 
@@ -103,7 +100,7 @@ early_behind : (sheet : Sheet) (lines : List Line) (place : ℕ) → is_late_nex
 early_behind sheet [] place late leads = absurd (true≢false late)
 early_behind sheet (line ∷ lines) place late leads = (leads.0, leads.1, leads.2.1 ∙ late)
 
-goes_past : (rows : List Row) (first next : ℕ) (answer : Answer) → GoesTo next answer → ((row : Row) → slice_get rows next ≡ Some row → row.after ≡ true) → IsPast rows first answer
+pub goes_past : (rows : List Row) (first next : ℕ) (answer : Answer) → GoesTo next answer → ((row : Row) → slice_get rows next ≡ Some row → row.after ≡ true) → IsPast rows first answer
 goes_past rows first next (answer_is.Await n) goes late runs row is = absurd goes
 goes_past rows first next (answer_is.Done told) goes late runs row is = absurd (true≢false runs)
 goes_past rows first next (answer_is.Fail c) goes late runs row is = absurd (true≢false runs)
@@ -120,10 +117,6 @@ pub record Places (row : Row) (line : Line) (behind : List Line) : Type 0 where
   pub adds_early : (act_number row.act == 29) ≡ true → row.after ≡ false
   pub removes_late : (act_number row.act == 30) ≡ true → row.after ≡ true
 
-implies : (a b : Bool) → (not a || b) ≡ true → a ≡ true → b ≡ true
-implies true b h e = h
-implies false b h e = absurd (false≢true e)
-
 pub places_of : (kind : ℕ) (rows : List Row) (row : Row) (led : IsLedRow kind rows row) → Places row led.line led.behind
 places_of kind rows row led =
     let act = act_number led.line.act in
@@ -136,13 +129,13 @@ places_of kind rows row led =
     let five = and_parts (not (is_among (6 ∷ 9 ∷ 16 ∷ []) act) || (not led.line.after && not (is_last behind))) ((not (act == 29) || not led.line.after) && (not (act == 30) || led.line.after)) four.1 in
     let six = and_parts (not (act == 29) || not led.line.after) (not (act == 30) || led.line.after) five.1 in
     record {
-      ends_late = λ h. implies _ (is_late_next behind) one.0 (ap (is_among (2 ∷ 4 ∷ 11 ∷ 14 ∷ 18 ∷ 19 ∷ 22 ∷ 27 ∷ 30 ∷ [])) (sym same) ∙ h);
-      late = λ h. let p = and_parts (is_late_next behind) (not (is_check led.line.act)) (implies led.line.after _ two.0 (sym led.after_is ∙ h)) in (p.0, ap is_check led.act_is ∙ not-true (is_check led.line.act) p.1);
-      makes_early = λ h. not-true (is_late_next behind) (implies _ (not (is_late_next behind)) three.0 (ap (is_among (7 ∷ 8 ∷ [])) (sym same) ∙ h));
-      drops_late = λ h. (and_parts (is_late_next behind) (not (is_last behind)) (implies (act == 13) _ four.0 (ap (λ n. n == 13) (sym same) ∙ h))).0;
-      tells_early = λ h. let p = and_parts (not led.line.after) (not (is_last behind)) (implies _ _ five.0 (ap (is_among (6 ∷ 9 ∷ 16 ∷ [])) (sym same) ∙ h)) in (led.after_is ∙ not-true led.line.after p.0, not-true (is_last behind) p.1);
-      adds_early = λ h. led.after_is ∙ not-true led.line.after (implies (act == 29) (not led.line.after) six.0 (ap (λ n. n == 29) (sym same) ∙ h));
-      removes_late = λ h. led.after_is ∙ implies (act == 30) led.line.after six.1 (ap (λ n. n == 30) (sym same) ∙ h);
+      ends_late = λ h. implied _ (is_late_next behind) (ap (is_among (2 ∷ 4 ∷ 11 ∷ 14 ∷ 18 ∷ 19 ∷ 22 ∷ 27 ∷ 30 ∷ [])) (sym same) ∙ h) one.0;
+      late = λ h. let p = and_parts (is_late_next behind) (not (is_check led.line.act)) (implied led.line.after _ (sym led.after_is ∙ h) two.0) in (p.0, ap is_check led.act_is ∙ not-true (is_check led.line.act) p.1);
+      makes_early = λ h. not-true (is_late_next behind) (implied _ (not (is_late_next behind)) (ap (is_among (7 ∷ 8 ∷ [])) (sym same) ∙ h) three.0);
+      drops_late = λ h. (and_parts (is_late_next behind) (not (is_last behind)) (implied (act == 13) _ (ap (λ n. n == 13) (sym same) ∙ h) four.0)).0;
+      tells_early = λ h. let p = and_parts (not led.line.after) (not (is_last behind)) (implied _ _ (ap (is_among (6 ∷ 9 ∷ 16 ∷ [])) (sym same) ∙ h) five.0) in (led.after_is ∙ not-true led.line.after p.0, not-true (is_last behind) p.1);
+      adds_early = λ h. led.after_is ∙ not-true led.line.after (implied (act == 29) (not led.line.after) (ap (λ n. n == 29) (sym same) ∙ h) six.0);
+      removes_late = λ h. led.after_is ∙ implied (act == 30) led.line.after (ap (λ n. n == 30) (sym same) ∙ h) six.1;
     }
 
 -- which kind of edit an act makes

@@ -1,7 +1,7 @@
 -- Who may be a descendant, and what a step's new children may do. Kinds are named here, and a journal: whom a procedure
 -- makes is decided kind by kind, and what these may do by how far its rows have led in the journal.
-use Rattle.std.proofs.Common.{◌≡◌, ◌≢◌, ℕ, zero, suc, List, [], ◌∷◌, Bool, true, false, not, ◌==◌, cond, Option, Some, None, refl, ap, sym, ◌∙◌, subst, inl, inr, ◌⊎◌, slice_get, arith}
-use Rattle.std.proofs.lemmas.Bool.{and_from, and_left, and_parts, and_right, cases_Bool, cond-false, cond-true, eq-eqb, eqb-true, false≢true, not-true, not_from_true, or_cases, true≢false}
+use Rattle.std.proofs.Common.{◌≡◌, ◌≢◌, ℕ, zero, suc, List, [], ◌∷◌, Bool, true, false, not, ◌==◌, Option, Some, None, refl, ap, sym, ◌∙◌, subst, inl, inr, ◌⊎◌, slice_get, arith}
+use Rattle.std.proofs.lemmas.Bool.{false≢true, not-true}
 use Rattle.std.proofs.lemmas.Option.{none-some, same_Some}
 use Rattle.hm_names.specs.Region.{Region}
 use Rattle.hm_names.specs.Server.{Server}
@@ -12,34 +12,29 @@ use Rattle.hm_data.specs.declared.act.Act.TheVariants as act_is
 use Rattle.hm_data.specs.declared.answer.Answer.{Answer}
 use Rattle.hm_data.specs.declared.answer.Answer.TheVariants as answer_is
 use Rattle.hm_data.specs.declared.answer.Cause.{Cause}
-use Rattle.hm_data.specs.declared.answer.Cause.TheVariants as cause_is
 use Rattle.hm_data.specs.declared.args.Args.{Args}
 use Rattle.hm_data.specs.declared.args.Args.TheVariants as args_are
-use Rattle.hm_data.specs.declared.place.Goal.{Goal}
 use Rattle.hm_data.specs.declared.place.Goal.TheVariants as goal_is
 use Rattle.hm_data.specs.declared.sheet.Row.{Row}
 use Rattle.hm_data.specs.declared.sheet.Sheet.{Sheet}
-use Rattle.hm_data.specs.declared.step.StepIn.{StepIn}
 use Rattle.hm_data.specs.declared.step.StepOut.{StepOut}
 use Rattle.hm_model.specs.Acts.{act_answer}
-use Rattle.hm_model.specs.Answers.{failing, last_answer, no_row, row_after, row_of}
-use Rattle.hm_model.specs.Evaluation.{is_cut_off, row_answer}
+use Rattle.hm_model.specs.Answers.{failing, last_answer, row_after, row_of}
 use Rattle.hm_model.specs.Inputs.{step_input}
 use Rattle.hm_model.specs.Journal.{Past}
 use Rattle.hm_model.specs.Kinds.{first_row_of, kind_of}
 use Rattle.hm_model.specs.Lists.{exact_rows}
 use Rattle.hm_model.specs.Locks.{IsIn, asks, exclusive}
-use Rattle.hm_model.specs.Outs.{ends_with, given, goes_on, places, spawns}
-use Rattle.hm_model.specs.Outs.{fails}
-use Rattle.hm_model.specs.ActSorts.{is_check, is_edit}
+use Rattle.hm_model.specs.Outs.{places}
+use Rattle.hm_model.specs.ActSorts.{is_edit}
 use Rattle.hm_model.specs.Validity.{is_among}
 use Rattle.hm_model.specs.Whereabouts.{moved_by}
 use Rattle.hm_model.specs.declared.lock.Resource.TheVariants as resource_is
-use Rattle.hm_model.proofs.CallSteps.{is_laying}
-use Rattle.hm_model.proofs.ExactRows.{IsLed, IsLedRow, all_rows, is_in_place, is_late_next, is_listed, led_row, row_passes}
+use Rattle.hm_model.proofs.CallSteps.{is_laying, uncut}
+use Rattle.hm_model.proofs.ExactRows.{IsLed, IsLedRow, is_listed, led_row, row_passes}
 use Rattle.hm_model.proofs.LegalSteps.{StepFacts}
 use Rattle.hm_model.proofs.PlainActs.{is_plain}
-use Rattle.hm_model.proofs.StepDoes.{Does, IsMoveOut, Part, calls, crash, is_moving, lined, move_act, move_fails, moves, part_of, row_by}
+use Rattle.hm_model.proofs.StepDoes.{Does, IsMoveOut, calls, crash, is_moving, lined, move_act, move_fails, moves, part_of, row_by}
 use Rattle.hm_kinds.proofs.Editless.{none_act}
 use Rattle.hm_serial.proofs.Editing.{rows_table}
 use Rattle.hm_kinds.proofs.Kids.{MadeBy, kids_act}
@@ -48,16 +43,8 @@ use Rattle.hm_data.specs.declared.request.Request.TheVariants as request_is
 use Rattle.hm_model.specs.Tree.{args_in}
 use Rattle.hm_model.specs.Views.{table_of}
 use Rattle.hm_model.proofs.PlainActs.{is_caller}
-use Rattle.hm_model.proofs.StepDoes.{IsExact, does}
-use Rattle.hm_data.specs.declared.call.Told.{Told}
-use Rattle.hm_data.specs.declared.call.Told.TheVariants as told_is
-use Rattle.hm_data.specs.declared.args.Child.TheVariants as child_is
-use Rattle.hm_data.specs.declared.place.Place.{Place}
-use Rattle.hm_data.specs.declared.place.RegionState.TheVariants as place_is
-use Rattle.hm_model.specs.TransitActs.{behind_close, candidate, close_at, close_or_go, closed_or_lost, is_open, is_state, is_told, lost_if, may_open_in, nowhere, opened_or_not, told_place}
-use Rattle.hm_model.specs.Views.{region_of}
-use Rattle.hm_model.specs.Wanted.{goal_in}
 use Rattle.hm_model.proofs.StepDoes.{IsOneCall}
+use Rattle.hm_model.proofs.FineMoves.{fine_move, late_move}
 use Rattle.hm_serial.proofs.Falling.{places_of, IsEarly, IsPast, StepEdits, lined_edits}
 use Rattle.hm_kinds.proofs.Kids.{IsChildOf, made_at}
 
@@ -182,63 +169,6 @@ kid_rows (args_are.Root request first) h e none = false≢true h
 kid_rows (args_are.Crash server) h e none = false≢true h
 kid_rows (args_are.SweepLayout own) h e none = false≢true h
 kid_rows args h e none = cc
-
--- rows of a transit at which it doesn't check
-late_move : (n : ℕ) (row : Row) → slice_get (exact_rows 10) n ≡ Some row → n ≢ 5 → (row.after ≡ true) × (is_check row.act ≡ false)
-late_move zero row is ne = (ap (λ (r : Row). r.after) (sym (same_Some _ row is)), ap (λ (r : Row). is_check r.act) (sym (same_Some _ row is)))
-late_move (suc zero) row is ne = (ap (λ (r : Row). r.after) (sym (same_Some _ row is)), ap (λ (r : Row). is_check r.act) (sym (same_Some _ row is)))
-late_move (suc (suc zero)) row is ne = (ap (λ (r : Row). r.after) (sym (same_Some _ row is)), ap (λ (r : Row). is_check r.act) (sym (same_Some _ row is)))
-late_move (suc (suc (suc zero))) row is ne = (ap (λ (r : Row). r.after) (sym (same_Some _ row is)), ap (λ (r : Row). is_check r.act) (sym (same_Some _ row is)))
-late_move (suc (suc (suc (suc zero)))) row is ne = (ap (λ (r : Row). r.after) (sym (same_Some _ row is)), ap (λ (r : Row). is_check r.act) (sym (same_Some _ row is)))
-late_move (suc (suc (suc (suc (suc zero))))) row is ne = absurd (ne (omega arith))
-late_move (suc (suc (suc (suc (suc (suc n)))))) row is ne = absurd (none-some row is)
-
--- the acts of transits that don't check don't fail
-abbrev IsFineOut : StepOut → Type 0
-IsFineOut out = failing out.answer ≡ None
-
-fine_on : (next : ℕ) → IsFineOut (goes_on next)
-fine_on next = by (next == no_row)
-  where
-    by : (b : Bool) → failing (cond b (answer_is.Done Rattle.hm_data.specs.declared.call.Told.TheVariants.Nothing) (answer_is.More next)) ≡ None
-    by true = refl
-    by false = refl
-
-fine_given : {A : Type 0} (part : Option A) (next : ℕ) (act : A → StepOut) → ((x : A) → IsFineOut (act x)) → IsFineOut (given part next act)
-fine_given None next act each = fine_on next
-fine_given (Some part) next act each = each part
-
-fine_if : (b : Bool) (one other : StepOut) → IsFineOut one → IsFineOut other → IsFineOut (cond b one other)
-fine_if true one other h k = h
-fine_if false one other h k = k
-
-fine_candidate : (next : ℕ) (may : Bool) (place : Place) (fenced : Bool) (pick : Option Server) → IsFineOut (candidate next may place fenced pick)
-fine_candidate next false place fenced pick = refl
-fine_candidate next true place fenced pick = fine_if (is_open place fenced) (ends_with told_is.Nothing) (places (answer_is.More next) (Some (record { state = place_is.Opening; server = pick }))) refl refl
-
-fine_confirm : (next : ℕ) (server : Option Server) (b : Bool) → IsFineOut (opened_or_not next server b)
-fine_confirm next server true = refl
-fine_confirm next server false = refl
-
-fine_behind : (goal : Goal) (told : Told) (place : Option Place) → IsFineOut (places (behind_close goal told) place)
-fine_behind goal_is.Assign told place = refl
-fine_behind goal told place = refl
-
-fine_close : (next : ℕ) (goal : Goal) (region : Region) (place : Place) (b : Bool) → IsFineOut (close_or_go next goal region place b)
-fine_close next goal region place true = fine_given place.server next (close_at next region) (λ server. refl)
-fine_close next goal region place false = fine_behind goal told_is.Nothing (lost_if (is_state place_is.Opened place))
-
-fine_move : (act : Act) → is_moving act ≡ true → is_check act ≡ false → (next : ℕ) (at : StepIn) → IsFineOut (act_answer act next at)
-fine_move act_is.GetAssignCandidate h c next at = fine_given (region_of at.args) next (λ region. candidate next (may_open_in at.rows region) (told_place at.place) at.fenced at.pick) (λ region. fine_candidate next (may_open_in at.rows region) (told_place at.place) at.fenced at.pick)
-fine_move act_is.Open h c next at = fine_given (region_of at.args) next (λ region. given ((told_place at.place).server) next (λ server. spawns next (child_is.One (args_are.AssignCall region server) ∷ []))) (λ region. fine_given ((told_place at.place).server) next (λ server. spawns next (child_is.One (args_are.AssignCall region server) ∷ [])) (λ server. refl))
-fine_move act_is.ConfirmOpened h c next at = fine_confirm next (told_place at.place).server (is_told told_is.Opened at.ends)
-fine_move act_is.Close h c next at = fine_given (region_of at.args) next (λ region. close_or_go next (goal_in at.args) region (told_place at.place) (is_open (told_place at.place) at.fenced)) (λ region. fine_close next (goal_in at.args) region (told_place at.place) (is_open (told_place at.place) at.fenced))
-fine_move act_is.ConfirmClosed h c next at = fine_behind (goal_in at.args) told_is.Closed (Some (nowhere (closed_or_lost (is_told told_is.Closed at.ends))))
-fine_move act_is.CheckMove h c next at = absurd (true≢false c)
-fine_move act h c next at = absurd (false≢true h)
-
-uncut : (row : Row) (at : StepIn) → row.after ≡ true → row_answer row at ≡ act_answer row.act row.next at
-uncut row at late = cond-false (is_cut_off row at) (fails cause_is.Aborted) (act_answer row.act row.next at) (and_right at.aborted (not row.after) (ap not late))
 
 -- a step, by its part of the kinds
 module _ (J : Past) (p : ℕ) (pick : Option Server) (out : StepOut) (step : StepFacts J p pick out) (d : Does J p step.node.args (last_answer J p) step.sheet.rows out)

@@ -1,69 +1,42 @@
 -- Every legal journal's trees stand.
 use Rattle.hm_model.proofs.Parted.{no_node}
 use Rattle.hm_model.specs.Parts.{part_row}
-use Rattle.std.proofs.Common.{◌≡◌, ◌≢◌, ℕ, ◌+◌, List, [], ◌∷◌, true, false, map, Option, Some, None, refl, ap, sym, ◌∙◌, subst, inl, inr, arith}
-use Rattle.std.specs.Prelude.{option_map}
-use Rattle.std.proofs.lemmas.Bool.{false≢true}
+use Rattle.std.proofs.Common.{◌≡◌, ◌≢◌, ℕ, ◌+◌, List, [], ◌∷◌, true, false, Option, Some, None, refl, ap, sym, ◌∙◌, subst, inl, inr, arith}
 use Rattle.std.proofs.lemmas.Option.{none-some, same_Some}
 use Rattle.hm_names.specs.Server.{Server}
 use Rattle.hm_names.specs.declared.nonce.Nonce.{Nonce}
 use Rattle.hm_names.specs.declared.pid.Pid.{Pid}
-use Rattle.hm_data.specs.declared.act.Back.{Back}
-use Rattle.hm_data.specs.declared.act.Back.TheVariants as back_is
-use Rattle.hm_data.specs.declared.args.Args.{Args}
-use Rattle.hm_data.specs.declared.args.Args.TheVariants as args_are
-use Rattle.hm_data.specs.declared.args.Child.TheVariants as child_is
 use Rattle.hm_data.specs.declared.catalog.CatKey.{CatKey}
 use Rattle.hm_data.specs.declared.entry.Entry.{Entry}
 use Rattle.hm_data.specs.declared.entry.Entry.TheVariants as entry_is
-use Rattle.hm_data.specs.declared.place.Goal.{Goal}
-use Rattle.hm_data.specs.declared.place.Goal.TheVariants as goal_is
 use Rattle.hm_data.specs.declared.request.Request.{Request}
 use Rattle.hm_data.specs.declared.step.StepOut.{StepOut}
 use Rattle.hm_model.specs.Answers.{last_answer}
 use Rattle.hm_model.specs.Apart.{IsSameTree, tree_of}
 use Rattle.hm_model.specs.Catalog.{cat, keys_of, was}
 use Rattle.hm_model.specs.Journal.{Past}
-use Rattle.hm_model.specs.Locks.{IsIn, in_name_order}
+use Rattle.hm_model.specs.Locks.{IsIn}
 use Rattle.hm_model.specs.Reads.{covers, guards}
 use Rattle.hm_model.specs.Phase.{cause, root_ended}
-use Rattle.hm_model.specs.Pieces.{Batch, batches}
 use Rattle.hm_model.specs.Rules.{IsLegal}
 use Rattle.hm_model.specs.Serial.{serial}
 use Rattle.hm_model.specs.Sheets.{sheets_by}
-use Rattle.hm_model.specs.Tree.{Node, args_in, made, node_of, root_node, root_of, submitted}
-use Rattle.hm_model.specs.Undoing.{closed_by, undo_followers}
+use Rattle.hm_model.specs.Tree.{Node, made, node_of, root_of}
 use Rattle.hm_model.proofs.Apart.{others_stay}
 use Rattle.hm_model.proofs.Grown.{nodes_stay}
 use Rattle.hm_model.proofs.Rows.{in_with_keys}
-use Rattle.hm_model.proofs.Trees.{Grown, does_of, down_rooted, grown_all, is_there, sheets_stay, step_of, submit_rooted}
-use Rattle.hm_kinds.proofs.LockForms.{IsRight}
+use Rattle.hm_model.proofs.Trees.{Grown, does_of, down_rooted, grown_all, is_there, sheets_stay, start_none, step_of, submit_rooted}
 use Rattle.hm_kinds.proofs.Within.{within_others}
 use Rattle.hm_serial.proofs.Apart.{Aside, step_top}
-use Rattle.hm_serial.proofs.FallAll.{held_before, falls_all, none_at, sick, step_aside, top, top_is, undo_aside, undo_back, undo_holds, undo_unwinds, undo_within}
+use Rattle.hm_serial.proofs.FallAll.{falls_all, held_before, sick, step_aside, top, top_is, undo_aside, undo_back, undo_holds, undo_unwinds, undo_within}
 use Rattle.hm_serial.proofs.Fallen.{root_of_node}
-use Rattle.hm_serial.proofs.FallStep.{kid_of, kid_or_root, own_root, unwinds_now}
+use Rattle.hm_serial.proofs.FallStep.{kid_or_root, own_root, unwinds_now}
 use Rattle.hm_serial.proofs.Failing.{nothing_left}
 use Rattle.hm_serial.proofs.Frame.{unwound}
-use Rattle.hm_kinds.proofs.Kids.{AllMade}
-use Rattle.hm_serial.proofs.Kinship.{is_kid}
 use Rattle.hm_model.proofs.Tops.{TopHolds, TopIs}
 use Rattle.hm_serial.proofs.Stands.{Stands, Tree, holds_behind, settled_on, tree_like, tree_on, trees_on}
 use Rattle.hm_serial.proofs.StandStep.{cat_others, keys_grow, root_keeps}
 use Rattle.hm_serial.proofs.StandKid.{kid_here, kid_over, kid_serials}
-
-kid_sound : (args : Args) → is_kid args ≡ true → IsRight args
-kid_sound (args_are.Root request first) k = absurd (false≢true k)
-kid_sound args k = tt
-
-transits_sound : (goal : Goal) (list : List Batch) → AllMade IsRight (map (λ batch. child_is.Transits batch.table batch.ids goal) list)
-transits_sound goal [] = tt
-transits_sound goal (batch ∷ more) = ((λ id. tt), transits_sound goal more)
-
-followers_sound : (undo : Back) (args : Args) (root : Pid) → AllMade IsRight (undo_followers undo args root)
-followers_sound back_is.Sweep args root = (tt, tt)
-followers_sound back_is.Reopen args root = transits_sound goal_is.Assign (batches (in_name_order (closed_by args)))
-followers_sound undo args root = tt
 
 stands_nothing : Stands []
 stands_nothing = record {
@@ -233,7 +206,7 @@ plain_tree entry J last nodes causes base sheets keys cats serials r node tree =
 pub stands_all : (J : Past) → IsLegal J → Stands J
 stands_all [] legal = stands_nothing
 stands_all (entry_is.Start sheets ∷ J) legal =
-    let none = none_at J legal.1.0.0 in
+    let none = start_none J legal.1.0.0 in
     let s = stands_all J legal.0 in
     record {
       tree = λ r node h. absurd (none-some node (sym (none r) ∙ h.0.0));

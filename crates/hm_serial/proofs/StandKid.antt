@@ -1,7 +1,7 @@
 -- A descendant's step keeps where the tree of its root stands.
 use Rattle.std.proofs.Common.{◌≡◌, ◌≢◌, ℕ, ◌-◌, List, [], ◌∷◌, true, false, ◌&&◌, ◌==◌, Option, Some, None, refl, ap, sym, ◌∙◌, subst, inl, inr, ◌⊎◌}
 use Rattle.std.specs.Prelude.{is_none, is_some}
-use Rattle.std.proofs.lemmas.Bool.{and_left, cases_Bool, cases_eq, cond-false, cond-true, eq-eqb, false≢true, ne_eqb, true≢false}
+use Rattle.std.proofs.lemmas.Bool.{and_left, cases_Bool, cond-false, cond-true, eq-eqb, false≢true, ne_eqb, true≢false}
 use Rattle.std.proofs.lemmas.Option.{none-some, same_Some}
 use Rattle.hm_names.specs.Server.{Server}
 use Rattle.hm_names.specs.declared.pid.Pid.{Pid}
@@ -27,7 +27,7 @@ use Rattle.hm_model.specs.Serial.{at_end, edits_in, ended_deed, if_root, serial}
 use Rattle.hm_model.specs.Tree.{Node, made, node_of, root_in, root_of}
 use Rattle.hm_model.proofs.LegalSteps.{StepFacts, ready_stops}
 use Rattle.hm_model.proofs.StepDoes.{Does}
-use Rattle.hm_model.proofs.Trees.{Grown, IsWaiting, le_or_lt, new_child, node_same, other_answer, still_there}
+use Rattle.hm_model.proofs.Trees.{Grown, IsWaiting, le_or_lt, new_child, node_same, other_answer, ran_before, still_there, waiting_some}
 use Rattle.hm_model.proofs.ValidSheets.{Leads}
 use Rattle.hm_kinds.proofs.Effects.{DoesShare, adds_share, drops_share}
 use Rattle.hm_kinds.proofs.Exact.{IsSettled}
@@ -39,13 +39,10 @@ use Rattle.hm_serial.proofs.FallStep.{belongs_here, kid_not_root, kid_of, led_he
 use Rattle.hm_serial.proofs.Frame.{cover_guards}
 use Rattle.hm_serial.proofs.Kinship.{editless, is_kid, led_at}
 use Rattle.hm_model.proofs.Tops.{TopIs}
+use Rattle.hm_model.proofs.Answered.{or_none}
 use Rattle.hm_serial.proofs.Standing.{live_child, step_open}
 use Rattle.hm_serial.proofs.Stands.{At, Pending, Stands, Tree, Where}
 use Rattle.hm_serial.proofs.StandStep.{touches_rows, uncut_so}
-
-waiting_some : (o : Option Answer) → IsWaiting o → o ≢ None
-waiting_some None w e = w
-waiting_some (Some a) w e = none-some a (sym e)
 
 waiting_undone : (o : Option Answer) → IsWaiting o → is_some (done_with o) ≡ false
 waiting_undone (Some (answer_is.Wait n)) w = refl
@@ -55,10 +52,6 @@ waiting_undone (Some (answer_is.Await n)) w = refl
 waiting_undone (Some (answer_is.Done told)) w = absurd w
 waiting_undone (Some (answer_is.Fail c)) w = refl
 waiting_undone (Some answer_is.Undone) w = refl
-
-or_none : (one other : Option Cause) → or_else one other ≡ None → (one ≡ None) × (other ≡ None)
-or_none None other h = (refl, h)
-or_none (Some c) other h = absurd (none-some c (sym h))
 
 module _ (pid : Pid) (pick : Option Server) (out : StepOut) (J : Past) (grown : Grown J) (falls : Falls J) (stands : Stands J) (step : StepFacts J pid.0 pick out) (d : Does J pid.0 step.node.args (last_answer J pid.0) step.sheet.rows out)
     (aside : Aside J step.node.root (root_of_node J grown pid.0 step.node step.node_is).0) (top : Node) (top_is : TopIs J step.node.root top) (kid : step.node.above ≢ []) where
@@ -144,7 +137,7 @@ module _ (pid : Pid) (pick : Option Server) (out : StepOut) (J : Past) (grown : 
           ]
     ];
     owed = λ q x is of some running key on. ap (edited at.then key) (was_key key) ∙ elim (le_or_lt q (made J)) [
-      | inl le ↦ at.owed q x (sym (node_same pid pick out J q le) ∙ is) of some (ran q running) key on
+      | inl le ↦ at.owed q x (sym (node_same pid pick out J q le) ∙ is) of some (ran_before pid pick out J runs_now q running) key on
       | inr lt ↦
           let c = new_child pid pick out J step.node step.node_is q lt x is in
           let t = touches_rows c.0 key (ap (λ (n : Node). touches n.args key) (sym c.2) ∙ on) in
@@ -154,12 +147,6 @@ module _ (pid : Pid) (pick : Option Server) (out : StepOut) (J : Past) (grown : 
     where
       does : DoesShare step.node.args out
       does = share step.node.args refl is_child fine
-
-      ran : (q : ℕ) → is_stopped (last_answer J' q) ≡ false → is_stopped (last_answer J q) ≡ false
-      ran q now = elim (cases_eq q pid.0) [
-        | inl same ↦ ap (λ p. is_stopped (last_answer J p)) same ∙ runs_now
-        | inr differs ↦ ap is_stopped (sym (other_answer pid pick out J q differs)) ∙ now
-      ]
 
       still : (key : CatKey) → touches step.node.args key ≡ false → Pending J R key → Pending J' R key
       still key off p =

@@ -53,6 +53,7 @@ use Rattle.hm_serial.proofs.Fallen.{Falls, root_of_node, some_cons}
 use Rattle.hm_serial.proofs.FallStep.{kid_of, led_here, own_args, own_root, belongs_here, within_now}
 use Rattle.hm_serial.proofs.Kinship.{editless}
 use Rattle.hm_model.proofs.Tops.{TopIs}
+use Rattle.hm_model.proofs.Small.{cons_nil}
 use Rattle.hm_serial.proofs.Standing.{quiet_tree, step_open}
 use Rattle.hm_serial.proofs.Stands.{At, IsListed, Pending, Stands, Tree, Where}
 
@@ -163,10 +164,7 @@ module _ (pid : Pid) (pick : Option Server) (out : StepOut) (J : Past) (grown : 
 
     kind_or : (rows : List Row) → exact_rows (kind_of step.node.args) ≡ rows → (exact_rows (kind_of step.node.args) ≡ []) ⊎ IsExactKind step.node.args
     kind_or [] r = inl r
-    kind_or (first ∷ more) r = inr (λ none. some_row first more (sym r ∙ none))
-      where
-        some_row : (first : Row) (more : List Row) → first ∷ more ≡ [] → ⊥
-        some_row first more h = cc
+    kind_or (first ∷ more) r = inr (λ none. cons_nil first more (sym r ∙ none))
 
     first_was : last_answer J pid.0 ≡ None → was J' pid.0 ≡ cat J
     first_was none = cond-true ((pid.0 == pid.0) && is_none (last_answer J pid.0)) (cat J) (was J pid.0) (and_from (pid.0 == pid.0) (is_none (last_answer J pid.0)) (eq-eqb pid.0 pid.0 refl) (ap is_none none))

@@ -1,5 +1,5 @@
 -- Which trees stand still at an entry, and that one that has ended stays so.
-use Rattle.std.proofs.Common.{◌≡◌, ◌≢◌, ℕ, zero, suc, ◌+◌, ◌<◌, ◌≤◌, List, [], ◌∷◌, Bool, true, false, not, ◌&&◌, ◌||◌, ◌==◌, Option, Some, None, is_some, is_none, refl, ap, sym, ◌∙◌, subst, inl, inr, ◌⊎◌, arith}
+use Rattle.std.proofs.Common.{◌≡◌, ◌≢◌, ℕ, ◌+◌, ◌<◌, ◌≤◌, List, [], ◌∷◌, true, false, not, ◌&&◌, ◌||◌, ◌==◌, Option, Some, None, is_some, is_none, refl, ap, sym, ◌∙◌, subst, inl, inr, ◌⊎◌, arith}
 use Rattle.std.proofs.lemmas.Bool.{and_from, and_left, and_parts, cases_Bool, cases_eq, cond-false, eq-eqb, eqb-true, false≢true, ne_eqb, not_from_false, not_from_true, or_cases, or_left, true≢false}
 use Rattle.std.proofs.lemmas.Option.{same_Some}
 use Rattle.hm_names.specs.Server.{Server}
@@ -12,17 +12,15 @@ use Rattle.hm_data.specs.declared.step.StepOut.{StepOut}
 use Rattle.hm_model.specs.Answers.{done_with, is_stopped, last_answer}
 use Rattle.hm_model.specs.Catalog.{was}
 use Rattle.hm_model.specs.Journal.{Past}
-use Rattle.hm_model.specs.Phase.{all_below, all_stopped, cause, children_ended, in_tree, rolled_back, root_ended, root_over, stopped_in}
+use Rattle.hm_model.specs.Phase.{all_stopped, cause, children_ended, in_tree, rolled_back, root_ended, root_over, stopped_in}
 use Rattle.hm_model.specs.Tree.{Node, is_top, made, node_of, root_in, root_of}
 use Rattle.hm_model.specs.Undo.{is_empty, stack}
 use Rattle.hm_model.proofs.LegalSteps.{ReadyBy, StepFacts, ready_stops}
 use Rattle.hm_model.proofs.StepDoes.{Does}
 use Rattle.hm_model.proofs.Tops.{TopHolds, TopIs}
-use Rattle.hm_model.proofs.Trees.{Grown, IsRooted, IsWaiting, all_below_at, child_stopped, is_there, le_or_lt, new_child, node_same, old_or_new, other_answer, still_there}
-
-pub all_from : (n : ℕ) (test : ℕ → Bool) → ((q : ℕ) → q < n → test q ≡ true) → all_below n test ≡ true
-all_from zero test each = refl
-all_from (suc n) test each = and_from (test n) (all_below n test) (each n (omega arith)) (all_from n test (λ q lt. each q (omega (arith, lt))))
+use Rattle.hm_model.proofs.Trees.{Grown, IsRooted, IsWaiting, all_below_at, all_below_from, child_stopped, is_there, le_or_lt, new_child, node_same, old_or_new, other_answer, root_low, still_there}
+use Rattle.hm_model.proofs.Small.{cons_nil}
+use Rattle.hm_model.proofs.Answered.{running_undone}
 
 pub waiting_runs : (o : Option Answer) → IsWaiting o → is_stopped o ≡ false
 waiting_runs (Some (answer_is.Wait n)) w = refl
@@ -32,16 +30,6 @@ waiting_runs (Some (answer_is.Await n)) w = absurd w
 waiting_runs (Some (answer_is.Done told)) w = absurd w
 waiting_runs (Some (answer_is.Fail c)) w = absurd w
 waiting_runs (Some answer_is.Undone) w = absurd w
-
--- no root comes later than what is of its tree
-pub root_low : (J : Past) → Grown J → (above : List ℕ) (q : ℕ) (x : Node) → node_of J q ≡ Some x → x.above ≡ above → x.root ≤ q
-root_low J grown [] q x is e = (let t = grown.tops q x is e in omega (arith, t))
-root_low J grown (u ∷ rest) q x is e =
-    let up = grown.ups q x is u rest e in
-    let le = root_low J grown rest u up.0 up.1 up.2 in
-    let lt = grown.later q x is u rest e in
-    let same = up.3 in
-    omega (arith, le, lt, same)
 
 module _ (J : Past) (grown : Grown J) where
   -- above a procedure that hasn't stopped a child of its root hasn't
@@ -55,9 +43,6 @@ module _ (J : Past) (grown : Grown J) where
       let up = grown.ups q x is u (v ∷ rest) e in
       let l = live_child (v ∷ rest) u up.0 up.1 up.2 (λ h. cons_nil v rest h) (waiting_runs (last_answer J u) (grown.waits q x is u (v ∷ rest) e runs)) in
       (l.0, l.1, l.2, l.3 ∙ ap (λ k. k ∷ []) up.3, l.4, subst (λ k. IsWaiting (last_answer J k)) up.3 l.5)
-    where
-      cons_nil : (v : ℕ) (rest : List ℕ) → v ∷ rest ≡ [] → ⊥
-      cons_nil v rest h = cc
 
   waits_ended : (r : ℕ) (node : Node) (o : Option Answer) → IsWaiting o → ReadyBy J r node o → children_ended J r ≡ true
   waits_ended r node (Some (answer_is.Wait n)) w ready = ready
@@ -170,7 +155,7 @@ module _ (pid : Pid) (pick : Option Server) (out : StepOut) (J : Past) (grown : 
         cause_is = cond-false (root_of J pid.0 == s) _ (cause J s) off;
         stack_is = cond-false (root_of J pid.0 == s) _ (stack J s) off;
         was_is = cond-false ((s == pid.0) && is_none (last_answer J pid.0)) _ (was J s) (and_left (s == pid.0) (is_none (last_answer J pid.0)) (ne_eqb s pid.0 ne));
-        stopped = λ all. all_from (made (entry_is.Step pid pick out ∷ J) + 1) (stopped_in (entry_is.Step pid pick out ∷ J) s) (λ q lt. by q (le_or_lt q (made J)) all);
+        stopped = λ all. all_below_from (made (entry_is.Step pid pick out ∷ J) + 1) (stopped_in (entry_is.Step pid pick out ∷ J) s) (λ q lt. by q (le_or_lt q (made J)) all);
       }
     where
       out_of : (q : ℕ) (x : Node) → node_of (entry_is.Step pid pick out ∷ J) q ≡ Some x → x.root ≢ s → stopped_in (entry_is.Step pid pick out ∷ J) s q ≡ true
@@ -200,24 +185,12 @@ module _ (pid : Pid) (pick : Option Server) (out : StepOut) (J : Past) (grown : 
       own_runs : is_stopped (last_answer J pid.0) ≡ false
       own_runs = ready_stops J pid.0 step.node (last_answer J pid.0) step.ready
 
-      undone_not : (o : Option Answer) → is_stopped o ≡ false → done_with o ≡ None
-      undone_not None h = refl
-      undone_not (Some (answer_is.More n)) h = refl
-      undone_not (Some (answer_is.Wait n)) h = refl
-      undone_not (Some (answer_is.Await n)) h = refl
-      undone_not (Some (answer_is.Done told)) h = absurd (true≢false h)
-      undone_not (Some (answer_is.Fail c)) h = absurd (true≢false h)
-      undone_not (Some answer_is.Undone) h = absurd (true≢false h)
-
       by : (above : List ℕ) → step.node.above ≡ above → root_ended J step.node.root ≡ true → ⊥
       by [] e ended =
           let root : step.node.root ≡ pid.0 = grown.tops pid.0 step.node step.node_is e in
           let none : cause J pid.0 ≡ None = step.uncaused (ap is_top e) in
-          false≢true (sym (ap (λ k. root_over k (rolled_back J pid.0) (done_with (last_answer J pid.0))) none ∙ ap is_some (undone_not (last_answer J pid.0) own_runs)) ∙ ap (root_ended J) (sym root) ∙ ended)
+          false≢true (sym (ap (λ k. root_over k (rolled_back J pid.0) (done_with (last_answer J pid.0))) none ∙ ap is_some (running_undone (last_answer J pid.0) own_runs)) ∙ ap (root_ended J) (sym root) ∙ ended)
       by (u ∷ rest) e ended = true≢false (sym (ended_stops J grown step.node.root ended pid.0 step.node step.node_is refl (λ h. cons_nil u rest (sym e ∙ h))) ∙ own_runs)
-        where
-          cons_nil : (u : ℕ) (rest : List ℕ) → u ∷ rest ≡ [] → ⊥
-          cons_nil u rest h = cc
 
 -- an entry that makes roots leaves each tree alone whose cause, steps to undo and catalog before it leaves
 pub rooted_left : (J J' : Past) → IsRooted J J' → Grown J → (s : ℕ) (node : Node) → TopIs J s node → cause J' s ≡ cause J s → stack J' s ≡ stack J s → was J' s ≡ was J s → Left J J' s
@@ -227,7 +200,7 @@ rooted_left J J' rooted grown s node top causes stacks base = record {
   cause_is = causes;
   stack_is = stacks;
   was_is = base;
-  stopped = λ all. all_from (made J' + 1) (stopped_in J' s) (λ q lt. by q (le_or_lt q (made J)) all);
+  stopped = λ all. all_below_from (made J' + 1) (stopped_in J' s) (λ q lt. by q (le_or_lt q (made J)) all);
 }
   where
     by : (q : ℕ) → (q ≤ made J) ⊎ (made J < q) → all_stopped J s ≡ true → stopped_in J' s q ≡ true

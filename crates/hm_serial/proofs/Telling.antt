@@ -17,12 +17,12 @@ use Rattle.hm_model.specs.Phase.{root_ended}
 use Rattle.hm_model.specs.Rules.{IsLegal}
 use Rattle.hm_model.specs.Tree.{Node, node_of, root_of}
 use Rattle.hm_model.specs.Undo.{Undoable, stack}
-use Rattle.hm_model.proofs.Trees.{does_of, down_rooted, grown_all, sheets_stay, step_of, still_there, submit_rooted}
+use Rattle.hm_model.proofs.Trees.{does_of, down_rooted, grown_all, sheets_stay, start_none, step_of, still_there, submit_rooted}
 use Rattle.hm_model.proofs.UndoMakes.{IsUndoOf}
 use Rattle.hm_model.specs.GoingBack.{Tells}
 use Rattle.hm_serial.specs.Theorem.{UndosTell}
 use Rattle.hm_serial.proofs.Backs.{AllTell}
-use Rattle.hm_serial.proofs.FallAll.{held_before, edits_are, falls_all, none_at, sick, stack_now, stack_off, step_aside, top, u, undo_aside, undo_back, undo_holds, undo_within}
+use Rattle.hm_serial.proofs.FallAll.{held_before, edits_are, falls_all, sick, stack_now, stack_off, step_aside, top, u, undo_aside, undo_back, undo_holds, undo_within}
 use Rattle.hm_serial.proofs.Apart.{step_top}
 use Rattle.hm_serial.proofs.Frame.{AllWithin, cover_guards}
 use Rattle.hm_serial.proofs.Local.{Within, within_others}
@@ -50,7 +50,7 @@ same_within args (latest ∷ below) within a b same all = (same_edits args (undo
 
 tells_all : (J : Past) → IsLegal J → IsTelling J
 tells_all [] legal r node h may = absurd (none-some node h.0.0)
-tells_all (entry_is.Start sheets ∷ J) legal r node h may = absurd (none-some node (sym (none_at J legal.1.0.0 r) ∙ h.0.0))
+tells_all (entry_is.Start sheets ∷ J) legal r node h may = absurd (none-some node (sym (start_none J legal.1.0.0 r) ∙ h.0.0))
 tells_all (entry_is.Submit nonce request ∷ J) legal r node h may =
     let grown = grown_all J legal.0 in
     let held = held_before J (entry_is.Submit nonce request ∷ J) (submit_rooted nonce request J grown) grown r node refl refl refl h in

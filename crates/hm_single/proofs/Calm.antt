@@ -1,5 +1,5 @@
 -- While a root that found its table without open regions goes on and opens none, none of the table's regions has a place.
-use Rattle.std.proofs.Common.{◌≡◌, ℕ, ◌+◌, ◌==◌, ◌||◌, not, List, [], ◌∷◌, Bool, true, false, Option, Some, None, is_some, refl, ap, sym, ◌∙◌, subst, inl, inr, ◌⊎◌}
+use Rattle.std.proofs.Common.{◌≡◌, ℕ, ◌+◌, ◌==◌, ◌||◌, not, List, [], ◌∷◌, true, false, Option, Some, None, is_some, refl, ap, sym, ◌∙◌, subst, inl, inr, ◌⊎◌}
 use Rattle.std.proofs.lemmas.Bool.{and_from, cases_Bool, cases_eq, false≢true, not_from_false, or_left, or_right, ne_eqb, true≢false}
 use Rattle.std.proofs.lemmas.Option.{none-some, same_Some}
 use Rattle.hm_names.specs.Region.{Region}
@@ -44,20 +44,22 @@ use Rattle.hm_model.specs.Whereabouts.{moved_by}
 use Rattle.hm_model.proofs.ExactRows.{begin_alike, first_act}
 use Rattle.hm_model.proofs.KeyTests.{same_table-is, same_table-refl}
 use Rattle.hm_model.proofs.Rows.{row_read}
-use Rattle.hm_model.proofs.Trees.{Grown, IsWaiting, answer_now, grown_all}
+use Rattle.hm_model.proofs.Trees.{Grown, IsWaiting, all_below_from, answer_now, grown_all}
 use Rattle.hm_serial.proofs.Apart.{Aside, step_top}
 use Rattle.hm_serial.proofs.FallAll.{All, falls_all, step_aside}
 use Rattle.hm_serial.proofs.Fallen.{MayFall, may_on, root_of_node}
 use Rattle.hm_serial.proofs.FallStep.{kid_or_root, other_last}
 use Rattle.hm_model.proofs.Tops.{TopHolds, TopIs}
-use Rattle.hm_serial.proofs.Standing.{all_from, holds_left, live_child, step_left, step_open}
-use Rattle.hm_cover.proofs.Edits.{neither}
+use Rattle.hm_model.proofs.Answered.{or_none}
+use Rattle.hm_serial.proofs.Standing.{holds_left, live_child, step_left, step_open}
 use Rattle.hm_cover.proofs.Spared.{cause_now}
 use Rattle.hm_single.proofs.Lines.{disabled_off, fills, is_on, rests}
-use Rattle.hm_single.proofs.Own.{Own, cut_or, does, own, step}
+use Rattle.hm_single.proofs.Own.{cut_or, does, own, step}
 use Rattle.hm_single.proofs.Tidies.{tidy_all}
 use Rattle.hm_single.proofs.Tidy.{may_back, stack_now, stays}
 use Rattle.hm_single.proofs.Unassigned.{held_stay}
+use Rattle.hm_kinds.proofs.Exact.{unfailed}
+use Rattle.std.proofs.Math.Bool.{or-false}
 
 -- the table of each region with a place is there, and not disabled
 abbrev pub AllOn : Past → Type 0
@@ -83,17 +85,9 @@ fills_regions (request_is.EnableTable table) first h region = refl
 fills_regions (request_is.ModifyTable table version) first h region = refl
 fills_regions request first h region = absurd (false≢true h)
 
-checks_fine : (next : ℕ) (found : Option Cause) → failing (checked next found).answer ≡ None → found ≡ None
-checks_fine next None e = refl
-checks_fine next (Some c) e = absurd (none-some c (sym e))
-
 absent_off : (row : Option CatRow) → table_absent row ≡ None → is_on row ≡ false
 absent_off None e = refl
 absent_off (Some row) e = absurd (none-some cause_is.TableExists (sym e))
-
-over : (b : Bool) → (b || false) ≡ true → b ≡ true
-over true h = refl
-over false h = absurd (false≢true h)
 
 no_push : (undo : Back) (p row : ℕ) (edits : List Edit) → pushed undo true p row edits [] ≡ []
 no_push back_is.Nothing p row edits = refl
@@ -138,7 +132,7 @@ module _ (pid : Pid) (pick : Option Server) (out : StepOut) (J : Past) (legal : 
         ∙ ap (λ b. pushed its.row.undo (is_some b) pid.0 (row_if_there J pid.0 (node_of J pid.0)) out.edits []) fails_so ∙ no_push its.row.undo pid.0 (row_if_there J pid.0 (node_of J pid.0)) out.edits
 
     stopped_all : all_stopped J' its.node.root ≡ true
-    stopped_all = all_from (made J' + 1) (stopped_in J' its.node.root) (λ q lt. by q (node_of J' q) refl)
+    stopped_all = all_below_from (made J' + 1) (stopped_in J' its.node.root) (λ q lt. by q (node_of J' q) refl)
       where
         by : (q : ℕ) (o : Option Node) → node_of J' q ≡ o → stopped_in J' its.node.root q ≡ true
         by q None none = or_left (not (in_tree its.node.root (node_of J' q))) _ (not_from_false _ (ap (in_tree its.node.root) none))
@@ -182,7 +176,7 @@ module _ (pid : Pid) (pick : Option Server) (out : StepOut) (J : Past) (legal : 
         (ap Some mine.act_is ∙ begin_alike (kind_of its.node.args) (mine.line ∷ mine.behind) (mine.fresh unbegun).1 ∙ ap (λ a. first_act (lines_of (kind_of a))) args_is)
 
     disabled : (u : TableName) → reads its.node.args (key_is.Table u) ≡ true → out ≡ checked its.row.next (table_disabled (row_at (step_input J pid.0 its.node pick).rows (key_is.Table u))) → is_on (cat J (key_is.Table u)) ≡ false
-    disabled u reading is = disabled_off (cat J (key_is.Table u)) (ap table_disabled (sym (row_read J its.node.args (key_is.Table u) reading)) ∙ checks_fine its.row.next _ (ap (λ (o : StepOut). failing o.answer) (sym is) ∙ fine))
+    disabled u reading is = disabled_off (cat J (key_is.Table u)) (ap table_disabled (sym (row_read J its.node.args (key_is.Table u) reading)) ∙ unfailed its.row.next _ (ap (λ (o : StepOut). failing o.answer) (sym is) ∙ fine))
 
     reads_it : (u : TableName) → reads (args_are.Root request first) (key_is.Table u) ≡ true → reads its.node.args (key_is.Table u) ≡ true
     reads_it u h = ap (λ a. reads a (key_is.Table u)) args_is ∙ h
@@ -210,21 +204,21 @@ module _ (pid : Pid) (pick : Option Server) (out : StepOut) (J : Past) (legal : 
             let args = own_args (request_is.CreateTable u keys) e in
             let is : out ≡ checked its.row.next (table_free (row_at (step_input J pid.0 its.node pick).rows (key_is.Ns u.ns)) (row_at (step_input J pid.0 its.node pick).rows (key_is.Table u))) =
             at_act act_is.CheckTableFree (act_first (request_is.CreateTable u keys) e) ∙ ap (λ a. check_table_free its.row.next a (step_input J pid.0 its.node pick).rows) args in
-            let none = checks_fine its.row.next _ (ap (λ (o : StepOut). failing o.answer) (sym is) ∙ fine) in
+            let none = unfailed its.row.next _ (ap (λ (o : StepOut). failing o.answer) (sym is) ∙ fine) in
             let reading : reads its.node.args (key_is.Table u) ≡ true = ap (λ a. reads a (key_is.Table u)) args ∙ same_table-refl u in
-            off u (same_table-is u t (over (same_table u t) (covered (request_is.CreateTable u keys) e)))
-            (absent_off (cat J (key_is.Table u)) (ap table_absent (sym (row_read J its.node.args (key_is.Table u) reading)) ∙ (neither (namespace_there (row_at (step_input J pid.0 its.node pick).rows (key_is.Ns u.ns))) (table_absent (row_at (step_input J pid.0 its.node pick).rows (key_is.Table u))) none).1))
+            off u (same_table-is u t (sym (or-false (same_table u t)) ∙ covered (request_is.CreateTable u keys) e))
+            (absent_off (cat J (key_is.Table u)) (ap table_absent (sym (row_read J its.node.args (key_is.Table u) reading)) ∙ (or_none (namespace_there (row_at (step_input J pid.0 its.node pick).rows (key_is.Ns u.ns))) (table_absent (row_at (step_input J pid.0 its.node pick).rows (key_is.Table u))) none).1))
         by (request_is.DeleteTable u) e hq =
             let args = own_args (request_is.DeleteTable u) e in
-            off u (same_table-is u t (over (same_table u t) (covered (request_is.DeleteTable u) e)))
+            off u (same_table-is u t (sym (or-false (same_table u t)) ∙ covered (request_is.DeleteTable u) e))
             (disabled u (ap (λ a. reads a (key_is.Table u)) args ∙ same_table-refl u) (at_act act_is.CheckTableDisabled (act_first (request_is.DeleteTable u) e) ∙ ap (λ a. check_table_disabled its.row.next a (step_input J pid.0 its.node pick).rows) args))
         by (request_is.EnableTable u) e hq =
             let args = own_args (request_is.EnableTable u) e in
-            off u (same_table-is u t (over (same_table u t) (covered (request_is.EnableTable u) e)))
+            off u (same_table-is u t (sym (or-false (same_table u t)) ∙ covered (request_is.EnableTable u) e))
             (disabled u (ap (λ a. reads a (key_is.Table u)) args ∙ same_table-refl u) (at_act act_is.CheckTableDisabled (act_first (request_is.EnableTable u) e) ∙ ap (λ a. check_table_disabled its.row.next a (step_input J pid.0 its.node pick).rows) args))
         by (request_is.ModifyTable u version) e hq =
             let args = own_args (request_is.ModifyTable u version) e in
-            off u (same_table-is u t (over (same_table u t) (covered (request_is.ModifyTable u version) e)))
+            off u (same_table-is u t (sym (or-false (same_table u t)) ∙ covered (request_is.ModifyTable u version) e))
             (disabled u (ap (λ a. reads a (key_is.Table u)) args ∙ same_table-refl u) (at_act act_is.CheckTableDisabled (act_first (request_is.ModifyTable u version) e) ∙ ap (λ a. check_table_disabled its.row.next a (step_input J pid.0 its.node pick).rows) args))
         by q e hq = absurd (false≢true hq)
 

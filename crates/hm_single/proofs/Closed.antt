@@ -49,23 +49,19 @@ use Rattle.hm_model.proofs.LegalSteps.{StepFacts, ready_stops}
 use Rattle.hm_model.proofs.PlainActs.{is_plain}
 use Rattle.hm_model.proofs.StepDoes.{row_by}
 use Rattle.hm_model.proofs.Tops.{TopIs}
-use Rattle.hm_model.proofs.Trees.{Grown, IsRooted, down_rooted, grown_all, is_there, le_or_lt, new_child, node_same, old_or_new, step_of, submit_rooted, undo_rooted}
-use Rattle.hm_kinds.proofs.Covering.{covers_from, order_has}
+use Rattle.hm_model.proofs.Trees.{Grown, IsRooted, down_rooted, grown_all, is_there, le_or_lt, new_child, node_same, old_or_new, start_none, step_of, submit_rooted, undo_rooted}
+use Rattle.hm_model.proofs.Small.{slice_in}
+use Rattle.hm_model.proofs.Distinct.{out_ordered}
+use Rattle.hm_kinds.proofs.Covering.{covers_from}
 use Rattle.hm_kinds.proofs.Kids.{made_at}
 use Rattle.hm_serial.proofs.Apart.{step_top}
 use Rattle.hm_serial.proofs.Fallen.{root_of_node}
-use Rattle.hm_serial.proofs.FallAll.{none_at}
 use Rattle.hm_single.specs.Calls.{MovesIn, closes_first}
 use Rattle.hm_single.specs.Theorem.{ClosedAreUnplaced}
 use Rattle.hm_single.proofs.Makes.{GoalIs, kids_goal}
 use Rattle.hm_single.proofs.New.{IsNewOf, closed_covered, closes_old, closing_lined, is_closing}
 use Rattle.hm_single.proofs.Tidy.{moved_goal}
 use Rattle.hm_single.proofs.Vacated.{unassigned}
-
-slice_in : {A : Type 0} (xs : List A) (i : ℕ) (x : A) → slice_get xs i ≡ Some x → IsIn x xs
-slice_in [] i x h = absurd (none-some x h)
-slice_in (y ∷ ys) zero x h = inl (sym (same_Some y x h))
-slice_in (y ∷ ys) (suc i) x h = inr (slice_in ys i x h)
 
 -- transits are of the regions that they are made for
 module _ (goal : Goal) where
@@ -91,7 +87,7 @@ module _ (goal : Goal) where
   sent_for next regions i it is region m =
       let s = from_batches it (in_name_order regions) (slice_in (args_in (transits goal regions)) i it (ap (λ c. slice_get (args_in c) i) (sym (spawned (transits goal regions))) ∙ is)) in
       let same : s.0 ≡ region = same_Some s.0 region (sym (ap moved_by s.1) ∙ m) in
-      (s.1 ∙ ap (λ r. args_are.Transit r goal None) same, subst (λ r. IsIn r regions) same (order_has s.0 regions s.2))
+      (s.1 ∙ ap (λ r. args_are.Transit r goal None) same, subst (λ r. IsIn r regions) same (out_ordered s.0 regions s.2))
     where
       spawned : (children : List Child) → (spawns next children).children ≡ children
       spawned [] = refl
@@ -227,7 +223,7 @@ module _ (pid : Pid) (pick : Option Server) (out : StepOut) (J : Past) (legal : 
 
 said_all : (J : Past) → IsLegal J → AllSaid J
 said_all [] legal = λ root top request first at. absurd (none-some top at.0)
-said_all (entry_is.Start sheets ∷ J) legal = λ root top request first at. absurd (none-some top (sym (none_at J legal.1.0.0 root) ∙ at.0))
+said_all (entry_is.Start sheets ∷ J) legal = λ root top request first at. absurd (none-some top (sym (start_none J legal.1.0.0 root) ∙ at.0))
 said_all (entry_is.Submit nonce asked ∷ J) legal = let g = grown_all J legal.0 in calm_said J (entry_is.Submit nonce asked ∷ J) (submit_rooted nonce asked J g) g (grown_all (entry_is.Submit nonce asked ∷ J) legal) (said_all J legal.0)
 said_all (entry_is.Step pid pick out ∷ J) legal = step_said pid pick out J legal (said_all J legal.0)
 said_all (entry_is.Undo pid row out ∷ J) legal = let g = grown_all J legal.0 in calm_said J (entry_is.Undo pid row out ∷ J) (undo_rooted pid row out J g) g (grown_all (entry_is.Undo pid row out ∷ J) legal) (said_all J legal.0)

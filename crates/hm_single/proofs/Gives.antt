@@ -71,24 +71,25 @@ gives_close next at region own out here true e = by (told_place at.place).server
     by None e = absurd (none-some here e)
     by (Some server) e = gives_other act_is.Close next at region out here (record { state = place_is.Closing; server = Some server }) e refl refl
 
+-- to make a call, or to check, gives no place
+pub call_unplaced : (next : ℕ) (region : Region) (o : Option Server) (here : Place) → (given o next (λ server. spawns next (child_is.One (args_are.AssignCall region server) ∷ []))).place ≡ Some here → ⊥
+call_unplaced next region None here e = none-some here e
+call_unplaced next region (Some server) here e = none-some here e
+
+pub check_unplaced : (next : ℕ) (c : Option Cause) (here : Place) → (checked next c).place ≡ Some here → ⊥
+check_unplaced next None here e = none-some here e
+check_unplaced next (Some cause) here e = none-some here e
+
 -- each act of a transit
 pub gives_by : (act : Act) → is_moving act ≡ true → (next : ℕ) (at : StepIn) (region : Region) → region_of at.args ≡ Some region → (here : Place) → (act_answer act next at).place ≡ Some here → Gives act next at region (act_answer act next at) here
 gives_by act_is.GetAssignCandidate h next at region own here e = gives_candidate next at region (act_answer act_is.GetAssignCandidate next at) here (may_open_in at.rows region) refl
     (ap (λ o. (given o next (λ r. candidate next (may_open_in at.rows r) (told_place at.place) at.fenced at.pick)).place) (sym own) ∙ e)
-gives_by act_is.Open h next at region own here e = absurd (by (told_place at.place).server (ap (λ o. (given o next (λ r. given (told_place at.place).server next (λ server. spawns next (child_is.One (args_are.AssignCall r server) ∷ [])))).place) (sym own) ∙ e))
-  where
-    by : (o : Option Server) → (given o next (λ server. spawns next (child_is.One (args_are.AssignCall region server) ∷ []))).place ≡ Some here → ⊥
-    by None e = none-some here e
-    by (Some server) e = none-some here e
+gives_by act_is.Open h next at region own here e = absurd (call_unplaced next region (told_place at.place).server here (ap (λ o. (given o next (λ r. given (told_place at.place).server next (λ server. spawns next (child_is.One (args_are.AssignCall r server) ∷ [])))).place) (sym own) ∙ e))
 gives_by act_is.ConfirmOpened h next at region own here e = gives_confirm next at region here (is_told told_is.Opened at.ends) e
 gives_by act_is.Close h next at region own here e = gives_close next at region region (act_answer act_is.Close next at) here (is_open (told_place at.place) at.fenced)
     (ap (λ o. (given o next (λ r. close_or_go next (goal_in at.args) r (told_place at.place) (is_open (told_place at.place) at.fenced))).place) (sym own) ∙ e)
 gives_by act_is.ConfirmClosed h next at region own here e = gives_closed act_is.ConfirmClosed next at region (act_answer act_is.ConfirmClosed next at) here (is_told told_is.Closed at.ends) e
-gives_by act_is.CheckMove h next at region own here e = absurd (by (region_ready (row_at at.rows (key_is.Table region.table)) (row_at at.rows (key_is.Region region))) (ap (λ o. (given o next (λ r. checked next (region_ready (row_at at.rows (key_is.Table r.table)) (row_at at.rows (key_is.Region r))))).place) (sym own) ∙ e))
-  where
-    by : (c : Option Cause) → (checked next c).place ≡ Some here → ⊥
-    by None e = none-some here e
-    by (Some cause) e = none-some here e
+gives_by act_is.CheckMove h next at region own here e = absurd (check_unplaced next (region_ready (row_at at.rows (key_is.Table region.table)) (row_at at.rows (key_is.Region region))) here (ap (λ o. (given o next (λ r. checked next (region_ready (row_at at.rows (key_is.Table r.table)) (row_at at.rows (key_is.Region r))))).place) (sym own) ∙ e))
 gives_by act h next at region own here e = absurd (false≢true h)
 
 -- the row at which a transit takes in whether its region opened

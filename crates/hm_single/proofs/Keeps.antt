@@ -45,13 +45,16 @@ use Rattle.hm_model.specs.Verbs.{verb_in}
 use Rattle.hm_model.proofs.CallSteps.{laying_not_caller}
 use Rattle.hm_model.proofs.StepDoes.{Does, lined, crash, moves, calls, move_row, part_of}
 use Rattle.hm_model.proofs.ExactRows.{all_rows, exact_is, row_passes}
-use Rattle.hm_model.proofs.Trees.{Grown, IsWaiting, answer_now, call_mine, child_stopped, is_there, le_or_lt, new_child, node_new, node_same, other_answer, other_steps, pid_there, runs, still_there, steps_now, verb_now, verb_or, verb_stays}
-use Rattle.hm_single.proofs.Kept.{CallsLater, IsBaseSettled, IsGoing, IsMove, IsSettled, IsSoundLast, Lasting, based_later, fail_in, left_later, over_later, settled_later}
-use Rattle.hm_single.proofs.Kin.{goes_holds, kin_of, moved_not_caller, root_there, transits_conflict}
+use Rattle.hm_model.proofs.Trees.{Grown, IsWaiting, answer_now, call_mine, child_stopped, is_there, le_or_lt, new_child, node_new, node_same, other_answer, other_steps, pid_there, ran_before, runs, steps_now, still_there, verb_now, verb_stays, verb_was}
+use Rattle.hm_single.proofs.Kept.{CallsLater, IsBaseSettled, IsGoing, IsMove, IsSettled, IsSoundLast, Lasting, based_later, fail_in, goes_from, going_some, left_later, over_later, settled_later}
+use Rattle.hm_single.proofs.Kin.{goes_holds, kin_of, root_there, transits_conflict}
 use Rattle.hm_model.proofs.LegalSteps.{ReadyBy, StepFacts}
 use Rattle.hm_model.proofs.PlainActs.{is_caller}
+use Rattle.hm_model.proofs.Transits.{caller_facts}
+use Rattle.hm_model.proofs.Small.{cons_nil}
+use Rattle.hm_model.proofs.Calls.{open_close}
 use Rattle.hm_single.proofs.Rows.{transit_step}
-use Rattle.hm_single.proofs.Stage.{Later, StageFor, called_region, caller_facts, caller_region, calls_step, child_of_step, is_itself, moved_if, moved_region, opened_later, region_caller, row_next, stage_later, the_region, void_later, work_of, worked}
+use Rattle.hm_single.proofs.Stage.{Later, StageFor, called_region, caller_region, calls_step, child_of_step, is_itself, moved_if, moved_region, opened_later, region_caller, row_next, stage_later, the_region, void_later, work_of, worked}
 use Rattle.hm_single.proofs.Told.{fits_close, fits_open, not_told_by, told_by, told_opened}
 use Rattle.hm_single.proofs.Transit.{AtRow, CallIs, Calls, IsRest, Leaves, Next, based_one, set_place}
 
@@ -96,10 +99,6 @@ module _ (pid : Pid) (pick : Option Server) (out : StepOut) (J : Past) (grown : 
   alone : (p : ℕ) (r : Region) → moved_by step.node.args ≡ Some r → p ≢ pid.0 → IsGoing (last_answer J p) → Moves J p r → ⊥
   alone p r m differs going other = free p (goes_holds J grown kept p r other going) (transits_conflict J grown pid.0 p r (λ e. differs (sym e)) (my_moves r m) other)
 
-  going_some : (o : Option Answer) → IsGoing o → o ≢ None
-  going_some None h e = h
-  going_some (Some a) h e = none-some a (sym e)
-
   waits_going : (o : Option Answer) → IsWaiting o → IsGoing o
   waits_going (Some (answer_is.Wait n)) h = tt
   waits_going None h = absurd h
@@ -108,16 +107,6 @@ module _ (pid : Pid) (pick : Option Server) (out : StepOut) (J : Past) (grown : 
   waits_going (Some (answer_is.Done told)) h = absurd h
   waits_going (Some (answer_is.Fail cause)) h = absurd h
   waits_going (Some answer_is.Undone) h = absurd h
-
-  -- who makes a step when it has one already goes on
-  runs_going : (o : Option Answer) → is_stopped o ≡ false → o ≢ None → IsGoing o
-  runs_going None h some = absurd (some refl)
-  runs_going (Some (answer_is.More n)) h some = tt
-  runs_going (Some (answer_is.Wait n)) h some = tt
-  runs_going (Some (answer_is.Await n)) h some = tt
-  runs_going (Some (answer_is.Done told)) h some = absurd (true≢false h)
-  runs_going (Some (answer_is.Fail cause)) h some = absurd (true≢false h)
-  runs_going (Some answer_is.Undone) h some = absurd (true≢false h)
 
   runs_now : is_stopped (last_answer J pid.0) ≡ false
   runs_now = runs pid pick out J grown step d
@@ -142,7 +131,7 @@ module _ (pid : Pid) (pick : Option Server) (out : StepOut) (J : Past) (grown : 
           let w = kept.worker p r e in
           rests p r (last_answer J p) (child_of_step J p) (node_of J (child_of_step J p)) (last_answer J (child_of_step J p)) (λ going. alone p r m (λ same. w.1 (ap (last_answer J) same ∙ l)) going w.0) h
   at_start r m (Some a) l =
-      let work = kept.works pid.0 r (my_moves r m) (runs_going (last_answer J pid.0) runs_now (λ none. none-some a (sym none ∙ l))) in
+      let work = kept.works pid.0 r (my_moves r m) (goes_from (last_answer J pid.0) runs_now (λ none. none-some a (sym none ∙ l))) in
       subst (λ o. AtRow J pid.0 r (place_of J r) (last_call J r) o (child_of_step J pid.0) (node_of J (child_of_step J pid.0)) (last_answer J (child_of_step J pid.0))) l (subst (StageFor J r) work (kept.stage r))
 
   -- the child for which it waits
@@ -524,10 +513,7 @@ module _ (pid : Pid) (pick : Option Server) (out : StepOut) (J : Past) (grown : 
 
   ran : (q : ℕ) → is_stopped (last_answer J' q) ≡ false → is_stopped (last_answer J q) ≡ false
   unfolding J'
-  ran q now = elim (cases_eq q pid.0) [
-    | inl same ↦ ap (λ x. is_stopped (last_answer J x)) same ∙ runs_now
-    | inr differs ↦ ap is_stopped (sym (other_answer pid pick out J q differs)) ∙ now
-  ]
+  ran q now = ran_before pid pick out J runs_now q now
 
   calling_now : (q : ℕ) (node : Node) (r : Region) → node_of J' q ≡ Some node → caller_region node.args ≡ Some r → is_stopped (last_answer J' q) ≡ false → (p : ℕ) × (work_of J' r ≡ Some p) × (child_of_step J' p ≡ q) × IsWaiting (last_answer J' p)
   unfolding J' Calling
@@ -578,9 +564,6 @@ module _ (pid : Pid) (pick : Option Server) (out : StepOut) (J : Past) (grown : 
     | inl le ↦ record { node = m.node; node_is = sym (node_same pid pick out J p le) ∙ m.node_is; region = m.region; moved = m.moved; top = m.top }
     | inr lt ↦ let c = new_child pid pick out J step.node step.node_is p lt m.node m.node_is in absurd (cons_nil pid.0 step.node.above (ap (λ (n : Node). n.above) (sym c.2) ∙ m.top))
   ]
-    where
-      cons_nil : (u : ℕ) (rest : List ℕ) → u ∷ rest ≡ [] → ⊥
-      cons_nil u rest e = cc
 
   -- in its tree none but itself fails
   kin_unfailing : (p : ℕ) → IsMove J p → step.node.root ≡ p → p ≢ pid.0 → failing out.answer ≡ None
@@ -688,7 +671,7 @@ module _ (pid : Pid) (pick : Option Server) (out : StepOut) (J : Past) (grown : 
 
   called_now : (p : ℕ) (verb : Verb) → verb_of J' p ≡ Some verb → called_at J' p < length J + 1
   unfolding J'
-  called_now p verb is = elim (verb_or pid pick out J grown step d p verb is) [
+  called_now p verb is = elim (verb_was pid pick out J p verb is) [
     | inl was ↦ (let lt = kept.called p verb was in let e = (calls_later_now p verb was).1 in omega (arith, lt, e))
     | inr new ↦ (let e = ap (called_at (entry_is.Step pid pick out ∷ J)) new.0 ∙ called_here verb new.1 in omega (arith, e))
   ]
@@ -708,10 +691,7 @@ module _ (pid : Pid) (pick : Option Server) (out : StepOut) (J : Past) (grown : 
       by p n v none (inl h) = unmade_call h.1 r (IsVoid J r (last_call J r)) none h.4
       by p n v none (inr h) =
           let one : h.3.0 ≡ step.node = same_Some h.3.0 step.node (sym h.3.1 ∙ step.node_is) in
-          absurd (differ (same_Some _ _ (sym v ∙ ap (λ (x : Node). verb_in x.args) (sym one) ∙ ap verb_in h.3.2)))
-        where
-          differ : verb_is.AssignRegion r ≡ verb_is.CloseRegion r → ⊥
-          differ x = cc
+          absurd (open_close r (same_Some _ _ (sym v ∙ ap (λ (x : Node). verb_in x.args) (sym one) ∙ ap verb_in h.3.2)))
 
   pub finds_close : (r : Region) → out.call ≡ Some (verb_is.CloseRegion r) → (server : Server) × (step.node.args ≡ args_are.CloseCall r server) × IsOpenedBy J r (last_call J r) server × IsLater pid.0 (last_call J r)
   finds_close r e =
@@ -727,10 +707,7 @@ module _ (pid : Pid) (pick : Option Server) (out : StepOut) (J : Past) (grown : 
           (h.1, ap (λ (x : Node). x.args) (sym one) ∙ h.3.2, f.0, f.1)
       by p n v none (inl h) =
           let one : h.3.0 ≡ step.node = same_Some h.3.0 step.node (sym h.3.1 ∙ step.node_is) in
-          absurd (differ (same_Some _ _ (sym v ∙ ap (λ (x : Node). verb_in x.args) (sym one) ∙ ap verb_in h.3.2)))
-        where
-          differ : verb_is.CloseRegion r ≡ verb_is.AssignRegion r → ⊥
-          differ x = cc
+          absurd (open_close r (sym (same_Some _ _ (sym v ∙ ap (λ (x : Node). verb_in x.args) (sym one) ∙ ap verb_in h.3.2))))
 
   -- a report of an opening isn't that of a close
   told_verb : (p : ℕ) (verb : Verb) (t : Told) → verb_of J p ≡ Some verb → report_of J p ≡ Some t → fits_verb verb t ≡ true
@@ -815,7 +792,7 @@ module _ (pid : Pid) (pick : Option Server) (out : StepOut) (J : Past) (grown : 
 
   settled_now : (r : Region) (p : ℕ) → verb_of J' p ≡ Some (verb_is.AssignRegion r) → IsSettled J' r p
   unfolding J'
-  settled_now r p is = elim (verb_or pid pick out J grown step d p (verb_is.AssignRegion r) is) [
+  settled_now r p is = elim (verb_was pid pick out J p (verb_is.AssignRegion r) is) [
     | inr new ↦ inr (inl (last_here r (ap (is_about r) new.1 ∙ is_itself r (Some r) refl) ∙ ap Some (sym new.0)))
     | inl was ↦ by out.call refl was
   ]

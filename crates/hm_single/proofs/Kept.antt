@@ -24,10 +24,10 @@ use Rattle.hm_model.specs.Undo.{stack}
 use Rattle.hm_model.specs.Whereabouts.{moved_by}
 use Rattle.hm_single.specs.Calls.{Moves}
 use Rattle.hm_model.specs.Verbs.{verb_in}
-use Rattle.hm_model.proofs.StepDoes.{bears}
 use Rattle.hm_model.proofs.Trees.{Grown, IsWaiting}
 use Rattle.hm_model.proofs.PlainActs.{is_caller}
-use Rattle.hm_single.proofs.Stage.{Later, gone_later, StageFor, caller_facts, caller_region, child_of_step, stage_later, work_of}
+use Rattle.hm_model.proofs.Small.{nil_cons}
+use Rattle.hm_single.proofs.Stage.{Later, gone_later, StageFor, caller_region, child_of_step, stage_later, work_of}
 
 -- it has a step that didn't end it
 abbrev pub IsGoing : Option Answer → Type 0
@@ -38,6 +38,20 @@ IsGoing (Some (answer_is.Await n)) = Unit {0}
 IsGoing (Some (answer_is.Done told)) = ⊥
 IsGoing (Some (answer_is.Fail cause)) = ⊥
 IsGoing (Some answer_is.Undone) = ⊥
+
+pub going_some : (last : Option Answer) → IsGoing last → last ≢ None
+going_some None h e = h
+going_some (Some answer) h e = none-some answer (sym e)
+
+-- who has a step and hasn't stopped goes on
+pub goes_from : (last : Option Answer) → is_stopped last ≡ false → last ≢ None → IsGoing last
+goes_from None runs some = absurd (some refl)
+goes_from (Some (answer_is.More n)) runs some = tt
+goes_from (Some (answer_is.Wait n)) runs some = tt
+goes_from (Some (answer_is.Await n)) runs some = tt
+goes_from (Some (answer_is.Done told)) runs some = absurd (true≢false runs)
+goes_from (Some (answer_is.Fail cause)) runs some = absurd (true≢false runs)
+goes_from (Some answer_is.Undone) runs some = absurd (true≢false runs)
 
 -- why the last answer is a failure
 abbrev pub fail_in : Option Answer → Option Cause
@@ -161,10 +175,6 @@ module _ (J J' : Past) (calm : IsCalm J J') (grown : Grown J) (kept : Lasting J)
   moves_back : (p : ℕ) (r : Region) → Moves J' p r → last_answer J' p ≢ None → Moves J p r
   moves_back p r m some = elim (calm.nodes p m.0 m.1) [ inl was ↦ (m.0, was, m.2) | inr new ↦ absurd (some (unstepped p new.0)) ]
 
-  going_some : (o : Option Answer) → IsGoing o → o ≢ None
-  going_some None h e = h
-  going_some (Some a) h e = none-some a (sym e)
-
   parent_back : (p : ℕ) (r : Region) → Moves J' p r → (q : ℕ) (node : Node) → node_of J q ≡ Some node → (rest : List ℕ) → node.above ≡ p ∷ rest → Moves J p r
   parent_back p r m q node is rest above =
       let up = grown.ups q node is p rest above in
@@ -206,6 +216,3 @@ module _ (J J' : Past) (calm : IsCalm J J') (grown : Grown J) (kept : Lasting J)
     settled = λ r p is. let was = sym (calm.verb p) ∙ is in settled_later J J' calm.later grown (λ q v w. (calm.verb q ∙ w, calm.calls_at q)) r p (calm.lasts r) was (kept.settled r p was);
     based = λ r server is. based_later J J' calm.later (λ p verb v. calm.verb p ∙ v) r server (calm.lasts r) (kept.based r server (sym (calm.later.based r) ∙ is));
   }
-    where
-      nil_cons : (p : ℕ) (rest : List ℕ) → [] ≡ p ∷ rest → ⊥
-      nil_cons p rest e = cc

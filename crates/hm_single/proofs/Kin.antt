@@ -6,12 +6,10 @@ use Rattle.hm_names.specs.Region.{Region}
 use Rattle.hm_data.specs.declared.answer.Answer.{Answer}
 use Rattle.hm_data.specs.declared.answer.Answer.TheVariants as answer_is
 use Rattle.hm_data.specs.declared.args.Args.{Args}
-use Rattle.hm_data.specs.declared.args.Args.TheVariants as args_are
-use Rattle.hm_data.specs.declared.request.Request.TheVariants as request_is
 use Rattle.hm_model.specs.Answers.{done_with, is_stopped, last_answer}
 use Rattle.hm_model.specs.Holding.{HoldsWith, InConflict}
 use Rattle.hm_model.specs.Journal.{Past}
-use Rattle.hm_model.specs.Locks.{AsksClash, Clash, Conflict, IsAbove, IsIn, asks, exclusive}
+use Rattle.hm_model.specs.Locks.{AsksClash, IsAbove, IsIn, exclusive}
 use Rattle.hm_model.specs.Phase.{all_below, all_stopped, cause, ended, ended_node, in_tree, rolled_back, root_ended, root_over, stopped_in}
 use Rattle.hm_model.specs.Tree.{Node, is_top, made, node_of}
 use Rattle.hm_model.specs.Undo.{is_empty, stack}
@@ -21,13 +19,10 @@ use Rattle.hm_single.specs.Calls.{Moves}
 use Rattle.hm_model.specs.Verbs.{verb_in}
 use Rattle.hm_model.proofs.StepDoes.{bears, bears_by}
 use Rattle.hm_model.proofs.Trees.{Grown, IsWaiting}
-use Rattle.hm_single.proofs.Kept.{IsGoing, IsMove, Lasting, fail_in}
+use Rattle.hm_single.proofs.Kept.{IsGoing, IsMove, Lasting, fail_in, going_some}
 use Rattle.hm_model.proofs.PlainActs.{is_caller}
-use Rattle.hm_single.proofs.Stage.{caller_facts}
-
-top_nil : (above : List ℕ) → is_top above ≡ true → above ≡ []
-top_nil [] h = refl
-top_nil (u ∷ rest) h = absurd (false≢true h)
+use Rattle.hm_model.proofs.Small.{top_is}
+use Rattle.hm_model.proofs.Transits.{asks_region, caller_facts}
 
 -- a child of a transit calls a region server
 bears_moved : (up made : Args) (r : Region) → moved_by up ≡ Some r → bears up made ≡ true → is_caller made ≡ true
@@ -69,16 +64,6 @@ module _ (J : Past) (grown : Grown J) where
 
   not_above : (p q : ℕ) (r s : Region) → Moves J p r → Moves J q s → IsAbove p (node_of J q) → ⊥
   not_above p q r s m n among = moved_not_caller n.0.args s n.2 (above_caller p r m n.0.above q n.0 n.1 refl (subst (IsAbove p) n.1 among))
-
-  asks_region : (args : Args) (r : Region) → moved_by args ≡ Some r → IsIn (exclusive (resource_is.Region r)) (asks args)
-  asks_region (args_are.Transit region goal to) r m = inr (inr (inl (ap (λ x. exclusive (resource_is.Region x)) (sym (same_Some region r m)))))
-  asks_region (args_are.Root (request_is.Move region to) first) r m = inr (inr (inl (ap (λ x. exclusive (resource_is.Region x)) (sym (same_Some region r m)))))
-  asks_region (args_are.Root request first) r m = by request m
-    where
-      by : (request : Rattle.hm_data.specs.declared.request.Request.Request) → Rattle.hm_model.specs.Whereabouts.moved_by_request request ≡ Some r → IsIn (exclusive (resource_is.Region r)) (Rattle.hm_model.specs.Locks.request_asks request first)
-      by (request_is.Move region to) m = inr (inr (inl (ap (λ x. exclusive (resource_is.Region x)) (sym (same_Some region r m)))))
-      by request m = absurd (none-some r m)
-  asks_region args r m = absurd (none-some r m)
 
   clashes : (p q : ℕ) (r : Region) → Moves J p r → Moves J q r → AsksClash (node_of J p) (node_of J q)
   clashes p q r m n = subst (λ x. AsksClash x (node_of J q)) (sym m.1) (subst (AsksClash (Some m.0)) (sym n.1)
@@ -142,7 +127,7 @@ module _ (J : Past) (grown : Grown J) where
     ended_is p node is = ap (ended_node J p) is
 
     move_of : (p : ℕ) (r : Region) (m : Moves J p r) → is_top m.0.above ≡ true → IsMove J p
-    move_of p r m top = record { node = m.0; node_is = m.1; region = r; moved = m.2; top = top_nil m.0.above top }
+    move_of p r m top = record { node = m.0; node_is = m.1; region = r; moved = m.2; top = top_is m.0.above top }
 
     root_runs : (p : ℕ) → IsMove J p → IsGoing (last_answer J p) → root_ended J p ≡ false
     root_runs p move going = by (last_answer J p) going (kept.caused p move)
@@ -155,10 +140,6 @@ module _ (J : Past) (grown : Grown J) where
         by (Some (answer_is.Fail cause)) g c = absurd g
         by (Some answer_is.Undone) g c = absurd g
         by None g c = absurd g
-
-    going_some : (o : Option Answer) → IsGoing o → o ≢ None
-    going_some None h e = h
-    going_some (Some a) h e = none-some a (sym e)
 
     pub going_runs : (o : Option Answer) → IsGoing o → is_stopped o ≡ false
     going_runs (Some (answer_is.More n)) h = refl

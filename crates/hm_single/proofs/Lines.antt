@@ -31,7 +31,6 @@ use Rattle.hm_model.specs.ActSorts.{is_edit}
 use Rattle.hm_model.specs.Changes.{add_merged, mark_merged, merge_edits, merged_of, split_edits, split_range}
 use Rattle.hm_model.specs.Checks.{by_start, parts_of}
 use Rattle.hm_model.specs.declared.merged.Merged.{Merged}
-use Rattle.hm_kinds.proofs.Covering.{order_has}
 use Rattle.hm_model.specs.Locks.{IsIn, in_name_order}
 use Rattle.hm_data.specs.declared.args.Child.{Child}
 use Rattle.hm_data.specs.declared.step.StepIn.{StepIn}
@@ -54,6 +53,7 @@ use Rattle.hm_kinds.proofs.ModifyTable.{Modifying}
 use Rattle.hm_kinds.proofs.Roots.{StageOf}
 use Rattle.hm_kinds.proofs.SplitRegion.{Splitting}
 use Rattle.hm_model.proofs.Listed.{transit_made}
+use Rattle.hm_model.proofs.Distinct.{out_ordered}
 use Rattle.hm_single.proofs.Makes.{makes}
 
 -- requests that close regions, those that find none with a place, and those of them that open none
@@ -403,7 +403,7 @@ split_good there own key first region differs = by (range_in (there (key_is.Regi
 
 pub merge_good : (there : Catalog) (regions : List Region) (first : ℕ) (region : Region) → (IsIn region regions → ⊥) → AllGood region (merge_edits there regions first)
 unfolding region_in
-merge_good there regions first region out_of = good_both region (mark_merged there (in_name_order regions)) (add_merged there first regions regions) (marks (in_name_order regions) (λ among. out_of (order_has region regions among))) (adds regions)
+merge_good there regions first region out_of = good_both region (mark_merged there (in_name_order regions)) (add_merged there first regions regions) (marks (in_name_order regions) (λ among. out_of (out_ordered region regions among))) (adds regions)
   where
     marks : (list : List Region) → (IsIn region list → ⊥) → AllGood region (mark_merged there list)
     marks [] off = tt

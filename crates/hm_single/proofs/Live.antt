@@ -54,20 +54,21 @@ use Rattle.hm_model.specs.Undoing.{undo_edits}
 use Rattle.hm_model.specs.Whereabouts.{moved_by}
 use Rattle.hm_model.specs.declared.lock.Ask.{Ask}
 use Rattle.hm_model.specs.declared.lock.Resource.TheVariants as resource_is
-use Rattle.hm_model.proofs.ExactRows.{begin_alike, cons_nil, first_act}
+use Rattle.hm_model.proofs.ExactRows.{begin_alike, first_act}
 use Rattle.hm_model.proofs.KeyTests.{same_region-is, same_region-refl, same_table-is, same_table-refl}
 use Rattle.hm_model.proofs.LegalSteps.{ready_stops}
 use Rattle.hm_model.proofs.Rows.{row_read}
-use Rattle.hm_model.proofs.Trees.{Grown, down_rooted, grown_all, sheets_stay, submit_rooted}
+use Rattle.hm_model.proofs.Trees.{Grown, down_rooted, grown_all, sheets_stay, start_none, submit_rooted}
 use Rattle.hm_kinds.proofs.Covering.{covers_from, merge_own, rows_table}
 use Rattle.hm_kinds.proofs.Roots.{Stage, StageOf}
 use Rattle.hm_serial.proofs.Apart.{Aside}
 use Rattle.hm_kinds.proofs.Editless.{none_act}
-use Rattle.hm_serial.proofs.FallAll.{All, held_before, edits_are, falls_all, none_at, sick, step_aside, u, undo_back, undo_holds, undo_within}
+use Rattle.hm_serial.proofs.FallAll.{All, held_before, edits_are, falls_all, sick, step_aside, u, undo_back, undo_holds, undo_within}
 use Rattle.hm_serial.proofs.Fallen.{MayFall, may_on, root_of_node}
 use Rattle.hm_serial.proofs.FallStep.{kid_or_root, other_last, own_begun, own_root, within_now}
 use Rattle.hm_serial.proofs.Local.{Within, within_others}
 use Rattle.hm_model.proofs.Tops.{TopHolds, TopIs}
+use Rattle.hm_model.proofs.Small.{cons_nil}
 use Rattle.hm_serial.proofs.Standing.{quiet_tree, step_open}
 use Rattle.hm_cover.proofs.Local.{local_free}
 use Rattle.hm_cover.proofs.Spared.{Spares, spared_all}
@@ -80,6 +81,7 @@ use Rattle.hm_single.proofs.Placing.{placed_live}
 use Rattle.hm_single.proofs.Tidies.{edits_or, kid_editless, lined_unmoved, tidy_all}
 use Rattle.hm_single.proofs.Tidy.{Closes, Mild, Tidy, own_is}
 use Rattle.hm_single.proofs.Vacated.{unassigned}
+use Rattle.std.proofs.Math.Bool.{or-false}
 
 -- a region's row is live, and its table's on
 abbrev pub IsFine : Past → Region → Type 0
@@ -102,10 +104,6 @@ opens_on (Some state_is.Enabled) h = refl
 opens_on (Some state_is.Enabling) h = refl
 opens_on (Some state_is.Disabling) h = refl
 opens_on (Some state_is.Disabled) h = absurd (false≢true h)
-
-over : (b : Bool) → (b || false) ≡ true → b ≡ true
-over true h = refl
-over false h = absurd (false≢true h)
 
 among_or : (region : Region) (list : List Region) → IsIn region list ⊎ (IsIn region list → ⊥)
 among_or region [] = inr (λ h. h)
@@ -448,7 +446,7 @@ module _ (pid : Pid) (row : ℕ) (out : StepOut) (J : Past) (legal : IsLegal (en
     mild_fine table first is on =
         let its_undo = u pid row out J legal its_grown its_all.falls in
         let mild : Mild table (its_undo.latest ∷ its_undo.below) = subst (Mild table) its_undo.stack_is ((tidy_all J legal.0 (root_of J pid.0) root (request_is.DisableTable table) first holds_it.0 is refl).mild table refl) in
-        let one : table ≡ region.table = same_table-is table region.table (over (same_table table region.table) (ap (λ a. covers a (key_is.Table region.table)) (sym is) ∙ on)) in
+        let one : table ≡ region.table = same_table-is table region.table (sym (or-false (same_table table region.table)) ∙ ap (λ a. covers a (key_is.Table region.table)) (sym is) ∙ on) in
         let fine = live region placed in
         let rows : cat K (key_is.Region region) ≡ cat J (key_is.Region region) = ap (λ l. edited l (key_is.Region region) (cat J (key_is.Region region))) undone ∙ mild.0.0 region (cat J (key_is.Region region)) in (
           subst IsLiveRow (sym rows) fine.0,
@@ -522,7 +520,7 @@ parts_fine (entry ∷ J) legal is = absurd (false≢true is)
 
 pub fine_all : (J : Past) → IsLegal J → BothFine J
 fine_all [] legal = ((λ region placed. absurd (false≢true placed)), (λ r node request first holds. absurd (none-some node holds.0.0)))
-fine_all (entry_is.Start sheets ∷ J) legal = (let b = fine_all J legal.0 in (b.0, (λ r node request first holds. absurd (none-some node (sym (none_at J legal.1.0.0 r) ∙ holds.0.0)))))
+fine_all (entry_is.Start sheets ∷ J) legal = (let b = fine_all J legal.0 in (b.0, (λ r node request first holds. absurd (none-some node (sym (start_none J legal.1.0.0 r) ∙ holds.0.0)))))
 fine_all (entry_is.Submit nonce asked ∷ J) legal =
     let b = fine_all J legal.0 in
     let g = grown_all J legal.0 in (

@@ -1,5 +1,5 @@
 -- No root closes a region that its request drew: such a region has no row when the root tests those that it is to close.
-use Rattle.std.proofs.Common.{◌≡◌, ◌≢◌, ℕ, ◌+◌, ◌<◌, ◌≤◌, ◌&&◌, ◌==◌, cond, not, List, [], ◌∷◌, Bool, true, false, Option, Some, None, is_none, refl, ap, sym, ◌∙◌, subst, inl, inr, arith}
+use Rattle.std.proofs.Common.{◌≡◌, ◌≢◌, ℕ, ◌+◌, ◌<◌, ◌≤◌, List, [], ◌∷◌, Bool, true, false, Option, Some, None, is_none, refl, ap, sym, ◌∙◌, subst, inl, inr, arith}
 use Rattle.std.specs.List.{list_any}
 use Rattle.std.proofs.lemmas.Bool.{cases_Bool, cond-true, false≢true, or_left, or_parts, true≢false}
 use Rattle.std.proofs.lemmas.Option.{none-some, same_Some}
@@ -23,7 +23,6 @@ use Rattle.hm_model.specs.Catalog.{Catalog, was}
 use Rattle.hm_model.specs.Checks.{are_adjacent, by_start, can_split, key_inside, parts_of, region_ready, regions_live, rows_of, table_enabled}
 use Rattle.hm_model.specs.Deeds.{cause_of_merge}
 use Rattle.hm_model.specs.Journal.{Past}
-use Rattle.hm_model.specs.Keys.{same_table}
 use Rattle.hm_model.specs.Kinds.{kind_of, request_kind, table_of_first, table_of_request}
 use Rattle.hm_model.specs.Lists.{Line, exact_rows, lines_of}
 use Rattle.hm_model.specs.Locks.{IsIn}
@@ -44,6 +43,7 @@ use Rattle.hm_model.proofs.Siblings.{merge_is, one_table}
 use Rattle.hm_model.proofs.LegalSteps.{StepFacts, ready_stops}
 use Rattle.hm_model.proofs.Tops.{TopHolds}
 use Rattle.hm_model.proofs.Trees.{grown_all}
+use Rattle.hm_model.proofs.Answered.{or_none, running_undone}
 use Rattle.hm_kinds.proofs.Covering.{covers_from, merge_own}
 use Rattle.hm_kinds.proofs.LockForms.{IsRight}
 use Rattle.hm_kinds.proofs.MergeRegions.{Merging}
@@ -52,8 +52,7 @@ use Rattle.hm_kinds.proofs.SplitRegion.{Splitting}
 use Rattle.hm_serial.proofs.FallAll.{falls_all}
 use Rattle.hm_serial.proofs.StandAll.{stands_all}
 use Rattle.hm_serial.proofs.Standing.{step_open}
-use Rattle.hm_cover.proofs.Edits.{neither}
-use Rattle.hm_cover.proofs.SerialWhole.{running_undone, whole_all}
+use Rattle.hm_cover.proofs.SerialWhole.{whole_all}
 use Rattle.hm_cover.proofs.Whole.{key_of_id}
 use Rattle.hm_single.specs.Calls.{closes_first}
 use Rattle.hm_single.proofs.Own.{Own, does, own, root_is, step}
@@ -101,16 +100,16 @@ row_there base (region ∷ more) h r (inr later) none =
 -- the region that can be split has a row
 split_there : (own_region : Region) (key : List ℕ) (base : Catalog) → can_split (base (key_is.Table own_region.table)) (base (key_is.Region own_region)) key ≡ None → (r : Region) → IsIn r (own_region ∷ []) → base (key_is.Region r) ≢ None
 split_there own_region key base can r among =
-    let one = neither (region_ready (base (key_is.Table own_region.table)) (base (key_is.Region own_region))) (key_inside (range_in (base (key_is.Region own_region))) key) can in
-    let two = neither (table_enabled (base (key_is.Table own_region.table))) (regions_live (base (key_is.Region own_region) ∷ [])) one.0 in
+    let one = or_none (region_ready (base (key_is.Table own_region.table)) (base (key_is.Region own_region))) (key_inside (range_in (base (key_is.Region own_region))) key) can in
+    let two = or_none (table_enabled (base (key_is.Table own_region.table))) (regions_live (base (key_is.Region own_region) ∷ [])) one.0 in
     row_there base (own_region ∷ []) (none_missing (base (key_is.Region own_region) ∷ []) two.1) r among
 
 -- so do those that can be merged
 merge_there : (regions : List Region) (base : Catalog) → cause_of_merge (table_of_first regions) base regions ≡ None → (r : Region) → IsIn r regions → base (key_is.Region r) ≢ None
 merge_there [] base can r among = absurd among
 merge_there (region ∷ more) base can r among =
-    let one = neither (table_enabled (base (key_is.Table region.table))) (or_else (regions_live (rows_of base (region ∷ more))) (are_adjacent (by_start (parts_of base (region ∷ more))))) can in
-    let two = neither (regions_live (rows_of base (region ∷ more))) (are_adjacent (by_start (parts_of base (region ∷ more)))) one.1 in
+    let one = or_none (table_enabled (base (key_is.Table region.table))) (or_else (regions_live (rows_of base (region ∷ more))) (are_adjacent (by_start (parts_of base (region ∷ more))))) can in
+    let two = or_none (regions_live (rows_of base (region ∷ more))) (are_adjacent (by_start (parts_of base (region ∷ more)))) one.1 in
     row_there base (region ∷ more) (none_missing (rows_of base (region ∷ more)) two.0) r among
 
 -- at such an act the regions that the request names were there before its first step

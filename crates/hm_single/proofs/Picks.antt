@@ -40,12 +40,12 @@ use Rattle.hm_model.specs.Whereabouts.{moved_by}
 use Rattle.hm_model.proofs.ExactRows.{exact_is, sheet_is, valid_by}
 use Rattle.hm_model.proofs.NameTies.{same_server-is, same_server-refl}
 use Rattle.hm_model.proofs.Trees.{grown_all}
+use Rattle.hm_model.proofs.Small.{implied, top_is}
 use Rattle.hm_single.specs.Picking.{PicksAreRight, PicksAreThere}
 use Rattle.hm_single.proofs.Aimless.{NamesNone, aimless_all}
 use Rattle.hm_single.proofs.All.{kept_all}
-use Rattle.hm_single.proofs.Kept.{IsGoing}
+use Rattle.hm_single.proofs.Kept.{IsGoing, goes_from}
 use Rattle.hm_single.proofs.Tried.{trying_all}
-use Rattle.hm_single.proofs.Trying.{goes_from}
 
 -- a phase in which a step may be made
 abbrev is_running : Phase → Bool
@@ -121,15 +121,11 @@ module _ (J : Past) (legal : IsLegal J) (p : ℕ) (node : Node) (is : node_of J 
   runs_on : (is_running (own_phase (last_answer J p) (children_ended J p)) ≡ true) × (is_top node.above ≡ true → cause J node.root ≡ None)
   runs_on = table_runs (cause J node.root) (rolled_back J node.root) (is_top node.above) (own_phase (last_answer J p) (children_ended J p)) running
 
-  nil_top : (above : List ℕ) → is_top above ≡ true → above ≡ []
-  nil_top [] h = refl
-  nil_top (up ∷ above) h = absurd (false≢true h)
-
   undoes_not : undoes J p node ≡ false
   undoes_not = elim (cases_Bool (is_top node.above)) [
     | inr below ↦ and_left (is_top node.above) _ below
     | inl top ↦
-        let root : node.root ≡ p = (grown_all J legal).tops p node is (nil_top node.above top) in
+        let root : node.root ≡ p = (grown_all J legal).tops p node is (top_is node.above top) in
         and_right (is_top node.above) _ (and_left (is_some (cause J p)) (all_stopped J p && not (is_empty (stack J p))) (ap is_some (ap (cause J) (sym root) ∙ runs_on.1 top)))
   ]
 
@@ -222,16 +218,11 @@ module _ (J : Past) (legal : IsLegal J) (p : ℕ) (node : Node) (is : node_of J 
           ]
         ]
 
--- where one is needed, one is live
-live_there : (needed live : Bool) → needed ≡ true → (not needed || live) ≡ true → live ≡ true
-live_there true live e h = h
-live_there false live e h = absurd (false≢true e)
-
 -- a server fits where one is needed
 pub picks_there : PicksAreThere
 picks_there J legal p node is may needs =
     let one : may.0 ≡ node = same_Some may.0 node (sym may.1 ∙ is) in
-    one_fits J legal p node is (subst (IsReady J p) one may.2) needs (live_there (needs_server J p node) (has_live J) needs (ap (λ n. not (needs_server J p n) || has_live J) (sym one) ∙ may.3))
+    one_fits J legal p node is (subst (IsReady J p) one may.2) needs (implied (needs_server J p node) (has_live J) needs (ap (λ n. not (needs_server J p n) || has_live J) (sym one) ∙ may.3))
 
 -- and so there is a pick that is right
 pub picks_right : PicksAreRight

@@ -165,7 +165,7 @@ module _ (J : Past) (region : Region) (kept : Lasting J) (unplaced : is_placed (
   free_by p args (Some (answer_is.Fail cause)) q made answer m runs h = absurd (true≢false runs)
   free_by p args (Some answer_is.Undone) q made answer m runs h = absurd (true≢false runs)
 
-  free_at : (p : ℕ) (node : Node) → node_of J p ≡ Some node → moved_by node.args ≡ Some region → is_stopped (last_answer J p) ≡ false → IsFreeRow (row_of J p node)
+  pub free_at : (p : ℕ) (node : Node) → node_of J p ≡ Some node → moved_by node.args ≡ Some region → is_stopped (last_answer J p) ≡ false → IsFreeRow (row_of J p node)
   free_at p node is m runs = by (last_answer J p) refl runs
     where
       at : (going : Rattle.hm_single.proofs.Kept.IsGoing (last_answer J p)) → AtRow J p region (place_of J region) (last_call J region) (last_answer J p) (child_of_step J p) (node_of J (child_of_step J p)) (last_answer J (child_of_step J p))
@@ -183,7 +183,7 @@ module _ (J : Past) (region : Region) (kept : Lasting J) (unplaced : is_placed (
       by (Some (answer_is.Fail cause)) l go = absurd (true≢false go)
       by (Some answer_is.Undone) l go = absurd (true≢false go)
 
-moved_kind : (args : Args) (region : Region) → moved_by args ≡ Some region → kind_of args ≡ 10
+pub moved_kind : (args : Args) (region : Region) → moved_by args ≡ Some region → kind_of args ≡ 10
 moved_kind args region m = by (part_of args)
   where
     by : Rattle.hm_model.proofs.StepDoes.Part args → kind_of args ≡ 10

@@ -1,6 +1,6 @@
 -- Where a region stands, and which entries leave it as it is.
-use Rattle.std.proofs.Common.{◌≡◌, ℕ, ◌+◌, List, [], ◌∷◌, true, false, cond, Option, Some, None, is_some, refl, ap, sym, ◌∙◌, subst, inl, inr, ◌⊎◌}
-use Rattle.std.proofs.lemmas.Bool.{cases_Bool, false≢true, true≢false}
+use Rattle.std.proofs.Common.{◌≡◌, ℕ, ◌+◌, List, [], ◌∷◌, true, false, cond, Option, Some, None, refl, ap, sym, ◌∙◌, subst, inl, inr, ◌⊎◌}
+use Rattle.std.proofs.lemmas.Bool.{cases_Bool, true≢false}
 use Rattle.std.proofs.lemmas.Option.{none-some, same_Some}
 use Rattle.hm_names.specs.Region.{Region}
 use Rattle.hm_names.specs.Server.{Server}
@@ -73,11 +73,6 @@ pub region_caller : (args : Args) (r : Region) → caller_region args ≡ Some r
 region_caller (args_are.AssignCall region server) r is = refl
 region_caller (args_are.CloseCall region server) r is = refl
 region_caller args r is = absurd (none-some r is)
-
-pub caller_facts : (args : Args) → is_caller args ≡ true → (moved_by args ≡ None) × (is_some (verb_in args) ≡ true)
-caller_facts (args_are.AssignCall region server) h = (refl, refl)
-caller_facts (args_are.CloseCall region server) h = (refl, refl)
-caller_facts args h = absurd (false≢true h)
 
 pub called_region : (args : Args) (verb : Verb) → verb_in args ≡ Some verb → region_called verb ≡ caller_region args
 called_region (args_are.AssignCall region server) verb is = ap region_called (sym (same_Some _ verb is))

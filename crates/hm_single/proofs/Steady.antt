@@ -27,13 +27,14 @@ use Rattle.hm_model.specs.Reads.{covers, reads}
 use Rattle.hm_model.specs.Rules.{IsLegal}
 use Rattle.hm_model.specs.TransitActs.{may_open}
 use Rattle.hm_model.specs.Tree.{Node, is_top, node_of, root_of}
-use Rattle.hm_model.specs.Undo.{Undoable, is_empty, stack}
+use Rattle.hm_model.specs.Undo.{is_empty, stack}
 use Rattle.hm_model.specs.Whereabouts.{moved_by}
 use Rattle.hm_model.proofs.Free.{step_free}
 use Rattle.hm_model.proofs.LegalSteps.{StepFacts, ready_stops}
 use Rattle.hm_model.proofs.Running.{calm_stopped}
 use Rattle.hm_model.proofs.Tops.{TopHolds, TopIs}
 use Rattle.hm_model.proofs.Trees.{Grown, grown_all}
+use Rattle.hm_model.proofs.Small.{cons_nil}
 use Rattle.hm_kinds.proofs.Covering.{rows_table}
 use Rattle.hm_serial.proofs.Apart.{Aside}
 use Rattle.hm_serial.proofs.FallAll.{All, falls_all, step_aside, top as undone_top, u, undo_holds, undo_within}
@@ -160,11 +161,8 @@ module _ (pid : Pid) (row : ℕ) (out : StepOut) (J : Past) (legal : IsLegal (en
         let undone = u pid row out J legal its_grown its_all.falls in
         let one : m.0 ≡ root = same_Some m.0 root (sym m.1 ∙ ap (node_of J) same ∙ (undo_holds pid row out J legal its_grown its_all.falls).0.0) in
         let move : IsMove J q = record { node = m.0; node_is = m.1; region = region; moved = m.2; top = ap (λ (n : Node). n.above) one ∙ (undo_holds pid row out J legal its_grown its_all.falls).0.1 } in
-        some_nil undone.latest undone.below (sym undone.stack_is ∙ ap (stack J) (sym same) ∙ (kept_all J legal.0).stacks q move)
+        cons_nil undone.latest undone.below (sym undone.stack_is ∙ ap (stack J) (sym same) ∙ (kept_all J legal.0).stacks q move)
   ]
-    where
-      some_nil : (x : Undoable) (more : List Undoable) → x ∷ more ≡ [] → ⊥
-      some_nil x more e = cc
 
   undo_steady : (key : CatKey) → reads m.0.args key ≡ true → cat (entry_is.Undo pid row out ∷ J) key ≡ cat J key
   undo_steady key reading = within_others root.args out.edits (undo_within pid row out J legal its_grown its_all.falls) key

@@ -1,6 +1,6 @@
 -- Every tree of a legal journal is so.
 use Rattle.std.proofs.Common.{◌≡◌, ◌≢◌, ℕ, ◌-◌, ◌<◌, List, [], ◌∷◌, true, false, Option, Some, None, is_some, refl, ap, sym, ◌∙◌, subst, inl, inr, ◌⊎◌, slice_get, arith}
-use Rattle.std.proofs.lemmas.Bool.{cases_eq, cond-false, false≢true, or_right, true≢false}
+use Rattle.std.proofs.lemmas.Bool.{cases_eq, cond-false, false≢true, true≢false}
 use Rattle.std.proofs.lemmas.Option.{none-some, same_Some}
 use Rattle.hm_names.specs.Region.{Region}
 use Rattle.hm_names.specs.Server.{Server}
@@ -29,20 +29,20 @@ use Rattle.hm_model.specs.Whereabouts.{moved_by}
 use Rattle.hm_model.proofs.ExactRows.{is_listed}
 use Rattle.hm_model.proofs.PlainActs.{is_caller}
 use Rattle.hm_model.proofs.StepDoes.{bears}
-use Rattle.hm_model.proofs.Trees.{Grown, IsRooted, down_rooted, grown_all, is_there, old_or_new, root_within, submit_rooted, undo_rooted}
+use Rattle.hm_model.proofs.Trees.{Grown, IsRooted, down_rooted, grown_all, is_there, old_or_new, root_within, start_none, submit_rooted, undo_rooted}
 use Rattle.hm_kinds.proofs.Covering.{rows_table}
 use Rattle.hm_serial.proofs.Apart.{Aside, step_top}
-use Rattle.hm_serial.proofs.FallAll.{All, falls_all, none_at, step_aside}
+use Rattle.hm_serial.proofs.FallAll.{All, falls_all, step_aside}
 use Rattle.hm_serial.proofs.Fallen.{may_on, root_of_node}
 use Rattle.hm_serial.proofs.FallStep.{belongs_here, kid_or_root, led_here, own_args, own_root, other_last}
 use Rattle.hm_serial.proofs.Kinship.{editless, is_kid, kid_rows}
 use Rattle.hm_model.proofs.Tops.{TopIs}
+use Rattle.hm_model.proofs.Small.{cons_nil}
 use Rattle.hm_serial.proofs.Standing.{step_left}
 use Rattle.hm_single.specs.Calls.{MovesIn}
 use Rattle.hm_single.proofs.Lines.{is_creating, is_deleting}
 use Rattle.hm_single.proofs.Makes.{GoalIs, makes}
 use Rattle.hm_single.proofs.Own.{does, goals, led_now, own, step}
-use Rattle.hm_model.proofs.ExactRows.{cons_nil}
 use Rattle.hm_model.specs.Whereabouts.{moved_by_request}
 use Rattle.hm_serial.proofs.FallStep.{kid_not_root}
 use Rattle.hm_single.proofs.Tidy.{AllTidy, Mild, MildOne, Tidy, is_quiet, may_back, members, own_tidy, push_mild, stack_now, stays, tidy_like}
@@ -220,7 +220,7 @@ rest_mild table (latest ∷ below) m = m.1
 -- in every legal journal
 pub tidy_all : (J : Past) → IsLegal J → AllTidy J
 tidy_all [] legal r node request first top args listed = absurd (none-some node top.0)
-tidy_all (entry_is.Start sheets ∷ J) legal r node request first top args listed = absurd (none-some node (sym (none_at J legal.1.0.0 r) ∙ top.0))
+tidy_all (entry_is.Start sheets ∷ J) legal r node request first top args listed = absurd (none-some node (sym (start_none J legal.1.0.0 r) ∙ top.0))
 tidy_all (entry_is.Submit nonce asked ∷ J) legal r node request first top args listed =
     let g = grown_all J legal.0 in
     rooted_tidy J (entry_is.Submit nonce asked ∷ J) (submit_rooted nonce asked J g) g (λ k. refl) (λ k. refl) (λ table k m. m) (λ k none. ((falls_all J legal.0).falls.gone k none).0) (tidy_all J legal.0) r node request first top args listed

@@ -31,6 +31,7 @@ use Rattle.hm_model.specs.TransitActs.{behind_close, candidate, close_at, close_
 use Rattle.hm_model.specs.Tree.{Node}
 use Rattle.hm_model.specs.Single.{IsBasedAt}
 use Rattle.hm_single.specs.Calls.{IsLater, IsOpenedBy, IsVoid}
+use Rattle.std.proofs.Math.Bool.{or-false}
 
 abbrev pub placed : RegionState → Option Server → Place
 placed state server = record { state = state; server = server }
@@ -115,10 +116,6 @@ pub record Leaves (J : Past) (r : Region) (last : Option ℕ) (place : Place) (o
   pub silent : out.call ≡ None
   pub next : Next J r last (set_place out.place place) out.children out.answer
 
-pub gone_if : (b : Bool) → (b || false) ≡ true → b ≡ true
-gone_if true h = refl
-gone_if false h = absurd (false≢true h)
-
 module _ (J : Past) (r : Region) (last : Option ℕ) where
   leaves_places : (old : Place) (answer : Answer) (place : Option Place) → Next J r last (set_place place old) [] answer → Leaves J r last old (places answer place)
   leaves_places old answer place h = record { silent = refl; next = h }
@@ -134,8 +131,8 @@ module _ (J : Past) (r : Region) (last : Option ℕ) where
   pub gone_void : (server : Option Server) → (fenced_if J server || false) ≡ true → (at : Server) × (server ≡ Some at) × IsOpenedBy J r last at → IsVoid J r last
   gone_void server gone rest =
       elim rest.2 [
-        | inl opened ↦ subst (IsVoid J r) (sym opened.1) (inr (inr (rest.0, opened.2, gone_if (is_fenced J rest.0) (subst (λ s. (fenced_if J s || false) ≡ true) rest.1 gone))))
-        | inr based ↦ subst (IsVoid J r) (sym based.0) (left_fenced rest.0 based.1 (gone_if (is_fenced J rest.0) (subst (λ s. (fenced_if J s || false) ≡ true) rest.1 gone)))
+        | inl opened ↦ subst (IsVoid J r) (sym opened.1) (inr (inr (rest.0, opened.2, sym (or-false (is_fenced J rest.0)) ∙ subst (λ s. (fenced_if J s || false) ≡ true) rest.1 gone)))
+        | inr based ↦ subst (IsVoid J r) (sym based.0) (left_fenced rest.0 based.1 (sym (or-false (is_fenced J rest.0)) ∙ subst (λ s. (fenced_if J s || false) ≡ true) rest.1 gone))
       ]
 
   -- a region that isn't open, or is at a fenced server

@@ -43,7 +43,7 @@ use Rattle.hm_model.proofs.Trees.{Grown, answer_now, grown_all, other_answer}
 use Rattle.hm_single.specs.Calls.{Moves, NextIs}
 use Rattle.hm_single.proofs.All.{kept_all, place_by_row}
 use Rattle.hm_single.proofs.Gives.{Gives, confirm_row, gives_by}
-use Rattle.hm_single.proofs.Kept.{IsGoing, Lasting}
+use Rattle.hm_single.proofs.Kept.{IsGoing, Lasting, goes_from}
 use Rattle.hm_single.proofs.Kin.{goes_holds, holds_goes, transits_conflict}
 use Rattle.hm_single.proofs.Own.{cut_or, does, step}
 use Rattle.hm_single.proofs.Placing.{may_read, own_row}
@@ -52,7 +52,7 @@ use Rattle.hm_single.proofs.Stage.{moved_region, the_region, work_of}
 use Rattle.hm_single.proofs.Steady.{may_stay}
 use Rattle.hm_single.proofs.Transit.{IsFreeRow}
 use Rattle.hm_single.proofs.Unassigned.{place_same, shut_all, work_now, work_same}
-use Rattle.hm_single.proofs.Trying.{AllTrying, Trying, calm_trying, goes_from, is_tried, more_tries, not_both, not_open}
+use Rattle.hm_single.proofs.Trying.{AllTrying, Trying, calm_trying, is_tried, more_tries, not_both, not_open}
 
 -- a step
 module _ (pid : Pid) (pick : Option Server) (out : StepOut) (J : Past) (legal : IsLegal (entry_is.Step pid pick out ∷ J)) (before : AllTrying J) where

@@ -1,16 +1,15 @@
 -- What holds of the transit of a region that is being opened, or failed to open; entries that make no step leave it so.
-use Rattle.std.proofs.Common.{◌≡◌, ◌≢◌, ℕ, ◌+◌, ◌-◌, ◌≤◌, ◌^◌, nat_lt, ◌||◌, ◌∷◌, Bool, true, false, cond, Option, Some, None, refl, ap, sym, ◌∙◌, subst, inl, inr, arith}
+use Rattle.std.proofs.Common.{◌≡◌, ◌≢◌, ℕ, ◌+◌, ◌-◌, ◌≤◌, ◌^◌, nat_lt, ◌||◌, ◌∷◌, Bool, true, false, cond, Option, Some, refl, ap, sym, ◌∙◌, subst, inl, inr, arith}
 use Rattle.std.proofs.lemmas.Bool.{cases_eq, false≢true, true≢false}
 use Rattle.hm_names.specs.Region.{Region}
 use Rattle.hm_names.specs.Server.{Server}
-use Rattle.hm_data.specs.declared.answer.Answer.{Answer}
 use Rattle.hm_data.specs.declared.answer.Answer.TheVariants as answer_is
 use Rattle.hm_data.specs.declared.catalog.CatKey.TheVariants as key_is
 use Rattle.hm_data.specs.declared.entry.Entry.{Entry}
 use Rattle.hm_data.specs.declared.place.Place.{Place}
 use Rattle.hm_data.specs.declared.place.RegionState.{RegionState}
 use Rattle.hm_data.specs.declared.place.RegionState.TheVariants as place_is
-use Rattle.hm_model.specs.Answers.{is_stopped, last_answer}
+use Rattle.hm_model.specs.Answers.{last_answer}
 use Rattle.hm_model.specs.Catalog.{cat}
 use Rattle.hm_model.specs.Journal.{Past}
 use Rattle.hm_model.specs.Places.{one_more, place_of, tries_of}
@@ -57,16 +56,6 @@ more_tries n = by (nat_lt n (2 ^ 32 - 1)) refl
       | inl zero_is ↦ absurd (true≢false (sym (ap (λ k. nat_lt k (2 ^ 32 - 1)) zero_is) ∙ e))
       | inr some ↦ omega (arith, some)
     ]
-
--- who has a step and hasn't stopped goes on
-pub goes_from : (o : Option Answer) → is_stopped o ≡ false → o ≢ None → IsGoing o
-goes_from None runs some = absurd (some refl)
-goes_from (Some (answer_is.More n)) runs some = tt
-goes_from (Some (answer_is.Wait n)) runs some = tt
-goes_from (Some (answer_is.Await n)) runs some = tt
-goes_from (Some (answer_is.Done told)) runs some = absurd (true≢false runs)
-goes_from (Some (answer_is.Fail cause)) runs some = absurd (true≢false runs)
-goes_from (Some answer_is.Undone) runs some = absurd (true≢false runs)
 
 -- an entry that makes no step leaves all as it was
 pub calm_trying : (entry : Entry) (J : Past) → IsLegal (entry ∷ J) → ((r : Region) → place_of (entry ∷ J) r ≡ place_of J r) → ((r : Region) → work_of (entry ∷ J) r ≡ work_of J r) → ((p : ℕ) → last_answer (entry ∷ J) p ≡ last_answer J p)

@@ -45,12 +45,12 @@ use Rattle.hm_model.proofs.LegalSteps.{StepFacts, ready_stops}
 use Rattle.hm_model.proofs.StepDoes.{Does}
 use Rattle.hm_model.proofs.Free.{step_free}
 use Rattle.hm_model.proofs.Taken.{clash_sym}
-use Rattle.hm_model.proofs.Trees.{Grown, IsRooted, answer_now, does_of, down_rooted, grown_all, is_there, le_or_lt, node_same, old_or_new, other_answer, still_there, step_of, submit_rooted, undo_rooted}
+use Rattle.hm_model.proofs.Trees.{Grown, IsRooted, answer_now, does_of, down_rooted, grown_all, is_there, le_or_lt, node_same, old_or_new, other_answer, start_none, step_of, still_there, submit_rooted, undo_rooted}
 use Rattle.hm_kinds.proofs.Covering.{rows_table}
 use Rattle.hm_kinds.proofs.LockForms.{lock_law}
 use Rattle.hm_model.proofs.Tops.{holds_open, TopHolds, TopIs}
 use Rattle.hm_serial.proofs.Apart.{step_top}
-use Rattle.hm_serial.proofs.FallAll.{All, falls_all, none_at, stack_off, step_aside, undo_holds}
+use Rattle.hm_serial.proofs.FallAll.{All, falls_all, stack_off, step_aside, undo_holds}
 use Rattle.hm_serial.proofs.Fallen.{root_of_node}
 use Rattle.hm_serial.proofs.FallStep.{own_begun}
 use Rattle.hm_serial.proofs.Standing.{Left, ended_left, rooted_left, step_left, step_open}
@@ -500,7 +500,7 @@ undo_open pid row out J legal root top at running =
 
 pub worked_all : (J : Past) → IsLegal J → AllWorked J
 worked_all [] legal root top at running region c q x moves some = absurd (none-some x moves.0)
-worked_all (entry_is.Start sheets ∷ J) legal root top at running region c q x moves some = absurd (none-some x (sym (none_at J legal.1.0.0 q) ∙ moves.0))
+worked_all (entry_is.Start sheets ∷ J) legal root top at running region c q x moves some = absurd (none-some x (sym (start_none J legal.1.0.0 q) ∙ moves.0))
 worked_all (entry_is.Submit nonce request ∷ J) legal root top at running region c q x moves some =
     let g = grown_all J legal.0 in
     let rooted = submit_rooted nonce request J g in

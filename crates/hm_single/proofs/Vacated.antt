@@ -22,10 +22,9 @@ use Rattle.hm_model.proofs.KeyTests.{same_region-refl}
 use Rattle.hm_model.proofs.LegalSteps.{StepFacts}
 use Rattle.hm_model.proofs.StepDoes.{Does}
 use Rattle.hm_model.proofs.Tops.{TopIs}
-use Rattle.hm_model.proofs.Trees.{Grown, IsRooted, answer_now, does_of, down_rooted, grown_all, is_there, le_or_lt, node_same, old_or_new, other_answer, still, still_there, step_of, submit_rooted, undo_rooted}
+use Rattle.hm_model.proofs.Trees.{Grown, IsRooted, answer_now, does_of, down_rooted, grown_all, is_there, le_or_lt, node_same, old_or_new, other_answer, start_none, step_of, still, still_there, submit_rooted, undo_rooted}
 use Rattle.hm_serial.proofs.Apart.{step_top}
 use Rattle.hm_serial.proofs.Fallen.{root_of_node}
-use Rattle.hm_serial.proofs.FallAll.{none_at}
 use Rattle.hm_serial.proofs.Standing.{rooted_left, step_left, step_open}
 use Rattle.hm_single.specs.Calls.{MovesIn, OneUnassigned}
 use Rattle.hm_single.specs.Theorem.{UnassignedAreUnplaced}
@@ -135,7 +134,7 @@ module _ (pid : Pid) (pick : Option Server) (out : StepOut) (J : Past) (legal : 
 
 out_all : (J : Past) → IsLegal J → AllOut J
 out_all [] legal root top at running region c one = absurd (none-some top at.0)
-out_all (entry_is.Start sheets ∷ J) legal root top at running region c one = absurd (none-some top (sym (none_at J legal.1.0.0 root) ∙ at.0))
+out_all (entry_is.Start sheets ∷ J) legal root top at running region c one = absurd (none-some top (sym (start_none J legal.1.0.0 root) ∙ at.0))
 out_all (entry_is.Submit nonce request ∷ J) legal root top at running region c one =
     let g = grown_all J legal.0 in
     let rooted = submit_rooted nonce request J g in

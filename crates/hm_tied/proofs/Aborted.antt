@@ -5,15 +5,13 @@ use Rattle.std.proofs.lemmas.Option.{none-some, same_Some}
 use Rattle.hm_names.specs.declared.pid.Pid.{Pid}
 use Rattle.hm_data.specs.declared.act.Act.{Act}
 use Rattle.hm_data.specs.declared.act.Act.TheVariants as act_is
-use Rattle.hm_data.specs.declared.answer.Answer.{Answer}
-use Rattle.hm_data.specs.declared.answer.Answer.TheVariants as answer_is
 use Rattle.hm_data.specs.declared.args.Args.{Args}
 use Rattle.hm_data.specs.declared.args.Args.TheVariants as args_are
 use Rattle.hm_data.specs.declared.entry.Entry.TheVariants as entry_is
 use Rattle.hm_data.specs.declared.request.Request.TheVariants as request_is
 use Rattle.hm_data.specs.declared.sheet.Row.{Row}
 use Rattle.hm_data.specs.declared.sheet.Sheet.{Sheet}
-use Rattle.hm_model.specs.Answers.{is_stopped, last_answer, no_row, row_after, row_of}
+use Rattle.hm_model.specs.Answers.{is_stopped, last_answer, row_of}
 use Rattle.hm_model.specs.Evaluation.{is_picking}
 use Rattle.hm_model.specs.Journal.{Past}
 use Rattle.hm_model.specs.Kinds.{first_row_of, kind_of}
@@ -25,6 +23,8 @@ use Rattle.hm_model.proofs.ExactRows.{exact_is, led_row, sheet_is, valid_by}
 use Rattle.hm_model.proofs.Trees.{grown_all}
 use Rattle.hm_model.proofs.PlainActs.{is_plain}
 use Rattle.hm_model.proofs.ValidSheets.{valid_end}
+use Rattle.hm_model.proofs.Small.{implied}
+use Rattle.hm_model.proofs.Answered.{stopped_row}
 use Rattle.hm_tied.specs.Tied.{LacksPick}
 use Rattle.hm_tied.proofs.Picking.{lacking_row}
 
@@ -54,20 +54,6 @@ exact_marked (args_are.AddRegions table first bounds) = inl refl
 exact_marked (args_are.DropRegions table ids) = inl refl
 exact_marked args = inr (_, _, refl, refl)
 
--- after the end there is no row
-at_end : (first : ℕ) (last : Option Answer) → is_stopped last ≡ true → row_after first last ≡ no_row
-at_end first None stops = absurd (false≢true stops)
-at_end first (Some (answer_is.More next)) stops = absurd (false≢true stops)
-at_end first (Some (answer_is.Wait next)) stops = absurd (false≢true stops)
-at_end first (Some (answer_is.Await next)) stops = absurd (false≢true stops)
-at_end first (Some (answer_is.Done told)) stops = refl
-at_end first (Some (answer_is.Fail cause)) stops = refl
-at_end first (Some answer_is.Undone) stops = refl
-
-after_point : (b after : Bool) → b ≡ true → (not b || after) ≡ true → after ≡ true
-after_point true after on marked = marked
-after_point false after on marked = absurd (false≢true on)
-
 -- the next row of a procedure that places a region is after the point
 placing_is_late : (J : Past) → IsLegal J → (p : ℕ) (x : Node) → node_of J p ≡ Some x → (row : Row) → next_row J p x ≡ Some row → is_picking row.act ≡ true → row.after ≡ true
 placing_is_late J legal p x is row next places = by (sheet_for (sheets_by J x.root) (kind_of x.args)) refl next
@@ -79,9 +65,9 @@ placing_is_late J legal p x is row next places = by (sheet_for (sheets_by J x.ro
         elim (exact_marked x.args) [
           | inr exact ↦
               let rows = exact_is sheet valid.0 (kind_of x.args) valid.1 exact.0 exact.1 exact.2 in
-              after_point (is_picking row.act) row.after places (marked_at (exact.0 ∷ exact.1) (row_of J p x) row exact.3 (ap (λ l. slice_get l (row_of J p x)) (sym rows) ∙ here))
+              implied (is_picking row.act) row.after places (marked_at (exact.0 ∷ exact.1) (row_of J p x) row exact.3 (ap (λ l. slice_get l (row_of J p x)) (sym rows) ∙ here))
           | inl lined ↦ elim (cases_Bool (is_stopped (last_answer J p))) [
-            | inl stops ↦ absurd (valid_end sheet valid.0 row (ap (slice_get sheet.rows) (sym (at_end (first_row_of x.args) (last_answer J p) stops)) ∙ here))
+            | inl stops ↦ absurd (valid_end sheet valid.0 row (ap (slice_get sheet.rows) (sym (stopped_row (first_row_of x.args) (last_answer J p) stops)) ∙ here))
             | inr runs ↦
                 let led = led_row (kind_of x.args) sheet valid.0 (row_of J p x) ((grown_all J legal).led p x is lined sheet found runs) row here in
                 absurd (false≢true (sym (unplacing row.act led.plain) ∙ places))

@@ -24,6 +24,7 @@ use Rattle.hm_tied.specs.Tied.{CanGo, Debts, IsBookBut, IsBusy, IsCalm, IsOpen, 
 use Rattle.hm_tied.specs.Calls.{ClaimTies, EndOwes, GiveBackTies, GiveUpOwes, JoinOwes, KeepOnOwes, MayJoin, NextOwes, OverIsLess, OwedIsLess, ReadyAreAvailable, SlackIsLess, WakeAllOwes, WakeHeldOwes, WakeOwes, is_given, without}
 use Rattle.hm_tied.proofs.Going.{busy_open, go_calm, go_open, lacks_pick}
 use Rattle.hm_tied.proofs.Rows.{blocks_enlisted, blocks_on, enlisted_back, enlisted_on, held_enlisted, other_row, own_holds, row_here, row_there, says_on}
+use Rattle.hm_model.proofs.Small.{has_some}
 
 waits_is : (h g : ℕ) → Waits h ≡ Waits g → h ≡ g
 waits_is h g e = cc
@@ -133,10 +134,6 @@ some_last : {A : Type 0} (o : Option A) → is_some o ≡ true → o ≢ None
 some_last None e f = false≢true e
 some_last (Some x) e f = none-some x (sym f)
 
-last_some : {A : Type 0} (o : Option A) → o ≢ None → is_some o ≡ true
-last_some None e = absurd (e refl)
-last_some (Some x) e = refl
-
 -- who isn't claimed gives back what it took, unless it has a step
 pub give_back_ties : GiveBackTies
 give_back_ties J number_of roster rows p tied free is = record {
@@ -149,7 +146,7 @@ give_back_ties J number_of roster rows p tied free is = record {
   book = book_set J roster.claimed roster.claimed roster.rows rows p (is_some (last_answer J p)) (λ q. false) tied.book is
       (λ q differs. (λ among. among, λ among. among))
       (λ e. inl (some_last (last_answer J p) e))
-      (λ e. elim e [ inl some ↦ last_some (last_answer J p) some | inr among ↦ absurd (free among) ]);
+      (λ e. elim e [ inl some ↦ has_some (last_answer J p) some | inr among ↦ absurd (free among) ]);
 }
   where
     blocker : (a b : Option Row) → Blocks a b → is_holding b ≡ true
@@ -159,7 +156,7 @@ give_back_ties J number_of roster rows p tied free is = record {
 
     holds_on : (h q : ℕ) → p ≡ h → IsBlockedBy roster.rows q h → is_some (last_answer J p) ≡ true
     holds_on h q same blocks = elim (tied.book.holds p (ap (λ n. is_holding (row_of roster.rows n)) same ∙ blocker (row_of roster.rows q) (row_of roster.rows h) blocks)) [
-      | inl held ↦ elim held.2 [ inl some ↦ last_some (last_answer J p) some | inr among ↦ absurd (free among) ]
+      | inl held ↦ elim held.2 [ inl some ↦ has_some (last_answer J p) some | inr among ↦ absurd (free among) ]
       | inr f ↦ absurd (false≢true f.0)
     ]
 

@@ -20,6 +20,7 @@ use Rattle.hm_tied.proofs.Openings.{unopening}
 use Rattle.hm_tied.proofs.Picking.{lacking_row}
 use Rattle.hm_tied.specs.Tied.{CanGo, IsBusy, IsCalm, IsOpen, LacksPick}
 use Rattle.hm_model.proofs.Running.{Runs, ready_runs, run_last, run_none, run_open, undo_facts, undo_open}
+use Rattle.hm_model.proofs.Small.{cons_nil}
 
 -- who can go on hasn't ended
 pub go_open : (J : Past) → IsLegal J → (p : ℕ) → CanGo J p → IsOpen J p
@@ -48,9 +49,6 @@ children_open J legal (next ∷ more) up p x is over runs all =
 pub step_calm : (J : Past) → IsLegal J → (p : ℕ) (x : Node) → node_of J p ≡ Some x → is_top x.above ≡ true → Runs (phase J p x) → (q : ℕ) (y : Node) → node_of J q ≡ Some y → y.root ≡ p → q ≢ p → is_stopped (last_answer J q) ≡ false → ⊥
 step_calm J legal p x is top runs q y there of differs going = by y.above refl
   where
-    cons_nil : (up : ℕ) (above : List ℕ) → up ∷ above ≡ [] → ⊥
-    cons_nil up above e = cc
-
     by : (above : List ℕ) → y.above ≡ above → ⊥
     by [] e = differs (sym ((grown_all J legal).tops q y there e) ∙ of)
     by (up ∷ above) e =

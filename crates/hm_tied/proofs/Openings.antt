@@ -47,18 +47,17 @@ use Rattle.hm_model.proofs.ExactRows.{exact_is, sheet_is, valid_by}
 use Rattle.hm_model.proofs.KeyTests.{same_region-refl}
 use Rattle.hm_model.proofs.LegalSteps.{StepFacts, ready_stops}
 use Rattle.hm_model.proofs.NameTies.{same_server-is}
-use Rattle.hm_model.proofs.StepDoes.{Part, calls, crash, lined, moves, part_of}
 use Rattle.hm_model.proofs.Trees.{Grown, grown_all}
 use Rattle.hm_single.specs.Calls.{NextIs}
 use Rattle.hm_single.proofs.All.{kept_all, place_by_row}
 use Rattle.hm_single.proofs.Kin.{goes_holds, transits_conflict}
 use Rattle.hm_single.proofs.Own.{cut_or, does, step}
-use Rattle.hm_single.proofs.Placing.{own_row}
+use Rattle.hm_single.proofs.Placing.{moved_kind, own_row}
 use Rattle.hm_single.proofs.Rows.{first_free}
 use Rattle.hm_single.proofs.Stage.{moved_region, the_region}
 use Rattle.hm_single.proofs.Transit.{IsFreeRow}
-use Rattle.hm_single.proofs.Trying.{goes_from}
 use Rattle.hm_single.proofs.Unassigned.{place_same, shut_all}
+use Rattle.hm_single.proofs.Kept.{goes_from}
 use Rattle.hm_tied.specs.Tied.{is_opening}
 
 -- one that is live is among those that came up
@@ -68,16 +67,6 @@ any_live J server (other ∷ more) live came = elim (or_cases (same_server serve
   | inl same ↦ or_left (is_live J other) (list_any (is_live J) more) (ap (is_live J) (sym (same_server-is server other same)) ∙ live)
   | inr later ↦ or_right (is_live J other) (list_any (is_live J) more) (any_live J server more live later)
 ]
-
--- a transit is of one kind
-moved_kind : (args : Args) (region : Region) → moved_by args ≡ Some region → kind_of args ≡ 10
-moved_kind args region m = by (part_of args)
-  where
-    by : Part args → kind_of args ≡ 10
-    by (moves r is kind uncalled) = kind
-    by (lined exact unmoved uncalled) = absurd (none-some region (sym unmoved ∙ m))
-    by (crash kind unmoved uncalled) = absurd (none-some region (sym unmoved ∙ m))
-    by (calls verb v unmoved exact) = absurd (none-some region (sym unmoved ∙ m))
 
 -- a transit begins at a row at which it looks at its place
 not_second : (n : ℕ) → IsFreeRow n → n ≡ 2 → ⊥

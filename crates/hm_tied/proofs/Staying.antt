@@ -15,11 +15,12 @@ use Rattle.hm_model.specs.Tree.{Node, is_root_in, is_top, made, node_of}
 use Rattle.hm_model.specs.Undo.{is_empty, stack}
 use Rattle.hm_model.specs.Whereabouts.{called_by}
 use Rattle.hm_model.proofs.Apart.{others_stay}
-use Rattle.hm_model.proofs.Forest.{forest_all, rooted_all, top_is, top_is_own}
+use Rattle.hm_model.proofs.Forest.{forest_all, rooted_all, top_is_own}
 use Rattle.hm_model.proofs.Grown.{nodes_stay}
 use Rattle.hm_model.proofs.Trees.{grown_all, is_there, sheets_stay}
 use Rattle.hm_tied.specs.Tied.{CanGo, IsCalm, LacksPick}
 use Rattle.hm_model.proofs.Running.{top_or_below}
+use Rattle.hm_model.proofs.Small.{top_is}
 use Rattle.hm_tied.proofs.Picking.{SeesSame, fenced_still, lacks_on}
 
 -- a root that is made next is of another tree than all that were there

@@ -23,7 +23,7 @@ use Rattle.hm_model.specs.Rest.{MayStep}
 use Rattle.hm_model.specs.Rules.{IsLegal}
 use Rattle.hm_model.specs.Touched.{IsTouched}
 use Rattle.hm_model.specs.Tree.{Node, is_root, is_root_in, is_top, node_of, root_in}
-use Rattle.hm_model.proofs.Forest.{forest_all, rooted_all, top_is, top_is_own}
+use Rattle.hm_model.proofs.Forest.{forest_all, rooted_all, top_is_own}
 use Rattle.hm_model.proofs.Grown.{nodes_stay, not_stepped, stepped}
 use Rattle.hm_model.proofs.Touched.{ends_by, let_go}
 use Rattle.hm_model.proofs.Trees.{grown_all, some_of}
@@ -31,6 +31,7 @@ use Rattle.hm_tied.specs.Tied.{CanGo, IsCalm, IsOpen, LacksPick}
 use Rattle.hm_tied.specs.Entries.{StepOwes, alters, has_edits, is_new, step_debts, touched}
 use Rattle.hm_tied.proofs.Entering.{Changes, changed}
 use Rattle.hm_model.proofs.Running.{Runs, calm_stopped, ready_runs, run_last, run_open, run_root, top_or_below, unstepped_open}
+use Rattle.hm_model.proofs.Small.{top_is}
 use Rattle.hm_tied.proofs.Picking.{SeesSame}
 use Rattle.hm_tied.proofs.Openings.{place_stays}
 use Rattle.hm_tied.proofs.Staying.{below_none, lacks_after, same_calm, same_undoes}

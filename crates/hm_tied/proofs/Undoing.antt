@@ -19,13 +19,14 @@ use Rattle.hm_model.specs.TransitActs.{is_state, told_place}
 use Rattle.hm_model.specs.Tree.{Node, is_root_in, is_top, node_of, root_of}
 use Rattle.hm_model.specs.Undo.{is_empty, stack}
 use Rattle.hm_model.specs.Whereabouts.{moved_by}
-use Rattle.hm_model.proofs.Forest.{forest_all, top_is, top_is_own}
+use Rattle.hm_model.proofs.Forest.{forest_all, top_is_own}
 use Rattle.hm_model.proofs.Grown.{nodes_stay}
 use Rattle.hm_model.proofs.Trees.{grown_all, some_of}
 use Rattle.hm_tied.specs.Tied.{CanGo, IsCalm, IsOpen, LacksPick}
 use Rattle.hm_tied.specs.Entries.{UndoOwes, alters, has_edits, is_new, undo_debts}
 use Rattle.hm_tied.proofs.Entering.{Changes, changed}
 use Rattle.hm_model.proofs.Running.{calm_stopped, ready_runs, run_last, top_or_below, undo_facts, undo_open, unfailed, unstepped_open}
+use Rattle.hm_model.proofs.Small.{top_is}
 use Rattle.hm_tied.proofs.Picking.{SeesSame, place_same}
 use Rattle.hm_tied.proofs.Staying.{SameCalls, below_none, lacks_after, same_calm, same_go, same_tree, same_undoes}
 use Rattle.hm_tied.proofs.Stepping.{rows_same}

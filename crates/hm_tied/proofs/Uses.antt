@@ -18,13 +18,13 @@ use Rattle.hm_model.specs.Journal.{Past}
 use Rattle.hm_model.specs.Locks.{asks}
 use Rattle.hm_model.specs.Phase.{ended_node}
 use Rattle.hm_model.specs.Tree.{Node, made, node_of}
-use Rattle.hm_model.specs.Wanted.{server_of}
 use Rattle.hm_model.specs.Whereabouts.{called_by}
 use Rattle.hm_model.proofs.CameUp.{named_came}
 use Rattle.hm_model.proofs.Grown.{grown_all, made_up_to}
 use Rattle.hm_model.proofs.NameTies.{same_server-is}
 use Rattle.hm_model.specs.Rules.{IsLegal}
 use Rattle.hm_model.proofs.Trees.{down_rooted, grown_all as grown_of, node_same, some_of, submit_rooted, undo_rooted}
+use Rattle.hm_model.proofs.CallSteps.{called_server}
 use Rattle.hm_sched.specs.Queues.{StandsIn}
 use Rattle.hm_sched.specs.declared.queue.Queue.{Queue}
 use Rattle.hm_sched.specs.declared.queue.Queue.TheVariants.{Held, Servers, Suspended, Tables, Waits}
@@ -80,11 +80,6 @@ room_ties J number_of roster debts lists tied same = record {
   where
     back : (k : Queue) (q : ℕ) → StandsIn lists k q → StandsIn roster.lists k q
     back k q e = subst (IsNode q) (same k) e
-
-called_server : (args : Args) (server : Server) → called_by args ≡ Some server → server_of args ≡ Some server
-called_server (args_are.Crash other) server e = absurd (none-some server e)
-called_server (args_are.FenceCall other) server e = absurd (none-some server e)
-called_server args server e = e
 
 pub numbers_tie : NumbersTie
 numbers_tie J number_of more_of roster debts legal tied storage servers = record {

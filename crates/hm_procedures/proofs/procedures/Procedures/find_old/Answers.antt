@@ -1,7 +1,8 @@
 use Rattle.std.proofs.Common.{ap, sym, subst, ◌∙◌}
 use Rattle.std.specs.Option.{option_copied}
 use Rattle.hm_model.specs.Journal.{Past}
-use Rattle.hm_procedures.specs.OldRoots.{AreRising, IsFound, old_record_of}
+use Rattle.hm_model.specs.OldRoots.{old_record_of}
+use Rattle.hm_procedures.specs.OldRoots.{AreRising, IsFound}
 use Rattle.hm_procedures.specs.Procedures.{ProceduresView}
 use Rattle.hm_procedures.proofs.Olds.{found_shown, rising}
 use Rattle.hm_procedures.proofs.procedures.Procedures.find_old.Goals as goal
