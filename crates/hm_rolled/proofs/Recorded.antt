@@ -128,7 +128,7 @@ own_goes_on w event kept may leaves newer is =
     own_is w kept event may leaves ∙ ap (λ J. J ++ own w) (append_cancel_right (recorded event) newer w.past (sym (past_is w event leaves) ∙ is))
 
 pub rolls_to_image : RollsToImage
-rolls_to_image w may = by w.past may.3
+rolls_to_image w may = by w.past may.1.2
   where
     by : (past : Past) → IsBegun past → rebase past (counted past) ≡ based (image past)
     by [] begun = absurd begun

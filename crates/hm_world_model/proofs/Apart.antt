@@ -1,9 +1,7 @@
 -- What is kept of claims, and that the tree of one that goes on hasn't ended.
-use Rattle.std.proofs.Common.{◌≡◌, ◌≢◌, ℕ, ◌+◌, List, [], ◌∷◌, ◌==◌, ◌||◌, not, Bool, true, false, Option, Some, None, is_some, refl, ap, sym, ◌∙◌, inl, inr, arith}
-use Rattle.std.proofs.lemmas.Bool.{and_left, cases_Bool, cond-false, eq-eqb, false≢true, ne_eqb, true≢false}
+use Rattle.std.proofs.Common.{◌≡◌, ◌≢◌, ℕ, ◌+◌, List, [], ◌∷◌, ◌==◌, true, false, Option, Some, None, is_some, refl, ap, sym, ◌∙◌, inl, inr, arith}
+use Rattle.std.proofs.lemmas.Bool.{and_left, cases_Bool, cond-false, eq-eqb, ne_eqb, true≢false}
 use Rattle.std.proofs.lemmas.Option.{none-some, same_Some}
-use Rattle.hm_data.specs.declared.answer.Answer.{Answer}
-use Rattle.hm_data.specs.declared.answer.Answer.TheVariants as answer_is
 use Rattle.hm_data.specs.declared.answer.Cause.{Cause}
 use Rattle.hm_data.specs.declared.entry.Entry.{Entry}
 use Rattle.hm_model.specs.Answers.{done_with, is_stopped, last_answer}
@@ -19,6 +17,8 @@ use Rattle.hm_model.proofs.Grown.{nodes_stay}
 use Rattle.hm_model.proofs.Trees.{all_below_at, grown_all, is_there}
 use Rattle.hm_model.specs.Taking.{StepsFree}
 use Rattle.hm_model.proofs.Taken.{after, clash_taken, clash_within, legal_apart, some_node}
+use Rattle.hm_model.proofs.Small.{cons_nil, from_test}
+use Rattle.hm_model.proofs.Answered.{running_undone}
 use Rattle.hm_world_model.specs.Claims.{AreOnce, IsApart}
 
 pub ended_below : (J : Past) (p : ℕ) (x : Node) → node_of J p ≡ Some x → x.above ≢ [] → ended J p ≡ is_stopped (last_answer J p)
@@ -27,15 +27,6 @@ ended_below J p x is below = by x.above refl
     by : (above : List ℕ) → x.above ≡ above → ended J p ≡ is_stopped (last_answer J p)
     by [] e = absurd (below e)
     by (u ∷ rest) e = ap (ended_node J p) is ∙ cond-false (is_top x.above) (root_ended J p) (is_stopped (last_answer J p)) (ap is_top e)
-
-done_not : (o : Option Answer) → is_stopped o ≡ false → done_with o ≡ None
-done_not None h = refl
-done_not (Some (answer_is.More n)) h = refl
-done_not (Some (answer_is.Wait n)) h = refl
-done_not (Some (answer_is.Await n)) h = refl
-done_not (Some (answer_is.Done told)) h = absurd (true≢false h)
-done_not (Some (answer_is.Fail c)) h = absurd (true≢false h)
-done_not (Some answer_is.Undone) h = absurd (true≢false h)
 
 -- a tree isn't rolled back while one below its root goes on
 pub unrolled : (J : Past) → IsLegal J → (p : ℕ) (x : Node) → node_of J p ≡ Some x → x.above ≢ [] → is_stopped (last_answer J p) ≡ false → rolled_back J x.root ≡ false
@@ -51,15 +42,10 @@ unrolled J legal p x is below runs = and_left (all_stopped J x.root) (is_empty (
             let same : top.root ≡ x = same_Some top.root x (sym top.there ∙ ap (node_of J) (sym own) ∙ is) in
             below (ap (λ (n : Node). n.above) (sym same) ∙ top.at_top)
 
-    both : (a b c : Bool) → a ≡ true → b ≡ false → (not a || (b || c)) ≡ true → c ≡ true
-    both true false c ea eb h = h
-    both true true c ea eb h = absurd (true≢false eb)
-    both false b c ea eb h = absurd (false≢true ea)
-
     here : all_stopped J x.root ≡ true → is_stopped (last_answer J p) ≡ true
     here all =
         let le = is_there J (grown_all J legal) p x is in
-        both (in_tree x.root (node_of J p)) (p == x.root) (is_stopped (last_answer J p)) (ap (in_tree x.root) is ∙ eq-eqb x.root x.root refl) (ne_eqb p x.root differs)
+        from_test (in_tree x.root (node_of J p)) (p == x.root) (is_stopped (last_answer J p)) (ap (in_tree x.root) is ∙ eq-eqb x.root x.root refl) (ne_eqb p x.root differs)
         (all_below_at (made J + 1) (stopped_in J x.root) p all (omega (arith, le)))
 
 -- nor has it ended
@@ -72,13 +58,10 @@ root_open J legal p x is runs uncaused = by x.above refl
         ap (λ c. root_over c (rolled_back J x.root) (done_with (last_answer J x.root))) e ∙ ap (λ o. is_some (done_with o)) w.1
     by_cause below (Some c) e = ap (λ k. root_over k (rolled_back J x.root) (done_with (last_answer J x.root))) e ∙ unrolled J legal p x is below runs
 
-    cons_nil : (u : ℕ) (rest : List ℕ) → u ∷ rest ≡ [] → ⊥
-    cons_nil u rest h = cc
-
     by : (above : List ℕ) → x.above ≡ above → root_ended J x.root ≡ false
     by [] e =
         let own = (grown_all J legal).tops p x is e in
-        ap (root_ended J) own ∙ ap (λ c. root_over c (rolled_back J p) (done_with (last_answer J p))) (uncaused e) ∙ ap is_some (done_not (last_answer J p) runs)
+        ap (root_ended J) own ∙ ap (λ c. root_over c (rolled_back J p) (done_with (last_answer J p))) (uncaused e) ∙ ap is_some (running_undone (last_answer J p) runs)
     by (u ∷ rest) e = by_cause (λ none. cons_nil u rest (sym e ∙ none)) (cause J x.root) refl
 
 -- what is kept of claims

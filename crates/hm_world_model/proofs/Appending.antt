@@ -25,13 +25,14 @@ use Rattle.hm_model.specs.Tree.{Node, node_of}
 use Rattle.hm_model.specs.Verbs.{verb_in}
 use Rattle.hm_model.proofs.Calls.{reports_fit}
 use Rattle.hm_model.proofs.Grown.{nodes_stay}
+use Rattle.hm_model.proofs.Trees.{verb_was}
 use Rattle.hm_single.specs.Calls.{Finds, IsLater, IsOpenedBy, IsVoid, IsVoidCall}
 use Rattle.hm_single.proofs.All.{calls_find}
 use Rattle.hm_world_model.specs.Outside.{Outside}
 use Rattle.hm_world_model.specs.Runs.{IsMade, IsTrueReport}
 use Rattle.hm_world_model.specs.Safe.{CallsTo, HasServed, HeldBy, IsLast, Made, Runs, Safe}
 use Rattle.hm_world_model.proofs.Based.{LeavesBase, leaves_base}
-use Rattle.hm_world_model.proofs.Facts.{Touch, call_now, calls_back, calls_now, closes, fences_verb, fit_now, last_made, node_called, one_server, opens, peer_same, same, same_verb, touch, verb_made, verb_now, verb_was}
+use Rattle.hm_world_model.proofs.Facts.{Touch, call_now, calls_back, calls_now, closes, fences_verb, fit_now, last_made, node_called, one_server, opens, peer_same, same, same_verb, touch, verb_made, verb_now}
 
 -- what stays after an entry
 module _ (entry : Entry) (J : Past) (legal : IsLegal (entry ∷ J)) (o : Outside) (safe : Safe J o) where

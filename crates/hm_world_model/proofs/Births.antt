@@ -1,9 +1,8 @@
 -- What procedures bear: no root and no crash; a transit only where they ask for all that it asks for, or are crashes.
-use Rattle.std.proofs.Common.{◌≡◌, ℕ, zero, suc, ◌+◌, ◌-◌, List, [], ◌∷◌, ◌++◌, length, map, take, drop, ◌&&◌, nat_le, Bool, true, false, cond, Option, Some, None, refl, ap, sym, ◌∙◌, subst, inl, inr, ◌⊎◌}
+use Rattle.std.proofs.Common.{◌≡◌, ℕ, zero, suc, ◌+◌, ◌-◌, List, [], ◌∷◌, length, map, take, drop, ◌&&◌, nat_le, Bool, true, false, cond, Option, Some, None, refl, sym, subst, inl, inr, ◌⊎◌}
 use Rattle.std.specs.declared.cmp.Ordering.{Ordering}
 use Rattle.std.specs.declared.cmp.Ordering.TheVariants.{Less, Equal, Greater}
 use Rattle.std.proofs.lemmas.Bool.{and_parts, false≢true}
-use Rattle.std.proofs.lemmas.Option.{none-some}
 use Rattle.hm_names.specs.Order.{region_cmp}
 use Rattle.hm_names.specs.Region.{Region}
 use Rattle.hm_names.specs.declared.table.TableName.{TableName}
@@ -37,7 +36,6 @@ use Rattle.hm_model.specs.NamespaceActs.{has_table, version_of}
 use Rattle.hm_model.specs.Outs.{checked, edits_rows, ends_with, given, spawns}
 use Rattle.hm_model.specs.Pieces.{Batch, adding, batches, by_64, dropping, numbers_from, ranges_between, transits, with_batch}
 use Rattle.hm_model.specs.RegionActs.{close_parents, close_regions, cut_of, merge_cause, open_new, open_regions, regions_for}
-use Rattle.hm_model.specs.Requests.{wrong_in}
 use Rattle.hm_model.specs.RowsSaid.{Rows, all_among, in_state, in_version, regions_among}
 use Rattle.hm_model.specs.Tree.{args_in}
 use Rattle.hm_model.specs.Undoing.{closed_by}
@@ -49,6 +47,8 @@ use Rattle.hm_model.proofs.ExactRows.{is_listed}
 use Rattle.hm_model.proofs.KeyTests.{same_table-is}
 use Rattle.hm_model.proofs.Siblings.{merge_is, one_table}
 use Rattle.hm_model.proofs.PlainActs.{is_plain}
+use Rattle.hm_model.proofs.Small.{in_left, in_map, in_right}
+use Rattle.hm_model.proofs.Listed.{in_ordered}
 use Rattle.hm_kinds.proofs.LockForms.{IsRight}
 use Rattle.hm_world_model.proofs.Facts.{in_both}
 
@@ -231,41 +231,11 @@ daughters_bears (args_are.Root (request_is.SplitRegion region key) first) h next
 daughters_bears args h next = absurd (false≢true h)
 
 -- who merges regions is over them and the one that they become
-in_left : {A : Type 0} (x : A) (xs ys : List A) → IsIn x xs → IsIn x (xs ++ ys)
-in_left x [] ys h = absurd h
-in_left x (z ∷ zs) ys (inl same) = inl same
-in_left x (z ∷ zs) ys (inr among) = inr (in_left x zs ys among)
-
-in_right : {A : Type 0} (x : A) (xs ys : List A) → IsIn x ys → IsIn x (xs ++ ys)
-in_right x [] ys h = h
-in_right x (z ∷ zs) ys h = inr (in_right x zs ys h)
-
-in_map : {A B : Type 0} (f : A → B) (x : A) (xs : List A) → IsIn x xs → IsIn (f x) (map f xs)
-in_map f x [] h = absurd h
-in_map f x (z ∷ zs) (inl same) = inl (ap f same)
-in_map f x (z ∷ zs) (inr among) = inr (in_map f x zs among)
-
-in_with : (one region : Region) (list : List Region) → (one ≡ region) ⊎ IsIn one list → IsIn one (with_region region list)
-in_with one region [] h = h
-in_with one region (first ∷ more) h = by (region_cmp region first) (in_with one region more) h
-  where
-    by : (o : Ordering) → ((one ≡ region) ⊎ IsIn one more → IsIn one (with_region region more)) → (one ≡ region) ⊎ IsIn one (first ∷ more) → IsIn one (with_region_at o region first more (with_region region more))
-    by Less rest k = k
-    by Equal rest k = k
-    by Greater rest (inl own) = inr (rest (inl own))
-    by Greater rest (inr (inl here)) = inl here
-    by Greater rest (inr (inr later)) = inr (rest (inr later))
-
-in_order : (one : Region) (list : List Region) → IsIn one list → IsIn one (in_name_order list)
-in_order one [] h = absurd h
-in_order one (region ∷ more) (inl same) = in_with one region (in_name_order more) (inl same)
-in_order one (region ∷ more) (inr among) = in_with one region (in_name_order more) (inr (in_order one more among))
-
 merge_over : (one : Region) (more : List Region) (first : ℕ) (region : Region) → one.table ≡ region.table → IsIn (exclusive (resource_is.Region region)) (merge_asks (one ∷ more) first) → Over (merge_asks (one ∷ more) first) region
 merge_over one more first region same alone = (subst (λ (t : TableName). IsIn (shared (resource_is.Ns t.ns)) (merge_asks (one ∷ more) first)) same (inl refl), inr (subst (λ (t : TableName). IsIn (shared (resource_is.Table t)) (merge_asks (one ∷ more) first)) same (inr (inl refl)), alone))
 
 merge_has : (one : Region) (more : List Region) (first : ℕ) (region : Region) → IsIn region (one ∷ more) → IsIn (exclusive (resource_is.Region region)) (merge_asks (one ∷ more) first)
-merge_has one more first region among = inr (inr (in_left (exclusive (resource_is.Region region)) (map (λ r. exclusive (resource_is.Region r)) (in_name_order (one ∷ more))) _ (in_map (λ r. exclusive (resource_is.Region r)) region (in_name_order (one ∷ more)) (in_order region (one ∷ more) among))))
+merge_has one more first region among = inr (inr (in_left (exclusive (resource_is.Region region)) (map (λ r. exclusive (resource_is.Region r)) (in_name_order (one ∷ more))) _ (in_map (λ r. exclusive (resource_is.Region r)) region (in_name_order (one ∷ more)) (in_ordered region (one ∷ more) among))))
 
 merge_new : (one : Region) (more : List Region) (first : ℕ) → IsIn (exclusive (resource_is.Region (record { table = one.table; id = first }))) (merge_asks (one ∷ more) first)
 merge_new one more first = inr (inr (in_right _ (map (λ r. exclusive (resource_is.Region r)) (in_name_order (one ∷ more))) _ (inl refl)))

@@ -1,7 +1,7 @@
 -- Plain facts of servers, regions and lists, and of the calls of a journal.
 use Rattle.std.proofs.Common.{◌≡◌, ◌≢◌, ℕ, List, [], ◌∷◌, ◌++◌, ◌==◌, true, false, cond, Option, Some, None, refl, ap, sym, ◌∙◌, subst, inl, inr, ◌⊎◌}
 use Rattle.std.specs.Option.{option_or}
-use Rattle.std.proofs.lemmas.Bool.{cases_Bool, cases_eq, cond-false, cond-true, eq-eqb, false≢true, ne_eqb, true≢false}
+use Rattle.std.proofs.lemmas.Bool.{cases_Bool, cond-false, cond-true, eq-eqb, false≢true, true≢false}
 use Rattle.std.proofs.lemmas.Option.{none-some, same_Some}
 use Rattle.hm_names.specs.Region.{Region}
 use Rattle.hm_names.specs.Server.{Server}
@@ -171,16 +171,6 @@ module _ (entry : Entry) (J : Past) (legal : IsLegal (entry ∷ J)) where
 
 -- the call that a step makes
 module _ (pid : Pid) (pick : Option Server) (out : StepOut) (J : Past) where
-  pub verb_was : (p : ℕ) (verb : Verb) → verb_of (entry_is.Step pid pick out ∷ J) p ≡ Some verb → (verb_of J p ≡ Some verb) ⊎ ((p ≡ pid.0) × (out.call ≡ Some verb))
-  verb_was p verb h = elim (cases_eq p pid.0) [
-    | inl own ↦ by own out.call refl (sym (cond-true (p == pid.0) (option_or out.call (verb_of J p)) (verb_of J p) (eq-eqb p pid.0 own)) ∙ h)
-    | inr differs ↦ inl (sym (cond-false (p == pid.0) (option_or out.call (verb_of J p)) (verb_of J p) (ne_eqb p pid.0 differs)) ∙ h)
-  ]
-    where
-      by : p ≡ pid.0 → (o : Option Verb) → out.call ≡ o → option_or o (verb_of J p) ≡ Some verb → (verb_of J p ≡ Some verb) ⊎ ((p ≡ pid.0) × (out.call ≡ Some verb))
-      by own None e k = inl k
-      by own (Some w) e k = inr (own, e ∙ k)
-
   pub verb_made : (verb : Verb) → out.call ≡ Some verb → verb_of (entry_is.Step pid pick out ∷ J) pid.0 ≡ Some verb
   verb_made verb is = cond-true (pid.0 == pid.0) (option_or out.call (verb_of J pid.0)) (verb_of J pid.0) (eq-eqb pid.0 pid.0 refl) ∙ ap (λ o. option_or o (verb_of J pid.0)) is
 

@@ -1,11 +1,10 @@
 -- Who goes on below a procedure that hasn't stopped, and below a root that hasn't ended.
-use Rattle.std.proofs.Common.{◌≡◌, ◌≢◌, ℕ, zero, suc, ◌+◌, ◌<◌, ◌≤◌, List, [], ◌∷◌, ◌==◌, ◌&&◌, ◌||◌, not, Bool, true, false, Option, Some, None, is_some, refl, ap, sym, ◌∙◌, subst, inl, inr, ◌⊎◌, arith}
+use Rattle.std.proofs.Common.{◌≡◌, ℕ, zero, suc, ◌+◌, ◌<◌, ◌≤◌, List, [], ◌∷◌, ◌==◌, ◌&&◌, ◌||◌, not, Bool, true, false, Option, Some, None, is_some, refl, ap, sym, ◌∙◌, subst, inl, inr, ◌⊎◌, arith}
 use Rattle.std.proofs.lemmas.Bool.{and_from, and_parts, cases_Bool, eq-eqb, eqb-true, false≢true, not-false, not-true, not_from_false, or_parts, true≢false}
 use Rattle.std.proofs.lemmas.Option.{same_Some}
 use Rattle.hm_data.specs.declared.answer.Answer.{Answer}
 use Rattle.hm_data.specs.declared.answer.Answer.TheVariants as answer_is
 use Rattle.hm_data.specs.declared.answer.Cause.{Cause}
-use Rattle.hm_data.specs.declared.call.Told.{Told}
 use Rattle.hm_data.specs.declared.record.Phase.{Phase}
 use Rattle.hm_data.specs.declared.record.Phase.TheVariants as phase_is
 use Rattle.hm_model.specs.Answers.{done_with, is_stopped, last_answer}
@@ -17,15 +16,9 @@ use Rattle.hm_model.specs.Tree.{Node, is_top, made, node_of}
 use Rattle.hm_model.specs.Undo.{is_empty, stack}
 use Rattle.hm_model.proofs.Counting.{find_below}
 use Rattle.hm_model.proofs.Trees.{Grown, grown_all, is_there}
+use Rattle.hm_model.proofs.Small.{cons_nil, none_told, top_not}
 use Rattle.hm_world_model.proofs.Apart.{unrolled}
 use Rattle.hm_world_model.proofs.Lineage.{lineage_all}
-
-cons_nil : (u : ℕ) (rest : List ℕ) → u ∷ rest ≡ [] → ⊥
-cons_nil u rest e = cc
-
-top_not : (above : List ℕ) → above ≢ [] → is_top above ≡ false
-top_not [] below = absurd (below refl)
-top_not (u ∷ rest) below = refl
 
 -- the phase of one that hasn't stopped is its own, if it is no root of a tree that failed
 module _ (J : Past) (legal : IsLegal J) (p : ℕ) (x : Node) (is : node_of J p ≡ Some x) (runs : is_stopped (last_answer J p) ≡ false) (uncaused : x.above ≡ [] → cause J p ≡ None) where
@@ -148,13 +141,9 @@ module _ (J : Past) (legal : IsLegal J) where
           undone : is_some (done_with (last_answer J r)) ≡ false
           undone = ap (λ k. root_over k (rolled_back J r) (done_with (last_answer J r))) (sym (e ∙ none)) ∙ open_root
 
-          no_told : (o : Option Told) → is_some o ≡ false → o ≡ None
-          no_told None h = refl
-          no_told (Some t) h = absurd (true≢false h)
-
           by_stop : (b : Bool) → is_stopped (last_answer J r) ≡ b → Goer J r
           by_stop false runs = subst (Goer J) own (goer_from r top is runs (λ t. e ∙ none))
-          by_stop true stopped = absurd ((lineage_all J legal).done r top is stopped (ap (cause J) own ∙ e ∙ none) (no_told (done_with (last_answer J r)) undone))
+          by_stop true stopped = absurd ((lineage_all J legal).done r top is stopped (ap (cause J) own ∙ e ∙ none) (none_told (done_with (last_answer J r)) undone))
 
       below : (q : ℕ) → stopped_in J r q ≡ false → Goer J r
       below q off = by_node (node_of J q) refl

@@ -1,6 +1,5 @@
 -- A region that is open at a server which runs is held there.
-use Rattle.std.proofs.Common.{◌≡◌, ℕ, ◌<◌, ◌≤◌, true, Option, Some, None, refl, ap, sym, ◌∙◌, subst, inl, inr, ◌⊎◌, arith}
-use Rattle.std.proofs.lemmas.Bool.{false≢true}
+use Rattle.std.proofs.Common.{◌≡◌, ℕ, ◌<◌, ◌≤◌, true, Some, ap, sym, ◌∙◌, subst, inl, inr, ◌⊎◌, arith}
 use Rattle.std.proofs.lemmas.Option.{same_Some}
 use Rattle.hm_names.specs.Region.{Region}
 use Rattle.hm_names.specs.Server.{Server}
@@ -11,8 +10,7 @@ use Rattle.hm_model.specs.Actors.{Actor, Served, holds, holds_if}
 use Rattle.hm_model.specs.Answers.{report_of}
 use Rattle.hm_model.specs.Base.{HasNoHalfBase}
 use Rattle.hm_model.specs.Journal.{Past}
-use Rattle.hm_model.specs.Reports.{is_about, is_the_region, last_call, peer_of, region_called, verb_of}
-use Rattle.hm_model.proofs.KeyTests.{same_region-is}
+use Rattle.hm_model.specs.Reports.{last_call, peer_of, region_called, verb_of}
 use Rattle.hm_single.specs.Calls.{IsOpenedBy}
 use Rattle.hm_single.proofs.All.{last_is_recorded}
 use Rattle.hm_single.proofs.Placed.{opened_told}
@@ -20,15 +18,7 @@ use Rattle.hm_world_model.specs.Held.{OpenedAreHeld}
 use Rattle.hm_world_model.specs.Outside.{Outside}
 use Rattle.hm_world_model.specs.Safe.{Safe}
 use Rattle.hm_world_model.proofs.Progress.{earlier_ended}
-
--- what a call about a region is about
-about_is : (region : Region) (o : Option Verb) → is_about region o ≡ true → (verb : Verb) × (o ≡ Some verb) × (region_called verb ≡ Some region)
-about_is region None h = absurd (false≢true h)
-about_is region (Some verb) h = (verb, refl, by (region_called verb) h)
-  where
-    by : (r : Option Region) → is_the_region region r ≡ true → r ≡ Some region
-    by None e = absurd (false≢true e)
-    by (Some other) e = ap (λ x. Some x) (sym (same_region-is region other e))
+use Rattle.hm_world_model.proofs.Facts.{about_called}
 
 module _ (J : Past) (o : Outside) (safe : Safe J o) (region : Region) (server : Server) (actor : Actor) (run : o.actors server ≡ Some actor) where
   -- what the last call opened there, it holds
@@ -36,7 +26,7 @@ module _ (J : Past) (o : Outside) (safe : Safe J o) (region : Region) (server : 
   held_by p last peer opened = by told.2
     where
       verb : (v : Verb) × (verb_of J p ≡ Some v) × (region_called v ≡ Some region)
-      verb = about_is region (verb_of J p) (last_is_recorded J safe.legal region p last)
+      verb = about_called region (verb_of J p) (last_is_recorded J safe.legal region p last)
 
       told : (last : Served) × (actor.last region ≡ Some last) × ((p < last.id.0) ⊎ ((p ≡ last.id.0) × (told_is.Opened ≡ last.told)))
       told = (safe.calls.recorded p told_is.Opened opened).told_by region server (verb.0, verb.1, verb.2, peer) actor run

@@ -12,10 +12,10 @@ use Rattle.hm_model.specs.Journal.{Past}
 use Rattle.hm_model.specs.Reports.{peer_in}
 use Rattle.hm_model.specs.Rules.{IsLegal}
 use Rattle.hm_model.specs.Tree.{Node, is_top, node_of}
-use Rattle.hm_model.specs.Wanted.{server_of}
 use Rattle.hm_model.specs.Whereabouts.{called_by}
 use Rattle.hm_model.proofs.CameUp.{named_came}
 use Rattle.hm_model.proofs.PlainActs.{is_caller}
+use Rattle.hm_model.proofs.CallSteps.{called_server}
 use Rattle.hm_world_model.specs.Safe.{CallsTo}
 use Rattle.hm_world_model.proofs.Facts.{node_called, server_of_peer}
 use Rattle.hm_world_model.proofs.Lineage.{lineage_all}
@@ -25,18 +25,13 @@ called_caller (args_are.AssignCall region server) s is = refl
 called_caller (args_are.CloseCall region server) s is = refl
 called_caller args s is = absurd (none-some s is)
 
-called_server : (args : Args) (s : Server) → called_by args ≡ Some s → server_of args ≡ Some s
-called_server (args_are.AssignCall region server) s is = is
-called_server (args_are.CloseCall region server) s is = is
-called_server args s is = absurd (none-some s is)
+pub storage_no_server : (s : Server) → peer_is.Storage ≡ peer_is.Server s → ⊥
+storage_no_server s e = cc
 
 pub peer_called : (args : Args) (s : Server) → peer_in args ≡ peer_is.Server s → called_by args ≡ Some s
 peer_called (args_are.AssignCall region server) s is = ap Some (server_of_peer server s is)
 peer_called (args_are.CloseCall region server) s is = ap Some (server_of_peer server s is)
-peer_called args s is = absurd (never is)
-  where
-    never : peer_is.Storage ≡ peer_is.Server s → ⊥
-    never e = cc
+peer_called args s is = absurd (storage_no_server s is)
 
 -- who calls a server is no root
 pub caller_below : (J : Past) → IsLegal J → (p : ℕ) (node : Node) (s : Server) → node_of J p ≡ Some node → called_by node.args ≡ Some s → is_top node.above ≡ false

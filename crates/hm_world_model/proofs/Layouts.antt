@@ -4,7 +4,6 @@ use Rattle.std.proofs.lemmas.Bool.{and_parts, cases_eq, cond-false, cond-true, e
 use Rattle.std.proofs.lemmas.Option.{none-some, same_Some}
 use Rattle.hm_names.specs.Server.{Server}
 use Rattle.hm_names.specs.declared.pid.Pid.{Pid}
-use Rattle.hm_data.specs.declared.act.Act.TheVariants as act_is
 use Rattle.hm_data.specs.declared.act.Back.{Back}
 use Rattle.hm_data.specs.declared.act.Back.TheVariants as back_is
 use Rattle.hm_data.specs.declared.args.Args.{Args}
@@ -22,15 +21,12 @@ use Rattle.hm_data.specs.declared.step.StepIn.{StepIn}
 use Rattle.hm_data.specs.declared.step.StepOut.{StepOut}
 use Rattle.hm_data.specs.declared.step.Turn.{Turn}
 use Rattle.hm_data.specs.declared.step.Turn.TheVariants as turn_is
-use Rattle.hm_model.specs.Acts.{act_answer}
-use Rattle.hm_model.specs.Answers.{is_stopped, last_answer, report_of, row_of}
+use Rattle.hm_model.specs.Answers.{is_stopped, last_answer, report_of}
 use Rattle.hm_model.specs.Evaluation.{turn_answer}
 use Rattle.hm_model.specs.Inputs.{input, step_input, turn_input, undo_input, undoes}
 use Rattle.hm_model.specs.Journal.{Past}
 use Rattle.hm_data.specs.declared.part.Part.{Part}
-use Rattle.hm_model.specs.Kinds.{kind_of}
 use Rattle.hm_model.specs.Layouts.{is_laid, laid_by, laid_if, layout_called}
-use Rattle.hm_model.specs.Lists.{exact_rows, fixed}
 use Rattle.hm_model.specs.Locks.{in_name_order}
 use Rattle.hm_model.specs.Phase.{all_stopped, cause, ended, ended_node, in_tree, root_ended, stopped_in}
 use Rattle.hm_model.specs.Pieces.{Batch, batches}
@@ -42,16 +38,15 @@ use Rattle.hm_model.specs.Undo.{Undoable, is_empty, stack}
 use Rattle.hm_model.specs.Undoing.{closed_by, undo_followers}
 use Rattle.hm_model.specs.Verbs.{verb_in}
 use Rattle.hm_model.proofs.Calls.{calls_stay}
-use Rattle.hm_model.proofs.ExactRows.{IsLed, led_row, row_passes}
-use Rattle.hm_model.proofs.Forest.{top_is}
 use Rattle.hm_model.proofs.Forms.{row_formed}
 use Rattle.hm_model.proofs.Grown.{down_new, submit_new, undo_new}
 use Rattle.hm_model.proofs.LegalSteps.{StepFacts, ready_stops}
-use Rattle.hm_model.proofs.PlainActs.{is_caller, is_plain}
 use Rattle.hm_model.proofs.Said.{said_by}
-use Rattle.hm_model.proofs.StepDoes.{Does, bears_by, calls, crash, exact_row, lined, moves, part_of, row_by}
+use Rattle.hm_model.proofs.StepDoes.{Does}
 use Rattle.hm_model.proofs.Trees.{Grown, IsRooted, all_below_at, at_top, does_of, down_rooted, grown_all, is_there, le_or_lt, new_child, node_same, old_or_new, other_answer, some_of, step_of, submit_rooted, undo_rooted}
-use Rattle.hm_kinds.proofs.Kids.{AllMade, IsChildOf, MadeBy, kids_act, made_at}
+use Rattle.hm_model.proofs.Small.{cons_nil, top_is, top_not}
+use Rattle.hm_kinds.proofs.Kids.{AllMade, made_at}
+use Rattle.hm_kinds.proofs.Laying.{Lays, LaysBy, child_lays}
 use Rattle.hm_world_model.specs.Layouts.{LayoutsTell, based_layout, laid_below, laid_told}
 
 -- a root failed, and none of its descendants goes on
@@ -71,67 +66,14 @@ Sooner J = (q s : ℕ) (x y : Node) (root swept : Pid) → node_of J q ≡ Some 
 abbrev Laying : Past → Type 0
 Laying J = Own J × Swept J × Sooner J
 
--- a new child that makes a layout makes that of its root, and none sweeps one
-abbrev LaysBy : ℕ → Option Verb → Type 0
-LaysBy r None = Unit {0}
-LaysBy r (Some (verb_is.AssignRegion region)) = Unit {0}
-LaysBy r (Some (verb_is.CloseRegion region)) = Unit {0}
-LaysBy r (Some (verb_is.Fence server)) = Unit {0}
-LaysBy r (Some (verb_is.Layout root)) = root.0 ≡ r
-LaysBy r (Some (verb_is.Sweep root)) = ⊥
-
-abbrev Lays : ℕ → Args → Type 0
-Lays r made = LaysBy r (verb_in made)
-
-caller_lays : (r : ℕ) (made : Args) → is_caller made ≡ true → Lays r made
-caller_lays r (args_are.AssignCall region server) h = tt
-caller_lays r (args_are.CloseCall region server) h = tt
-caller_lays r made h = absurd (false≢true h)
-
 module _ (pid : Pid) (pick : Option Server) (out : StepOut) (J : Past) (grown : Grown J) (step : StepFacts J pid.0 pick out) (d : Does J pid.0 step.node.args (last_answer J pid.0) step.sheet.rows out) where
-  abbrev at : StepIn
-  at = step_input J pid.0 step.node pick
-
-  abbrev led_on : exact_rows (kind_of step.node.args) ≡ [] → IsLed (kind_of step.node.args) step.sheet.rows (row_of J pid.0 step.node)
-  led_on = λ exact. grown.led pid.0 step.node step.node_is exact step.sheet step.sheet_is (ready_stops J pid.0 step.node (last_answer J pid.0) step.ready)
-
-  crash_row : kind_of step.node.args ≡ 11 → slice_get (exact_rows 11) (row_of J pid.0 step.node) ≡ Some step.row
-  crash_row kind = subst (λ k. slice_get (exact_rows k) (row_of J pid.0 step.node) ≡ Some step.row) kind
-      (exact_row J pid.0 pick out step led_on (λ verb v. grown.calls pid.0 step.node step.node_is verb v) (fixed act_is.Fence 1 true, fixed act_is.Reassign 1 true ∷ [], ap exact_rows kind))
-
-  lays_own : step.row.act ≡ act_is.Layout → AllMade (Lays step.node.root) out.children
-  lays_own is = subst (λ (o : StepOut). AllMade (Lays step.node.root) o.children) (sym step.out_is)
-      (row_by (λ (o : StepOut). AllMade (Lays step.node.root) o.children) step.row at (λ c. tt) (subst (λ a. AllMade (Lays step.node.root) (act_answer a step.row.next at).children) (sym is) (refl, tt)))
-
-  plain_lays : is_plain step.row.act ≡ true → (i : ℕ) (made : Args) → slice_get (args_in out.children) i ≡ Some made → Lays step.node.root made
-  plain_lays plain i made get = by made get (made_at (IsChildOf step.row.act step.node.args) out.children kids i made get)
-    where
-      kids : MadeBy step.row.act step.node.args out
-      kids = subst (MadeBy step.row.act step.node.args) (sym step.out_is) (row_by (MadeBy step.row.act step.node.args) step.row at (λ c. tt) (kids_act step.row.act plain step.row.next at))
-
-      by : (made : Args) → slice_get (args_in out.children) i ≡ Some made → IsChildOf step.row.act step.node.args made → Lays step.node.root made
-      by (args_are.LayoutCall root) g k = made_at (Lays step.node.root) out.children (lays_own k) i (args_are.LayoutCall root) g
-      by (args_are.SweepLayout root) g k = absurd k
-      by args g k = tt
-
-  child_lays : (i : ℕ) (made : Args) → slice_get (args_in out.children) i ≡ Some made → Lays step.node.root made
-  child_lays i made get = elim (part_of step.node.args) [
-    | lined exact unmoved uncalled ↦ plain_lays (led_row (kind_of step.node.args) step.sheet step.valid (row_of J pid.0 step.node) (led_on exact) step.row step.row_is).plain i made get
-    | crash kind unmoved uncalled ↦ plain_lays (row_passes (λ row. is_plain row.act) (exact_rows 11) refl (row_of J pid.0 step.node) step.row (crash_row kind)) i made get
-    | moves r m kind uncalled ↦ caller_lays step.node.root made (sym (ap (λ o. bears_by (is_some o) (is_some (verb_in step.node.args)) (is_caller made)) m) ∙ d.bearing i made get)
-    | calls verb v unmoved exact ↦ absurd (none-some made (sym (ap (λ c. slice_get (args_in c) i) (d.calls verb v).childless) ∙ get))
-  ]
-
   -- nobody of a tree that has fallen makes a step
   not_fallen : IsFallen J step.node.root → ⊥
   not_fallen fallen = by step.node.above refl
     where
       by : (above : List ℕ) → step.node.above ≡ above → ⊥
       by [] e = fallen.0 (ap (cause J) (grown.tops pid.0 step.node step.node_is e) ∙ step.uncaused (ap is_top e))
-      by (u ∷ rest) e = true≢false (sym (fallen.1 pid.0 step.node step.node_is refl (λ h. cons_nil (sym e ∙ h))) ∙ ready_stops J pid.0 step.node (last_answer J pid.0) step.ready)
-        where
-          cons_nil : u ∷ rest ≡ [] → ⊥
-          cons_nil h = cc
+      by (u ∷ rest) e = true≢false (sym (fallen.1 pid.0 step.node step.node_is refl (λ h. cons_nil u rest (sym e ∙ h))) ∙ ready_stops J pid.0 step.node (last_answer J pid.0) step.ready)
 
 -- a step keeps it
 module _ (pid : Pid) (pick : Option Server) (out : StepOut) (J : Past) (legal : IsLegal (entry_is.Step pid pick out ∷ J)) (l : Laying J) where
@@ -153,11 +95,8 @@ module _ (pid : Pid) (pick : Option Server) (out : StepOut) (J : Past) (legal : 
     | inl le ↦ inl (le, sym (node_same pid pick out J q le) ∙ is)
     | inr lt ↦
         let c = new_child pid pick out J s.node s.node_is q lt x is in
-        inr (lt, ap (λ (n : Node). n.root) c.2, (λ h. cons_nil (ap (λ (n : Node). n.above) (sym c.2) ∙ h)), subst (λ (n : Node). Lays s.node.root n.args) (sym c.2) (child_lays pid pick out J g s (does_of pid pick out J g s) (q - made J - 1) c.0 c.1))
+        inr (lt, ap (λ (n : Node). n.root) c.2, (λ h. cons_nil pid.0 s.node.above (ap (λ (n : Node). n.above) (sym c.2) ∙ h)), subst (λ (n : Node). Lays s.node.root n.args) (sym c.2) (child_lays pid pick out J g s (does_of pid pick out J g s) (q - made J - 1) c.0 c.1))
   ]
-    where
-      cons_nil : pid.0 ∷ s.node.above ≡ [] → ⊥
-      cons_nil h = cc
 
   fallen_other : (r : ℕ) → IsFallen J r → s.node.root ≢ r
   fallen_other r fallen same = not_fallen pid pick out J g s (does_of pid pick out J g s) (subst (IsFallen J) (sym same) fallen)
@@ -347,13 +286,9 @@ swept_late J legal q s root swept lays sweeps same =
     let x = grown.verbs q (verb_is.Layout root) lays in
     let y = grown.verbs s (verb_is.Sweep swept) sweeps in
     let own = l.0 q x.0 root x.1 x.2 in (
-      ap (ended_node J q) x.1 ∙ cond-false (is_top x.0.above) (root_ended J q) (is_stopped (last_answer J q)) (below x.0.above own.1) ∙ (l.1 s y.0 swept y.1 y.2).1 q x.0 x.1 (own.0 ∙ same) own.1,
+      ap (ended_node J q) x.1 ∙ cond-false (is_top x.0.above) (root_ended J q) (is_stopped (last_answer J q)) (top_not x.0.above own.1) ∙ (l.1 s y.0 swept y.1 y.2).1 q x.0 x.1 (own.0 ∙ same) own.1,
       l.2 q s x.0 y.0 root swept x.1 x.2 y.1 y.2 same,
     )
-  where
-    below : (above : List ℕ) → above ≢ [] → is_top above ≡ false
-    below [] some = absurd (some refl)
-    below (u ∷ rest) some = refl
 
 -- which verb a report of a layout is of
 abbrev laying_verb : Bool → Pid → Verb

@@ -1,5 +1,5 @@
 -- What every legal journal keeps of who bore whom, who awaits an answer, and what crashes have done first.
-use Rattle.std.proofs.Common.{◌≡◌, ◌≢◌, ℕ, zero, suc, ◌+◌, ◌-◌, ◌<◌, ◌≤◌, List, [], ◌∷◌, ◌==◌, ◌&&◌, ◌||◌, ◌⊎◌, not, Bool, true, false, cond, slice_get, option_map, Option, Some, None, is_some, refl, ap, sym, ◌∙◌, subst, inl, inr, arith}
+use Rattle.std.proofs.Common.{◌≡◌, ◌≢◌, ℕ, ◌+◌, ◌-◌, ◌<◌, ◌≤◌, List, [], ◌∷◌, ◌==◌, ◌&&◌, ◌||◌, ◌⊎◌, not, Bool, true, false, cond, slice_get, option_map, Option, Some, None, is_some, refl, ap, sym, ◌∙◌, subst, inl, inr, arith}
 use Rattle.std.specs.Option.{option_or}
 use Rattle.std.proofs.lemmas.Bool.{and_right, cases_Bool, cases_eq, cond-false, cond-true, eq-eqb, eqb-true, false≢true, or_parts, true≢false}
 use Rattle.std.proofs.lemmas.Option.{none-some, same_Some}
@@ -60,19 +60,15 @@ use Rattle.hm_model.proofs.Listed.{in_slice}
 use Rattle.hm_model.proofs.LegalSteps.{StepFacts, ready_stops}
 use Rattle.hm_model.proofs.NameTies.{same_server-is}
 use Rattle.hm_model.proofs.PlainActs.{GoesTo, IsPlainOut, is_caller, is_plain, plain_act, plain_fails}
-use Rattle.hm_model.proofs.StepDoes.{Does, GoesNear, IsMoveOut, bears, bears_by, calls, crash, exact_row, is_moving, lined, move_act, move_fails, move_row, moves, part_of, row_by}
+use Rattle.hm_model.proofs.StepDoes.{Does, GoesNear, IsMoveOut, bears_by, calls, crash, exact_row, is_moving, lined, move_act, move_fails, move_row, moves, part_of, row_by}
 use Rattle.hm_model.proofs.Trees.{Grown, IsRooted, answer_now, does_of, down_rooted, grown_all, is_there, le_or_lt, new_child, node_new, node_same, old_or_new, other_answer, other_verb, step_of, still, submit_rooted, undo_rooted, verb_now}
 use Rattle.hm_model.proofs.UndoMakes.{undo_of}
+use Rattle.hm_model.proofs.Small.{cons_nil, nil_cons, same_head, slice_in}
+use Rattle.hm_model.proofs.Answered.{or_none}
 use Rattle.hm_kinds.proofs.LockForms.{IsRight}
 use Rattle.hm_world_model.proofs.Births.{AllOf, Bears, BornOf, MayMove, act_bears, bears_moves, moved_all}
 use Rattle.hm_world_model.proofs.Servers.{up_before}
 use Rattle.hm_model.specs.Locks.{IsIn}
-
--- lists
-slice_in : {A : Type 0} (xs : List A) (i : ℕ) (x : A) → slice_get xs i ≡ Some x → IsIn x xs
-slice_in [] i x h = absurd (none-some x h)
-slice_in (y ∷ ys) zero x h = inl (sym (same_Some y x h))
-slice_in (y ∷ ys) (suc i) x h = inr (slice_in ys i x h)
 
 -- what a step bears, and that it calls where it awaits
 bears_fails : (up : Args) (cause : Cause) → Bears up (fails cause)
@@ -220,9 +216,6 @@ module _ (J J' : Past) (rooted : IsRooted J J') (grown : Grown J) (l : Lineage J
     | inl old ↦ old
     | inr new ↦ absurd (nil_cons u rest (ap (λ (n : Node). n.above) (sym new.2) ∙ above))
   ]
-    where
-      nil_cons : (u : ℕ) (rest : List ℕ) → [] ≡ u ∷ rest → ⊥
-      nil_cons u rest e = cc
 
   answered_old : (p : ℕ) (node : Node) → node_of J' p ≡ Some node → last_answer J' p ≢ None → node_of J p ≡ Some node
   answered_old p node is some = elim (old_or_new J J' rooted grown p node is) [ inl old ↦ old | inr new ↦ absurd (some new.3) ]
@@ -284,9 +277,6 @@ module _ (pid : Pid) (pick : Option Server) (out : StepOut) (J : Past) (legal : 
         subst (λ (n : Node). BornOf n.args node.args) parent (subst (BornOf s.node.args) (ap (λ (n : Node). n.args) (sym c.2)) (bears_now c.0 (slice_in (args_in out.children) (p - made J - 1) c.0 c.1)))
         )
   ]
-    where
-      same_head : (a b : ℕ) (xs ys : List ℕ) → a ∷ xs ≡ b ∷ ys → a ≡ b
-      same_head a b xs ys e = cc
 
   sound_now : (p : ℕ) (node : Node) → node_of J' p ≡ Some node → IsRight node.args
   sound_now p node is = elim (le_or_lt p (made J)) [
@@ -327,21 +317,13 @@ module _ (pid : Pid) (pick : Option Server) (out : StepOut) (J : Past) (legal : 
         let root : root_of J pid.0 ≡ node.root = ap root_in s.node_is ∙ ap (λ (n : Node). n.root) one in
         let now : last_answer J' p ≡ Some out.answer = ap (last_answer J') mine ∙ answer_now pid pick out J in
         let fails : or_else (cause J node.root) (failing out.answer) ≡ None = sym (cond-true (root_of J pid.0 == node.root) (or_else (cause J node.root) (failing out.answer)) (cause J node.root) (eq-eqb (root_of J pid.0) node.root root)) ∙ none in
-        by out.answer (does_of pid pick out J g s).sound (ap is_stopped (sym now) ∙ stopped) (no_failure (cause J node.root) (failing out.answer) fails) (ap done_with (sym now) ∙ undone)
+        by out.answer (does_of pid pick out J g s).sound (ap is_stopped (sym now) ∙ stopped) (or_none (cause J node.root) (failing out.answer) fails).1 (ap done_with (sym now) ∙ undone)
         )
   ]
     where
       uncaused : (b : Bool) → cond b (or_else (cause J node.root) (failing out.answer)) (cause J node.root) ≡ None → cause J node.root ≡ None
-      uncaused true h = first_none (cause J node.root) (failing out.answer) h
-        where
-          first_none : (c e : Option Cause) → or_else c e ≡ None → c ≡ None
-          first_none None e h = refl
-          first_none (Some c) e h = absurd (none-some c (sym h))
+      uncaused true h = (or_none (cause J node.root) (failing out.answer) h).0
       uncaused false h = h
-
-      no_failure : (c e : Option Cause) → or_else c e ≡ None → e ≡ None
-      no_failure None e h = h
-      no_failure (Some c) e h = absurd (none-some c (sym h))
 
       by : (a : Answer) → Rattle.hm_model.proofs.StepDoes.IsStepAnswer a → is_stopped (Some a) ≡ true → failing a ≡ None → done_with (Some a) ≡ None → ⊥
       by (answer_is.Done told) sane stopped fine undone = none-some told (sym undone)
@@ -396,9 +378,6 @@ module _ (pid : Pid) (pick : Option Server) (out : StepOut) (J : Past) (legal : 
           let get : slice_get (args_in out.children) (made J + 1 - made J - 1) ≡ Some (args_are.FenceCall s) = ap (slice_get (args_in out.children)) zero_is ∙ ap (λ l. slice_get (args_in l) 0) children in
           let new : node_of J' (made J + 1) ≡ Some (child_of pid.0 st.node (args_are.FenceCall s)) = node_new pid pick out J st.node st.node_is (made J + 1) lt ∙ ap (option_map (child_of pid.0 st.node)) get in
           (made J + 1, child_of pid.0 st.node (args_are.FenceCall s), new, refl, λ e. cons_nil pid.0 st.node.above e)
-        where
-          cons_nil : (u : ℕ) (rest : List ℕ) → u ∷ rest ≡ [] → ⊥
-          cons_nil u rest e = cc
 
   told_now : (f : ℕ) (node : Node) (s : Server) → node_of J' f ≡ Some node → node.args ≡ args_are.FenceCall s → is_stopped (last_answer J' f) ≡ true → report_of J' f ≢ None
   told_now f node s is own stopped = elim (cases_eq f pid.0) [

@@ -1,6 +1,6 @@
 -- A master that opens a journal keeps what is kept, and what is kept is never twice.
 use Rattle.std.proofs.Common.{◌≡◌, ℕ, List, [], ◌∷◌, ◌==◌, ◌&&◌, true, false, Some, refl, ap, sym, ◌∙◌, subst, inl, inr, arith}
-use Rattle.std.proofs.lemmas.Bool.{and_from, cases_eq, cond-false, cond-true, eq-eqb, false_from_ne_true, false≢true, ne_eqb, or_left, or_right, true≢false}
+use Rattle.std.proofs.lemmas.Bool.{and_from, cases_eq, cond-false, cond-true, eq-eqb, false_from_ne_true, ne_eqb, or_left, or_right, true≢false}
 use Rattle.std.proofs.lemmas.Option.{none-some, same_Some}
 use Rattle.hm_names.specs.Region.{Region}
 use Rattle.hm_names.specs.Server.{Server}
@@ -23,6 +23,7 @@ use Rattle.hm_model.specs.Tree.{node_of}
 use Rattle.hm_model.specs.Verbs.{verb_in}
 use Rattle.hm_model.proofs.Calls.{reports_fit}
 use Rattle.hm_model.proofs.NameTies.{same_server-refl}
+use Rattle.hm_model.proofs.CallSteps.{fenced_only}
 use Rattle.hm_world_model.specs.Events.{Event}
 use Rattle.hm_world_model.specs.Outside.{Outside, nobody}
 use Rattle.hm_world_model.specs.Runs.{IsRun, after}
@@ -35,10 +36,6 @@ use Rattle.hm_world_model.proofs.Facts.{node_called, one_server, same_verb, verb
 use Rattle.hm_world_model.proofs.Apart.{apart_opened}
 use Rattle.hm_world_model.proofs.Rolling.{plain_opened}
 use Rattle.hm_world_model.proofs.Tails.{event_keeps, within_whole}
-
-fence_told : (s : Server) (t : Told) → fits_verb (verb_is.Fence s) t ≡ true → (told_number t == told_number told_is.Fenced) ≡ true
-fence_told s told_is.Fenced h = refl
-fence_told s t h = absurd (false≢true h)
 
 fence_args : (args : Args) (s : Server) → verb_in args ≡ Some (verb_is.Fence s) → fences_by args s ≡ true
 fence_args (args_are.FenceCall other) s is = subst (λ x. same_server s x ≡ true) (one (same_Some (verb_is.Fence other) (verb_is.Fence s) is)) (same_server-refl s)
@@ -78,7 +75,7 @@ reported_fence (entry_is.Report call now ∷ J) legal p told s h v = elim (cases
       let own : verb_of J call.0 ≡ Some (verb_is.Fence s) = ap (verb_of J) (sym same) ∙ v in
       let node = node_called J legal.0 call.0 (verb_is.Fence s) own in
       or_left ((told_number now == told_number told_is.Fenced) && fences_if (node_of J call.0) s) (is_fenced J s)
-      (and_from (told_number now == told_number told_is.Fenced) (fences_if (node_of J call.0) s) (fence_told s now fits) (ap (λ n. fences_if n s) node.1 ∙ fence_args node.0.args s node.2))
+      (and_from (told_number now == told_number told_is.Fenced) (fences_if (node_of J call.0) s) (fenced_only s now fits) (ap (λ n. fences_if n s) node.1 ∙ fence_args node.0.args s node.2))
   | inr differs ↦
       or_right ((told_number now == told_number told_is.Fenced) && fences_if (node_of J call.0) s) (is_fenced J s)
       (reported_fence J legal.0 p told s (sym (cond-false (p == call.0) (Some now) (report_of J p) (ne_eqb p call.0 differs)) ∙ h) v)

@@ -33,7 +33,8 @@ use Rattle.hm_model.specs.Tree.{Node, is_top, node_of}
 use Rattle.hm_model.specs.Verbs.{verb_in}
 use Rattle.hm_model.proofs.Calls.{calls_own}
 use Rattle.hm_model.proofs.StepDoes.{CallerAt}
-use Rattle.hm_model.proofs.Trees.{IsWaiting, grown_all}
+use Rattle.hm_model.proofs.Trees.{IsWaiting, grown_all, verb_was}
+use Rattle.hm_model.proofs.Small.{none_told}
 use Rattle.hm_single.specs.Calls.{Finds, IsLater}
 use Rattle.hm_single.proofs.All.{calls_find, kept_all}
 use Rattle.hm_single.proofs.Stage.{StageFor, called_region, child_of_step}
@@ -41,8 +42,8 @@ use Rattle.hm_single.proofs.Transit.{AtRow, Calls}
 use Rattle.hm_world_model.specs.Outside.{Outside, answer_by, answer_of_actor, runs}
 use Rattle.hm_world_model.specs.Progress.{EarlierHaveEnded, OpenIsAnswered, ReportsAreHeard}
 use Rattle.hm_world_model.specs.Safe.{CallsTo, Safe}
-use Rattle.hm_world_model.proofs.Facts.{Touch, closes, last_made, node_called, not_storage, opens, parts_of, region_peer, same, same_verb, touch, verb_was}
-use Rattle.hm_world_model.proofs.Known.{caller_below, peer_called}
+use Rattle.hm_world_model.proofs.Facts.{Touch, closes, last_made, node_called, not_storage, opens, parts_of, region_peer, same, same_verb, touch}
+use Rattle.hm_world_model.proofs.Known.{caller_below, peer_called, storage_no_server}
 use Rattle.hm_world_model.proofs.Tails.{safe_past}
 
 -- who has made a call and goes on awaits the answer
@@ -177,10 +178,7 @@ storage_answers storage id (verb_is.Sweep root) none = store_answers (storage.an
 server_region : (args : Args) (verb : Verb) (s : Server) → verb_in args ≡ Some verb → peer_in args ≡ peer_is.Server s → (r : Region) × (region_called verb ≡ Some r)
 server_region (args_are.AssignCall region server) verb s v is = (region, ap region_called (sym (same_Some (verb_is.AssignRegion region) verb v)))
 server_region (args_are.CloseCall region server) verb s v is = (region, ap region_called (sym (same_Some (verb_is.CloseRegion region) verb v)))
-server_region args verb s v is = absurd (never is)
-  where
-    never : peer_is.Storage ≡ peer_is.Server s → ⊥
-    never e = cc
+server_region args verb s v is = absurd (storage_no_server s is)
 
 module _ (J : Past) (o : Outside) (safe : Safe J o) (call : Call) (called : verb_of J call.id.0 ≡ Some call.verb) (unended : ended J call.id.0 ≡ false) where
   by_actor : (s : Server) → peer_of J call.id.0 ≡ Some (peer_is.Server s) → (x : Option Actor) → o.actors s ≡ x → is_some x ≡ true → Answers (answer_of_actor x call) call.id
@@ -212,11 +210,7 @@ reports_heard w kept report there unsettled =
     let safe = safe_past w kept in
     let made = safe.calls.made_is report there in
     let parts = or_parts (is_reported w.past report.call.0) (ended w.past report.call.0) unsettled in (
-      ((λ none. none-some made.0.verb (sym none ∙ made.0.called)), unreported (report_of w.past report.call.0) parts.0, parts.1),
+      ((λ none. none-some made.0.verb (sym none ∙ made.0.called)), none_told (report_of w.past report.call.0) parts.0, parts.1),
       (λ verb called. ap (λ v. fits_verb v report.told) (same_verb w.past report.call.0 verb made.0.verb called made.0.called) ∙ made.0.fits),
       made.1,
     )
-  where
-    unreported : (o : Option Told) → is_some o ≡ false → o ≡ None
-    unreported None h = refl
-    unreported (Some t) h = absurd (true≢false h)

@@ -21,7 +21,7 @@ use Rattle.hm_model.specs.Reports.{call_if, call_of, is_reported, is_settled, pe
 use Rattle.hm_model.specs.Rules.{IsLegal}
 use Rattle.hm_model.specs.Tree.{Node, made, node_of, pid_of}
 use Rattle.hm_model.proofs.Counting.{count_none, find_below}
-use Rattle.hm_model.proofs.Trees.{grown_all}
+use Rattle.hm_model.proofs.Trees.{grown_all, verb_was}
 use Rattle.hm_world_model.specs.Events.{Deliver, Flush, Hear, Ignore, Send, Travels, Works, happens, with_entry}
 use Rattle.hm_world_model.specs.Measure.{CanCarry, CarryingIsPossible, CarryingStays, calls_made, is_to_send, left_to_carry, runs_if, travels}
 use Rattle.hm_world_model.specs.Outside.{Outside, runs}
@@ -29,7 +29,7 @@ use Rattle.hm_world_model.specs.Runs.{GoesOn, May, MayEnter, MayHear}
 use Rattle.hm_world_model.specs.Safe.{IsKept}
 use Rattle.hm_world_model.specs.World.{LogFault, World, durable_part}
 use Rattle.hm_model.proofs.Taken.{open_before}
-use Rattle.hm_world_model.proofs.Facts.{node_called, peer_same, verb_was}
+use Rattle.hm_world_model.proofs.Facts.{node_called, peer_same}
 use Rattle.hm_world_model.proofs.Measure.{deliver_nearer, hear_nearer, ignore_nearer, send_nearer}
 use Rattle.hm_world_model.proofs.Progress.{reports_heard}
 use Rattle.hm_world_model.proofs.Tails.{event_keeps, safe_past}

@@ -1,6 +1,6 @@
 -- Nothing is unfinished where nothing can go on: a server that went down is fenced; a holder that moves a region or was requested
 -- has somebody who can go on; so has a crash, which waits for those alone; and where nobody holds, nobody waits.
-use Rattle.std.proofs.Common.{◌≡◌, ◌≢◌, ℕ, List, [], ◌∷◌, ◌||◌, not, Bool, true, false, Option, Some, None, is_some, refl, ap, sym, ◌∙◌, subst, inl, inr}
+use Rattle.std.proofs.Common.{◌≡◌, ◌≢◌, ℕ, List, [], ◌∷◌, not, true, false, Option, Some, None, is_some, refl, ap, sym, ◌∙◌, subst, inl, inr}
 use Rattle.std.proofs.lemmas.Bool.{cases_Bool, cases_eq, false≢true, or_cases, or_right, true≢false}
 use Rattle.std.proofs.lemmas.Option.{none-some, same_Some}
 use Rattle.hm_names.specs.Region.{Region}
@@ -38,6 +38,7 @@ use Rattle.hm_model.proofs.Trees.{IsWaiting, grown_all}
 use Rattle.hm_world_model.specs.Rest.{AllHaveEnded, CallsAreSettled, StillIsEnded, can_answer}
 use Rattle.hm_model.proofs.Tops.{ended_top}
 use Rattle.hm_model.proofs.Taken.{legal_apart, some_node}
+use Rattle.hm_model.proofs.Small.{cons_nil, nil_cons}
 use Rattle.hm_world_model.proofs.Apart.{ended_below, root_open}
 use Rattle.hm_world_model.proofs.Births.{BornOf, Over}
 use Rattle.hm_world_model.proofs.Clashing.{askless, crash_clash, crashing, locker, moved_crash, moving, over_clash, requesting}
@@ -48,6 +49,7 @@ use Rattle.hm_world_model.proofs.Lineage.{crashed, lineage_all}
 use Rattle.hm_world_model.proofs.Opening.{reported_fence}
 use Rattle.hm_model.specs.declared.lock.Ask.{Ask}
 use Rattle.hm_single.proofs.Kin.{kin_of}
+use Rattle.std.proofs.Math.Bool.{or_comm}
 
 -- what calls about a region calls something, and moves nothing
 caller_parts : (args : Args) → is_caller args ≡ true → (moved_by args ≡ None) × (is_some (verb_in args) ≡ true) × (asks args ≡ [])
@@ -67,9 +69,6 @@ module _ (J : Past) (legal : IsLegal J) (live : has_live J ≡ true) (settled : 
   unended : (p : ℕ) (x : Node) → node_of J p ≡ Some x → is_stopped (last_answer J p) ≡ false → (x.above ≡ [] → cause J p ≡ None) → ended J p ≡ false
   unended p x is runs uncaused = by x.above refl
     where
-      cons_nil : (u : ℕ) (rest : List ℕ) → u ∷ rest ≡ [] → ⊥
-      cons_nil u rest e = cc
-
       by : (above : List ℕ) → x.above ≡ above → ended J p ≡ false
       by [] e = ended_top J p x is e ∙ ap (root_ended J) (sym ((grown_all J legal).tops p x is e)) ∙ root_open J legal p x is runs uncaused
       by (u ∷ rest) e = ended_below J p x is (λ none. cons_nil u rest (sym e ∙ none)) ∙ runs
@@ -220,9 +219,6 @@ module _ (J : Past) (legal : IsLegal J) (live : has_live J ≡ true) (settled : 
   moving_not : (q : ℕ) (x : Node) (r : Region) → node_of J q ≡ Some x → moved_by x.args ≡ Some r → HoldsWith J [] q → ⊥
   moving_not q x r is m holds = by x.above refl
     where
-      cons_nil : (u : ℕ) (rest : List ℕ) → u ∷ rest ≡ [] → ⊥
-      cons_nil u rest e = cc
-
       by : (above : List ℕ) → x.above ≡ above → ⊥
       by (u ∷ rest) e =
           let runs = sym (ended_below J q x is (λ none. cons_nil u rest (sym e ∙ none))) ∙ holds.1 in
@@ -310,13 +306,7 @@ module _ (J : Past) (legal : IsLegal J) (live : has_live J ≡ true) (settled : 
         where
           by_args : (u : ℕ) (rest : List ℕ) → g.node.above ≡ u ∷ rest → (args : Args) → g.node.args ≡ args → IsFree J [] g.pid
           by_args u rest e (args_are.Root other its) a = absurd (nil_cons u rest (sym (request_top g.pid g.node other its g.there a) ∙ e))
-            where
-              nil_cons : (u : ℕ) (rest : List ℕ) → [] ≡ u ∷ rest → ⊥
-              nil_cons u rest h = cc
           by_args u rest e (args_are.Crash s) a = absurd (nil_cons u rest (sym (crash_top g.pid g.node s g.there a) ∙ e))
-            where
-              nil_cons : (u : ℕ) (rest : List ℕ) → [] ≡ u ∷ rest → ⊥
-              nil_cons u rest h = cc
           by_args u rest e (args_are.Transit region goal to) a =
               let up = (grown_all J legal).ups g.pid g.node g.there u rest e in
               let born = subst (BornOf up.0.args) a ((lineage_all J legal).born g.pid g.node up.0 u rest g.there e up.1) in
@@ -355,14 +345,8 @@ module _ (J : Past) (legal : IsLegal J) (live : has_live J ≡ true) (settled : 
           own_clash : (z : Node) → AsksClash (Some g.node) (Some z) → (t : Server) → z.args ≡ args_are.Crash t → g.node.args ≡ args_are.Crash t
           own_clash z h t its = crash_clash t g.node.args (back (asks g.node.args) (asks z.args) (asks (args_are.Crash t)) (ap asks its) h)
             where
-              flip : (a b : Bool) → (a || b) ≡ true → (b || a) ≡ true
-              flip true true k = refl
-              flip true false k = refl
-              flip false true k = refl
-              flip false false k = k
-
               back : (one other its : List Ask) → other ≡ its → Clash one other → Clash its one
-              back one other its e k = (k.1, k.0, subst (IsIn k.1) e k.3, k.2, sym k.4, flip k.0.exclusive k.1.exclusive k.5)
+              back one other its e k = (k.1, k.0, subst (IsIn k.1) e k.3, k.2, sym k.4, or_comm k.1.exclusive k.0.exclusive ∙ k.5)
 
           -- the crash itself has a step, so who goes on without one isn't it
           not_crash : (t : Server) → g.node.args ≡ args_are.Crash t → ⊥
@@ -410,9 +394,6 @@ module _ (J : Past) (legal : IsLegal J) (live : has_live J ≡ true) (settled : 
     | inr open_one ↦ (let x = some_node J p there in absurd (by x.0 x.1 open_one x.0.above refl))
   ]
     where
-      cons_nil : (u : ℕ) (rest : List ℕ) → u ∷ rest ≡ [] → ⊥
-      cons_nil u rest e = cc
-
       by : (x : Node) → node_of J p ≡ Some x → ended J p ≡ false → (above : List ℕ) → x.above ≡ above → ⊥
       by x is open_one [] e = root_done p x is e (sym (ended_top J p x is e) ∙ open_one)
       by x is open_one (u ∷ rest) e =

@@ -1,6 +1,5 @@
 -- Serving a call keeps what is kept.
 use Rattle.std.proofs.Common.{◌≡◌, ◌≢◌, ℕ, ◌-◌, ◌<◌, ◌≤◌, [], ◌∷◌, ◌++◌, nat_lt, Bool, true, false, cond, Option, Some, None, refl, ap, sym, ◌∙◌, subst, inl, inr, ◌⊎◌, arith}
-use Rattle.std.specs.Ordering.{nat_cmp}
 use Rattle.std.specs.declared.cmp.Ordering.{Ordering}
 use Rattle.std.specs.declared.cmp.Ordering.TheVariants.{Less, Equal, Greater}
 use Rattle.std.proofs.lemmas.Bool.{cases_eq, cond-false, cond-true, false≢true}
@@ -29,7 +28,8 @@ use Rattle.hm_world_model.specs.Outside.{Outside, answer_of_actor, behind_call, 
 use Rattle.hm_world_model.specs.Safe.{CallsTo, HasServed, HeldBy, Made, Runs, Safe, ToldBy}
 use Rattle.hm_world_model.proofs.Facts.{cases_region, in_pushed, one_server, same_verb, who_runs}
 use Rattle.hm_world_model.proofs.From.{From, made_from, made_old, safe_die, safe_from, safe_manned, same_actors, stored_old}
-use Rattle.hm_model.proofs.KeyTests.{same_region-refl}
+use Rattle.hm_model.proofs.KeyTests.{nat_cmp-is, same_region-refl}
+use Rattle.hm_model.proofs.Calls.{open_close}
 
 -- the id is above the last one
 abbrev pub IsNew : Option Served → ℕ → Type 0
@@ -53,9 +53,6 @@ unserved_last J o safe p r s a calls runs unserved = by (last_call J r) refl
 -- a server has the answer, or has gone on to later calls
 abbrev pub IsTold : ℕ → Told → Region → Actor → Type 0
 IsTold p told q c = (last : Served) × (c.last q ≡ Some last) × ((p < last.id.0) ⊎ ((p ≡ last.id.0) × (told ≡ last.told)))
-
-nat_cmp_equal : (m n : ℕ) → nat_cmp m n ≡ Equal → m ≡ n
-nat_cmp_equal m n h = ranked m n Equal (sym h)
 
 new_is : (l : Option Served) (id : Pid) → age l id ≡ Greater → IsNew l id.0
 new_is None id h = tt
@@ -272,7 +269,7 @@ module _ (J : Past) (o : Outside) (safe : Safe J o) (r : Region) (s : Server) (i
       let storage = o.storage in
       let reports = o.reports ++ reported a id last.told ∷ [] in
       let actors = set_actor o.actors s (Some a) in
-      let same : last.id.0 ≡ id.0 = sym (nat_cmp_equal id.0 last.id.0 h) in
+      let same : last.id.0 ≡ id.0 = sym (nat_cmp-is id.0 last.id.0 h) in
       safe_from J o safe actors storage o.sent reports from_same (λ t k. k) safe.calls.sent_is
       (λ report k. elim (in_pushed report (reported a id last.told) o.reports k) [
         | inl new ↦ subst (λ (x : ReportMsg). Made J (record o { actors = actors; reports = reports }) x.call.0 x.told × (peer_of J x.call.0 ≡ Some x.from)) (sym new)
@@ -303,14 +300,11 @@ module _ (J : Past) (o : Outside) (safe : Safe J o) (r : Region) (s : Server) (i
       let k = safe.servers.held r s a (is, free) held in
       elim k.3 [
         | inl own ↦ unserved_new a r id.0 new (k.0, k.1, le_same k.0.id.0 (same_Some id.0 k.0.id.0 (sym l ∙ own.0)))
-        | inr q ↦ open_close (same_verb J id.0 (verb_is.AssignRegion r) (verb_is.CloseRegion r) verb (ap (verb_of J) (same_Some id.0 q.0 (sym l ∙ q.2.0)) ∙ q.2.1))
+        | inr q ↦ open_close r (same_verb J id.0 (verb_is.AssignRegion r) (verb_is.CloseRegion r) verb (ap (verb_of J) (same_Some id.0 q.0 (sym l ∙ q.2.0)) ∙ q.2.1))
       ]
     where
       le_same : (n : ℕ) → id.0 ≡ n → id.0 ≤ n
       le_same n e = omega (arith, e)
-
-      open_close : verb_is.AssignRegion r ≡ verb_is.CloseRegion r → ⊥
-      open_close e = cc
 
   refused : told_is.FailedOpen ≡ told_is.Opened → ⊥
   refused e = cc

@@ -18,7 +18,7 @@ use Rattle.hm_model.specs.Reports.{call_of}
 use Rattle.hm_model.specs.Rules.{Allowed, IsLegal}
 use Rattle.hm_world_model.specs.Events.{Abort, Adopt, Arm, Claim, Commit, Deliver, DeliverAgain, Die, Ends, Event, Expire, Fault, Flush, Full, GiveUp, Hear, HearAgain, Ignore, Lives, Lose, Repeat, SendOld, DeliverOld, Miss, Send, Start, Stop, Submit, Travels, Works, happens, with_older_down, Roll}
 use Rattle.hm_world_model.specs.Outside.{Outside, answer_by, deliver_by, delivered, report_to, started, with_report, with_sent, armed}
-use Rattle.hm_world_model.specs.Runs.{CanWrite, GoesOn, IsRolledIn, IsTrueReport, IsWork, May, MayBeRolled, MayEnter, MayStart}
+use Rattle.hm_world_model.specs.Runs.{CanRoll, CanWrite, GoesOn, IsRolledIn, IsTrueReport, IsWork, May, MayBeRolled, MayEnter, MayStart}
 use Rattle.hm_world_model.specs.Safe.{IsKept, IsPlainBehind, Safe}
 use Rattle.hm_world_model.specs.World.{Claimed, LogFault, World, claimed_pids, durable_part, first, whole, with_tail}
 use Rattle.hm_world_model.specs.Claims.{IsApart}
@@ -203,24 +203,26 @@ module _ (w : World) (kept : IsKept w) where
   entered_rolls : (entry : Entry) (r : ℕ) → w.rolled ≡ Some r → IsRolledIn (first d (entry ∷ w.past)) r
   entered_rolls entry r is = subst (λ J. IsRolledIn J r) (one_more entry w.past d kept.within) (kept.rolls r is)
 
-  -- a stop leaves what was rolled, and what a later roll may have
+  -- a stop leaves what was rolled, and what a roll that failed may have
   stop_plain : (k : ℕ) → d ≤ k → IsPlainBehind k (first k (whole w))
   stop_plain k low = plain_dropped (length (whole w) - k) k (whole w) (plain_later (whole w) d k low kept.plain)
 
+  -- all that is recorded is rolled
+  all_rolled : CanRoll w → (r : ℕ) → counted w.past ≡ r → IsRolledIn (first d w.past) r
+  all_rolled can r is =
+      subst (λ n. IsRolledIn (first d w.past) n) is
+      (subst (λ J. IsRolledIn J (counted w.past)) (sym (all_front w.past d can.1)) (rolled_all w.past can.2 can.3))
+
   was_rolled : (rolled : Option ℕ) → MayBeRolled w rolled → (r : ℕ) → rolled ≡ Some r → IsRolledIn (first d w.past) r
   was_rolled rolled (inl same) r is = kept.rolls r (sym same ∙ is)
-  was_rolled rolled (inr later) r is = subst (λ n. IsRolledIn (first d w.past) n) (same_Some later.0 r (sym later.1 ∙ is)) later.2.0
+  was_rolled rolled (inr later) r is =
+      let failed = later.2 in
+      all_rolled failed.can r (sym failed.all ∙ same_Some later.0 r (sym later.1 ∙ is))
 
   stop_rolls : (k : ℕ) → d ≤ k → k ≤ length (whole w) → (rolled : Option ℕ) → MayBeRolled w rolled → (r : ℕ) → rolled ≡ Some r → IsRolledIn (first k (first k (whole w))) r
   stop_rolls k low high rolled may r is =
       subst (λ J. IsRolledIn J r) (sym (whole_front (whole w) k high))
       (rolled_first (whole w) d k r low high kept.plain (subst (λ J. IsRolledIn J r) (durable_whole w.tail w.past d kept.within) (was_rolled rolled may r is)))
-
-  -- all that is recorded is rolled
-  all_rolled : May w (Works Roll) → (r : ℕ) → Some (counted w.past) ≡ Some r → IsRolledIn (first d w.past) r
-  all_rolled may r is =
-      subst (λ n. IsRolledIn (first d w.past) n) (same_Some (counted w.past) r is)
-      (subst (λ J. IsRolledIn J (counted w.past)) (sym (all_front w.past d may.2)) (rolled_all w.past may.3 may.4))
 
 one_longer : (entry : Entry) (past : Past) (d : ℕ) → d ≤ length past → d ≤ length (entry ∷ past)
 one_longer entry past d h = omega (arith, h)
@@ -348,7 +350,7 @@ event_keeps w (Lives (Die server)) k may = record { within = k.within; tailless 
 event_keeps w (Works (Expire server)) k may = record { within = one_longer (entry_is.Down server) w.past w.durable k.within; tailless = k.tailless; wire_is = k.wire_is; waiting_is = k.waiting_is; apart = apart_plain w k.apart (legal_here w k) (entry_is.Down server) (legal_next w k (entry_is.Down server) may) tt; tails = entered w k (entry_is.Down server) may tt; plain = entered_plain w k (entry_is.Down server) may.0 refl; rolls = entered_rolls w k (entry_is.Down server) }
 event_keeps w (Works (Abort pid)) k may = record { within = one_longer (entry_is.Abort pid) w.past w.durable k.within; tailless = k.tailless; wire_is = k.wire_is; waiting_is = k.waiting_is; apart = apart_plain w k.apart (legal_here w k) (entry_is.Abort pid) (legal_next w k (entry_is.Abort pid) may) tt; tails = entered w k (entry_is.Abort pid) may tt; plain = entered_plain w k (entry_is.Abort pid) may.0 refl; rolls = entered_rolls w k (entry_is.Abort pid) }
 event_keeps w (Works (Adopt sheets)) k may = record { within = one_longer (entry_is.Adopt sheets) w.past w.durable k.within; tailless = k.tailless; wire_is = k.wire_is; waiting_is = k.waiting_is; apart = apart_plain w k.apart (legal_here w k) (entry_is.Adopt sheets) (legal_next w k (entry_is.Adopt sheets) may) tt; tails = entered w k (entry_is.Adopt sheets) may tt; plain = entered_plain w k (entry_is.Adopt sheets) may.0 refl; rolls = entered_rolls w k (entry_is.Adopt sheets) }
-event_keeps w (Works Roll) k may = record { within = k.within; tailless = k.tailless; wire_is = k.wire_is; waiting_is = k.waiting_is; apart = k.apart; tails = k.tails; plain = k.plain; rolls = all_rolled w k may }
+event_keeps w (Works Roll) k may = record { within = k.within; tailless = k.tailless; wire_is = k.wire_is; waiting_is = k.waiting_is; apart = k.apart; tails = k.tails; plain = k.plain; rolls = λ r is. all_rolled w k may.1 r (same_Some (counted w.past) r is) }
 event_keeps w (Lives (Arm peer count)) k may = record { within = k.within; tailless = k.tailless; wire_is = armed_wire peer; waiting_is = armed_waiting peer; apart = k.apart; tails = λ n h. safe_arm (drop n (whole w)) w.outside peer count (k.tails n h); plain = k.plain; rolls = k.rolls }
   where
     armed_wire : (p : Peer) (c : Call) → IsIn c w.wire → IsIn c (armed w.outside p count).sent

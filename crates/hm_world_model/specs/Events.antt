@@ -87,7 +87,7 @@ abbrev pub with_older_down : Option Server → World → World
 with_older_down None w = w
 with_older_down (Some older) w = with_entry w (entry_is.Down older)
 
--- a stop leaves the first k entries with their tail, rebased where they were, or where a later roll failed, and what is outside
+-- a stop leaves the first k entries of the journal with its tail, rebased as they were, or by a roll that failed, and what is outside
 abbrev pub stopped : World → ℕ → Option ℕ → World
 stopped w k rolled =
     record w { past = first k (whole w); tail = None; durable = k; taken = []; claimed = []; halted = None; rolled = rolled }

@@ -17,6 +17,7 @@ pub record Deposed : Type 0 where
   pub past : Past
   pub durable : ℕ
 
+-- what is durable of its journal
 abbrev pub durable_of : Deposed → Past
 durable_of old = first old.durable old.past
 
@@ -47,19 +48,22 @@ pub data PairEvent : Type 0 where
   Own : (event : Event) → PairEvent
   Old : (meddling : Meddling) → PairEvent
 
+-- the event that each is to the active master's world
 abbrev pub to_world : PairEvent → Event
 to_world (Own event) = event
 to_world (Old meddling) = event_of meddling
 
+-- the active master's world after what happened to a pair, of which the newest stands first
 abbrev pub pair_after : World → List PairEvent → World
 pair_after w [] = w
 pair_after w (event ∷ before) = happens (pair_after w before) (to_world event)
 
--- each could come where it came
+-- when each may happen to a pair
 abbrev pub MayPair : Deposed → World → PairEvent → Type 0
 MayPair old w (Own event) = May w event
 MayPair old w (Old meddling) = MayMeddle old w meddling
 
+-- each could come where it came
 abbrev pub IsPairRun : Deposed → World → List PairEvent → Type 0
 IsPairRun old w [] = Unit {0}
 IsPairRun old w (event ∷ before) = IsPairRun old w before × MayPair old (pair_after w before) event

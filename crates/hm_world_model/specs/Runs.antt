@@ -69,6 +69,10 @@ MayStart w server (Some older) =
     (same_address server older ≡ true) × MayEnter w (entry_is.Down older)
     × Allowed (entry_is.Down older ∷ w.past) (entry_is.Up server)
 
+-- all entries can be rolled: nobody is claimed, and the journal is durable, has begun, and its image may take its place
+abbrev pub CanRoll : World → Type 0
+CanRoll w = (w.claimed ≡ []) × (w.durable ≡ length w.past) × IsBegun w.past × MayRoll w.past
+
 -- a master may work so
 abbrev pub MayWork : World → Work → Type 0
 MayWork w (Submit nonce request) = MayEnter w (entry_is.Submit nonce request)
@@ -81,7 +85,7 @@ MayWork w (Flush k) = CanWrite w × (w.durable ≤ k) × (k ≤ length w.past)
 MayWork w (Expire server) = MayEnter w (entry_is.Down server)
 MayWork w (Abort pid) = MayEnter w (entry_is.Abort pid)
 MayWork w (Adopt sheets) = MayEnter w (entry_is.Adopt sheets)
-MayWork w Roll = GoesOn w × (w.claimed ≡ []) × (w.durable ≡ length w.past) × IsBegun w.past × MayRoll w.past
+MayWork w Roll = GoesOn w × CanRoll w
 
 -- calls and reports may travel so
 abbrev pub MayTravel : World → Travel → Type 0
@@ -111,13 +115,17 @@ pub record IsRolledIn (J : Past) (r : ℕ) : Type 0 where
   pub front : IsBegun (up_to J r)
   pub may : MayRoll (up_to J r)
 
--- a roll that failed can have rolled so many entries of what is durable, no fewer than the last roll
-abbrev pub CanHaveRolled : World → ℕ → Type 0
-CanHaveRolled w r = IsRolledIn (durable_part w) r × ((old : ℕ) → w.rolled ≡ Some old → old ≤ r)
+-- a roll of so many entries may have failed, and come through all the same: the log failed and left no entry, and all entries,
+-- which are so many, can be rolled
+pub record HasFailedToRoll (w : World) (r : ℕ) : Type 0 where
+  pub failed : w.halted ≡ Some LogFault
+  pub tailless : w.tail ≡ None
+  pub can : CanRoll w
+  pub all : r ≡ counted w.past
 
--- a stop may leave a journal that is rebased so: as it was, or where a later roll failed
+-- a stop may leave a journal that is rebased so: as it was, or by a roll that failed
 abbrev pub MayBeRolled : World → Option ℕ → Type 0
-MayBeRolled w rolled = (rolled ≡ w.rolled) ⊎ ((r : ℕ) × (rolled ≡ Some r) × CanHaveRolled w r)
+MayBeRolled w rolled = (rolled ≡ w.rolled) ⊎ ((r : ℕ) × (rolled ≡ Some r) × HasFailedToRoll w r)
 
 -- a master may end so
 abbrev pub MayEnd : World → End → Type 0
@@ -125,7 +133,9 @@ MayEnd w (Fault tail) = MayLeave w tail
 MayEnd w Full = GoesOn w
 MayEnd w (Stop k rolled) = (w.durable ≤ k) × (k ≤ length (whole w)) × MayBeRolled w rolled
 
--- an event may come. While the master is halted only those that need nothing recorded: giving up, loss, death, a stop.
+-- an event may come. While the master is halted only those that need nothing recorded: giving up; what a deposed master sends, has
+-- delivered or takes; loss; a server's death; a stop; and while the journal is full, but the log hasn't failed, a flush, and a
+-- fault that leaves no entry.
 abbrev pub May : World → Event → Type 0
 May w (Works work) = MayWork w work
 May w (Travels travel) = MayTravel w travel

@@ -22,8 +22,9 @@ pub record Claimed : Type 0 where
   pub pick : Option Server
 
 -- the journal, newest first; an entry that a fault may have left after it; how many entries are durable; who was claimed
--- since the master was opened and holds, and who is claimed; calls on the wire and reports that wait, oldest first; what is
--- outside; whether the master halted; and so many entries of the journal the master's own has replaced by their image
+-- since the master was opened, those too that have ended, but none whose last claim was given up before a first step; who is
+-- claimed; calls on the wire and reports that wait, oldest first; what is outside; whether the master halted; and so many entries
+-- of the journal the master's own has replaced by their image
 pub record World : Type 0 where
   pub past : Past
   pub tail : Option Entry
@@ -41,6 +42,7 @@ abbrev pub with_tail : Option Entry → Past → Past
 with_tail None past = past
 with_tail (Some entry) past = entry ∷ past
 
+-- the journal of a world with its tail
 abbrev pub whole : World → Past
 whole w = with_tail w.tail w.past
 

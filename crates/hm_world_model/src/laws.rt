@@ -1,6 +1,6 @@
 //! The laws.
 ghost use Rattle.hm_world_model.specs.Claimed.{ClaimedOnce, NeverClash};
-ghost use Rattle.hm_world_model.specs.Fleets.{FitsTheFirst, ResumedIsKept, ResumedIsStopped};
+ghost use Rattle.hm_world_model.specs.Fleets.{FitsAreStops, FitsTheFirst, ResumedIsKept, ResumedIsStopped};
 ghost use Rattle.hm_world_model.specs.Findings.{FewCome};
 ghost use Rattle.hm_world_model.specs.Held.{OpenedAreHeld};
 ghost use Rattle.hm_world_model.specs.Kept.{EntriesKeep, EventsKeep, OpenedIsKept, OutsideKeeps};
@@ -74,9 +74,11 @@ pub fn points_hold()
 {}
 
 /// What lives on while a master is stopped fits the first entries of the journal that it lived with, from so many on as a stop
-/// may have left. A master that goes on with it over such a journal is the world after that stop.
+/// may have left, rebased as they were or by a roll that failed: just what stops leave. A master that goes on with it over such a
+/// journal is the world after that stop, and the journal is its own.
 pub fn fleets_fit()
     ensures fit { FitsTheFirst }
+    ensures stops { FitsAreStops }
     ensures stopped { ResumedIsStopped }
     ensures kept { ResumedIsKept }
 {}

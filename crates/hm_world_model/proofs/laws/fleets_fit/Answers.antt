@@ -1,8 +1,11 @@
-use Rattle.hm_world_model.proofs.Fleets.{resumed_kept, resumed_stopped, fits_first}
+use Rattle.hm_world_model.proofs.Fleets.{fits_are_stops, fits_first, resumed_kept, resumed_stopped}
 use Rattle.hm_world_model.proofs.laws.fleets_fit.Goals as goal
 
 pub returns-clause-fit : goal.returns-clause-fit
 returns-clause-fit c = fits_first
+
+pub returns-clause-stops : goal.returns-clause-stops
+returns-clause-stops c = fits_are_stops
 
 pub returns-clause-stopped : goal.returns-clause-stopped
 returns-clause-stopped c = resumed_stopped
