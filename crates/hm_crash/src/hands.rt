@@ -1,50 +1,20 @@
-ghost use Rattle.std.specs.Prelude.{◌≡◌, [], ◌∷◌, map, IfOk};
-ghost use Rattle.hm_sheet.specs.Own.{own_sheet};
+ghost use Rattle.std.specs.Prelude.{[], ◌∷◌};
 
-use hm_data::{StepIn, StepOut};
-use hm_sheet::{Handler, PlainHands, Valid};
-use std::alloc::{AllocError, Global};
+use hm_sheet::{Hands, Kinds};
 
 static KINDS: [u8; 2] = [11, 25];
 
-/// Runs the sheets of crashes and of their calls. Each answer is computed from the sheet and the input alone.
+/// The kinds of crashes and of their calls.
 #[derive(Drop)]
-pub struct CrashHands {
-    hands: PlainHands,
-}
+pub struct CrashKinds;
 
-impl CrashHands {
-    /// A handler that was not called yet.
-    pub fn new(alloc: Global) -> Result<CrashHands, AllocError>
-        ensures sheets { IfOk result (λ hands. ⟦<CrashHands as Handler>⟧.sheets_are hands ≡ map own_sheet (11 ∷ 25 ∷ [])) }
-        ensures steps { IfOk result (λ hands. ⟦<CrashHands as Handler>⟧.steps_are hands ≡ 0) }
-        ensures undos { IfOk result (λ hands. ⟦<CrashHands as Handler>⟧.undos_are hands ≡ 0) }
-    {
-        let hands = PlainHands::new(alloc, &KINDS)?;
-        Ok(CrashHands { hands })
+impl Kinds for CrashKinds {
+    ghost kinds_are = { 11 ∷ 25 ∷ [] };
+
+    fn kinds() -> &'static [u8] {
+        &KINDS
     }
 }
 
-impl Handler for CrashHands {
-    ghost sheets_are = { λ hands. ⟦<PlainHands as Handler>⟧.sheets_are hands.hands };
-
-    ghost steps_are = { λ hands. ⟦<PlainHands as Handler>⟧.steps_are hands.hands };
-
-    ghost undos_are = { λ hands. ⟦<PlainHands as Handler>⟧.undos_are hands.hands };
-
-    fn sheets(&self) -> &[Valid] {
-        self.hands.sheets()
-    }
-
-    fn calls(&self) -> u64 {
-        self.hands.calls()
-    }
-
-    fn step(&mut self, alloc: Global, at: &StepIn, out: &mut StepOut) -> Result<(), AllocError> {
-        self.hands.step(alloc, at, out)
-    }
-
-    fn undo(&mut self, alloc: Global, at: &StepIn, out: &mut StepOut) -> Result<(), AllocError> {
-        self.hands.undo(alloc, at, out)
-    }
-}
+/// Runs the sheets of crashes and of their calls. Each answer is computed from the sheet and the input alone.
+pub type CrashHands = Hands<CrashKinds>;

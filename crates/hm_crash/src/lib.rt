@@ -3,4 +3,4 @@
 
 mod hands;
 
-pub use hands::CrashHands;
+pub use hands::{CrashHands, CrashKinds};

@@ -21,12 +21,12 @@ use Rattle.hm_model.specs.Journal.{back}
 use Rattle.hm_model.specs.Locks.{IsIn}
 use Rattle.hm_model.specs.Rest.{IsAvailable}
 
--- what is recorded, the pids that are out, what stopped it, and the sheets by which its procedures run
+-- what is recorded, the pids that are out, what stopped it, and the sheets of each edition, by which its procedures run
 pub record HallView : Type 0 where
   pub items : List Entry
   pub outs : List ℕ
   pub stopped : Option Halt
-  pub sheets : List Sheet
+  pub sheets : ℕ → List Sheet
 
 -- nothing stopped it
 abbrev pub IsOpen : HallView → Type 0
@@ -56,7 +56,7 @@ NoneCanGoOut at = (p : ℕ) → CanGoOut at p → ⊥
 abbrev pub HandsOut : HallView → Taken → HallView → Type 0
 HandsOut old taken new =
     let pid = taken.pid in
-    CanGoOut old pid.0 × CanRun old.sheets taken.was × GoesOut pid.0 old.outs new.outs × (new ≡ record old { outs = new.outs })
+    CanGoOut old pid.0 × CanRun (old.sheets taken.was.edition) taken.was × GoesOut pid.0 old.outs new.outs × (new ≡ record old { outs = new.outs })
 
 -- what `take` answers, and what is left: a procedure goes out where one may, and else nothing changes
 abbrev pub AnswersTake : HallView → Result Task HallFault → HallView → Type 0

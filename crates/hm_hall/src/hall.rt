@@ -28,7 +28,7 @@ pub enum Task {
 /// Hands out what there is to do, one task after another, and records what comes of it. A procedure that was taken is out until it
 /// is given back with an answer, or put back. What stopped a hall is answered by each call before anything else, and nothing goes on.
 pub trait Hall {
-    // What is recorded, who is out, what stopped it, and the sheets by which its procedures run.
+    // What is recorded, who is out, what stopped it, and the sheets of each edition, by which its procedures run.
     ghost hall: { Self → HallView };
 
     // Which lists of entries are at rest.
@@ -51,7 +51,7 @@ pub trait Hall {
         out: StepOut,
     ) -> Result<Given, (Taken, HallFault)>
         requires claimed { IsIn taken.pid.0 (hall self.old).outs }
-        requires answer { answer_of (hall self.old).sheets taken.was ≡ Some out }
+        requires answer { answer_of ((hall self.old).sheets taken.was.edition) taken.was ≡ Some out }
         ensures answers { AnswersGive (hall self.old) taken out result (hall self.new) }
         ensures fault { IfErr result (λ e. e.1 ≡ HallFault.LogFault → Rose (faults self.old) (faults self.new)) }
         ensures later { faults self.old ≤ faults self.new };

@@ -4,7 +4,6 @@ use Rattle.std.specs.Prelude.{is_some, MatchResult, MatchOption}
 use Rattle.std.proofs.lemmas.Option.{none-some, same_Some}
 use Rattle.hm_data.specs.declared.entry.Entry.{Entry}
 use Rattle.hm_data.specs.declared.entry.Entry.TheVariants as entry_is
-use Rattle.hm_data.specs.declared.sheet.Sheet.{Sheet}
 use Rattle.hm_data.specs.declared.step.StepOut.{StepOut}
 use Rattle.hm_gate.specs.Whole.{Whole}
 use Rattle.hm_hall.specs.Hall.{ComesBack, GoesOut}
@@ -16,7 +15,7 @@ use Rattle.hm_hall.specs.declared.hall.Task.TheVariants as task_is
 use Rattle.hm_hall.specs.declared.taken.Given.{Given}
 use Rattle.hm_hall.specs.declared.taken.Given.TheVariants as given_is
 use Rattle.hm_hall.specs.declared.taken.Taken.{Taken}
-use Rattle.hm_lend.specs.Hall.{Answers, AnswersBack, AnswersCarry, AnswersGive, AnswersLend, AnswersTake, CanBeServed, Fails, GetsBack, Going, HallView, IsOut, MayAddReport}
+use Rattle.hm_lend.specs.Hall.{Answers, AnswersBack, AnswersCarry, AnswersGive, AnswersLend, AnswersTake, CanBeServed, Editions, Fails, GetsBack, Going, HallView, IsOut, MayAddReport}
 use Rattle.hm_lend.specs.Outs.{OutView, number_of}
 use Rattle.hm_lend.specs.Stays.{Grows, IsOwn, SameOuts, Takes, one_step}
 use Rattle.hm_lend.specs.Ties.{Ties}
@@ -43,7 +42,7 @@ no_other : (o : Option ℕ) → ((o ≢ None) → ⊥) → o ≡ None
 no_other None h = refl
 no_other (Some n) h = absurd (h (λ e. none-some n (sym e)))
 
-module _ {S T : Type 0} (shown : S → Whole Entry T) (editions_in : T → List (List Sheet)) (x y : S) (at at' : HallView) (tied : Ties editions_in (shown x) at) (tied' : Ties editions_in (shown y) at') where
+module _ {S T : Type 0} (shown : S → Whole Entry T) (editions_in : T → Editions) (x y : S) (at at' : HallView) (tied : Ties editions_in (shown x) at) (tied' : Ties editions_in (shown y) at') where
   same_all : at' ≡ at → SameOuts shown x y
   same_all e = tied_by.same_outs shown editions_in x y at at' tied tied' (λ n is. subst (IsOut n) (sym e) is) (λ n is. subst (IsOut n) e is)
 

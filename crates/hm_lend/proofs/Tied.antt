@@ -3,7 +3,6 @@ use Rattle.std.proofs.Common.{◌≡◌, ◌≢◌, ◌⊎◌, ⊎_elim, ℕ, �
 use Rattle.std.specs.Prelude.{is_some}
 use Rattle.hm_data.specs.declared.entry.Entry.{Entry}
 use Rattle.hm_data.specs.declared.entry.Entry.TheVariants as entry_is
-use Rattle.hm_data.specs.declared.sheet.Sheet.{Sheet}
 use Rattle.hm_data.specs.declared.step.StepOut.{StepOut}
 use Rattle.hm_gate.specs.Total.{times}
 use Rattle.hm_gate.specs.Weights.{weigh}
@@ -11,7 +10,7 @@ use Rattle.hm_gate.specs.Whole.{Whole}
 use Rattle.hm_gate.proofs.Totals.{same-cases}
 use Rattle.hm_hall.specs.Hall.{IsStepOf}
 use Rattle.hm_hall.specs.declared.taken.Taken.{Taken}
-use Rattle.hm_lend.specs.Hall.{Answers, HallView, IsOut}
+use Rattle.hm_lend.specs.Hall.{Answers, Editions, HallView, IsOut}
 use Rattle.hm_lend.specs.Stays.{AreOwn, Grows, IsOwn, SameOuts, Takes, one_step}
 use Rattle.hm_lend.specs.Ties.{IsTold, Ties}
 
@@ -32,7 +31,7 @@ told_one n outs at told is = ⊎_elim (λ here. here.0) (λ here. absurd (here.1
 pub told_is : (n : ℕ) (outs : List ℕ) (at : HallView) → IsTold n outs at → times n outs ≡ 1 → IsOut n at
 told_is n outs at told one = ⊎_elim (λ here. here.1) (λ here. absurd (let a = here.0 in omega arith)) told
 
-module _ {S T : Type 0} (shown : S → Whole Entry T) (editions_in : T → List (List Sheet)) (x y : S) (at at' : HallView) (tied : Ties editions_in (shown x) at) (tied' : Ties editions_in (shown y) at') where
+module _ {S T : Type 0} (shown : S → Whole Entry T) (editions_in : T → Editions) (x y : S) (at at' : HallView) (tied : Ties editions_in (shown x) at) (tied' : Ties editions_in (shown y) at') where
   -- p goes out, and the others stay as they are
   pub takes : (p : ℕ) → (IsOut p at → ⊥) → ((n : ℕ) → IsOut n at → IsOut n at') → ((n : ℕ) → n ≢ p → IsOut n at' → IsOut n at) → IsOut p at' → Takes shown x y p
   takes p none stay come out = record {
@@ -64,7 +63,7 @@ module _ {S T : Type 0} (shown : S → Whole Entry T) (editions_in : T → List 
   }
 
 -- an entry with the answer of a step is a hall's own, and one step
-pub step_own : (editions : List (List Sheet)) (taken : Taken) (out : StepOut) (entry : Entry) → Answers editions taken.was out → IsStepOf taken out entry → IsOwn editions entry × (one_step entry ≤ 1)
+pub step_own : (editions : Editions) (taken : Taken) (out : StepOut) (entry : Entry) → Answers editions taken.was out → IsStepOf taken out entry → IsOwn editions entry × (one_step entry ≤ 1)
 step_own editions taken out (entry_is.Step pid pick its) answer is = ((taken.was, answer ∙ ap (λ (o : StepOut). Some o) (sym is.2)), omega arith)
 step_own editions taken out (entry_is.Undo pid row its) answer is = ((taken.was, answer ∙ ap (λ (o : StepOut). Some o) (sym is.2)), omega arith)
 step_own editions taken out entry answer is = absurd is

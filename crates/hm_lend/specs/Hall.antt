@@ -1,5 +1,5 @@
 -- What is seen of a hall whose log may be out to be written, and what its calls answer and leave.
-use Rattle.std.specs.Prelude.{◌≡◌, ◌≢◌, ◌⊎◌, ℕ, List, [], ◌∷◌, ◌++◌, length, Bool, true, false, Option, Some, None, Result, Ok, Err}
+use Rattle.std.specs.Prelude.{◌≡◌, ◌≢◌, ◌⊎◌, ℕ, List, [], ◌∷◌, ◌++◌, length, Bool, true, false, Option, Some, None, Result, Ok, Err, unwrap_or}
 use Rattle.hm_names.specs.declared.pid.Pid.{Pid}
 use Rattle.hm_data.specs.declared.call.Told.{Told}
 use Rattle.hm_data.specs.declared.entry.Entry.{Entry}
@@ -22,6 +22,10 @@ use Rattle.hm_lend.specs.Outs.{OutView, number_of}
 use Rattle.hm_model.specs.Evaluation.{CanRun, answer_of}
 use Rattle.hm_model.specs.Locks.{IsIn}
 
+-- the sheets of each edition, if there is one of that number
+abbrev pub Editions : Type 0
+Editions = ℕ → Option (List Sheet)
+
 -- what is recorded, how many of it are durable, the pids that are claimed, the number of the log where it is out, what
 -- stopped it, and the sheets of each edition by which its procedures run
 pub record HallView : Type 0 where
@@ -30,19 +34,18 @@ pub record HallView : Type 0 where
   pub claimed : List ℕ
   pub lent : Option ℕ
   pub stopped : Option Halt
-  pub editions : List (List Sheet)
+  pub editions : Editions
 
--- the sheets by which the procedure of an input runs: those of its edition, and there is one edition
-abbrev pub in_edition : List (List Sheet) → StepIn → List Sheet
-in_edition [] was = []
-in_edition (sheets ∷ later) was = sheets
+-- the sheets by which the procedure of an input runs: those of its edition, or none where there is no such edition
+abbrev pub in_edition : Editions → StepIn → List Sheet
+in_edition editions was = unwrap_or (editions was.edition) []
 
 -- an input on which the sheet of its kind can be asked, in its edition
-abbrev pub CanBeServed : List (List Sheet) → StepIn → Type 0
+abbrev pub CanBeServed : Editions → StepIn → Type 0
 CanBeServed editions was = CanRun (in_edition editions was) was
 
 -- what the sheet of the input's kind answers, in its edition
-abbrev pub Answers : List (List Sheet) → StepIn → StepOut → Type 0
+abbrev pub Answers : Editions → StepIn → StepOut → Type 0
 Answers editions was out = answer_of (in_edition editions was) was ≡ Some out
 
 -- a number is out: that of a procedure that is claimed, or of the log

@@ -2,13 +2,12 @@
 use Rattle.std.specs.Prelude.{◌≡◌, ℕ, ◌+◌, ◌≤◌, true, List, [], ◌∷◌, ◌++◌}
 use Rattle.hm_data.specs.declared.entry.Entry.{Entry}
 use Rattle.hm_data.specs.declared.entry.Entry.TheVariants as entry_is
-use Rattle.hm_data.specs.declared.sheet.Sheet.{Sheet}
 use Rattle.hm_data.specs.declared.step.StepIn.{StepIn}
 use Rattle.hm_data.specs.declared.step.StepOut.{StepOut}
 use Rattle.hm_gate.specs.Total.{times, same}
 use Rattle.hm_gate.specs.Weights.{weigh}
 use Rattle.hm_gate.specs.Whole.{Whole}
-use Rattle.hm_lend.specs.Hall.{Answers}
+use Rattle.hm_lend.specs.Hall.{Answers, Editions}
 
 -- 1 for an entry that records the answer of a step or of what undoes one, else 0
 abbrev pub one_step : Entry → ℕ
@@ -17,25 +16,25 @@ one_step (entry_is.Undo pid row out) = 1
 one_step entry = 0
 
 -- it is what a sheet answers at some input, in its edition
-abbrev pub IsAnswer : List (List Sheet) → StepOut → Type 0
+abbrev pub IsAnswer : Editions → StepOut → Type 0
 IsAnswer editions out = (was : StepIn) × Answers editions was out
 
 -- an entry that a call of a hall may add: a step or what undoes one, with what its sheet answers, or a report
-abbrev pub IsOwn : List (List Sheet) → Entry → Type 0
+abbrev pub IsOwn : Editions → Entry → Type 0
 IsOwn editions (entry_is.Step pid pick out) = IsAnswer editions out
 IsOwn editions (entry_is.Undo pid row out) = IsAnswer editions out
 IsOwn editions (entry_is.Report call told) = Unit {0}
 IsOwn editions entry = ⊥
 
 -- each of these is one
-abbrev pub AreOwn : List (List Sheet) → List Entry → Type 0
+abbrev pub AreOwn : Editions → List Entry → Type 0
 AreOwn editions [] = Unit {0}
 AreOwn editions (entry ∷ entries) = IsOwn editions entry × AreOwn editions entries
 
 module _ {S T : Type 0} (shown : S → Whole Entry T) where
   -- the list grows by entries of a hall's own, of which so many at most are steps; what is stopped stays so, and the
   -- terms stay
-  pub record Grows (editions : List (List Sheet)) (most : ℕ) (x y : S) : Type 0 where
+  pub record Grows (editions : Editions) (most : ℕ) (x y : S) : Type 0 where
     pub more : List Entry
     pub items_are : (shown y).items ≡ (shown x).items ++ more
     pub own : AreOwn editions more

@@ -2,8 +2,7 @@
 ghost use Rattle.std.specs.Prelude.{◌≡◌, ◌≤◌, ℕ, List, IfErr, IfSome, IsErrOf, Ok, option_map};
 ghost use Rattle.hm_ports.specs.Faults.{Rose};
 ghost use Rattle.hm_data.specs.declared.entry.Entry.{Entry as EntryValue};
-ghost use Rattle.hm_data.specs.declared.sheet.Sheet.{Sheet};
-ghost use Rattle.hm_lend.specs.Hall.{Answers, AnswersBack, AnswersCarry, AnswersGive, AnswersLend, AnswersTake, GetsBack, HallView, IsOut, MayComeBack};
+ghost use Rattle.hm_lend.specs.Hall.{Answers, AnswersBack, AnswersCarry, AnswersGive, AnswersLend, AnswersTake, Editions, GetsBack, HallView, IsOut, MayComeBack};
 ghost use Rattle.hm_lend.specs.Ties.{Ties};
 
 use crate::lender::Writer;
@@ -23,7 +22,7 @@ pub trait Hall: Kept<Item = Entry> {
     ghost hall: { Self → HallView };
 
     // The sheets of each edition, among the terms.
-    ghost editions_in: { Self.Terms → List (List Sheet) };
+    ghost editions_in: { Self.Terms → Editions };
 
     // Which procedures may go on, by the terms, by what is recorded and by who is claimed.
     ghost can_go: { Self.Terms → List EntryValue → List ℕ → ℕ → Type 0 };

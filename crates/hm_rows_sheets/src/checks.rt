@@ -89,8 +89,8 @@ static SPLIT_EARLY: [Row; 6] = [
     row!(Finish to 255, after),
 ];
 
-// The second order: the layout comes before the parent is closed.
-static LAYOUT_FIRST: [Row; 6] = [
+/// The second order: the layout comes before the parent is closed.
+pub static LAYOUT_FIRST: [Row; 6] = [
     row!(CheckSplit to 1),
     row!(Layout to 2, undone by Sweep),
     row!(CloseParent to 3, undone by Reopen),

@@ -10,6 +10,8 @@ mod checks;
 #[cfg(test)]
 mod inputs;
 #[cfg(test)]
+mod learns;
+#[cfg(test)]
 mod names;
 #[cfg(test)]
 mod outputs;
@@ -17,6 +19,8 @@ mod outputs;
 mod parts;
 #[cfg(test)]
 mod runs;
+#[cfg(test)]
+mod spent;
 #[cfg(test)]
 mod steps;
 #[cfg(test)]

@@ -15,16 +15,16 @@ use hm_split::SplitHands;
 use std::alloc::{AllocGlobal, Global};
 use std::process::Abort;
 
-// What a step sees, and the text of what it answers.
-fn parts<'a>(rt: &(impl Abort + AllocGlobal), case: &'a str) -> (StepIn, &'a str) {
+/// What a step sees, and the text of what it answers.
+pub fn parts<'a>(rt: &(impl Abort + AllocGlobal), case: &'a str) -> (StepIn, &'a str) {
     let (kind, rest) = first_word(case);
     let (row, rest) = cut(rest, " | ");
     let (seen, done) = cut(rest, " | ");
     (input(rt, small(rt, kind), small(rt, row), seen), done)
 }
 
-// Compares what a step answers with what the text of a case says.
-fn compare(rt: &(impl Abort + AllocGlobal), case: &str, out: StepOut, done: &str) {
+/// Compares what a step answers with what the text of a case says.
+pub fn compare(rt: &(impl Abort + AllocGlobal), case: &str, out: StepOut, done: &str) {
     let expected = output(rt, done);
     let same = out.same(&expected);
     drop(out);
@@ -65,8 +65,8 @@ fn plain_step_answers_as_the_sheet_says(rt: HostRuntime) {
     check_all(&rt, UNDONE_MERGES.as_slice());
 }
 
-// A step that was undone and did nothing else.
-fn nothing(alloc: Global) -> StepOut {
+/// A step that was undone and did nothing else.
+pub fn nothing(alloc: Global) -> StepOut {
     StepOut {
         answer: Answer::Undone,
         edits: List::of(Vec::new(alloc)),

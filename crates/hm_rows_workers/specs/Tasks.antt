@@ -4,7 +4,7 @@ use Rattle.hm_data.specs.declared.sheet.Sheet.{Sheet}
 use Rattle.hm_data.specs.declared.entry.Entry.{Entry}
 use Rattle.hm_data.specs.declared.entry.Entry.TheVariants as entry_is
 use Rattle.hm_gate.specs.Total.{same}
-use Rattle.hm_lend.specs.Hall.{HallView}
+use Rattle.hm_lend.specs.Hall.{Editions, HallView}
 use Rattle.hm_model.specs.Locks.{IsIn}
 use Rattle.hm_rows_workers.specs.declared.stage.Stage.{Stage}
 use Rattle.hm_rows_workers.specs.declared.stage.Stage.TheVariants as stage_is
@@ -55,7 +55,11 @@ has_done (Some stage_is.Done) = 1
 abbrev pub AreSo : List Stage → List Entry → Type 0
 AreSo stages items = (p : ℕ) → answers_to p items ≡ has_done (slice_get stages p)
 
+-- each edition has these sheets
+abbrev pub in_each : List Sheet → Editions
+in_each sheets edition = Some sheets
+
 -- what is seen of a hall of these tasks
 abbrev pub view_of : List Entry → ℕ → Option ℕ → List Stage → List Sheet → HallView
 view_of items durable lent stages sheets =
-    record { items = items; durable = durable; claimed = outs_from 0 stages; lent = log_number durable lent; stopped = None; editions = sheets ∷ [] }
+    record { items = items; durable = durable; claimed = outs_from 0 stages; lent = log_number durable lent; stopped = None; editions = in_each sheets }

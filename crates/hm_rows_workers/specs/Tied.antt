@@ -2,10 +2,10 @@
 use Rattle.std.proofs.Common.{◌≡◌, ◌≢◌, ◌⊎◌, inl, inr, ⊎_elim, ℕ, zero, suc, ◌+◌, ◌*◌, ◌^◌, ◌<◌, List, [], ◌∷◌, ◌++◌, length, Option, Some, None, false, refl, ap, sym, subst, arith}
 use Rattle.std.specs.Prelude.{slice_get}
 use Rattle.std.proofs.lemmas.Option.{none-some, same_Some, slice_get_within}
-use Rattle.hm_data.specs.declared.sheet.Sheet.{Sheet}
 use Rattle.hm_data.specs.declared.entry.Entry.{Entry}
 use Rattle.hm_gate.specs.Total.{times, same}
 use Rattle.hm_gate.proofs.Totals.{same-cases, times-append}
+use Rattle.hm_lend.specs.Hall.{Editions}
 use Rattle.hm_lend.specs.Ties.{Ties}
 use Rattle.hm_model.specs.Locks.{IsIn}
 use Rattle.hm_rows_workers.specs.declared.stage.Stage.{Stage}
@@ -81,7 +81,7 @@ log_apart durable (Some count) l few m e is =
     let c : 2 ^ 64 * (durable + 1) + count ≡ m = same_Some (2 ^ 64 * (durable + 1) + count) m e in omega arith
 
 -- what is seen of the hall is what the gate sees
-pub tied : {T : Type 0} (editions_in : T → List (List Sheet)) (terms : T) (items : List Entry) (durable : ℕ) (lent : Option ℕ) (l : List Stage) → length l < 2 ^ 64
+pub tied : {T : Type 0} (editions_in : T → Editions) (terms : T) (items : List Entry) (durable : ℕ) (lent : Option ℕ) (l : List Stage) → length l < 2 ^ 64
     → Ties editions_in (record { items = items; outs = outs_from 0 l ++ as_list (log_number durable lent); stopped = false; terms = terms })
     (record { items = items; durable = durable; claimed = outs_from 0 l; lent = log_number durable lent; stopped = None; editions = editions_in terms })
 tied editions_in terms items durable lent l few = record {

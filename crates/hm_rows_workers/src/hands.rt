@@ -1,5 +1,6 @@
 //! What serves, by one sheet, and where two tasks meet.
 ghost use Rattle.std.specs.Prelude.{◌≡◌, [], ◌∷◌, IfOk, length};
+ghost use Rattle.hm_rows_workers.specs.Tasks.{in_each};
 ghost use Rattle.hm_sheet.specs.Own.{own_sheet as own};
 
 use crate::toy::KIND;
@@ -76,7 +77,7 @@ impl<'a> Hands<'a> {
 }
 
 impl<'a> Serves for Hands<'a> {
-    ghost editions = { λ hands. hands.sheets ∷ [] };
+    ghost editions = { λ hands. in_each hands.sheets };
 
     ghost runs = { λ hands. hands.runs };
 

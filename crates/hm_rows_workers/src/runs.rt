@@ -1,6 +1,7 @@
 //! Workers, each in a thread with a seat of its own, to the end of the gate.
 ghost use Rattle.std.specs.Prelude.{◌≡◌, ◌+◌, ◌^◌, ◌<◌, [], ◌∷◌, All, IfOk, length};
 ghost use Rattle.hm_gate.specs.Ready.{IsReady};
+ghost use Rattle.hm_rows_workers.specs.Tasks.{in_each};
 ghost use Rattle.hm_sheet.specs.Own.{own_sheet as own};
 ghost use Rattle.hm_workers.specs.Ends.{IsFree, Knows};
 
@@ -33,7 +34,7 @@ fn cut<'a>(
     requires ready { IsReady gate.now seat.old }
     requires parts { seat.old.view.parts ≡ count + 1 }
     ensures seat { IfOk result (λ _. IsReady gate.now seat.new × (seat.new.view.parts ≡ 1) × (seat.new.view.seats ≡ seat.old.view.seats)) }
-    ensures all { IfOk result (λ v. All (λ p. IsReady gate.now p.0 × IsFree p.0.view × (p.0.view.parts ≡ 1) × Knows (λ _. (own 26 ∷ []) ∷ []) p.0.view (p.1.sheets ∷ [])) v.items) }
+    ensures all { IfOk result (λ v. All (λ p. IsReady gate.now p.0 × IsFree p.0.view × (p.0.view.parts ≡ 1) × Knows (λ _. in_each (own 26 ∷ [])) p.0.view (in_each p.1.sheets)) v.items) }
     ensures count { IfOk result (λ v. length v.items ≡ count) }
 {
     let mut pairs = Vec::new(alloc);
@@ -49,7 +50,7 @@ fn cut<'a>(
 // Joins all seats, and counts how often the hands served.
 fn join_all(gate: &Gate<Toy>, seat: &mut Seat<Toy>, mut pairs: Vec<(Seat<Toy>, Hands)>) -> u64
     requires ready { IsReady gate.now seat.old }
-    requires all { All (λ p. IsReady gate.now p.0 × IsFree p.0.view × (p.0.view.parts ≡ 1) × Knows (λ _. (own 26 ∷ []) ∷ []) p.0.view (p.1.sheets ∷ [])) pairs.items }
+    requires all { All (λ p. IsReady gate.now p.0 × IsFree p.0.view × (p.0.view.parts ≡ 1) × Knows (λ _. in_each (own 26 ∷ [])) p.0.view (in_each p.1.sheets)) pairs.items }
     ensures ready { IsReady gate.now seat.new }
     ensures parts { (seat.new.view.parts ≡ seat.old.view.parts + length pairs.entry.items) × (seat.new.view.seats ≡ seat.old.view.seats) }
 {

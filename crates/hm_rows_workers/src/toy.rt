@@ -2,7 +2,7 @@
 ghost use Rattle.std.specs.Prelude.{◌≡◌, ◌≢◌, ◌+◌, ◌<◌, ◌^◌, [], ◌∷◌, ◌++◌, ℕ, IfOk, MatchOption, Some, false, length, slice_get};
 ghost use Rattle.hm_model.specs.Evaluation.{CanRun};
 ghost use Rattle.hm_sheet.specs.Own.{own_sheet as own};
-ghost use Rattle.hm_rows_workers.specs.Tasks.{AllDone, AreSo, CanGo, as_list, log_number, outs_from, view_of};
+ghost use Rattle.hm_rows_workers.specs.Tasks.{AllDone, AreSo, CanGo, as_list, in_each, log_number, outs_from, view_of};
 
 use crate::stage::Stage;
 use hm_data::{Args, Entry, StepIn, StepOut, Turn};
@@ -156,7 +156,7 @@ impl Hall for Toy {
 
     ghost hall = { λ t. view_of t.entries.items t.durable t.lent t.stages.items (own 26 ∷ []) };
 
-    ghost editions_in = { λ _. (own 26 ∷ []) ∷ [] };
+    ghost editions_in = { λ _. in_each (own 26 ∷ []) };
 
     ghost can_go = { CanGo };
 
@@ -233,5 +233,5 @@ impl Hall for Toy {
         Ok(count)
     }
 
-    ghost ties = { λ t. tied (λ _. (own 26 ∷ []) ∷ []) t.wanted t.entries.items t.durable t.lent t.stages.items t.few };
+    ghost ties = { λ t. tied (λ _. in_each (own 26 ∷ [])) t.wanted t.entries.items t.durable t.lent t.stages.items t.few };
 }

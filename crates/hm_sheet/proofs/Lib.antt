@@ -1,5 +1,6 @@
 pub mod Broken
 pub mod Copies
+pub mod Editions
 pub mod OwnValid
 pub mod Places
 pub mod Sheets

@@ -1,3 +1,4 @@
+pub mod Learnt
 pub mod Lines
 pub mod Own
 pub mod Registry

@@ -8,7 +8,7 @@ ghost use Rattle.hm_sheet.specs.Words.{count_of as counted, place_for};
 use crate::handler::Handler;
 use crate::plain::plain_step;
 use crate::valid::Valid;
-use hm_data::{StepIn, StepOut};
+use hm_data::{Sheet, StepIn, StepOut};
 use std::alloc::{AllocError, Global};
 
 /// The first sheet of a kind.
@@ -18,6 +18,18 @@ pub fn sheet_for(sheets: &[Valid], kind: u8) -> Option<&Valid>
     for valid in sheets {
         if valid.sheet().kind == kind {
             return Some(valid);
+        }
+    }
+    None
+}
+
+/// The first sheet of a kind in a list.
+pub fn listed(sheets: &[Sheet], kind: u8) -> Option<&Sheet>
+    ensures { option_copied result ≡ first_of sheets.now kind }
+{
+    for sheet in sheets {
+        if sheet.kind == kind {
+            return Some(sheet);
         }
     }
     None

@@ -1,5 +1,5 @@
 // The sheets of the kinds of procedures, as their handlers have them, and a handler of some of them.
-ghost use Rattle.std.specs.Prelude.{◌≡◌, ◌≤◌, ◌++◌, ◌+◌, ◌-◌, ◌^◌, min, map, IfOk, OnOk, OnErr, IsTrue, Some, length, take};
+ghost use Rattle.std.specs.Prelude.{◌≡◌, ℕ, List as PlainList, ◌≤◌, ◌++◌, ◌+◌, ◌-◌, ◌^◌, min, map, IfOk, OnOk, OnErr, IsTrue, Some, length, take};
 ghost use Rattle.std.specs.List.{AllByRecursion};
 ghost use Rattle.hm_model.specs.Evaluation.{CanRun, answer_of};
 ghost use Rattle.hm_model.specs.Lists.{lines_of as listed, exact_rows as exact};
@@ -15,6 +15,7 @@ use hm_acts::NO_ROW;
 use hm_data::{Row, Sheet, StepIn, StepOut};
 use hm_names::List;
 use std::alloc::{AllocError, Global};
+use std::marker::PhantomData;
 
 fn row_to(line: Line, next: u8) -> Row
     ensures { result ≡ leads (line_of line) next }
@@ -71,32 +72,43 @@ fn own_sheets(alloc: Global, kinds: &[u8]) -> Result<Vec<Valid>, AllocError>
     Ok(sheets)
 }
 
+/// Kinds of procedures.
+pub trait Kinds: Send + Drop {
+    ghost kinds_are: { PlainList ℕ };
+
+    /// The kinds.
+    fn kinds() -> &'static [u8]
+        ensures kinds { result.now ≡ kinds_are }
+        ensures each { AllByRecursion (λ kind. IsTrue (is_kind kind)) result.now };
+}
+
 /// Runs the sheets of some kinds. Each answer is computed from the sheet and the input alone.
 #[derive(Drop)]
-pub struct PlainHands {
+pub struct Hands<K> {
     sheets: List<Valid>,
     steps: u64,
     undos: u64,
+    of: PhantomData<K>,
 }
 
-impl PlainHands {
+impl<K: Kinds> Hands<K> {
     /// A handler of the kinds that was not called yet.
-    pub fn new(alloc: Global, kinds: &[u8]) -> Result<PlainHands, AllocError>
-        requires { AllByRecursion (λ kind. IsTrue (is_kind kind)) kinds.now }
-        ensures sheets { IfOk result (λ hands. ⟦<PlainHands as Handler>⟧.sheets_are hands ≡ map own kinds.now) }
-        ensures steps { IfOk result (λ hands. ⟦<PlainHands as Handler>⟧.steps_are hands ≡ 0) }
-        ensures undos { IfOk result (λ hands. ⟦<PlainHands as Handler>⟧.undos_are hands ≡ 0) }
+    pub fn new(alloc: Global) -> Result<Hands<K>, AllocError>
+        ensures sheets { IfOk result (λ hands. ⟦<Hands<K> as Handler>⟧.sheets_are hands ≡ map own K.kinds_are) }
+        ensures steps { IfOk result (λ hands. ⟦<Hands<K> as Handler>⟧.steps_are hands ≡ 0) }
+        ensures undos { IfOk result (λ hands. ⟦<Hands<K> as Handler>⟧.undos_are hands ≡ 0) }
     {
-        let sheets = own_sheets(alloc, kinds)?;
-        Ok(PlainHands {
+        let sheets = own_sheets(alloc, K::kinds())?;
+        Ok(Hands {
             sheets: List::of(sheets),
             steps: 0,
             undos: 0,
+            of: PhantomData,
         })
     }
 }
 
-impl Handler for PlainHands {
+impl<K: Kinds> Handler for Hands<K> {
     ghost sheets_are = { λ hands. hands.sheets };
 
     ghost steps_are = { λ hands. hands.steps };

@@ -3,7 +3,7 @@ ghost use Rattle.hm_model.specs.Evaluation.{CanStep, sheet_answer, picks};
 
 use crate::valid::Valid;
 use hm_acts::{picks_at_row, row_out};
-use hm_data::{Row, StepIn, StepOut};
+use hm_data::{Row, Sheet, StepIn, StepOut};
 use std::alloc::{AllocError, Global};
 
 /// Whether a step of the sheet at the input places a region, so that a server has to be picked.
@@ -29,6 +29,14 @@ pub fn plain_step(alloc: Global, sheet: &Valid, at: &StepIn) -> Result<StepOut, 
     requires { CanStep sheet.now at.now }
     ensures { IfOk result (λ out. sheet_answer sheet.now at.now ≡ Some out) }
 {
-    let row = nth_row(sheet.sheet().rows.as_slice(), at.row);
+    sheet_step(alloc, sheet.sheet(), at)
+}
+
+/// The same of a sheet.
+pub(crate) fn sheet_step(alloc: Global, sheet: &Sheet, at: &StepIn) -> Result<StepOut, AllocError>
+    requires { CanStep sheet.now at.now }
+    ensures { IfOk result (λ out. sheet_answer sheet.now at.now ≡ Some out) }
+{
+    let row = nth_row(sheet.rows.as_slice(), at.row);
     row_out(alloc, row, at)
 }

@@ -1,50 +1,20 @@
-ghost use Rattle.std.specs.Prelude.{◌≡◌, [], ◌∷◌, map, IfOk};
-ghost use Rattle.hm_sheet.specs.Own.{own_sheet};
+ghost use Rattle.std.specs.Prelude.{[], ◌∷◌};
 
-use hm_data::{StepIn, StepOut};
-use hm_sheet::{Handler, PlainHands, Valid};
-use std::alloc::{AllocError, Global};
+use hm_sheet::{Hands, Kinds};
 
 static KINDS: [u8; 2] = [8, 9];
 
-/// Runs the sheets that split and merge regions. Each answer is computed from the sheet and the input alone.
+/// The kinds that split and merge regions.
 #[derive(Drop)]
-pub struct SplitHands {
-    hands: PlainHands,
-}
+pub struct SplitKinds;
 
-impl SplitHands {
-    /// A handler that was not called yet.
-    pub fn new(alloc: Global) -> Result<SplitHands, AllocError>
-        ensures sheets { IfOk result (λ hands. ⟦<SplitHands as Handler>⟧.sheets_are hands ≡ map own_sheet (8 ∷ 9 ∷ [])) }
-        ensures steps { IfOk result (λ hands. ⟦<SplitHands as Handler>⟧.steps_are hands ≡ 0) }
-        ensures undos { IfOk result (λ hands. ⟦<SplitHands as Handler>⟧.undos_are hands ≡ 0) }
-    {
-        let hands = PlainHands::new(alloc, &KINDS)?;
-        Ok(SplitHands { hands })
+impl Kinds for SplitKinds {
+    ghost kinds_are = { 8 ∷ 9 ∷ [] };
+
+    fn kinds() -> &'static [u8] {
+        &KINDS
     }
 }
 
-impl Handler for SplitHands {
-    ghost sheets_are = { λ hands. ⟦<PlainHands as Handler>⟧.sheets_are hands.hands };
-
-    ghost steps_are = { λ hands. ⟦<PlainHands as Handler>⟧.steps_are hands.hands };
-
-    ghost undos_are = { λ hands. ⟦<PlainHands as Handler>⟧.undos_are hands.hands };
-
-    fn sheets(&self) -> &[Valid] {
-        self.hands.sheets()
-    }
-
-    fn calls(&self) -> u64 {
-        self.hands.calls()
-    }
-
-    fn step(&mut self, alloc: Global, at: &StepIn, out: &mut StepOut) -> Result<(), AllocError> {
-        self.hands.step(alloc, at, out)
-    }
-
-    fn undo(&mut self, alloc: Global, at: &StepIn, out: &mut StepOut) -> Result<(), AllocError> {
-        self.hands.undo(alloc, at, out)
-    }
-}
+/// Runs the sheets that split and merge regions. Each answer is computed from the sheet and the input alone.
+pub type SplitHands = Hands<SplitKinds>;

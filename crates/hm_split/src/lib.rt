@@ -3,4 +3,4 @@
 
 mod hands;
 
-pub use hands::SplitHands;
+pub use hands::{SplitHands, SplitKinds};

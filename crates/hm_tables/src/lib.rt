@@ -3,4 +3,4 @@
 
 mod hands;
 
-pub use hands::TableHands;
+pub use hands::{TableHands, TableKinds};

@@ -1,50 +1,20 @@
-ghost use Rattle.std.specs.Prelude.{◌≡◌, [], ◌∷◌, map, IfOk};
-ghost use Rattle.hm_sheet.specs.Own.{own_sheet};
+ghost use Rattle.std.specs.Prelude.{[], ◌∷◌};
 
-use hm_data::{StepIn, StepOut};
-use hm_sheet::{Handler, PlainHands, Valid};
-use std::alloc::{AllocError, Global};
+use hm_sheet::{Hands, Kinds};
 
 static KINDS: [u8; 3] = [10, 23, 24];
 
-/// Runs the sheets of transits and of their calls. Each answer is computed from the sheet and the input alone.
+/// The kinds of transits and of their calls.
 #[derive(Drop)]
-pub struct TransitHands {
-    hands: PlainHands,
-}
+pub struct TransitKinds;
 
-impl TransitHands {
-    /// A handler that was not called yet.
-    pub fn new(alloc: Global) -> Result<TransitHands, AllocError>
-        ensures sheets { IfOk result (λ hands. ⟦<TransitHands as Handler>⟧.sheets_are hands ≡ map own_sheet (10 ∷ 23 ∷ 24 ∷ [])) }
-        ensures steps { IfOk result (λ hands. ⟦<TransitHands as Handler>⟧.steps_are hands ≡ 0) }
-        ensures undos { IfOk result (λ hands. ⟦<TransitHands as Handler>⟧.undos_are hands ≡ 0) }
-    {
-        let hands = PlainHands::new(alloc, &KINDS)?;
-        Ok(TransitHands { hands })
+impl Kinds for TransitKinds {
+    ghost kinds_are = { 10 ∷ 23 ∷ 24 ∷ [] };
+
+    fn kinds() -> &'static [u8] {
+        &KINDS
     }
 }
 
-impl Handler for TransitHands {
-    ghost sheets_are = { λ hands. ⟦<PlainHands as Handler>⟧.sheets_are hands.hands };
-
-    ghost steps_are = { λ hands. ⟦<PlainHands as Handler>⟧.steps_are hands.hands };
-
-    ghost undos_are = { λ hands. ⟦<PlainHands as Handler>⟧.undos_are hands.hands };
-
-    fn sheets(&self) -> &[Valid] {
-        self.hands.sheets()
-    }
-
-    fn calls(&self) -> u64 {
-        self.hands.calls()
-    }
-
-    fn step(&mut self, alloc: Global, at: &StepIn, out: &mut StepOut) -> Result<(), AllocError> {
-        self.hands.step(alloc, at, out)
-    }
-
-    fn undo(&mut self, alloc: Global, at: &StepIn, out: &mut StepOut) -> Result<(), AllocError> {
-        self.hands.undo(alloc, at, out)
-    }
-}
+/// Runs the sheets of transits and of their calls. Each answer is computed from the sheet and the input alone.
+pub type TransitHands = Hands<TransitKinds>;

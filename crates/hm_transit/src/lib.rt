@@ -3,4 +3,4 @@
 
 mod hands;
 
-pub use hands::TransitHands;
+pub use hands::{TransitHands, TransitKinds};

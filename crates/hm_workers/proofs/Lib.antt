@@ -1,3 +1,4 @@
+pub mod Asked
 pub mod Owing
 pub mod Staying
 pub mod Running

@@ -4,7 +4,6 @@ use Rattle.std.proofs.Math.Seq.{drop-append_seam}
 use Rattle.std.specs.Prelude.{Some, None, Option, Result, Ok, Err, MatchResult, MatchOption, IfSome, option_map}
 use Rattle.std.proofs.lemmas.Option.{same_Some}
 use Rattle.hm_data.specs.declared.entry.Entry.{Entry}
-use Rattle.hm_data.specs.declared.sheet.Sheet.{Sheet}
 use Rattle.hm_data.specs.declared.step.StepIn.{StepIn}
 use Rattle.hm_data.specs.declared.step.StepOut.{StepOut}
 use Rattle.hm_gate.specs.Gate.{Begins}
@@ -21,7 +20,7 @@ use Rattle.hm_hall.specs.declared.fault.HallFault.TheVariants as fault_is
 use Rattle.hm_hall.specs.declared.hall.Task.{Task}
 use Rattle.hm_hall.specs.declared.hall.Task.TheVariants as task_is
 use Rattle.hm_hall.specs.declared.taken.Taken.{Taken}
-use Rattle.hm_lend.specs.Hall.{Answers, CanBeServed, HallView, IsOut, MayComeBack}
+use Rattle.hm_lend.specs.Hall.{Answers, CanBeServed, Editions, HallView, IsOut, MayComeBack}
 use Rattle.hm_lend.specs.Outs.{OutView, number_of}
 use Rattle.hm_lend.specs.Stays.{AreOwn, Grows, SameOuts, Takes, one_step}
 use Rattle.hm_lend.proofs.Calls.{Stops, Took}
@@ -32,7 +31,7 @@ weigh_numbered : (k : ℕ) (xs : List Entry) → weigh_pairs one_step (numbered 
 weigh_numbered k [] = refl
 weigh_numbered k (x ∷ xs) = ap (λ (n : ℕ). one_step x + n) (weigh_numbered (suc k) xs)
 
-own_numbered : (editions : List (List Sheet)) (k : ℕ) (xs : List Entry) → AreOwn editions xs → OwnItems editions (numbered k xs)
+own_numbered : (editions : Editions) (k : ℕ) (xs : List Entry) → AreOwn editions xs → OwnItems editions (numbered k xs)
 own_numbered editions k [] own = tt
 own_numbered editions k (x ∷ xs) own = (own.0, own_numbered editions (suc k) xs own.1)
 
@@ -94,7 +93,7 @@ module _ {T S : Type 0} (shown : S → Whole Entry T) where
     )
 
     -- the seat has the terms, and what it added grew by what the list gained
-    pub adds : (editions_in : T → List (List Sheet)) (editions : List (List Sheet)) → editions_in ((shown x).terms) ≡ editions → (most : ℕ) → Grows shown editions most x y → Adds editions_in most v w
+    pub adds : (editions_in : T → Editions) (editions : Editions) → editions_in ((shown x).terms) ≡ editions → (most : ℕ) → Grows shown editions most x y → Adds editions_in most v w
     adds editions_in editions are most grows =
         let k = length ((shown x).items) in
         let added : w.mine ≡ v.mine ++ numbered k grows.more =
@@ -104,7 +103,7 @@ module _ {T S : Type 0} (shown : S → Whole Entry T) where
           record {
             more = numbered k grows.more;
             mine_is = added;
-            own = own_numbered (editions_in ((shown x).terms)) k grows.more (subst (λ (e : List (List Sheet)). AreOwn e grows.more) (sym are) grows.own);
+            own = own_numbered (editions_in ((shown x).terms)) k grows.more (subst (λ (e : Editions). AreOwn e grows.more) (sym are) grows.own);
             few = let f = grows.few in let s = weigh_numbered k grows.more in omega arith;
           },
         )
@@ -120,12 +119,12 @@ module _ {T S : Type 0} (shown : S → Whole Entry T) where
     stays_stopped keeps was = ap (λ (u : View Entry T). u.stopped) is ∙ keeps (found.stopped_is was)
 
     -- how the seat stands with what was taken
-    pub task_is_so : (editions_in : T → List (List Sheet)) (at : HallView) → editions_in ((shown x).terms) ≡ at.editions → (rests : T → List Entry → Type 0) (task : Task) → IsFree v → ((n : ℕ) → times n ((shown y).outs) ≤ 1)
+    pub task_is_so : (editions_in : T → Editions) (at : HallView) → editions_in ((shown x).terms) ≡ at.editions → (rests : T → List Entry → Type 0) (task : Task) → IsFree v → ((n : ℕ) → times n ((shown y).outs) ≤ 1)
         → (shown y).items ≡ at.items
         → (task ≡ task_is.Idle → rests ((shown x).terms) at.items) → Took shown x y at task → TaskIs editions_in rests w task
     task_is_so editions_in at are rests (task_is.Run taken) free most same_y idle by = (
       starts taken.pid.0 free by.0 most,
-      ((shown x).terms, ap (λ (u : View Entry T). u.terms) is ∙ found.terms_is, subst (λ (e : List (List Sheet)). CanBeServed e taken.was) (sym are) by.1),
+      ((shown x).terms, ap (λ (u : View Entry T). u.terms) is ∙ found.terms_is, subst (λ (e : Editions). CanBeServed e taken.was) (sym are) by.1),
     )
     task_is_so editions_in at are rests task_is.Carry free most same_y idle by = looks_in free by
     task_is_so editions_in at are rests task_is.Flush free most same_y idle by = looks_in free by
@@ -136,7 +135,7 @@ module _ {T S : Type 0} (shown : S → Whole Entry T) where
     )
 
     -- the same by the answer
-    pub took_so : (editions_in : T → List (List Sheet)) (at : HallView) → editions_in ((shown x).terms) ≡ at.editions → (rests : T → List Entry → Type 0) → IsFree v → ((n : ℕ) → times n ((shown y).outs) ≤ 1)
+    pub took_so : (editions_in : T → Editions) (at : HallView) → editions_in ((shown x).terms) ≡ at.editions → (rests : T → List Entry → Type 0) → IsFree v → ((n : ℕ) → times n ((shown y).outs) ≤ 1)
         → (shown y).items ≡ at.items → (r : Result Task HallFault)
         → (r ≡ Ok task_is.Idle → rests ((shown x).terms) at.items) → ((fault : HallFault) → r ≡ Err fault → Stops shown y fault) → MatchResult r (Took shown x y at) (λ _. SameOuts shown x y)
         → MatchResult r (TaskIs editions_in rests w) (λ fault. IsFree w × StopsBy w fault)
@@ -166,7 +165,7 @@ module _ {T S : Type 0} (shown : S → Whole Entry T) where
     }
 
   -- a value may be left where nothing went but what the seat owes
-  pub may_leave : (editions : List (List Sheet)) (most : ℕ) (v u : View Entry T) (t : ℕ) (x y : S) → u ≡ entered shown v t x → Found shown v x → Grows shown editions most x y
+  pub may_leave : (editions : Editions) (most : ℕ) (v u : View Entry T) (t : ℕ) (x y : S) → u ≡ entered shown v t x → Found shown v x → Grows shown editions most x y
       → ((n : ℕ) → times n ((shown x).outs) ≡ 1 → times n ((shown y).outs) ≡ 0 → times n v.owes ≡ 1) → ((n : ℕ) → times n ((shown y).outs) ≤ 1) → May shown u y
   may_leave editions most v u t x y e found grows gone distinct = subst (λ (z : View Entry T). May shown z y) (sym e) (record {
     items_begin = (grows.more, grows.items_are);
@@ -254,10 +253,10 @@ module _ {T S : Type 0} (shown : S → Whole Entry T) where
     lent_apart (Some o) p Q by = out_apart (p o) by.0
 
 -- what was served by the terms that the seat knows was served by the editions
-pub served : {T : Type 0} (editions_in : T → List (List Sheet)) (v : View Entry T) (terms : T) (editions : List (List Sheet)) → v.terms ≡ Some terms → editions_in terms ≡ editions → (was : StepIn) (out : StepOut) → IsServed editions_in v was out
+pub served : {T : Type 0} (editions_in : T → Editions) (v : View Entry T) (terms : T) (editions : Editions) → v.terms ≡ Some terms → editions_in terms ≡ editions → (was : StepIn) (out : StepOut) → IsServed editions_in v was out
     → Answers editions was out
 served editions_in v terms editions is are was out by =
-    subst (λ (e : List (List Sheet)). Answers e was out) (ap editions_in (same_Some by.0 terms (sym by.1 ∙ is)) ∙ are) by.2
+    subst (λ (e : Editions). Answers e was out) (ap editions_in (same_Some by.0 terms (sym by.1 ∙ is)) ∙ are) by.2
 
 -- what holds of an answer holds of what is left of it
 pub left_so : {A B U : Type 0} (P : Type 0) (Q : B → Type 0) (given : Result A B) (left : Result U B) → MatchResult given (λ _. MatchResult left (λ _. Unit {0}) (λ _. ⊥)) (λ b. left ≡ Err b)

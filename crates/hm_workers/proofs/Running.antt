@@ -3,17 +3,17 @@ use Rattle.std.proofs.Common.{◌≡◌, ◌⊎◌, inl, inr, ⊎_elim, ℕ, ◌
 use Rattle.std.specs.Prelude.{true, Result, Ok, Err, OnOk}
 use Rattle.std.proofs.lemmas.Option.{same_Some}
 use Rattle.hm_data.specs.declared.entry.Entry.{Entry}
-use Rattle.hm_data.specs.declared.sheet.Sheet.{Sheet}
 use Rattle.hm_gate.specs.Weights.{weigh_pairs}
 use Rattle.hm_gate.specs.declared.view.View.{View}
 use Rattle.hm_hall.specs.declared.fault.HallFault.{HallFault}
 use Rattle.hm_hall.specs.declared.fault.HallFault.TheVariants as fault_is
+use Rattle.hm_lend.specs.Hall.{Editions}
 use Rattle.hm_lend.specs.Stays.{one_step}
 use Rattle.hm_sheet.specs.Words.{risen}
 use Rattle.hm_workers.specs.Ends.{EndIs, IsSamePart, Knows, StopsBy, end_for}
 use Rattle.hm_workers.specs.Ran.{Adds, GainsBy, OwnItems, RanFor, RanOnce}
 
-own_both : (editions : List (List Sheet)) (a b : List (ℕ × Entry)) → OwnItems editions a → OwnItems editions b → OwnItems editions (a ++ b)
+own_both : (editions : Editions) (a b : List (ℕ × Entry)) → OwnItems editions a → OwnItems editions b → OwnItems editions (a ++ b)
 own_both editions [] b p q = q
 own_both editions (x ∷ a) b p q = (p.0, own_both editions a b p.1 q)
 
@@ -22,10 +22,10 @@ weigh_both [] b = omega arith
 weigh_both (x ∷ a) b = let r = weigh_both a b in omega arith
 
 -- a seat that stays the same part knows the same
-pub knows_on : {T : Type 0} (editions_in : T → List (List Sheet)) (v w : View Entry T) (editions : List (List Sheet)) → IsSamePart v w → Knows editions_in v editions → Knows editions_in w editions
+pub knows_on : {T : Type 0} (editions_in : T → Editions) (v w : View Entry T) (editions : Editions) → IsSamePart v w → Knows editions_in v editions → Knows editions_in w editions
 knows_on editions_in v w editions part knows terms is = knows terms (sym part.terms ∙ is)
 
-module _ (editions : List (List Sheet)) where
+module _ (editions : Editions) where
   pub gains_none : (a : List (ℕ × Entry)) → GainsBy editions 0 a a
   gains_none a = record { more = []; mine_is = sym (append-nil a); own = tt; few = omega arith }
 
@@ -38,8 +38,8 @@ module _ (editions : List (List Sheet)) where
   }
 
   -- what was added by the terms that a seat knows
-  pub known : {T : Type 0} (editions_in : T → List (List Sheet)) (most : ℕ) (v w : View Entry T) → Knows editions_in v editions → Adds editions_in most v w → GainsBy editions most v.mine w.mine
-  known editions_in most v w knows adds = subst (λ (e : List (List Sheet)). GainsBy e most v.mine w.mine) (knows adds.0 adds.1) adds.2
+  pub known : {T : Type 0} (editions_in : T → Editions) (most : ℕ) (v w : View Entry T) → Knows editions_in v editions → Adds editions_in most v w → GainsBy editions most v.mine w.mine
+  known editions_in most v w knows adds = subst (λ (e : Editions). GainsBy e most v.mine w.mine) (knows adds.0 adds.1) adds.2
 
   pub ran_first : (a : List (ℕ × Entry)) (r : ℕ) → RanFor editions a a r r
   ran_first a r = record { more = []; mine_is = sym (append-nil a); own = tt; ran = inl (omega arith) }
@@ -93,25 +93,25 @@ stops_on v w (fault_is.JournalFull bytes) on by = on by
 stops_on v w (fault_is.Halted why) on by = on by
 
 -- a stay that adds no step, after one that added so many
-pub adds_more : {T : Type 0} (editions_in : T → List (List Sheet)) (most : ℕ) (u v w : View Entry T) → IsSamePart u v → Adds editions_in most u v → Adds editions_in 0 v w → Adds editions_in most u w
+pub adds_more : {T : Type 0} (editions_in : T → Editions) (most : ℕ) (u v w : View Entry T) → IsSamePart u v → Adds editions_in most u v → Adds editions_in 0 v w → Adds editions_in most u w
 adds_more editions_in most u v w part a b =
     let same_terms = same_Some b.0 a.0 (sym b.1 ∙ part.terms ∙ a.1) in
     let g : GainsBy (editions_in a.0) 0 v.mine w.mine = subst (λ t. GainsBy (editions_in t) 0 v.mine w.mine) same_terms b.2 in
     let both = gains_then (editions_in a.0) most 0 u.mine v.mine w.mine a.2 g in
     (a.0, a.1, record { more = both.more; mine_is = both.mine_is; own = both.own; few = let f = both.few in omega arith })
 
-module _ (editions : List (List Sheet)) where
+module _ (editions : Editions) where
   -- a stay that adds no step, and one task after it
   pub once_then : (a b c : List (ℕ × Entry)) (r s : ℕ) → GainsBy editions 0 a b → RanOnce editions b c r s → RanOnce editions a c r s
   once_then a b c r s f (inl g) = inl (gains_then editions 0 0 a b c f g.0, g.1)
   once_then a b c r s f (inr g) = inr (gains_then editions 0 1 a b c f g.0, g.1)
 
   -- many tasks and one more, by what serves with the same sheets
-  pub ran_on : (same_editions : List (List Sheet)) (a b c : List (ℕ × Entry)) (r s t : ℕ) → same_editions ≡ editions → RanFor editions a b r s → RanOnce same_editions b c s t → RanFor editions a c r t
-  ran_on same_editions a b c r s t is f g = ran_then editions a b c r s t f (subst (λ (e : List (List Sheet)). RanOnce e b c s t) is g)
+  pub ran_on : (same_editions : Editions) (a b c : List (ℕ × Entry)) (r s t : ℕ) → same_editions ≡ editions → RanFor editions a b r s → RanOnce same_editions b c s t → RanFor editions a c r t
+  ran_on same_editions a b c r s t is f g = ran_then editions a b c r s t f (subst (λ (e : Editions). RanOnce e b c s t) is g)
 
 -- a seat that stays the same part knows the same, of what serves with the same sheets
-pub knows_still : {T : Type 0} (editions_in : T → List (List Sheet)) (v w : View Entry T) (editions same_editions : List (List Sheet)) → same_editions ≡ editions → IsSamePart v w → Knows editions_in v editions → Knows editions_in w same_editions
+pub knows_still : {T : Type 0} (editions_in : T → Editions) (v w : View Entry T) (editions same_editions : Editions) → same_editions ≡ editions → IsSamePart v w → Knows editions_in v editions → Knows editions_in w same_editions
 knows_still editions_in v w editions same_editions is part knows terms has = knows terms (sym part.terms ∙ has) ∙ sym is
 
 -- the same part through two stays

@@ -1,21 +1,19 @@
 -- What a stay of one call leaves, by what the call answered.
-use Rattle.std.proofs.Common.{◌≡◌, ◌⊎◌, inl, inr, ⊎_elim, ℕ, ◌≤◌, List, ◌++◌, length, Bool, Some, None, ap, append_assoc, arith, length-append, refl, subst, sym, ◌∙◌, true}
+use Rattle.std.proofs.Common.{◌≡◌, inl, inr, ⊎_elim, ℕ, ◌≤◌, List, ◌++◌, length, Bool, Some, None, ap, append_assoc, arith, length-append, refl, subst, sym, ◌∙◌, true}
 use Rattle.std.specs.Prelude.{Option, Result, Ok, Err, MatchResult, MatchOption, IfNone, IfSome, OnOk, is_some, option_map}
 use Rattle.hm_data.specs.declared.entry.Entry.{Entry}
-use Rattle.hm_data.specs.declared.sheet.Sheet.{Sheet}
 use Rattle.hm_data.specs.declared.step.StepOut.{StepOut}
 use Rattle.hm_gate.specs.declared.view.View.{View}
 use Rattle.hm_gate.specs.Gate.{Begins}
 use Rattle.hm_gate.specs.Whole.{Whole}
 use Rattle.hm_gate.specs.Plays.{entered, left, Found, May}
 use Rattle.hm_hall.specs.declared.fault.HallFault.{HallFault}
-use Rattle.hm_hall.specs.declared.fault.HallFault.TheVariants as fault_is
 use Rattle.hm_hall.specs.declared.fault.Halt.{Halt}
 use Rattle.hm_hall.specs.declared.hall.Task.{Task}
 use Rattle.hm_hall.specs.declared.hall.Task.TheVariants as task_is
 use Rattle.hm_hall.specs.declared.taken.Given.{Given}
 use Rattle.hm_hall.specs.declared.taken.Taken.{Taken}
-use Rattle.hm_lend.specs.Hall.{Answers, AnswersBack, AnswersCarry, AnswersGive, AnswersLend, AnswersTake, GetsBack, Going, HallView, HasNone, IsOut, MayComeBack}
+use Rattle.hm_lend.specs.Hall.{Answers, AnswersBack, AnswersCarry, AnswersGive, AnswersLend, AnswersTake, Editions, GetsBack, Going, HallView, HasNone, IsOut, MayComeBack}
 use Rattle.hm_lend.specs.Outs.{OutView, number_of}
 use Rattle.hm_lend.specs.Stays.{Grows}
 use Rattle.hm_lend.specs.Ties.{Ties}
@@ -31,7 +29,7 @@ the_halt : (o : Option Halt) → is_some o ≡ true → (why : Halt) × (o ≡ S
 the_halt None is = absurd cc
 the_halt (Some why) is = (why, refl)
 
-module _ {T S : Type 0} (shown : S → Whole Entry T) (editions_in : T → List (List Sheet)) where
+module _ {T S : Type 0} (shown : S → Whole Entry T) (editions_in : T → Editions) where
   module _ (v : View Entry T) (x : S) (at : HallView) (tied : Ties editions_in (shown x) at) (found : Found shown v x) where
     -- what the seat owes is out
     pub is_out : (p : ℕ) → Owes v p → IsOut p at
@@ -163,7 +161,7 @@ module _ {T S : Type 0} (shown : S → Whole Entry T) (hall : S → HallView) wh
     now_front = sym (ap (λ (z : View Entry T). z.front) l)
 
     -- the list that the seat saw goes on
-    pub front_on : (editions : List (List Sheet)) (most : ℕ) → Found shown v x → Grows shown editions most x y → Begins w.front v.front
+    pub front_on : (editions : Editions) (most : ℕ) → Found shown v x → Grows shown editions most x y → Begins w.front v.front
     front_on editions most found grows =
         let rest = found.items_begin in
         (rest.0 ++ grows.more, sym now_front ∙ grows.items_are ∙ ap (λ (z : List Entry). z ++ grows.more) rest.1 ∙ append_assoc v.front rest.0 grows.more)

@@ -1,7 +1,6 @@
 -- How a seat of a hall stands, and what a worker knows.
 use Rattle.std.specs.Prelude.{◌≡◌, ◌⊎◌, ℕ, ◌≤◌, true, List, [], length, Some, Result, Ok, Err}
 use Rattle.hm_data.specs.declared.entry.Entry.{Entry}
-use Rattle.hm_data.specs.declared.sheet.Sheet.{Sheet}
 use Rattle.hm_data.specs.declared.step.StepIn.{StepIn}
 use Rattle.hm_data.specs.declared.step.StepOut.{StepOut}
 use Rattle.hm_gate.specs.Gate.{IsOutside}
@@ -12,7 +11,7 @@ use Rattle.hm_hall.specs.declared.fault.HallFault.{HallFault}
 use Rattle.hm_hall.specs.declared.fault.HallFault.TheVariants as fault_is
 use Rattle.hm_hall.specs.declared.hall.Task.{Task}
 use Rattle.hm_hall.specs.declared.hall.Task.TheVariants as task_is
-use Rattle.hm_lend.specs.Hall.{Answers, CanBeServed, HallView, HasNone}
+use Rattle.hm_lend.specs.Hall.{Answers, CanBeServed, Editions, HallView, HasNone}
 use Rattle.hm_lend.specs.Outs.{OutView, number_of}
 use Rattle.hm_workers.specs.declared.ended.WorkEnd.{WorkEnd}
 use Rattle.hm_workers.specs.declared.ended.WorkEnd.TheVariants as end_is
@@ -34,15 +33,15 @@ module _ {I T : Type 0} where
     pub terms : w.terms ≡ v.terms
 
 -- the sheets of each edition, among the terms that the seat knows, are these
-abbrev pub Knows : {I T : Type 0} → (T → List (List Sheet)) → View I T → List (List Sheet) → Type 0
+abbrev pub Knows : {I T : Type 0} → (T → Editions) → View I T → Editions → Type 0
 Knows {I} {T} editions_in v editions = (terms : T) → v.terms ≡ Some terms → editions_in terms ≡ editions
 
 -- by the terms that the seat knows the sheet of the input's kind can be asked at it
-abbrev pub MayServe : {I T : Type 0} → (T → List (List Sheet)) → View I T → StepIn → Type 0
+abbrev pub MayServe : {I T : Type 0} → (T → Editions) → View I T → StepIn → Type 0
 MayServe {I} {T} editions_in v was = (terms : T) × (v.terms ≡ Some terms) × CanBeServed (editions_in terms) was
 
 -- by the terms that the seat knows this is what the sheet of the input's kind answers at it
-abbrev pub IsServed : {I T : Type 0} → (T → List (List Sheet)) → View I T → StepIn → StepOut → Type 0
+abbrev pub IsServed : {I T : Type 0} → (T → Editions) → View I T → StepIn → StepOut → Type 0
 IsServed {I} {T} editions_in v was out = (terms : T) × (v.terms ≡ Some terms) × Answers (editions_in terms) was out
 
 -- the list that the seat saw is at rest, by the terms that it knows
@@ -55,7 +54,7 @@ StopsBy v fault_is.Memory = Unit {0}
 StopsBy v fault = v.stopped ≡ true
 
 -- how the seat stands with a task: it owes what it is to bring back, and the input can be served
-abbrev pub TaskIs : {T : Type 0} → (T → List (List Sheet)) → (T → List Entry → Type 0) → View Entry T → Task → Type 0
+abbrev pub TaskIs : {T : Type 0} → (T → Editions) → (T → List Entry → Type 0) → View Entry T → Task → Type 0
 TaskIs editions_in rests v (task_is.Run taken) = let pid = taken.pid in Owes v pid.0 × MayServe editions_in v taken.was
 TaskIs editions_in rests v task_is.Idle = IsFree v × RestsAt rests v
 TaskIs editions_in rests v task = IsFree v

@@ -1,7 +1,6 @@
 //! What runs the rows of sheets for a worker.
-ghost use Rattle.std.specs.Prelude.{◌≡◌, ℕ, List, IfOk, OnOk, OnErr};
-ghost use Rattle.hm_data.specs.declared.sheet.Sheet.{Sheet};
-ghost use Rattle.hm_lend.specs.Hall.{Answers, CanBeServed};
+ghost use Rattle.std.specs.Prelude.{◌≡◌, ℕ, IfOk, OnOk, OnErr};
+ghost use Rattle.hm_lend.specs.Hall.{Answers, CanBeServed, Editions};
 ghost use Rattle.hm_sheet.specs.Words.{risen};
 
 use hm_data::{StepIn, StepOut};
@@ -10,13 +9,13 @@ use std::alloc::{AllocError, Global};
 /// Runs the rows of the sheets of each edition, and counts how often. What is known of it is plain, so that it goes with it
 /// to another thread.
 pub trait Serves {
-    // The sheets of each edition by which it runs.
-    ghost editions: { Self → List (List Sheet) };
+    // The sheets that it has for each edition.
+    ghost editions: { Self → Editions };
 
     // How many calls it answered.
     ghost runs: { Self → ℕ };
 
-    /// What the sheet of the input's kind says, in its edition, by one call of the object that runs it. Memory may run out.
+    /// What the sheet of the input's kind says, in its edition, whatever was served before. Memory may run out.
     fn serve(&mut self, alloc: Global, at: &StepIn) -> Result<StepOut, AllocError>
         requires { CanBeServed (editions self.old) at.now }
         ensures out { IfOk result (λ out. Answers (editions self.old) at.now out) }

@@ -3,11 +3,12 @@ use Rattle.std.specs.Prelude.{All}
 use Rattle.hm_gate.specs.Ready.{IsReady}
 use Rattle.hm_sheet.specs.Own.{own_sheet}
 use Rattle.hm_workers.specs.Ends.{IsFree, Knows}
+use Rattle.hm_rows_workers.specs.Tasks.{in_each}
 use Rattle.hm_rows_workers.proofs.runs.cut.Given as goal
 
 abbrev pub invariant-loop-made : goal.invariant-loop-made
 invariant-loop-made l = (l.made ≤ l.count) × IsReady l.gate l.seat × (l.seat.view.parts + l.made ≡ l.count + 1) × (l.seat.view.seats ≡ l.initial.seat.view.seats)
-    × All (λ p. IsReady l.gate p.0 × IsFree p.0.view × (p.0.view.parts ≡ 1) × Knows (λ _. (own_sheet 26 ∷ []) ∷ []) p.0.view (p.1.sheets ∷ [])) l.pairs.items
+    × All (λ p. IsReady l.gate p.0 × IsFree p.0.view × (p.0.view.parts ≡ 1) × Knows (λ _. in_each (own_sheet 26 ∷ [])) p.0.view (in_each p.1.sheets)) l.pairs.items
     × (length l.pairs.items ≡ l.made)
 
 abbrev pub decreases-loop-made : goal.decreases-loop-made

@@ -1,18 +1,17 @@
-use Rattle.std.proofs.Common.{List, inl, inr, rules, subst, sym}
-use Rattle.hm_data.specs.declared.sheet.Sheet.{Sheet}
-use Rattle.hm_lend.specs.Hall.{Answers, CanBeServed}
+use Rattle.std.proofs.Common.{inl, inr, rules, subst, sym}
+use Rattle.hm_lend.specs.Hall.{Answers, CanBeServed, Editions}
 use Rattle.hm_workers.specs.Ends.{IsServed}
 use Rattle.hm_workers.proofs.Running.{anyhow, known}
 use Rattle.hm_workers.proofs.working.run.Goals as goal
 
 pub serve-requires : goal.serve-requires
 serve-requires g c =
-    let m = c.requires.may in let s = subst (λ (e : List (List Sheet)). CanBeServed e c.args.taken.was) (c.requires.knows m.0 m.1) m.2 in search (rules, s)
+    let m = c.requires.may in let s = subst (λ (e : Editions). CanBeServed e c.args.taken.was) (c.requires.knows m.0 m.1) m.2 in search (rules, s)
 
 pub hand_over-requires-clause-answer : goal.hand_over-requires-clause-answer
 hand_over-requires-clause-answer g c =
     let m = c.requires.may in
-    let a : IsServed g.H.Hall.editions_in c.args.seat.now.view c.args.taken.was c.in-Ok.out = (m.0, m.1, subst (λ (e : List (List Sheet)). Answers e c.args.taken.was c.in-Ok.out) (sym (c.requires.knows m.0 m.1)) c.in-Ok.ensures.out) in search (rules, a)
+    let a : IsServed g.H.Hall.editions_in c.args.seat.now.view c.args.taken.was c.in-Ok.out = (m.0, m.1, subst (λ (e : Editions). Answers e c.args.taken.was c.in-Ok.out) (sym (c.requires.knows m.0 m.1)) c.in-Ok.ensures.out) in search (rules, a)
 
 pub returns-in-Ok-clause-ready : goal.returns-in-Ok-clause-ready
 returns-in-Ok-clause-ready g c = c.hand_over.ensures.ready

@@ -1,4 +1,4 @@
-use Rattle.std.proofs.Common.{◌≡◌, Err, Ok, refl, rules, ◌∙◌}
+use Rattle.std.proofs.Common.{refl, rules, ◌∙◌}
 use Rattle.hm_workers.proofs.Running.{knows_still, part_on, ran_first, ran_on}
 use Rattle.hm_workers.proofs.working.work.Goals as goal
 
