@@ -2,7 +2,7 @@
 use Rattle.std.proofs.Common.{◌≡◌, ◌≢◌, ◌<◌, ◌==◌, ℕ, List, [], ◌∷◌, Bool, true, false, if◌then◌else◌, is_some, Option, Some, None, length, slice_get, inl, inr, refl, ap, sym, ◌∙◌, subst}
 use Rattle.std.specs.Prelude.{IsSome}
 use Rattle.std.proofs.lemmas.Bool.{false≢true, not-true, true≢false}
-use Rattle.std.proofs.lemmas.Option.{none-some, same_Some, slice_get_within}
+use Rattle.std.proofs.lemmas.Option.{same_Some, slice_get_within}
 use Rattle.hm_names.specs.Server.{Server}
 use Rattle.hm_data.specs.declared.act.Back.{Back}
 use Rattle.hm_data.specs.declared.act.Back.TheVariants as back_is
@@ -12,16 +12,16 @@ use Rattle.hm_data.specs.declared.sheet.Row.{Row}
 use Rattle.hm_data.specs.declared.sheet.Sheet.{Sheet}
 use Rattle.hm_data.specs.declared.step.StepIn.{StepIn}
 use Rattle.hm_model.specs.Answers.{failing, row_of}
+use Rattle.hm_model.specs.Editions.{sheets_in}
 use Rattle.hm_model.specs.Evaluation.{CanBeAsked, CanRun, CanStep, picks, picks_at}
 use Rattle.hm_model.specs.Inputs.{input, latest_input, step_input, turn_input, undo_input, undoes}
 use Rattle.hm_model.specs.Journal.{Past}
 use Rattle.hm_model.specs.Kinds.{kind_of}
 use Rattle.hm_model.specs.Picks.{PicksRight, is_pick_right, needs_server}
-use Rattle.hm_model.specs.Plain.{ArePlain}
 use Rattle.hm_model.specs.RegionIds.{NamesIds}
 use Rattle.hm_model.specs.Rest.{MayStep}
 use Rattle.hm_model.specs.Rules.{IsLegal}
-use Rattle.hm_model.specs.Sheets.{row_in, sheet_for, sheets_by, sheets_of, undo_by, undo_of_next}
+use Rattle.hm_model.specs.Sheets.{row_in, sheet_for, sheets_by, undo_by, undo_of_next}
 use Rattle.hm_model.specs.Tree.{Node, node_of, root_of}
 use Rattle.hm_model.specs.Undo.{Undoable, is_empty, pushed, rest_of, row_if_there, stack}
 use Rattle.hm_model.proofs.ExactRows.{sheet_is, valid_by}
@@ -30,8 +30,8 @@ use Rattle.hm_model.proofs.Trees.{at_top, grown_all}
 use Rattle.hm_model.proofs.UndoMakes.{AllThere, stacked_all}
 use Rattle.hm_model.proofs.ValidSheets.{sheet_there}
 use Rattle.hm_judge.specs.Inputs.{CanEvaluate, IsInput}
+use Rattle.hm_judge.proofs.Editions.{all_kinds_by, seen_sheets}
 use Rattle.hm_judge.proofs.Picking.{needs_step, no_pick}
-use Rattle.hm_judge.proofs.Plainly.{all_kinds_by, own_sheets}
 use Rattle.hm_judge.proofs.RowsThere.{row_there}
 use Rattle.hm_judge.proofs.Undoing.{undoes_parts}
 
@@ -160,8 +160,8 @@ runs_own J legal names p pick at sees (inr turns) =
           (subst (CanRun (sheets_by J p)) (sym (sees node turns.1 ∙ ap (λ b. turn_input J b (stack J p) own) turns.2)) here),
     )
 
--- of a plain journal that is one of the sheets in force
-pub can_run : (J : Past) → IsLegal J → ArePlain J → AllNameIds J → (p : ℕ) (pick : Option Server) (at : StepIn) → IsInput J p pick at → CanEvaluate J p pick → CanRun (sheets_of J) at
-can_run J legal plain names p pick at sees can =
+-- that is one of the sheets of the edition that it sees
+pub can_run : (J : Past) → IsLegal J → AllNameIds J → (p : ℕ) (pick : Option Server) (at : StepIn) → IsInput J p pick at → CanEvaluate J p pick → CanRun (sheets_in J at.edition) at
+can_run J legal names p pick at sees can =
     let runs = runs_own J legal names p pick at sees can in
-    subst (λ sheets. CanRun sheets at) (own_sheets J legal plain p runs.0 runs.1) runs.2
+    subst (λ sheets. CanRun sheets at) (seen_sheets J legal p runs.0 runs.1 pick at (sees runs.0 runs.1)) runs.2

@@ -11,18 +11,19 @@ use Rattle.hm_data.specs.declared.record.Phase.{Phase}
 use Rattle.hm_data.specs.declared.record.Record.{Record}
 use Rattle.hm_data.specs.declared.sheet.Row.{Row}
 use Rattle.hm_model.specs.Answers.{failing, last_answer}
+use Rattle.hm_model.specs.Editions.{sheets_in}
 use Rattle.hm_model.specs.Journal.{Past}
 use Rattle.hm_model.specs.Phase.{cause, children_ended, ended, or_else, own_phase, phase_table, rolled_back}
-use Rattle.hm_model.specs.Plain.{ArePlain}
 use Rattle.hm_model.specs.Records.{record_of}
 use Rattle.hm_model.specs.Rules.{CanAbort, IsBeforePoint, IsLegal}
-use Rattle.hm_model.specs.Sheets.{next_row, row_in, sheet_for, sheets_of}
+use Rattle.hm_model.specs.Sheets.{next_row, row_in, sheet_for}
 use Rattle.hm_model.specs.Tree.{Node, is_root, is_root_in, is_top, node_of, root_in, root_of}
-use Rattle.hm_model.proofs.Forest.{forest_all, top_is, top_is_own}
+use Rattle.hm_model.proofs.Forest.{forest_all, top_is_own}
 use Rattle.hm_model.proofs.Grown.{grown_all, nodes_stay}
+use Rattle.hm_model.proofs.Small.{top_is}
 use Rattle.hm_judge.specs.Aborts.{is_failed}
+use Rattle.hm_judge.proofs.Editions.{next_is}
 use Rattle.hm_judge.proofs.Found.{shown_of, there_of}
-use Rattle.hm_judge.proofs.Plainly.{next_is}
 use Rattle.hm_judge.proofs.Stepping.{not_true}
 
 -- a root that has a step after an entry was one before it
@@ -119,17 +120,17 @@ abort_iff J legal p its some root unaborted unended failed said =
     )
 
 -- one that is shown is before the point where the row that it runs next isn't after it
-pub point_iff : (J : Past) → IsLegal J → ArePlain J → (p : ℕ) (its : Record) → Some its ≡ record_of J p → (o : Option Row) → o ≡ row_in (sheet_for (sheets_of J) its.kind) its.row → (row : Row) → o ≡ Some row
+pub point_iff : (J : Past) → IsLegal J → (p : ℕ) (its : Record) → Some its ≡ record_of J p → (o : Option Row) → o ≡ row_in (sheet_for (sheets_in J its.edition) its.kind) its.row → (row : Row) → o ≡ Some row
     → IsTrue (not row.after) ↔ IsBeforePoint J p
-point_iff J legal plain p its some o found row is =
+point_iff J legal p its some o found row is =
     let t = there_of J p its some in
-    let next : next_row J p t.0 ≡ Some row = next_is J legal plain p its t.0 t.1 t.2 ∙ sym found ∙ is in (
+    let next : next_row J p t.0 ≡ Some row = next_is J legal p its t.0 t.1 t.2 ∙ sym found ∙ is in (
       λ on. (t.0, t.1, row, next, not_true row.after on),
       λ point. ap not (ap (λ (r : Row). r.after) (same_Some row point.2 (sym next ∙ ap (next_row J p) (same_Some t.0 point.0 (sym t.1 ∙ point.1)) ∙ point.3)) ∙ point.4),
     )
 
 -- one that has no row isn't
-pub no_point : (J : Past) → IsLegal J → ArePlain J → (p : ℕ) (its : Record) → Some its ≡ record_of J p → (o : Option Row) → o ≡ row_in (sheet_for (sheets_of J) its.kind) its.row → o ≡ None
+pub no_point : (J : Past) → IsLegal J → (p : ℕ) (its : Record) → Some its ≡ record_of J p → (o : Option Row) → o ≡ row_in (sheet_for (sheets_in J its.edition) its.kind) its.row → o ≡ None
     → IsTrue false ↔ IsBeforePoint J p
-no_point J legal plain p its some o found none =
-    (λ on. absurd (true≢false (sym on)), λ point. absurd (none-some point.2 (sym none ∙ found ∙ sym (next_is J legal plain p its point.0 point.1 (shown_of J p its some point.0 point.1)) ∙ point.3)))
+no_point J legal p its some o found none =
+    (λ on. absurd (true≢false (sym on)), λ point. absurd (none-some point.2 (sym none ∙ found ∙ sym (next_is J legal p its point.0 point.1 (shown_of J p its some point.0 point.1)) ∙ point.3)))

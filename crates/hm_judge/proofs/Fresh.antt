@@ -15,14 +15,14 @@ use Rattle.hm_model.specs.Rules.{IsLatest, IsLegal}
 use Rattle.hm_model.specs.Sheets.{sheets_by}
 use Rattle.hm_model.specs.Tree.{Node, node_of, root_in, root_of}
 use Rattle.hm_model.specs.Undo.{stack}
-use Rattle.hm_model.proofs.Forest.{top_is}
 use Rattle.hm_model.proofs.Tops.{ended_top}
 use Rattle.hm_model.proofs.UndoMakes.{stacked_all}
+use Rattle.hm_model.proofs.Small.{top_is}
 use Rattle.hm_judge.specs.Fresh.{FreshStepsFollow, FreshUndosFollow}
 use Rattle.hm_judge.proofs.Asking.{steps_only}
+use Rattle.hm_judge.proofs.Editions.{made_begun}
 use Rattle.hm_judge.proofs.OwnSteps.{HasLatest, latest_own}
 use Rattle.hm_judge.proofs.Picking.{needs_none, turned}
-use Rattle.hm_judge.proofs.Plainly.{made_begun}
 use Rattle.hm_judge.proofs.Undoing.{undoes_open, undoes_parts}
 
 -- the turn of an input is a step

@@ -8,18 +8,17 @@ use Rattle.hm_data.specs.declared.entry.Entry.{Entry}
 use Rattle.hm_data.specs.declared.entry.Entry.TheVariants as entry_is
 use Rattle.hm_data.specs.declared.step.StepIn.{StepIn}
 use Rattle.hm_data.specs.declared.step.StepOut.{StepOut}
+use Rattle.hm_model.specs.Editions.{sheets_in}
 use Rattle.hm_model.specs.Evaluation.{answer_of}
-use Rattle.hm_model.specs.Inputs.{IsEvaluated, input}
+use Rattle.hm_model.specs.Inputs.{IsEvaluated, answers, input}
 use Rattle.hm_model.specs.Journal.{Past}
-use Rattle.hm_model.specs.Plain.{ArePlain, BreaksPlainly}
 use Rattle.hm_model.specs.Rules.{AllHold, Allowed, Breaks, IsLegal, unbegun}
-use Rattle.hm_model.specs.Sheets.{sheets_of}
 use Rattle.hm_model.specs.Tree.{Node, node_of, root_of}
 use Rattle.hm_judge.specs.Inputs.{CanEvaluate, IsInput}
-use Rattle.hm_judge.specs.Judge.{AllHoldBut, HoldsBut, IsEvaluation, IsRefusal, IsUnrefused, IsWhy}
+use Rattle.hm_judge.specs.Judge.{AllHoldBut, HoldsBut, IsEvaluation, IsRefusal, IsRefusedBy, IsUnrefused, IsWhy}
 use Rattle.hm_judge.specs.declared.why.NotAllowed.{NotAllowed}
 use Rattle.hm_judge.specs.declared.why.NotAllowed.TheVariants as not_allowed
-use Rattle.hm_judge.proofs.Plainly.{own_sheets}
+use Rattle.hm_judge.proofs.Editions.{seen_sheets}
 
 -- the rule that nothing has begun is no evaluation
 unbegun_other : (J : Past) (rule : ℕ) → 1 ≢ rule → 18 ≢ rule → unbegun J ≡ rule → ⊥
@@ -37,15 +36,20 @@ pub there_of : (J : Past) (p : ℕ) (pick : Option Server) → CanEvaluate J p p
 there_of J p pick (inl steps) = (steps.0.0, steps.0.1)
 there_of J p pick (inr turns) = (turns.0, turns.1)
 
--- a call answers what the sheets say at what it sees
-pub evaluated_if : {E : Type 0} (J : Past) → IsLegal J → ArePlain J → (p : ℕ) (pick : Option Server) (at : StepIn) (out : StepOut) (r : Result Bool E) → CanEvaluate J p pick → IsInput J p pick at
-    → IfOk r (λ same. IsTrue same ↔ (answer_of (sheets_of J) at ≡ Some out)) → IfOk r (λ same. IsTrue same ↔ IsEvaluated J p pick out)
-evaluated_if J legal plain p pick at out (Ok same) can is said =
+-- a call answers what the sheets of the edition that it sees say there
+pub evaluated_if : {E : Type 0} (J : Past) → IsLegal J → (p : ℕ) (pick : Option Server) (at : StepIn) (out : StepOut) (r : Result Bool E) → CanEvaluate J p pick → IsInput J p pick at
+    → IfOk r (λ same. IsTrue same ↔ (answer_of (sheets_in J at.edition) at ≡ Some out)) → IfOk r (λ same. IsTrue same ↔ IsEvaluated J p pick out)
+evaluated_if J legal p pick at out (Ok same) can is said =
     let there = there_of J p pick can in (
-      λ on. (there.0, there.1, ap (λ sheets. answer_of sheets (input J p there.0 pick)) (own_sheets J legal plain p there.0 there.1) ∙ ap (answer_of (sheets_of J)) (sym (is there.0 there.1)) ∙ said.0 on),
-      λ ev. said.1 (ap (answer_of (sheets_of J)) (is ev.0 ev.1) ∙ sym (ap (λ sheets. answer_of sheets (input J p ev.0 pick)) (own_sheets J legal plain p ev.0 ev.1)) ∙ ev.2),
+      λ on. (there.0, there.1, own there.0 there.1 ∙ said.0 on),
+      λ ev. said.1 (sym (own ev.0 ev.1) ∙ ev.2),
     )
-evaluated_if J legal plain p pick at out (Err e) can is said = tt
+  where
+    own : (node : Node) → node_of J p ≡ Some node → answers J p node pick ≡ answer_of (sheets_in J at.edition) at
+    own node there =
+        ap (λ sheets. answer_of sheets (input J p node pick)) (seen_sheets J legal p node there pick at (is node there))
+        ∙ ap (answer_of (sheets_in J at.edition)) (sym (is node there))
+evaluated_if J legal p pick at out (Err e) can is said = tt
 
 -- a step whose other rules hold can be evaluated
 pub can_step : (J : Past) (pid : Pid) (pick : Option Server) (out : StepOut) → HoldsBut J (entry_is.Step pid pick out) → CanEvaluate J pid.0 pick
@@ -61,10 +65,10 @@ pub allowed_by : {E X : Type 0} (J : Past) (entry : Entry) (It : Type 0) (same :
 allowed_by J entry It same r allows said ok = on_ok_weaker r (λ is. let both : IsTrue true ↔ It = subst (λ s. IfOk s (λ b. IsTrue b ↔ It)) is said in allows (both.0 refl)) ok
 
 -- else it is refused by that, or for want of memory
-pub refused_by : {E X : Type 0} (J : Past) (entry : Entry) (It : Type 0) (number : ℕ) (same : Result Bool E) (r : Result X NotAllowed) → ((It → ⊥) → BreaksPlainly J entry number) → IsEvaluation entry number → IsUnrefused J entry
+pub refused_by : {E X : Type 0} (J : Past) (entry : Entry) (It : Type 0) (number : ℕ) (same : Result Bool E) (r : Result X NotAllowed) → ((It → ⊥) → IsRefusedBy J entry number) → IsEvaluation entry number → IsUnrefused J entry
     → IfOk same (λ b. IsTrue b ↔ It) → IfErr r (IsRefusal number same) → IfErr r (IsWhy J entry)
 refused_by J entry It number same (Ok x) breaks is rest said refusal = tt
-refused_by J entry It number (Ok b) (Err (not_allowed.Rule k)) breaks is rest said refusal = subst (BreaksPlainly J entry) (sym refusal.1) (breaks (λ it. true≢false (sym (said.1 it) ∙ refusal.0)))
+refused_by J entry It number (Ok b) (Err (not_allowed.Rule k)) breaks is rest said refusal = subst (IsRefusedBy J entry) (sym refusal.1) (breaks (λ it. true≢false (sym (said.1 it) ∙ refusal.0)))
 refused_by J entry It number (Err e) (Err (not_allowed.Rule k)) breaks is rest said refusal = absurd refusal
 refused_by J entry It number (Ok b) (Err not_allowed.Memory) breaks is rest said refusal = absurd refusal
 refused_by J entry It number (Err e) (Err not_allowed.Memory) breaks is rest said refusal = ((number, is), rest)

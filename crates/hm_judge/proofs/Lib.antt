@@ -1,5 +1,5 @@
 pub mod Found
-pub mod Plainly
+pub mod Editions
 mod Rules
 mod Stepping
 mod Failing
@@ -11,6 +11,7 @@ mod RowsThere
 mod Asking
 mod Judging
 mod Living
+mod Valid
 mod OwnSteps
 mod Fresh
 mod Choosing

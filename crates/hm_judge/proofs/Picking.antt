@@ -15,6 +15,7 @@ use Rattle.hm_data.specs.declared.sheet.Row.{Row}
 use Rattle.hm_data.specs.declared.sheet.Sheet.{Sheet}
 use Rattle.hm_data.specs.declared.step.StepIn.{StepIn}
 use Rattle.hm_model.specs.Catalog.{Catalog, cat, keep, keys_of, row_at, rows_at}
+use Rattle.hm_model.specs.Editions.{sheets_in}
 use Rattle.hm_model.specs.Evaluation.{is_cut_off, is_picking, is_step, picks_at, wants_server}
 use Rattle.hm_model.specs.Inputs.{input, rows_read, sees_fenced, step_input, turn_input, undo_input, undoes}
 use Rattle.hm_model.specs.Answers.{is_aborted, row_of}
@@ -24,12 +25,11 @@ use Rattle.hm_model.specs.Keys.{same_table}
 use Rattle.hm_model.specs.Phase.{all_stopped, cause}
 use Rattle.hm_model.specs.Rest.{MayUndo}
 use Rattle.hm_model.specs.Picks.{PicksRight, fits_input, is_pick_right, needs_server, pick_fits}
-use Rattle.hm_model.specs.Plain.{ArePlain}
 use Rattle.hm_model.specs.Procedures.{sheet_at, sheet_of}
 use Rattle.hm_model.specs.Reads.{reads}
 use Rattle.hm_model.specs.Records.{record_at, record_of}
 use Rattle.hm_model.specs.Rules.{IsLegal}
-use Rattle.hm_model.specs.Sheets.{next_row, row_in, sheet_for, sheets_of}
+use Rattle.hm_model.specs.Sheets.{next_row, row_in, sheet_for}
 use Rattle.hm_model.specs.TransitActs.{is_open, may_open, may_open_in}
 use Rattle.hm_model.specs.Tree.{Node, is_top, node_of}
 use Rattle.hm_model.specs.Undo.{Undoable, is_empty, stack}
@@ -38,8 +38,8 @@ use Rattle.hm_model.proofs.KeyTests.{same_region-refl, same_table-refl}
 use Rattle.hm_model.proofs.Rows.{row_read}
 use Rattle.hm_model.proofs.UndoMakes.{AllThere, stacked_all}
 use Rattle.hm_judge.specs.Picks.{can_open, fits_record, wants, wants_if}
+use Rattle.hm_judge.proofs.Editions.{next_is}
 use Rattle.hm_judge.proofs.Found.{there_of}
-use Rattle.hm_judge.proofs.Plainly.{next_is}
 
 -- where nothing is read, no row is
 rows_none : (asked : CatKey → Bool) → ((key : CatKey) → asked key ≡ false) → (there : Catalog) (keys : List CatKey) → rows_at asked there keys ≡ []
@@ -154,11 +154,11 @@ undoes_not J p x is b off tells = elim (cases_Bool (undoes J p x)) [
 pub undoes_so : (J : Past) (p : ℕ) (x : Node) → node_of J p ≡ Some x → (b : Bool) → b ≡ true → (IsTrue b ↔ MayUndo J p) → undoes J p x ≡ true
 undoes_so J p x is b on tells = let may = tells.0 on in ap (undoes J p) (same_Some x may.0 (sym is ∙ may.1)) ∙ may.2
 
-pub needs_row : (J : Past) → IsLegal J → ArePlain J → (p : ℕ) (its : Record) (x : Node) → node_of J p ≡ Some x → its ≡ record_at J p x → undoes J p x ≡ false
-    → (o : Option Row) → o ≡ row_in (sheet_for (sheets_of J) its.kind) its.row → (row : Row) → o ≡ Some row
+pub needs_row : (J : Past) → IsLegal J → (p : ℕ) (its : Record) (x : Node) → node_of J p ≡ Some x → its ≡ record_at J p x → undoes J p x ≡ false
+    → (o : Option Row) → o ≡ row_in (sheet_for (sheets_in J its.edition) its.kind) its.row → (row : Row) → o ≡ Some row
     → (places : Bool) → places ≡ (is_picking row.act && not (its.aborted && not row.after)) → (places && wants J its.args) ≡ needs_server J p x
-needs_row J legal plain p its x is shown off o found row some places said =
-    let next : next_row J p x ≡ Some row = next_is J legal plain p its x is shown ∙ sym found ∙ some in
+needs_row J legal p its x is shown off o found row some places said =
+    let next : next_row J p x ≡ Some row = next_is J legal p its x is shown ∙ sym found ∙ some in
     let same : places ≡ (is_picking row.act && not (is_aborted J p && not row.after)) = said ∙ ap (λ (r : Record). is_picking row.act && not (r.aborted && not row.after)) shown in
     ap (λ b. b && wants J its.args) same
     ∙ ap (λ (r : Record). (is_picking row.act && not (is_aborted J p && not row.after)) && wants J r.args) shown
@@ -170,10 +170,10 @@ needs_row J legal plain p its x is shown off o found row some places said =
     )
 
 -- where there is no row, none is needed
-pub needs_no_row : (J : Past) → IsLegal J → ArePlain J → (p : ℕ) (its : Record) (x : Node) → node_of J p ≡ Some x → its ≡ record_at J p x → undoes J p x ≡ false
-    → (o : Option Row) → o ≡ row_in (sheet_for (sheets_of J) its.kind) its.row → o ≡ None → false ≡ needs_server J p x
-needs_no_row J legal plain p its x is shown off o found none =
-    sym (needs_step J p x is off ∙ ap (λ r. picks_at r (step_input J p x None)) (next_is J legal plain p its x is shown ∙ sym found ∙ none))
+pub needs_no_row : (J : Past) → IsLegal J → (p : ℕ) (its : Record) (x : Node) → node_of J p ≡ Some x → its ≡ record_at J p x → undoes J p x ≡ false
+    → (o : Option Row) → o ≡ row_in (sheet_for (sheets_in J its.edition) its.kind) its.row → o ≡ None → false ≡ needs_server J p x
+needs_no_row J legal p its x is shown off o found none =
+    sym (needs_step J p x is off ∙ ap (λ r. picks_at r (step_input J p x None)) (next_is J legal p its x is shown ∙ sym found ∙ none))
 
 pub right_by : (J : Past) → IsLegal J → (p : ℕ) (its : Record) → Some its ≡ record_of J p → (pick : Option Server) (server : Server) → pick ≡ Some server
     → (needed : Bool) → needed ≡ true → ((x : Node) → node_of J p ≡ Some x → its ≡ record_at J p x → needed ≡ needs_server J p x)

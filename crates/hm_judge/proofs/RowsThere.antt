@@ -43,13 +43,14 @@ use Rattle.hm_model.specs.Verbs.{verb_in}
 use Rattle.hm_model.specs.Views.{asked_of, bounds_of, first_id_of, namespace_of, regions_in, table_of}
 use Rattle.hm_model.specs.Wanted.{ids_of}
 use Rattle.hm_model.proofs.CallSteps.{CallOut}
-use Rattle.hm_model.proofs.ExactRows.{cons_nil, exact_is, led_row, row_passes, sheet_is, start_leads, valid_by}
+use Rattle.hm_model.proofs.ExactRows.{exact_is, led_row, row_passes, sheet_is, start_leads, valid_by}
 use Rattle.hm_model.proofs.LegalSteps.{StepFacts, ready_stops}
 use Rattle.hm_model.proofs.PlainActs.{GoesTo, IsPlainOut, is_plain, plain_act, plain_fails}
 use Rattle.hm_model.proofs.StepDoes.{GoesNear, IsMoveOut, lined, crash, moves, calls, is_moving, move_act, move_fails, part_of, row_by}
 use Rattle.hm_model.proofs.Trees.{Grown, IsRooted, answer_now, does_of, down_rooted, grown_all, is_there, le_or_lt, node_same, old_or_new, other_answer, root_within, step_of, submit_rooted, undo_rooted}
 use Rattle.hm_model.proofs.Siblings.{all_in}
 use Rattle.hm_model.proofs.ValidSheets.{Leads}
+use Rattle.hm_model.proofs.Small.{cons_nil}
 
 -- the acts at which kinds that list lines end
 abbrev ends : Act → Bool

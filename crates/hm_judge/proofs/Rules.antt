@@ -1,13 +1,11 @@
 -- Which rule an entry breaks, and what its rules say where all hold.
-use Rattle.std.proofs.Common.{◌≡◌, ◌≢◌, ℕ, Bool, false, Result, Ok, Err, IfErr, List, [], ◌∷◌, ◌⊎◌, inl, inr, refl, sym, subst}
+use Rattle.std.proofs.Common.{◌≡◌, ℕ, Bool, false, Result, Ok, Err, IfErr, List, [], ◌∷◌, ◌⊎◌, inl, inr, sym, subst}
 use Rattle.std.proofs.lemmas.Bool.{cases_eq}
 use Rattle.hm_data.specs.declared.entry.Entry.{Entry}
 use Rattle.hm_data.specs.declared.entry.Entry.TheVariants as entry_is
-use Rattle.hm_data.specs.declared.sheet.Sheet.{Sheet}
 use Rattle.hm_model.specs.Journal.{Past}
-use Rattle.hm_model.specs.Plain.{BreaksPlainly}
 use Rattle.hm_model.specs.Rules.{FirstFails, rules}
-use Rattle.hm_judge.specs.Judge.{AllHoldBut, HoldsBut, IsEvaluation, IsUnrefused}
+use Rattle.hm_judge.specs.Judge.{AllHoldBut, HoldsBut, IsEvaluation, IsRefusedBy, IsUnrefused}
 
 -- whether a rule is an evaluation is decided
 evaluation : (entry : Entry) (rule : ℕ) → IsEvaluation entry rule ⊎ (IsEvaluation entry rule → ⊥)
@@ -28,12 +26,7 @@ pub unrefused : (J : Past) (entry : Entry) → HoldsBut J entry → IsUnrefused 
 unrefused J entry all rule fails = only_it entry rule (rules J entry) all fails
 
 -- the last of the rules that are judged is broken, or holds
-pub broken_by : (J : Past) (entry : Entry) (number : ℕ) (holds : Bool) {X : Type 0} (r : Result X ℕ) → ((k : ℕ) → k ≡ number → holds ≡ false → BreaksPlainly J entry k)
-    → IfErr r (λ k. (k ≡ number) × (holds ≡ false)) → IfErr r (BreaksPlainly J entry)
+pub broken_by : (J : Past) (entry : Entry) (number : ℕ) (holds : Bool) {X : Type 0} (r : Result X ℕ) → ((k : ℕ) → k ≡ number → holds ≡ false → IsRefusedBy J entry k)
+    → IfErr r (λ k. (k ≡ number) × (holds ≡ false)) → IfErr r (IsRefusedBy J entry)
 broken_by J entry number holds (Ok x) breaks said = tt
 broken_by J entry number holds (Err k) breaks said = breaks k said.0 said.1
-
--- new sheets are refused of a journal that has an entry
-pub adopts_none : (J : Past) (sheets : List Sheet) → J ≢ [] → BreaksPlainly J (entry_is.Adopt sheets) 19
-adopts_none [] sheets some = absurd (some refl)
-adopts_none (last ∷ before) sheets some = refl

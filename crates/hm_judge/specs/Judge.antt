@@ -3,7 +3,6 @@ use Rattle.std.specs.Prelude.{◌≡◌, ℕ, List, [], ◌∷◌, Bool, false, 
 use Rattle.hm_data.specs.declared.entry.Entry.{Entry}
 use Rattle.hm_data.specs.declared.entry.Entry.TheVariants as entry_is
 use Rattle.hm_model.specs.Journal.{Past}
-use Rattle.hm_model.specs.Plain.{BreaksPlainly}
 use Rattle.hm_model.specs.Rules.{Breaks, rules}
 use Rattle.hm_judge.specs.declared.why.NotAllowed.{NotAllowed}
 use Rattle.hm_judge.specs.declared.why.NotAllowed.TheVariants as not_allowed
@@ -18,10 +17,15 @@ IsEvaluation entry rule = ⊥
 abbrev pub IsUnrefused : Past → Entry → Type 0
 IsUnrefused before entry = (rule : ℕ) → Breaks before entry rule → IsEvaluation entry rule
 
--- why an entry isn't allowed: the lowest rule that it breaks; or memory ran out in its evaluation, and no rule before that
--- refuses it
+-- the rule by which an entry is refused behind a journal that has begun: 18 for each part of a base, and for each other entry
+-- the lowest that it breaks
+abbrev pub IsRefusedBy : Past → Entry → ℕ → Type 0
+IsRefusedBy before (entry_is.Base part) k = k ≡ 18
+IsRefusedBy before entry k = Breaks before entry k
+
+-- why an entry isn't allowed: the rule that refuses it; or memory ran out in its evaluation, and no rule before that refuses it
 abbrev pub IsWhy : Past → Entry → NotAllowed → Type 0
-IsWhy before entry (not_allowed.Rule number) = BreaksPlainly before entry number
+IsWhy before entry (not_allowed.Rule number) = IsRefusedBy before entry number
 IsWhy before entry not_allowed.Memory = ((rule : ℕ) × IsEvaluation entry rule) × IsUnrefused before entry
 
 -- why a comparison refuses: it differs, which breaks its rule, or memory ran out

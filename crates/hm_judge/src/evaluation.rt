@@ -36,9 +36,9 @@ fn is_evaluated(
     requires { CanEvaluate records.now.past pid.0 (option_copied pick) }
     ensures { IfOk result (λ same. IsTrue same ↔ IsEvaluated records.now.past pid.0 (option_copied pick.entry) out.now) }
 {
-    let _plain = records.procedures();
+    let _legal = records.procedures();
     let at = step_in(alloc, records, pid, pick)?;
-    let said = is_said(alloc, records.sheets(), &at, out);
+    let said = is_said(alloc, records.sheets_of(at.edition), &at, out);
     drop(at);
     said
 }

@@ -1,12 +1,12 @@
 //! What the next call of a procedure's handler sees.
-ghost use Rattle.std.specs.Prelude.{◌≡◌, ◌≢◌, IfOk, None};
+ghost use Rattle.std.specs.Prelude.{◌≡◌, ◌≢◌, ◌≤◌, IfOk, None};
 ghost use Rattle.std.specs.Option.{option_copied};
 ghost use Rattle.hm_data.specs.declared.step.Turn.TheVariants as turn_is;
 ghost use Rattle.hm_model.specs.Answers.{report_of};
+ghost use Rattle.hm_model.specs.Editions.{editions as editions_in, sheets_in};
 ghost use Rattle.hm_model.specs.Evaluation.{CanRun};
 ghost use Rattle.hm_model.specs.Inputs.{ends_of, place_if, regions_on as on_crashed, rows_read, sees_fenced as fenced_seen};
 ghost use Rattle.hm_model.specs.Places.{on_server as regions_at};
-ghost use Rattle.hm_model.specs.Sheets.{sheets_of};
 ghost use Rattle.hm_model.specs.Tree.{node_of};
 ghost use Rattle.hm_model.specs.Whereabouts.{crashed_in as crashed, moved_by as moved};
 ghost use Rattle.hm_judge.specs.Inputs.{CanEvaluate, IsInput, seen_by as seen_of};
@@ -170,7 +170,8 @@ pub fn step_in(
 ) -> Result<StepIn, AllocError>
     requires { node_of records.now.past pid.0 ≢ None }
     ensures input { IfOk result (IsInput records.now.past pid.0 (option_copied pick.entry)) }
-    ensures runs { IfOk result (λ at. CanEvaluate records.now.past pid.0 (option_copied pick.entry) → CanRun (sheets_of records.now.past) at) }
+    ensures runs { IfOk result (λ at. CanEvaluate records.now.past pid.0 (option_copied pick.entry) → CanRun (sheets_in records.now.past at.edition) at) }
+    ensures edition { IfOk result (λ at. at.edition ≤ editions_in records.now.past) }
 {
     let Some(found) = find(records, pid) else {
         unreachable!()

@@ -1,10 +1,12 @@
 //! The rules, by number.
 ghost use Rattle.std.specs.Prelude.{◌≡◌, OnOk, IfErr, IsTrue, false};
-ghost use Rattle.hm_model.specs.Plain.{BreaksPlainly, IsPlain};
+ghost use Rattle.hm_model.specs.Base.{IsBegun};
+ghost use Rattle.hm_model.specs.Laws.{is_part};
 ghost use Rattle.hm_model.specs.Rules.{Allowed};
-ghost use Rattle.hm_judge.specs.Judge.{HoldsBut, IsUnrefused, IsWhy};
+ghost use Rattle.hm_judge.specs.Judge.{HoldsBut, IsRefusedBy, IsUnrefused, IsWhy};
 
 use crate::aborts::{can_abort, is_before_point};
+use crate::adopts::can_adopt;
 use crate::evaluation::evaluated;
 use crate::picks::picks_right;
 use crate::reports::{fits_call, is_outstanding};
@@ -25,17 +27,15 @@ fn rule(number: u8, holds: bool) -> Result<(), u8>
     if holds { Ok(()) } else { Err(number) }
 }
 
-// Judges an entry by all its rules but its evaluation, from the lowest on.
+// Judges an entry behind a journal that has begun by all its rules but its evaluation, from the lowest on.
 pub(crate) fn judged(records: &Records, entry: &Entry) -> Result<(), u8>
+    requires begun { IsBegun records.now.past }
     ensures ok { OnOk result (HoldsBut records.now.past entry.now) }
-    ensures plain { OnOk result (IsPlain entry.now) }
-    ensures broken { IfErr result (BreaksPlainly records.now.past entry.now) }
+    ensures other { OnOk result (is_part entry.now ≡ false) }
+    ensures broken { IfErr result (IsRefusedBy records.now.past entry.now) }
 {
-    let _begun = records.procedures();
     match entry {
         Entry::Start { sheets: _ } => Err(1),
-        Entry::Base { part: _ } => Err(18),
-        Entry::Adopt { sheets: _ } => Err(19),
         Entry::Submit { nonce, request } => {
             rule(2, may_submit(request))?;
             rule(3, is_fresh(records, nonce))?;
@@ -60,14 +60,17 @@ pub(crate) fn judged(records: &Records, entry: &Entry) -> Result<(), u8>
             rule(16, can_abort(records, *pid))?;
             rule(17, is_before_point(records, *pid))
         }
+        Entry::Base { part: _ } => Err(18),
+        Entry::Adopt { sheets } => rule(19, can_adopt(records, sheets.as_slice())),
     }
 }
 
-/// Whether an entry may follow; else the lowest rule that it breaks, or that memory ran out before that was known. All rules
-/// that take no memory come before the evaluation of a step or an undo, which its sheet answers once.
+/// Whether an entry may follow a journal that has begun; else the rule that refuses it, or that memory ran out before that was
+/// known. All rules that take no memory come before the evaluation of a step or an undo, which its sheet answers once.
 pub fn allowed(alloc: Global, records: &Records, entry: &Entry) -> Result<(), NotAllowed>
+    requires begun { IsBegun records.now.past }
     ensures ok { OnOk result (Allowed records.now.past entry.now) }
-    ensures plain { OnOk result (IsPlain entry.now) }
+    ensures other { OnOk result (is_part entry.now ≡ false) }
     ensures why { IfErr result (IsWhy records.now.past entry.now) }
 {
     match judged(records, entry) {
@@ -76,13 +79,14 @@ pub fn allowed(alloc: Global, records: &Records, entry: &Entry) -> Result<(), No
     }
 }
 
-/// Whether all rules hold that are judged without memory, that is all but the evaluation of a step or an undo; else the lowest
-/// rule that the entry breaks.
+/// Whether all rules hold of an entry behind a journal that has begun that are judged without memory, that is all but the
+/// evaluation of a step or an undo; else the rule that refuses the entry.
 pub fn unrefused(records: &Records, entry: &Entry) -> Result<(), u8>
+    requires begun { IsBegun records.now.past }
     ensures holds { OnOk result (HoldsBut records.now.past entry.now) }
     ensures ok { OnOk result (IsUnrefused records.now.past entry.now) }
-    ensures plain { OnOk result (IsPlain entry.now) }
-    ensures rule { IfErr result (BreaksPlainly records.now.past entry.now) }
+    ensures other { OnOk result (is_part entry.now ≡ false) }
+    ensures rule { IfErr result (IsRefusedBy records.now.past entry.now) }
 {
     judged(records, entry)
 }

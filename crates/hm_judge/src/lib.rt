@@ -3,6 +3,7 @@
 #![tactic(auto)]
 
 mod aborts;
+mod adopts;
 mod choice;
 mod copies;
 mod evaluation;
@@ -20,6 +21,7 @@ mod undos;
 mod why;
 
 pub use aborts::is_before_point;
+pub use adopts::are_sheets;
 pub use choice::candidate;
 pub use inputs::step_in;
 pub use judge::{allowed, unrefused};

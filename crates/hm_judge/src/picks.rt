@@ -1,8 +1,9 @@
 //! Which server may be picked for a step.
-ghost use Rattle.std.specs.Prelude.{◌≡◌, ◌↔◌, ◌&&◌, ◌||◌, not, option_copied, IsTrue, Some};
+ghost use Rattle.std.specs.Prelude.{◌≡◌, ◌≤◌, ◌↔◌, ◌&&◌, ◌||◌, not, option_copied, IsTrue, Some};
 ghost use Rattle.hm_catalog.specs.Kept.{key_of};
 ghost use Rattle.hm_model.specs.Catalog.{cat};
 ghost use Rattle.hm_model.specs.Choice.{place_told};
+ghost use Rattle.hm_model.specs.Editions.{editions as editions_in};
 ghost use Rattle.hm_model.specs.Evaluation.{is_picking};
 ghost use Rattle.hm_model.specs.Picks.{has_pick as pick_there, is_another as another, is_as_wanted as as_wanted, needs_server as needs, PicksRight};
 ghost use Rattle.hm_model.specs.Places.{is_the_server as the_server};
@@ -107,6 +108,7 @@ fn places(row: Row, aborted: bool) -> bool
 
 /// Whether the next step of a procedure needs a server to be picked.
 pub(crate) fn needs_server(records: &Records, pid: Pid, found: &Record) -> bool
+    requires edition { found.now.edition ≤ editions_in records.now.past }
     ensures { (node : Node) → node_of records.now.past pid.0 ≡ Some node → found.now ≡ record_at records.now.past pid.0 node → result ≡ needs records.now.past pid.0 node }
 {
     if records.procedures().undoes(pid) {

@@ -1,11 +1,11 @@
 //! What a step sees of its procedure, of its region's place and of servers.
-ghost use Rattle.std.specs.Prelude.{◌≡◌, option_copied, slice_get};
+ghost use Rattle.std.specs.Prelude.{◌≡◌, ◌≤◌, option_copied, slice_get, IfSome};
+ghost use Rattle.hm_model.specs.Editions.{editions as editions_in, sheets_in};
 ghost use Rattle.hm_model.specs.Inputs.{fenced_if, place_if, sees_fenced as fenced_seen, server_at as at};
 ghost use Rattle.hm_model.specs.Places.{place_of as place};
-ghost use Rattle.hm_model.specs.Plain.{ArePlain};
 ghost use Rattle.hm_model.specs.Records.{record_of};
 ghost use Rattle.hm_model.specs.Rules.{IsLegal};
-ghost use Rattle.hm_model.specs.Sheets.{row_in, sheet_for as sheet_of_kind, sheets_of};
+ghost use Rattle.hm_model.specs.Sheets.{row_in, sheet_for as sheet_of_kind};
 ghost use Rattle.hm_model.specs.Tree.{is_root as root, pid_of, root_of as root_in};
 ghost use Rattle.hm_model.specs.Whereabouts.{called_by as called, moved_by as moved};
 
@@ -16,11 +16,11 @@ use hm_places::places_follow;
 use hm_records::Records;
 use hm_sheet::sheet_for;
 
-/// A procedure as it stands.
+/// A procedure as it stands, in one of the journal's editions.
 pub(crate) fn find(records: &Records, pid: Pid) -> Option<&Record>
     ensures found { option_copied result ≡ record_of records.now.past pid.0 }
+    ensures edition { IfSome result (λ found. found.now.edition ≤ editions_in records.now.past) }
     ensures legal { IsLegal records.now.past }
-    ensures plain { ArePlain records.now.past }
 {
     records.procedures().find(pid)
 }
@@ -45,11 +45,12 @@ pub(crate) fn root_of(records: &Records, pid: Pid) -> Pid
     }
 }
 
-/// The row that a procedure runs next.
+/// The row that a procedure runs next, by the sheets of its edition.
 pub(crate) fn next_row(records: &Records, found: &Record) -> Option<Row>
-    ensures { result ≡ row_in (sheet_of_kind (sheets_of records.now.past) found.now.kind) found.now.row }
+    requires edition { found.now.edition ≤ editions_in records.now.past }
+    ensures { result ≡ row_in (sheet_of_kind (sheets_in records.now.past found.now.edition) found.now.kind) found.now.row }
 {
-    let valid = sheet_for(records.sheets(), found.kind)?;
+    let valid = sheet_for(records.sheets_of(found.edition), found.kind)?;
     row_at(valid.sheet().rows.as_slice(), found.row)
 }
 

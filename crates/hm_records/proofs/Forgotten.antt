@@ -15,9 +15,10 @@ use Rattle.hm_model.specs.Sheets.{undo_of_next}
 use Rattle.hm_model.specs.Tree.{Node, is_root, is_root_in, is_top, node_of, pid_of, root_in, root_of}
 use Rattle.hm_model.specs.Undo.{pushed, rest_of, row_if_there, stack}
 use Rattle.hm_model.proofs.Apart.{others_stay}
-use Rattle.hm_model.proofs.Forest.{forest_all, rooted_all, top_is, top_is_own}
+use Rattle.hm_model.proofs.Forest.{forest_all, rooted_all, top_is_own}
 use Rattle.hm_model.proofs.Grown.{nodes_stay}
 use Rattle.hm_model.proofs.Parted.{by_parts}
+use Rattle.hm_model.proofs.Small.{top_is}
 use Rattle.hm_undo.specs.Laws.{Tells, kept_of}
 use Rattle.hm_undo.specs.Stacks.{AreWith, Stacks, steps_of}
 use Rattle.hm_undo.specs.declared.slot.Step.{Step}

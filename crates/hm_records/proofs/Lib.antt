@@ -12,3 +12,5 @@ mod Drawn
 mod Whole
 pub mod Firsts
 mod Begins
+mod Editions
+mod RootNonces

@@ -21,11 +21,12 @@ use Rattle.hm_model.specs.Rules.{IsLegal}
 use Rattle.hm_model.specs.Tree.{Node, is_root, is_root_in, is_top, made, node_of, root_in, root_of}
 use Rattle.hm_model.specs.Undo.{is_empty, stack}
 use Rattle.hm_model.proofs.Apart.{others_stay}
-use Rattle.hm_model.proofs.Forest.{forest_all, rooted_all, roots_wait, top_is, top_is_own}
+use Rattle.hm_model.proofs.Forest.{forest_all, rooted_all, roots_wait, top_is_own}
 use Rattle.hm_model.proofs.Grown.{grown_all, made_up_to, nodes_stay}
 use Rattle.hm_model.proofs.LegalSteps.{ready_stops}
 use Rattle.hm_model.proofs.Parted.{no_node}
 use Rattle.hm_model.proofs.Trees.{all_below_at, grown_all as trees_all, some_of, step_of}
+use Rattle.hm_model.proofs.Small.{top_is}
 
 -- who isn't there hasn't ended
 pub none_open : (J : Past) (p : ℕ) → node_of J p ≡ None → ended J p ≡ false

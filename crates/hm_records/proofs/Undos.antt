@@ -1,5 +1,5 @@
--- The step that an entry of a plain journal leaves to be undone, by what is shown of its procedure: its root's sheets are those in force.
-use Rattle.std.proofs.Common.{◌≡◌, ◌⊎◌, ℕ, Bool, true, false, not, ◌&&◌, if◌then◌else◌, Option, None, Some, is_some, refl, ap, sym, ◌∙◌, inl, inr}
+-- The step that an entry leaves to be undone, by what is shown of its procedure: its root's sheets are those of its edition.
+use Rattle.std.proofs.Common.{◌≡◌, ◌≤◌, ◌⊎◌, ℕ, Bool, true, false, not, ◌&&◌, if◌then◌else◌, Option, None, Some, is_some, refl, ap, sym, subst, ◌∙◌, inl, inr}
 use Rattle.std.specs.Option.{option_map}
 use Rattle.std.proofs.lemmas.Option.{none-some, same_Some}
 use Rattle.hm_names.specs.Server.{Server}
@@ -11,14 +11,14 @@ use Rattle.hm_data.specs.declared.step.StepOut.{StepOut}
 use Rattle.hm_model.specs.Answers.{failing, row_of}
 use Rattle.hm_model.specs.Journal.{Past}
 use Rattle.hm_model.specs.Kinds.{kind_of}
-use Rattle.hm_model.specs.Plain.{ArePlain}
+use Rattle.hm_model.specs.Editions.{editions, sheets_in}
 use Rattle.hm_model.specs.Records.{record_at, record_of}
 use Rattle.hm_model.specs.Rules.{IsLegal}
-use Rattle.hm_model.specs.Sheets.{row_in, sheet_for, sheets_of, undo_by, undo_of_next}
+use Rattle.hm_model.specs.Sheets.{row_in, sheet_for, undo_by, undo_of_next}
 use Rattle.hm_model.specs.Tree.{Node, is_root_in, is_top, node_of}
 use Rattle.hm_model.specs.Undo.{row_if_there}
+use Rattle.hm_model.proofs.Editions.{edition_within, root_has}
 use Rattle.hm_model.proofs.Forest.{rooted_all}
-use Rattle.hm_model.proofs.Plain.{plain_sheets}
 use Rattle.hm_undo.specs.Laws.{has_undo, leaves_undo, next_step}
 use Rattle.hm_undo.specs.declared.slot.Step.{Step}
 use Rattle.hm_records.specs.Parts.{step_left}
@@ -38,9 +38,9 @@ one_fails true true h = refl
 one_fails true false (inl e) = e
 one_fails true false (inr e) = sym e
 
-module _ (J : Past) (legal : IsLegal J) (plain : ArePlain J) (pid : Pid) (shown : Record) (is : Some shown ≡ record_of J pid.0) where
+module _ (J : Past) (legal : IsLegal J) (pid : Pid) (shown : Record) (is : Some shown ≡ record_of J pid.0) where
   abbrev its_undo : Back
-  its_undo = undo_by (row_in (sheet_for (sheets_of J) shown.kind) shown.row)
+  its_undo = undo_by (row_in (sheet_for (sheets_in J shown.edition) shown.kind) shown.row)
 
   there : (x : Node) × (node_of J pid.0 ≡ Some x) × (record_at J pid.0 x ≡ shown)
   there = shown_there J pid.0 shown (node_of J pid.0) refl is
@@ -50,8 +50,12 @@ module _ (J : Past) (legal : IsLegal J) (plain : ArePlain J) (pid : Pid) (shown 
       let x = there.0 in
       let root = rooted_all J legal pid.0 x there.1 in
       ap (undo_of_next J pid.0) there.1
-      ∙ ap (λ sheets. undo_by (row_in (sheet_for sheets (kind_of x.args)) (row_of J pid.0 x))) (plain_sheets J legal plain x.root (ap is_root_in root.there ∙ ap is_top root.at_top))
-      ∙ ap (λ (r : Record). undo_by (row_in (sheet_for (sheets_of J) r.kind) r.row)) there.2
+      ∙ ap (λ sheets. undo_by (row_in (sheet_for sheets (kind_of x.args)) (row_of J pid.0 x))) (root_has J legal x.root (ap is_root_in root.there ∙ ap is_top root.at_top)).0
+      ∙ ap (λ (r : Record). undo_by (row_in (sheet_for (sheets_in J r.edition) r.kind) r.row)) there.2
+
+  -- the edition that is shown is one of the journal's
+  pub shown_within : shown.edition ≤ editions J
+  shown_within = subst (λ (r : Record). r.edition ≤ editions J) there.2 (edition_within J (let x = there.0 in x.root))
 
   row_is : row_if_there J pid.0 (node_of J pid.0) ≡ shown.row
   row_is = ap (row_if_there J pid.0) there.1 ∙ ap (λ (r : Record). r.row) there.2

@@ -3,3 +3,4 @@ pub mod Book
 pub mod Parts
 pub mod Laws
 pub mod Blank
+pub mod Lists

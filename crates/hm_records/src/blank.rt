@@ -1,14 +1,30 @@
-//! What stands beside the procedures before there is an entry.
-ghost use Rattle.std.specs.Prelude.{IfOk};
+//! What stands beside the procedures after the first entry.
+ghost use Rattle.std.specs.Prelude.{◌≡◌, [], ◌∷◌, IfOk};
+ghost use Rattle.hm_catalog.specs.Rows.{rows_in};
+ghost use Rattle.hm_model.specs.Rules.{IsLegal};
 ghost use Rattle.hm_records.specs.Blank.{AreBlankRows, IsBlank, IsBlankFleet, IsBlankCount};
 
 use hm_catalog::Catalog;
+use hm_catalog::laws::edits_lead;
+use hm_data::Entry;
 use hm_index::Index;
 use hm_locks::LockBook;
 use hm_names::{Nonce, Pid, TableName};
 use hm_places::{Places, Servers};
 use hm_undo::Stack;
 use std::alloc::{AllocError, Global};
+
+// The rows with which a journal begins: a base's head leaves none.
+fn first_rows(alloc: Global, entry: &Entry) -> Result<Catalog, AllocError>
+    requires { IsLegal (entry.now ∷ []) }
+    ensures { IfOk result (λ catalog. catalog.rows ≡ rows_in (entry.now ∷ [])) }
+{
+    edits_lead();
+    match entry {
+        Entry::Base { part: _ } => Catalog::empty(alloc),
+        _ => Catalog::start(alloc),
+    }
+}
 
 // The rows of the catalog, and no step to undo.
 #[derive(Drop)]
@@ -18,10 +34,11 @@ pub(crate) struct BlankRows {
 }
 
 impl BlankRows {
-    fn new(alloc: Global) -> Result<BlankRows, AllocError>
-        ensures { IfOk result AreBlankRows }
+    fn new(alloc: Global, entry: &Entry) -> Result<BlankRows, AllocError>
+        requires { IsLegal (entry.now ∷ []) }
+        ensures { IfOk result (AreBlankRows entry.now) }
     {
-        let catalog = Catalog::start(alloc)?;
+        let catalog = first_rows(alloc, entry)?;
         let stack = Stack::new(alloc)?;
         Ok(BlankRows { catalog, stack })
     }
@@ -61,7 +78,7 @@ impl BlankCount {
     }
 }
 
-// The parts of records in which nothing stands yet.
+// The parts of records, beside the procedures and the lists, after the first entry.
 #[derive(Drop)]
 pub(crate) struct Blank {
     pub(crate) rows: BlankRows,
@@ -71,10 +88,11 @@ pub(crate) struct Blank {
 }
 
 impl Blank {
-    pub(crate) fn new(alloc: Global) -> Result<Blank, AllocError>
-        ensures { IfOk result IsBlank }
+    pub(crate) fn new(alloc: Global, entry: &Entry) -> Result<Blank, AllocError>
+        requires { IsLegal (entry.now ∷ []) }
+        ensures { IfOk result (IsBlank entry.now) }
     {
-        let rows = BlankRows::new(alloc)?;
+        let rows = BlankRows::new(alloc, entry)?;
         let fleet = BlankFleet::new(alloc)?;
         let count = BlankCount::new(alloc)?;
         let book = LockBook::new(alloc)?;

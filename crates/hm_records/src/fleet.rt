@@ -3,25 +3,39 @@ ghost use Rattle.std.specs.Prelude.{◌≡◌, ◌+◌, ◌≤◌, ◌∷◌, If
 ghost use Rattle.std.specs.Option.{option_copied};
 ghost use Rattle.hm_names.specs.Server.{Server};
 ghost use Rattle.hm_data.specs.declared.entry.Entry.TheVariants as entry_is;
-ghost use Rattle.hm_model.specs.Plain.{IsPlain};
+ghost use Rattle.hm_model.specs.Parts.{part_server as told_by};
 ghost use Rattle.hm_model.specs.Rules.{IsLegal};
 ghost use Rattle.hm_model.specs.Standings.{standings_of};
 ghost use Rattle.hm_model.specs.Tree.{node_of};
 ghost use Rattle.hm_places.specs.Laws.{shown_fenced as fenced_by, with_fence};
 ghost use Rattle.hm_records.specs.Parts.{comes_up as up_by};
 
-use hm_data::{Args, Entry, Told};
+use hm_data::{Args, Entry, Part, Told};
 use hm_names::{Copied, Pid, ServerName};
 use hm_places::{Servers, servers_follow};
 use hm_procedures::Procedures;
 use std::alloc::{AllocError, Global};
 
-// The server that comes up.
-pub(crate) fn comes_up(alloc: Global, entry: &Entry) -> Result<Option<ServerName>, AllocError>
+// The server that a part of a base tells, and whether it is fenced.
+fn part_server(alloc: Global, part: &Part) -> Result<Option<(ServerName, bool)>, AllocError>
+    ensures { IfOk result (λ told. told ≡ told_by part.now) }
+{
+    match part {
+        Part::Server { server, fenced } => Ok(Some((server.copy(alloc)?, *fenced))),
+        _ => Ok(None),
+    }
+}
+
+// The server that comes up, or that a part of a base tells, and whether it is fenced.
+pub(crate) fn comes_up(
+    alloc: Global,
+    entry: &Entry,
+) -> Result<Option<(ServerName, bool)>, AllocError>
     ensures { IfOk result (λ up. up ≡ up_by entry.now) }
 {
     match entry {
-        Entry::Up { server } => Ok(Some(server.copy(alloc)?)),
+        Entry::Up { server } => Ok(Some((server.copy(alloc)?, false))),
+        Entry::Base { part } => part_server(alloc, part),
         _ => Ok(None),
     }
 }
@@ -68,15 +82,14 @@ fn put_down(servers: &mut Servers, past: &Procedures, entry: &Entry)
     };
 }
 
-// Takes in a server that comes up, one that goes down, and one that a report shows to be fenced.
+// Takes in a server that comes up or that a part of a base tells, one that goes down, and one that a report shows to be fenced.
 pub(crate) fn set_servers(
     servers: &mut Servers,
     past: &Procedures,
     entry: &Entry,
-    up: Option<ServerName>,
+    up: Option<(ServerName, bool)>,
 )
     requires legal { IsLegal (entry.now ∷ past.now.past) }
-    requires plain { IsPlain entry.now }
     requires servers { servers.old.servers ≡ standings_of past.now.past }
     requires up { up ≡ up_by entry.now }
     requires room { 1 ≤ servers.old.spare }
@@ -85,9 +98,8 @@ pub(crate) fn set_servers(
     ensures room { servers.new.room ≡ servers.old.room }
 {
     servers_follow();
-    if let Some(server) = up {
-        let _start = server.start;
-        servers.add(server);
+    if let Some((server, fenced)) = up {
+        servers.tell(server, fenced);
         return;
     }
     match entry {

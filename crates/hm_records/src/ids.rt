@@ -1,17 +1,16 @@
 //! The region ids that were drawn for tables.
-ghost use Rattle.std.specs.Prelude.{◌≡◌, ◌+◌, ◌≤◌, ◌∷◌, IfOk};
+ghost use Rattle.std.specs.Prelude.{◌≡◌, ◌+◌, ◌≤◌, ◌∷◌, IfOk, Some};
 ghost use Rattle.std.specs.Option.{option_copied};
 ghost use Rattle.hm_names.specs.Order.{table_cmp};
 ghost use Rattle.hm_index.specs.Index.{find};
 ghost use Rattle.hm_model.specs.Kinds.{table_of_first as first_table, table_of_request as requested_table};
-ghost use Rattle.hm_model.specs.Plain.{IsPlain};
 ghost use Rattle.hm_model.specs.Rules.{IsLegal};
 ghost use Rattle.hm_model.specs.Tree.{first_of as first_id, new_ids as ids_of};
-ghost use Rattle.hm_records.specs.Parts.{ids_drawn as drawn_by};
-ghost use Rattle.hm_records.specs.Records.{AreDrawn, count_if};
+ghost use Rattle.hm_records.specs.Parts.{counted_for, ids_drawn as drawn_by, part_ids as told_by};
+ghost use Rattle.hm_records.specs.Records.{AreDrawn, beside_ids, count_if};
 
 use crate::records::Records;
-use hm_data::{Entry, Request};
+use hm_data::{Entry, Part, Request};
 use hm_index::Index;
 use hm_names::{Copied, RegionName, TableName};
 use hm_procedures::Procedures;
@@ -69,19 +68,50 @@ pub(crate) fn first_of(records: &Records, request: &Request) -> u64
     }
 }
 
-// The table for which an entry draws region ids, and how many.
+// The table and the count of ids, in memory of their own.
+type Counted = Option<(TableName, u64)>;
+
+fn counted(alloc: Global, table: &TableName, count: u64) -> Result<Counted, AllocError>
+    ensures { IfOk result (λ ids. ids ≡ Some (table.now, count)) }
+{
+    Ok(Some((table.copy(alloc)?, count)))
+}
+
+// The table for which a request draws region ids, and how many.
+fn request_ids(alloc: Global, request: &Request) -> Result<Counted, AllocError>
+    ensures { IfOk result (λ ids. ids ≡ counted_for (requested_table request.now) (ids_of request.now)) }
+{
+    let count = new_ids(request);
+    match table_of_request(request) {
+        Some(table) if count != 0 => counted(alloc, table, count),
+        _ => Ok(None),
+    }
+}
+
+// The table of a part of a base, and how many region ids were drawn for it.
+fn part_ids(alloc: Global, part: &Part) -> Result<Counted, AllocError>
+    ensures { IfOk result (λ ids. ids ≡ told_by part.now) }
+{
+    match part {
+        Part::Table {
+            table,
+            drawn,
+            row: _,
+        } => counted(alloc, table, *drawn),
+        _ => Ok(None),
+    }
+}
+
+// The table for which an entry draws region ids, and how many; a part of a base tells how many were drawn in all.
 pub(crate) fn ids_drawn(
     alloc: Global,
     entry: &Entry,
 ) -> Result<Option<(TableName, u64)>, AllocError>
     ensures { IfOk result (λ ids. ids ≡ drawn_by entry.now) }
 {
-    let Entry::Submit { nonce: _, request } = entry else {
-        return Ok(None);
-    };
-    let count = new_ids(request);
-    match table_of_request(request) {
-        Some(table) if count != 0 => Ok(Some((table.copy(alloc)?, count))),
+    match entry {
+        Entry::Submit { nonce: _, request } => request_ids(alloc, request),
+        Entry::Base { part } => part_ids(alloc, part),
         _ => Ok(None),
     }
 }
@@ -96,6 +126,16 @@ pub(crate) fn drawn_in(drawn: &Index<TableName, u64>, table: &TableName) -> u64
     }
 }
 
+// How many ids count for a table beside those of an entry: none where it is a part of a base, which tells all of them.
+fn drawn_beside(drawn: &Index<TableName, u64>, entry: &Entry, table: &TableName) -> u64
+    ensures { result ≡ beside_ids entry.now (count_if (find table_cmp drawn.now.pairs table.now)) }
+{
+    match entry {
+        Entry::Base { part: _ } => 0,
+        _ => drawn_in(drawn, table),
+    }
+}
+
 // Takes in the ids that an entry draws.
 pub(crate) fn count_ids(
     drawn: &mut Index<TableName, u64>,
@@ -104,7 +144,6 @@ pub(crate) fn count_ids(
     ids: Option<(TableName, u64)>,
 )
     requires legal { IsLegal (entry.now ∷ past.now.past) }
-    requires plain { IsPlain entry.now }
     requires drawn { AreDrawn past.now.past drawn.old.pairs }
     requires ids { ids ≡ drawn_by entry.now }
     requires room { 1 ≤ drawn.old.spare }
@@ -115,6 +154,6 @@ pub(crate) fn count_ids(
     let Some((table, count)) = ids else {
         return;
     };
-    let before = drawn_in(drawn, &table);
+    let before = drawn_beside(drawn, entry, &table);
     drawn.set(table, before + count);
 }

@@ -1,5 +1,6 @@
 //! What a journal says, kept so that nothing is searched for: its procedures, catalog, steps to undo, places and servers, the
-//! procedures of nonces, and the region ids that were drawn. Each entry is taken in at the cost of what it holds and touches.
+//! procedures of nonces, the region ids that were drawn, and the sheets of each edition. Each entry is taken in at the cost of
+//! what it holds and touches.
 #![tactic(auto)]
 
 mod blank;
@@ -7,6 +8,7 @@ mod book;
 mod fleet;
 mod ids;
 pub mod laws;
+mod lists;
 mod made;
 mod named;
 mod nonces;

@@ -1,12 +1,11 @@
 //! The records of a journal.
-ghost use Rattle.std.specs.Prelude.{◌≡◌, ◌≢◌, ◌+◌, ◌≤◌, [], ◌∷◌, ℕ, IfOk, IfSome, MatchOption, OnOk, Some};
+ghost use Rattle.std.specs.Prelude.{◌≡◌, ◌≢◌, ◌+◌, ◌≤◌, [], ◌∷◌, ℕ, IfOk, IfSome, MatchOption, OnOk, Some, ◌⊎◌};
 ghost use Rattle.std.specs.Option.{option_map};
+ghost use Rattle.hm_model.specs.Editions.{editions as editions_in, sheets_in};
 ghost use Rattle.hm_model.specs.Nonces.{by_nonce};
-ghost use Rattle.hm_model.specs.Plain.{ArePlain, IsPlain};
 ghost use Rattle.hm_model.specs.RegionIds.{AsksForZero, NamesIds};
 ghost use Rattle.hm_model.specs.Rules.{IsLegal};
-ghost use Rattle.hm_model.specs.Base.{AreSheets};
-ghost use Rattle.hm_model.specs.Sheets.{sheets_of};
+ghost use Rattle.hm_model.specs.Sheets.{sheets_of as sheets_in_force};
 ghost use Rattle.hm_model.specs.Standings.{standings_of};
 ghost use Rattle.hm_model.specs.Tree.{Node, drawn, node_of, pid_of};
 ghost use Rattle.hm_model.specs.Loads.{places_of};
@@ -14,13 +13,15 @@ ghost use Rattle.hm_catalog.specs.Rows.{rows_in};
 ghost use Rattle.hm_undo.specs.Laws.{Tells};
 ghost use Rattle.hm_locks.specs.Laws.{IsBookOf};
 ghost use Rattle.hm_records.specs.Book.{AreRows, ListOpen};
-ghost use Rattle.hm_records.specs.Parts.{AreParts, size_of};
+ghost use Rattle.hm_records.specs.Lists.{laid_in_base, root_nonces as nonces_of_roots};
+ghost use Rattle.hm_records.specs.Parts.{AdoptsInvalid, AreParts, size_of};
 ghost use Rattle.hm_records.specs.Records.{AreForgotten, is_open};
 
 use crate::blank::Blank;
 use crate::book::{enlist_made, release_ended};
 use crate::fleet::set_servers;
 use crate::ids::{count_ids, drawn_in};
+use crate::lists::Lists;
 use crate::named::entry_names;
 use crate::nonces::add_nonce;
 use crate::parts::{Parts, parts_of};
@@ -40,8 +41,8 @@ use hm_undo::Stack;
 use std::alloc::{AllocError, Global};
 use std::marker::Model;
 
-/// What a legal, plain journal that has begun says. Contracts see the journal, back from its newest entry, and for how much more
-/// there is room.
+/// What a legal journal says that has an entry: a start, or a base's head, and what follows. Contracts see the journal, back from
+/// its newest entry, and for how much more there is room.
 #[derive(Drop)]
 pub struct Records {
     procedures: Procedures,
@@ -52,7 +53,7 @@ pub struct Records {
     nonces: Index<Nonce, Pid>,
     // How many region ids were drawn for a table.
     drawn: Index<TableName, u64>,
-    sheets: Vec<Valid>,
+    lists: Lists,
     book: LockBook,
 }
 
@@ -62,32 +63,31 @@ impl Model for Records {
 
     ghost Value = { RecordsView };
 
-    ghost view = { λ s. record { past = s.procedures.past; spare = min (min s.procedures.spare s.catalog.spare) (min (min s.stack.spare s.places.spare) (min (min s.servers.spare (min s.nonces.spare s.drawn.spare)) (min s.book.spare s.book.spare_asks))); room = s.procedures.room + s.catalog.room + (s.stack.room + s.places.room) + (s.servers.room + (s.nonces.room + s.drawn.room)) + s.book.room } };
+    ghost view = { λ s. record { past = s.procedures.past; spare = min (min s.procedures.spare s.catalog.spare) (min (min s.stack.spare s.places.spare) (min (min s.servers.spare (min s.nonces.spare s.drawn.spare)) (min s.lists.spare (min s.book.spare s.book.spare_asks)))); room = s.procedures.room + s.catalog.room + (s.stack.room + s.places.room) + (s.servers.room + (s.nonces.room + s.drawn.room)) + s.lists.room + s.book.room } };
 
-    ghost invariant = { λ s. AreRecords s.procedures.past (record { rows = s.catalog.rows; stacks = s.stack.stacks; places = s.places.places; servers = s.servers.servers; nonces = s.nonces.pairs; drawn_ids = s.drawn.pairs; sheets = s.sheets.items; book = s.book.rows }) };
+    ghost invariant = { λ s. AreRecords s.procedures.past (record { rows = s.catalog.rows; stacks = s.stack.stacks; places = s.places.places; servers = s.servers.servers; nonces = s.nonces.pairs; drawn_ids = s.drawn.pairs; sheets = s.lists.sheets; layouts = s.lists.layouts; root_nonces = s.lists.root_nonces; book = s.book.rows }) };
 }
 
-// The procedures of the journal whose only entry is the start with these sheets.
-fn begun(alloc: Global, entry: &Entry, sheets: &[Valid]) -> Result<Procedures, AllocError>
-    requires starts { entry.now ≡ Entry.Start sheets.now }
-    requires sheets { AreSheets sheets.now }
+// The procedures of a journal that has one entry: none.
+fn begun(alloc: Global, entry: &Entry) -> Result<Procedures, AllocError>
+    requires { IsLegal (entry.now ∷ []) }
     ensures { IfOk result (λ procedures. procedures.past ≡ entry.now ∷ []) }
 {
     let mut procedures = Procedures::new(alloc)?;
-    let _sheets = sheets;
     procedures.enter(entry, List::of(Vec::new(alloc)), true);
     Ok(procedures)
 }
 
 impl Records {
-    /// What the journal says whose only entry is the start with these sheets.
-    pub fn start(alloc: Global, entry: &Entry, sheets: Vec<Valid>) -> Result<Records, AllocError>
-        requires starts { entry.now ≡ Entry.Start sheets.items }
-        requires sheets { AreSheets sheets.items }
+    /// What the journal says whose only entry this is, a start or a base's head, with its sheets.
+    pub fn begin(alloc: Global, entry: &Entry, sheets: Vec<Valid>) -> Result<Records, AllocError>
+        requires legal { IsLegal (entry.now ∷ []) }
+        requires sheets { sheets.items ≡ sheets_in_force (entry.now ∷ []) }
         ensures { IfOk result (λ records. records.past ≡ entry.now ∷ []) }
     {
-        let procedures = begun(alloc, entry, &sheets)?;
-        let blank = Blank::new(alloc)?;
+        let procedures = begun(alloc, entry)?;
+        let blank = Blank::new(alloc, entry)?;
+        let lists = Lists::begin(alloc, entry, sheets)?;
         Ok(Records {
             procedures,
             catalog: blank.rows.catalog,
@@ -96,7 +96,7 @@ impl Records {
             servers: blank.fleet.servers,
             nonces: blank.count.nonces,
             drawn: blank.count.drawn,
-            sheets,
+            lists,
             book: blank.book,
         })
     }
@@ -106,7 +106,6 @@ impl Records {
         ensures past { result.now.past ≡ self.now.past }
         ensures begun { self.now.past ≢ [] }
         ensures legal { IsLegal self.now.past }
-        ensures plain { ArePlain self.now.past }
     {
         let _last = self.procedures.last_pid();
         &self.procedures
@@ -128,6 +127,14 @@ impl Records {
         let _procedures = &self.procedures;
         entry_names(entry);
         ids_are_named();
+    }
+
+    /// An entry that may follow adopts valid sheets alone, so that it can be prepared: a law that does nothing.
+    pub fn adopts_valid(&self, entry: &Entry)
+        ensures { IsLegal (entry.now ∷ self.now.past) → AdoptsInvalid entry.now → ⊥ }
+    {
+        let _procedures = &self.procedures;
+        let _entry = entry;
     }
 
     /// The rows of the catalog.
@@ -159,11 +166,41 @@ impl Records {
         &self.servers
     }
 
-    /// The sheets that the journal began with.
+    /// The sheets in force.
     pub fn sheets(&self) -> &[Valid]
-        ensures { result.now ≡ sheets_of self.now.past }
+        ensures { result.now ≡ sheets_in_force self.now.past }
     {
-        self.sheets.as_slice()
+        self.lists.sheets_of(self.lists.editions())
+    }
+
+    /// The edition in force: how often sheets were adopted, since the base where there is one.
+    pub fn editions(&self) -> u64
+        ensures { result ≡ editions_in self.now.past }
+    {
+        self.lists.editions()
+    }
+
+    /// The sheets of an edition.
+    pub fn sheets_of(&self, edition: u64) -> &[Valid]
+        requires { edition ≤ editions_in self.now.past }
+        ensures { result.now ≡ sheets_in self.now.past edition }
+    {
+        self.lists.sheets_of(edition)
+    }
+
+    /// The roots of the base whose layouts it has, as it tells them.
+    pub fn layouts(&self) -> &[Pid]
+        ensures { result.now ≡ laid_in_base self.now.past }
+    {
+        self.lists.layouts()
+    }
+
+    /// The nonce of each root, 0:0 where it was made under none: of those of the base, as it tells them, and then of those that
+    /// entries made, in the order of their numbers.
+    pub fn root_nonces(&self) -> &[Nonce]
+        ensures { result.now ≡ nonces_of_roots self.now.past }
+    {
+        self.lists.root_nonces()
     }
 
     /// The procedure that was made under a nonce; none under one whose number is 0.
@@ -202,14 +239,15 @@ impl Records {
         self.servers.reserve(alloc, count)?;
         self.nonces.reserve(alloc, count as usize)?;
         self.drawn.reserve(alloc, count as usize)?;
+        self.lists.reserve(count)?;
         self.book.reserve(alloc, count, count)
     }
 
     /// Makes what is kept of an entry, and room for it. There is none where the entry asks for a transit of the number 0, which
-    /// no region has.
+    /// no region has, or adopts a sheet that isn't valid.
     pub fn prepare(&mut self, alloc: Global, entry: &Entry) -> Result<Option<Parts>, AllocError>
         ensures past { self.new.past ≡ self.old.past }
-        ensures parts { IfOk result (λ parts. MatchOption parts (AsksForZero entry.now) (AreParts self.old.past entry.now)) }
+        ensures parts { IfOk result (λ parts. MatchOption parts (AsksForZero entry.now ⊎ AdoptsInvalid entry.now) (AreParts self.old.past entry.now)) }
         ensures room { IfOk result (λ parts. IfSome parts (λ parts. size_of entry.now ≤ self.new.spare)) }
         ensures kept { self.old.spare ≤ self.new.spare }
     {
@@ -223,7 +261,6 @@ impl Records {
     /// Takes in an entry that may follow. It takes no memory.
     pub fn enter(&mut self, entry: &Entry, parts: Parts)
         requires legal { IsLegal (entry.now ∷ self.old.past) }
-        requires plain { IsPlain entry.now }
         requires parts { AreParts self.old.past entry.now parts }
         requires room { size_of entry.now ≤ self.old.spare }
         ensures past { self.new.past ≡ entry.now ∷ self.old.past }
@@ -239,6 +276,7 @@ impl Records {
             ids,
             up,
             placed,
+            sheets,
         } = parts;
         entry_names(entry);
         let past = &self.procedures;
@@ -249,6 +287,8 @@ impl Records {
         set_servers(&mut self.servers, past, entry, up);
         add_nonce(&mut self.nonces, past, entry, nonce);
         count_ids(&mut self.drawn, past, entry, ids);
+        self.lists
+            .enter(past, entry, sheets, made.as_slice().len() as u64);
         enter_tree(
             &mut self.procedures,
             &mut self.stack,

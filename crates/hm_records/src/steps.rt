@@ -106,7 +106,7 @@ pub(crate) fn step_left(
     let Some(record) = records.procedures().find(*pid) else {
         return Ok(None);
     };
-    let undo = undo_at(records.sheets(), record.kind, record.row);
+    let undo = undo_at(records.sheets_of(record.edition), record.kind, record.row);
     if !has_undo(undo) || is_failure(&out.answer) {
         return Ok(None);
     }

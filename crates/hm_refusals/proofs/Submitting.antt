@@ -1,19 +1,16 @@
 -- What is wrong with a request, for what a procedure was made, and how many region ids are left.
-use Rattle.std.proofs.Common.{◌≡◌, ◌≢◌, ◌↔◌, ℕ, ◌+◌, ◌-◌, ◌<◌, ◌≤◌, [], length, Bool, true, false, not, ◌==◌, nat_lt, if◌then◌else◌, IsTrue, Option, Some, None, refl, inl, inr, ap, sym, ◌∙◌, subst, arith}
-use Rattle.std.proofs.lemmas.Bool.{cases_Bool}
+use Rattle.std.proofs.Common.{◌≡◌, ◌↔◌, ℕ, ◌-◌, ◌<◌, ◌≤◌, [], length, Bool, true, false, not, ◌==◌, nat_lt, if◌then◌else◌, IsTrue, Some, None, ap, sym, ◌∙◌, subst, arith}
 use Rattle.std.proofs.lemmas.Option.{none-some, same_Some}
 use Rattle.hm_names.specs.declared.table.TableName.{TableName}
-use Rattle.hm_data.specs.declared.args.Args.{Args}
 use Rattle.hm_data.specs.declared.args.Args.TheVariants as args_are
 use Rattle.hm_data.specs.declared.record.Record.{Record}
 use Rattle.hm_data.specs.declared.request.Request.{Request}
 use Rattle.hm_data.specs.declared.request.Request.TheVariants as request_is
 use Rattle.hm_model.specs.Journal.{Past}
 use Rattle.hm_model.specs.Kinds.{table_of_request}
-use Rattle.hm_model.specs.Records.{record_of}
-use Rattle.hm_model.specs.Requests.{StaysWithin, is_fixed, may_merge, rise, wrong_in, wrong_keys}
-use Rattle.hm_model.specs.Tree.{Node, drawn, new_ids, node_of}
-use Rattle.hm_judge.proofs.Found.{gone_of, there_of}
+use Rattle.hm_model.specs.OldRoots.{shown_of}
+use Rattle.hm_model.specs.Requests.{StaysWithin, is_fixed, may_merge, rise, wrong_in}
+use Rattle.hm_model.specs.Tree.{drawn, new_ids}
 use Rattle.hm_refusals.specs.Submissions.{DrewTooMany, IsMadeFor}
 
 if_small : (b : Bool) (k n : ℕ) → k < 256 → (if b then Some k else None) ≡ Some n → n < 256
@@ -44,26 +41,24 @@ wrong_small (request_is.Move region to) n e = absurd (none-some n e)
 root_is : (one other : Request) (first second : ℕ) → args_are.Root one first ≡ args_are.Root other second → one ≡ other
 root_is one other first second e = cc
 
--- a root that is shown was made for what it works on
-pub made_for : (J : Past) (p : ℕ) (its : Record) → Some its ≡ record_of J p → (asked request : Request) (first : ℕ) → its.args ≡ args_are.Root asked first → (b : Bool) → (IsTrue b ↔ (asked ≡ request)) → IsTrue b ↔ IsMadeFor J p request
-made_for J p its some asked request first is b tells =
-    let t = there_of J p its some in
-    let args = ap (λ (r : Record). r.args) t.2 in (
-      λ on. (t.0, t.1, first, sym args ∙ is ∙ ap (λ r. args_are.Root r first) (tells.0 on)),
-      λ made.
-          let same = same_Some t.0 made.0 (sym t.1 ∙ made.1) in
-          tells.1 (root_is asked request first made.2 (sym is ∙ args ∙ ap (λ (x : Node). x.args) same ∙ made.3)),
-    )
+-- who is shown was made for what it works on
+pub made_for : (J : Past) (p : ℕ) (its : Record) → Some its ≡ shown_of J p → (asked request : Request) (first : ℕ) → its.args ≡ args_are.Root asked first → (b : Bool) → (IsTrue b ↔ (asked ≡ request)) → IsTrue b ↔ IsMadeFor J p request
+made_for J p its some asked request first is b tells = (
+  λ on. (its, sym some, first, is ∙ ap (λ r. args_are.Root r first) (tells.0 on)),
+  λ made.
+      let same = same_Some its made.0 (some ∙ made.1) in
+      tells.1 (root_is asked request first made.2 (sym is ∙ ap (λ (r : Record). r.args) same ∙ made.3)),
+)
 
 -- who works on something else was made for no request
-pub not_made_for : (J : Past) (p : ℕ) (its : Record) → Some its ≡ record_of J p → ((asked : Request) (first : ℕ) → its.args ≡ args_are.Root asked first → ⊥) → (request : Request) → IsMadeFor J p request → ⊥
+pub not_made_for : (J : Past) (p : ℕ) (its : Record) → Some its ≡ shown_of J p → ((asked : Request) (first : ℕ) → its.args ≡ args_are.Root asked first → ⊥) → (request : Request) → IsMadeFor J p request → ⊥
 not_made_for J p its some other request made =
-    let t = there_of J p its some in
-    let same = same_Some t.0 made.0 (sym t.1 ∙ made.1) in
-    other request made.2 (ap (λ (r : Record). r.args) t.2 ∙ ap (λ (x : Node). x.args) same ∙ made.3)
+    let same = same_Some its made.0 (some ∙ made.1) in
+    other request made.2 (ap (λ (r : Record). r.args) same ∙ made.3)
 
-pub nobody_made_for : (J : Past) (p : ℕ) → None ≡ record_of J p → (request : Request) → IsMadeFor J p request → ⊥
-nobody_made_for J p none request made = none-some made.0 (sym (gone_of J p none) ∙ made.1)
+-- nor was anybody who isn't shown
+pub nobody_made_for : (J : Past) (p : ℕ) → None ≡ shown_of J p → (request : Request) → IsMadeFor J p request → ⊥
+nobody_made_for J p none request made = none-some made.0 (none ∙ made.1)
 
 -- the ids that a request draws are too many, or fit
 pub fits : (J : Past) (request : Request) (table : TableName) (count ids : ℕ) → Some table ≡ table_of_request request → count ≡ drawn J table → count ≤ 4096 → ids ≡ new_ids request → ids ≤ 4096 - count → StaysWithin J request

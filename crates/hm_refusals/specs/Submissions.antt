@@ -3,18 +3,20 @@ use Rattle.std.specs.Prelude.{◌≡◌, ◌<◌, ◌+◌, ℕ, Some, None}
 use Rattle.hm_names.specs.declared.nonce.Nonce.{Nonce}
 use Rattle.hm_names.specs.declared.table.TableName.{TableName}
 use Rattle.hm_data.specs.declared.args.Args.TheVariants as args_are
+use Rattle.hm_data.specs.declared.record.Record.{Record}
 use Rattle.hm_data.specs.declared.request.Request.{Request}
 use Rattle.hm_model.specs.Journal.{Past}
 use Rattle.hm_model.specs.Kinds.{table_of_request}
 use Rattle.hm_model.specs.Nonces.{by_nonce}
+use Rattle.hm_model.specs.OldRoots.{shown_of}
 use Rattle.hm_model.specs.Requests.{StaysWithin, wrong_in}
-use Rattle.hm_model.specs.Tree.{Node, drawn, new_ids, node_of}
+use Rattle.hm_model.specs.Tree.{drawn, new_ids}
 use Rattle.hm_refusals.specs.declared.submissions.Refused.{Refused}
 use Rattle.hm_refusals.specs.declared.submissions.Refused.TheVariants as refused_is
 
--- a procedure was made for this request
+-- who is shown by a number, made behind the base or a root of the base, was made for this request
 abbrev pub IsMadeFor : Past → ℕ → Request → Type 0
-IsMadeFor J p request = (node : Node) × (node_of J p ≡ Some node) × (first : ℕ) × (node.args ≡ args_are.Root request first)
+IsMadeFor J p request = (shown : Record) × (shown_of J p ≡ Some shown) × (first : ℕ) × (shown.args ≡ args_are.Root request first)
 
 -- so many region ids were drawn for the table of a request that those which it draws don't fit any more
 abbrev pub DrewTooMany : Past → Request → ℕ → Type 0

@@ -1,9 +1,11 @@
 //! Aborts.
 ghost use Rattle.std.specs.Prelude.{◌≡◌, IfErr, IfOk, false};
 ghost use Rattle.hm_data.specs.declared.entry.Entry.TheVariants as entry_is;
+ghost use Rattle.hm_model.specs.Base.{IsBegun};
 ghost use Rattle.hm_model.specs.Rules.{Allowed};
 ghost use Rattle.hm_refusals.specs.Aborts.{IsAborted, IsAgainst, is_finished};
 
+use crate::shown::find;
 use hm_data::Phase;
 use hm_hall::HallFault;
 use hm_judge::is_before_point;
@@ -14,7 +16,7 @@ use thiserror::Error;
 /// Why an abort is refused.
 #[derive(Clone, Copy, Debug, PartialEq, Eq, Error)]
 pub enum AbortRefused {
-    /// There is no such procedure.
+    /// There is no such procedure, nor a root of the base with the number.
     #[error("unknown")]
     Unknown,
     /// It isn't a root; this one is its root.
@@ -42,13 +44,14 @@ fn has_finished(phase: Phase) -> bool
 }
 
 /// Judges an abort by what the journal says: whether there is such a procedure, whether it is a root, whether it goes on, and
-/// whether it is before the point; and then whether it was aborted before.
+/// whether it is before the point; and then whether it was aborted before. A root of the base has ended.
 pub fn judge_abort(records: &Records, pid: Pid) -> Result<bool, AbortRefused>
+    requires begun { IsBegun records.now.past }
     ensures refused { IfErr result (IsAgainst records.now.past pid.0) }
     ensures may { IfOk result (IsAborted records.now.past pid.0) }
     ensures allowed { IfOk result (λ before. before ≡ false → Allowed records.now.past (entry_is.Abort pid)) }
 {
-    let Some(found) = records.procedures().find(pid) else {
+    let Some(found) = find(records, pid) else {
         return Err(AbortRefused::Unknown);
     };
     if found.parent.is_some() {

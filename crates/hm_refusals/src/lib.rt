@@ -4,6 +4,7 @@
 
 mod aborts;
 mod reports;
+mod shown;
 mod submissions;
 
 pub use aborts::{AbortRefused, judge_abort};

@@ -1,6 +1,7 @@
 //! Reports.
 ghost use Rattle.std.specs.Prelude.{◌≡◌, ◌≢◌, ◌↔◌, IfErr, IsTrue, None, OnOk, Some};
 ghost use Rattle.hm_data.specs.declared.entry.Entry.TheVariants as entry_is;
+ghost use Rattle.hm_model.specs.Base.{IsBegun};
 ghost use Rattle.hm_model.specs.Reports.{peer_in, peer_of, verb_of};
 ghost use Rattle.hm_model.specs.Rules.{Allowed};
 ghost use Rattle.hm_refusals.specs.Reports.{IsHeard, IsIgnored};
@@ -54,6 +55,7 @@ fn comes_from(records: &Records, call: Pid, from: &Peer) -> bool
 /// Judges a report by what the journal says: whether there is such a call, whether the report comes from the one who was called,
 /// whether its answer fits, and whether it is the first.
 pub fn judge_report(records: &Records, message: &ReportMsg) -> Result<(), IgnoredWhy>
+    requires begun { IsBegun records.now.past }
     ensures ignored { IfErr result (IsIgnored records.now.past message.now) }
     ensures heard { OnOk result (IsHeard records.now.past message.now) }
     ensures allowed { OnOk result (Allowed records.now.past (entry_is.Report message.now.call message.now.told)) }

@@ -1,11 +1,13 @@
 //! Submissions.
 ghost use Rattle.std.specs.Prelude.{◌≡◌, ◌≤◌, ◌↔◌, ℕ, IfErr, IfOk, IfNone, IfSome, IsTrue, MatchOption, None, OnOk, Some};
 ghost use Rattle.hm_data.specs.declared.entry.Entry.TheVariants as entry_is;
+ghost use Rattle.hm_model.specs.Base.{IsBegun};
 ghost use Rattle.hm_model.specs.Requests.{StaysWithin, wrong_in as wrong};
 ghost use Rattle.hm_model.specs.Rules.{Allowed};
 ghost use Rattle.hm_model.specs.Tree.{drawn as ids_drawn};
 ghost use Rattle.hm_refusals.specs.Submissions.{DrewTooMany, IsAgainst, IsMadeFor, IsNew, IsRepeated};
 
+use crate::shown::find;
 use hm_catalog::wrong_in;
 use hm_data::{Args, Request};
 use hm_hall::Halt;
@@ -55,11 +57,11 @@ fn check_request(request: &Request) -> Result<(), Refused>
     }
 }
 
-// Whether a procedure was made for this request.
+// Whether who is shown by a number was made for this request.
 fn is_made_for(records: &Records, pid: Pid, request: &Request) -> bool
     ensures { IsTrue result ↔ IsMadeFor records.now.past pid.0 request.now }
 {
-    let Some(found) = records.procedures().find(pid) else {
+    let Some(found) = find(records, pid) else {
         return false;
     };
     match &found.args {
@@ -99,12 +101,12 @@ pub fn judge_submission(
     nonce: &Nonce,
     request: &Request,
 ) -> Result<Option<Pid>, Refused>
+    requires begun { IsBegun records.now.past }
     ensures refused { IfErr result (IsAgainst records.now.past nonce.now request.now) }
     ensures repeated { IfOk result (λ pid. IfSome pid (λ pid. IsRepeated records.now.past nonce.now request.now pid.0)) }
     ensures new { IfOk result (λ pid. IfNone pid (IsNew records.now.past nonce.now request.now)) }
     ensures allowed { IfOk result (λ pid. IfNone pid (Allowed records.now.past (entry_is.Submit nonce.now request.now))) }
 {
-    let _begun = records.procedures();
     check_request(request)?;
     if let Some(pid) = records.by_nonce(nonce) {
         if !is_made_for(records, pid, request) {

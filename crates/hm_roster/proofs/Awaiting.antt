@@ -17,13 +17,14 @@ use Rattle.hm_model.specs.Tree.{Node, is_top, made, node_of, root_in}
 use Rattle.hm_model.specs.Undo.{is_empty, stack}
 use Rattle.hm_model.specs.Waiting.{is_open_under}
 use Rattle.hm_model.proofs.Counting.{count_none, find_below}
-use Rattle.hm_model.proofs.Forest.{forest_all, rooted_all, roots_wait, top_is, top_is_own}
+use Rattle.hm_model.proofs.Forest.{forest_all, rooted_all, roots_wait, top_is_own}
 use Rattle.hm_model.proofs.Waiting.{under_tells}
 use Rattle.hm_judge.proofs.Found.{gone_of, there_of}
 use Rattle.hm_model.proofs.Grown.{grown_all}
 use Rattle.hm_roster.specs.Roster.{is_crash_if, is_of_crash}
 use Rattle.hm_tied.specs.Tied.{Awaits, CanGo}
 use Rattle.hm_model.proofs.Running.{awaits_call, calm_stopped, run_open, top_or_below}
+use Rattle.hm_model.proofs.Small.{top_is}
 
 not_both : (last : Option Answer) (n : ℕ) → last ≡ Some (answer_is.Await n) → IsWait last → ⊥
 not_both last n awaits waits = by (sym awaits ∙ waits.1)

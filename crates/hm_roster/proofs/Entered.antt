@@ -1,21 +1,21 @@
 -- What the calls after an entry need, where it went on with one procedure.
-use Rattle.std.proofs.Common.{◌≡◌, ◌≢◌, ℕ, ◌+◌, ◌<◌, ◌≤◌, List, [], ◌∷◌, Option, Some, None, Bool, ◌==◌, refl, inl, inr, ap, sym, ◌∙◌, subst, arith}
+use Rattle.std.proofs.Common.{◌≡◌, ◌≢◌, ℕ, ◌+◌, ◌<◌, ◌≤◌, List, [], ◌∷◌, Option, Some, None, Bool, false, ◌==◌, refl, ap, sym, ◌∙◌, subst, arith}
 use Rattle.std.specs.Option.{option_map}
 use Rattle.std.specs.Prelude.{IfSome}
-use Rattle.std.proofs.lemmas.Bool.{cases_eq, eq-eqb, or_left, or_right}
+use Rattle.std.proofs.lemmas.Bool.{eq-eqb, or_left, or_right}
 use Rattle.std.proofs.lemmas.Option.{none-some, same_Some}
 use Rattle.hm_names.specs.declared.pid.Pid.{Pid}
-use Rattle.hm_data.specs.declared.entry.Entry.{Entry}
 use Rattle.hm_data.specs.declared.record.Record.{Record}
 use Rattle.hm_locks.specs.Book.{IsEnlisted}
 use Rattle.hm_model.specs.Forest.{Stands}
 use Rattle.hm_model.specs.Journal.{Past}
-use Rattle.hm_model.specs.Plain.{ArePlain}
+use Rattle.hm_model.specs.Laws.{is_part}
+use Rattle.hm_model.specs.Procedures.{offset}
 use Rattle.hm_model.specs.Records.{record_of}
 use Rattle.hm_model.specs.Rules.{IsLegal}
 use Rattle.hm_model.specs.Tree.{Node, made, node_of, parent_in, pid_of}
 use Rattle.hm_model.proofs.Forest.{forest_all, rooted_all}
-use Rattle.hm_model.proofs.Grown.{grown_all, made_up_to, nodes_stay}
+use Rattle.hm_model.proofs.Grown.{grown_all, made_up_to}
 use Rattle.hm_model.proofs.Trees.{some_of}
 use Rattle.hm_judge.proofs.Found.{shown_of}
 use Rattle.hm_sched.specs.Moves.{pid_in}
@@ -24,17 +24,8 @@ use Rattle.hm_roster.specs.Behind.{IsEntered, entry_debts}
 use Rattle.hm_roster.specs.Roster.{Follows, HasLists, IsSameBut, Owes, number_on, pids_on, roster_of, rows_on, paid, paid_if}
 use Rattle.hm_roster.specs.declared.desk.Desk.{Desk}
 use Rattle.hm_roster.proofs.Desks.{below_still}
-use Rattle.hm_roster.proofs.Plain.{plain_there}
+use Rattle.hm_roster.proofs.Numbers.{made_rises, no_part, offset_stays}
 use Rattle.hm_roster.proofs.Stepped.{chain, chained}
-
--- no entry makes fewer
-made_rises : (entry : Entry) (J : Past) → IsLegal (entry ∷ J) → ArePlain (entry ∷ J) → made J ≤ made (entry ∷ J)
-made_rises entry J legal plain = elim (cases_eq (made J) 0) [
-  | inl none ↦ omega (arith, none)
-  | inr some ↦
-      let t = plain_there J legal.0 plain.0 (made J) (omega (arith, some)) (omega arith) in
-      (made_up_to (entry ∷ J) (grown_all (entry ∷ J) legal) (made J) t.0 (nodes_stay entry J legal (made J) t.0 t.1)).1
-]
 
 -- what the calls need of a desk: whoever is looked at is there and has room
 pub record Needs (J : Past) (p low high : ℕ) (parent : Option Pid) (root : ℕ) (desk : Desk) : Type 0 where
@@ -64,13 +55,22 @@ needs_still J p low high parent root desk new needs same = record {
   below = below_still desk new same needs.below;
 }
 
-module _ (J : Past) (legal : IsLegal J) (plain : ArePlain J) (p low : ℕ) (late : Bool) (desk : Desk) (entered : IsEntered J p low late desk) where
+module _ (J : Past) (legal : IsLegal J) (p low : ℕ) (late : Bool) (desk : Desk) (entered : IsEntered J p low late desk) where
   -- the journal is legal as it grew
   legal_now : IsLegal (entered.entry ∷ entered.before)
   legal_now = subst IsLegal entered.is legal
 
-  plain_now : ArePlain (entered.entry ∷ entered.before)
-  plain_now = subst ArePlain entered.is plain
+  -- the entry is no part of a base
+  off : is_part entered.entry ≡ false
+  off = no_part entered.entry entered.before p entered.node (sym (ap (λ K. node_of K p) entered.is) ∙ entered.there)
+
+  -- those that it made have numbers behind the base
+  behind_base : (q : ℕ) → low ≤ q → offset J < q
+  behind_base q ge =
+      let few = (grown_all entered.before legal_now.0).low in
+      let same : offset J ≡ offset entered.before = ap offset entered.is ∙ offset_stays entered.entry entered.before off in
+      let first = entered.first in
+      omega (arith, ge, few, same, first)
 
   -- who is there has room
   known_there : (q : ℕ) → node_of J q ≢ None → q < pids_on desk
@@ -115,7 +115,7 @@ module _ (J : Past) (legal : IsLegal J) (plain : ArePlain J) (p low : ℕ) (late
   needs high parent root up top to =
       let first = entered.first in
       let room = entered.room in
-      let rises = made_rises entered.entry entered.before legal_now plain_now in
+      let rises = made_rises entered.entry entered.before off in
       let same = ap made entered.is in
       record {
         there = own_there;
@@ -126,7 +126,7 @@ module _ (J : Past) (legal : IsLegal J) (plain : ArePlain J) (p low : ℕ) (late
         root_known = known_there root (top_there root top);
         new_order = omega (arith, first, rises, same, to);
         new_known = omega (arith, room, to);
-        new_there = λ q ge lt none. let t = plain_there J legal plain q (omega (arith, ge, first)) (omega (arith, to, lt)) in none-some t.0 (sym none ∙ t.1);
+        new_there = λ q ge lt none. let t = (grown_all J legal).there q (behind_base q ge) (omega (arith, to, lt)) in none-some t.0 (sym none ∙ t.1);
         below = entered.below;
       }
 
@@ -138,7 +138,7 @@ module _ (J : Past) (legal : IsLegal J) (plain : ArePlain J) (p low : ℕ) (late
       let owing = subst (λ K. IsTiedBut K (number_on new) (roster_of new) left) entered.is owes in
       record {
         tied = subst (λ K. IsTied K (number_on new) (roster_of new)) (sym entered.is)
-            (chained entered.entry entered.before legal_now plain_now p entered.node late parent up root top low high entered.first (to ∙ ap (λ K. made K + 1) entered.is) (number_on new) (roster_of new) owing);
+            (chained entered.entry entered.before legal_now p entered.node late parent up root top low high entered.first (to ∙ ap (λ K. made K + 1) entered.is) (number_on new) (roster_of new) owing);
         room = subst (λ (k : ℕ). made J < k) (sym same.pids) entered.room;
         below = below_still desk new same entered.below;
       }

@@ -11,16 +11,16 @@ use Rattle.hm_data.specs.declared.step.StepOut.{StepOut}
 use Rattle.hm_model.specs.Journal.{Past}
 use Rattle.hm_model.specs.Locks.{IsIn}
 use Rattle.hm_model.specs.Phase.{is_parent}
-use Rattle.hm_model.specs.Plain.{ArePlain}
 use Rattle.hm_model.specs.Rest.{MayStep}
 use Rattle.hm_model.specs.Rules.{IsLatest, IsLegal}
 use Rattle.hm_model.specs.Tree.{Node, made, node_of, root_of}
-use Rattle.hm_model.proofs.Forest.{forest_all, top_is, top_is_own}
-use Rattle.hm_model.proofs.Grown.{nodes_stay}
+use Rattle.hm_model.proofs.Forest.{forest_all, top_is_own}
+use Rattle.hm_model.proofs.Grown.{down_new, nodes_stay, submit_new}
 use Rattle.hm_tied.specs.Entries.{Enlists, alters, is_new, root_debts, touched, undo_debts}
 use Rattle.hm_tied.specs.Tied.{IsTied, IsTiedBut}
 use Rattle.hm_tied.specs.Uses.{AreAmong}
 use Rattle.hm_model.proofs.Running.{undo_facts}
+use Rattle.hm_model.proofs.Small.{top_is}
 use Rattle.hm_model.specs.Claims.{Unclaims}
 use Rattle.hm_tied.proofs.Others.{down_owes, submit_owes}
 use Rattle.hm_tied.proofs.Stepping.{step_owes}
@@ -31,7 +31,6 @@ use Rattle.hm_roster.specs.Roster.{Follows, IsEnlistedFor, IsSameBut, IsStepOf, 
 use Rattle.hm_roster.specs.declared.desk.Desk.{Desk}
 use Rattle.hm_roster.proofs.Desks.{below_still}
 use Rattle.hm_roster.proofs.Following.{new_paid}
-use Rattle.hm_roster.proofs.Plain.{plain_there}
 
 -- a step, whose procedure's claim has ended
 pub step_enters : (J : Past) → IsLegal J → (pid : Pid) (low : ℕ) (late : Bool) (desk : Desk) (claimed : List ℕ) (step : IsStepOf J pid low late desk) → Unclaims pid.0 (claims_on desk) claimed
@@ -105,6 +104,7 @@ submit_roots J legal nonce request desk behind =
       entry = entry;
       is = behind.is;
       more = ap made behind.is;
+      there = subst (λ K. node_of K (made K) ≢ None) (sym behind.is) (λ none. none-some _ (sym none ∙ submit_new nonce request before (made before + 1) refl));
       owes = subst (λ K. IsTiedBut K (number_on desk) (roster_of desk) (root_debts before false)) (sym behind.is) owes;
       room = behind.room;
       below = behind.below;
@@ -122,22 +122,20 @@ down_roots J legal server desk behind =
       entry = entry;
       is = behind.is;
       more = ap made behind.is;
+      there = subst (λ K. node_of K (made K) ≢ None) (sym behind.is) (λ none. none-some _ (sym none ∙ down_new server before (made before + 1) refl));
       owes = subst (λ K. IsTiedBut K (number_on desk) (roster_of desk) (root_debts before true)) (sym behind.is) owes;
       room = behind.room;
       below = behind.below;
     }
 
 -- the root that was made last is there
-pub last_there : (J : Past) → IsLegal J → ArePlain J → (late : Bool) (desk : Desk) (rooted : IsRooted J late desk) (last q : ℕ) → last ≡ made J → last ≤ q → q < last + 1 → node_of J q ≢ None
-last_there J legal plain late desk rooted last q is ge lt none =
-    let more = rooted.more in
-    let t = plain_there J legal plain q (omega (arith, is, ge, more)) (omega (arith, is, lt)) in
-    none-some t.0 (sym none ∙ t.1)
+pub last_there : (J : Past) (late : Bool) (desk : Desk) (rooted : IsRooted J late desk) (last q : ℕ) → last ≡ made J → last ≤ q → q < last + 1 → node_of J q ≢ None
+last_there J late desk rooted last q is ge lt none = rooted.there (ap (node_of J) (let same : made J ≡ q = omega (arith, is, ge, lt) in same) ∙ none)
 
 -- after an entry that made a root, once that was looked at, it follows
-pub root_follows : (J : Past) → IsLegal J → ArePlain J → (late : Bool) (desk new : Desk) (rooted : IsRooted J late desk) (last : ℕ) → last ≡ made J → IsSameBut desk new
+pub root_follows : (J : Past) → IsLegal J → (late : Bool) (desk new : Desk) (rooted : IsRooted J late desk) (last : ℕ) → last ≡ made J → IsSameBut desk new
     → (let debts = paid_from (root_debts rooted.before late) last (last + 1) in Owes J new (record debts { late = false })) → Follows J new
-root_follows J legal plain late desk new rooted last is same owes =
+root_follows J legal late desk new rooted last is same owes =
     let before = rooted.before in
     let entry = rooted.entry in
     let start = root_debts before false in
@@ -146,7 +144,7 @@ root_follows J legal plain late desk new rooted last is same owes =
     let owing = subst (λ K. IsTiedBut K (number_on new) (roster_of new) (paid_from start last (last + 1))) rooted.is owes in
     record {
       tied = subst (λ K. IsTied K (number_on new) (roster_of new)) (sym rooted.is)
-          (new_paid before entry (subst IsLegal rooted.is legal) (subst ArePlain rooted.is plain) (number_on new) (roster_of new) start last (last + 1) (is ∙ more) (ap (λ k. k + 1) (is ∙ grew)) refl owing);
+          (new_paid before entry (subst IsLegal rooted.is legal) (number_on new) (roster_of new) start last (last + 1) (is ∙ more) (ap (λ k. k + 1) (is ∙ grew)) refl owing);
       room = subst (λ (k : ℕ). made J < k) (sym same.pids) rooted.room;
       below = below_still desk new same rooted.below;
     }

@@ -1,6 +1,6 @@
 -- After an entry.
-use Rattle.std.proofs.Common.{◌≡◌, ◌≢◌, ◌⊎◌, ℕ, ◌+◌, ◌<◌, ◌≤◌, List, ◌∷◌, Option, Some, None, Bool, true, false, ◌||◌, is_none, nat_lt, nat_le, refl, inl, inr, ap, sym, ◌∙◌, subst, arith}
-use Rattle.std.proofs.lemmas.Bool.{and_parts, cases_Bool, cases_lt, false≢true, leb-true, ltb-true, or_cases}
+use Rattle.std.proofs.Common.{◌≡◌, ◌≢◌, ℕ, ◌+◌, ◌<◌, ◌≤◌, List, ◌∷◌, Option, Some, None, Bool, true, false, ◌||◌, is_none, nat_lt, nat_le, refl, inl, inr, ap, sym, ◌∙◌, subst, arith}
+use Rattle.std.proofs.lemmas.Bool.{and_parts, cases_Bool, false≢true, leb-true, ltb-true, or_cases}
 use Rattle.std.proofs.lemmas.Option.{none-some, same_Some}
 use Rattle.hm_names.specs.Server.{Server}
 use Rattle.hm_names.specs.declared.pid.Pid.{Pid}
@@ -10,7 +10,6 @@ use Rattle.hm_data.specs.declared.call.Told.{Told}
 use Rattle.hm_data.specs.declared.entry.Entry.{Entry}
 use Rattle.hm_data.specs.declared.entry.Entry.TheVariants as entry_is
 use Rattle.hm_model.specs.Journal.{Past}
-use Rattle.hm_model.specs.Plain.{ArePlain}
 use Rattle.hm_model.specs.Rules.{IsLegal}
 use Rattle.hm_model.specs.Tree.{Node, made, node_of}
 use Rattle.hm_model.specs.Reports.{verb_of}
@@ -31,19 +30,19 @@ use Rattle.hm_roster.specs.Behind.{IsHeard, fenced_in, number_of_some, server_to
 use Rattle.hm_roster.specs.Roster.{Follows, IsSameBut, claims_on, lists_on, number_on, outside, pids_on, roster_of, rows_on, paid_from}
 use Rattle.hm_roster.specs.declared.desk.Desk.{Desk}
 use Rattle.hm_roster.proofs.Desks.{below_still}
-use Rattle.hm_roster.proofs.Plain.{plain_there}
+use Rattle.hm_roster.proofs.Numbers.{made_behind}
+
+-- who isn't there
+gone : (o : Option Node) → is_none o ≡ true → o ≡ None
+gone None e = refl
+gone (Some x) e = absurd (false≢true e)
 
 -- what an entry made was looked at
-module _ (J : Past) (entry : Entry) (legal : IsLegal (entry ∷ J)) (plain : ArePlain (entry ∷ J)) where
+module _ (J : Past) (entry : Entry) (legal : IsLegal (entry ∷ J)) where
   pub new_below : (q : ℕ) → is_new J q ≡ true → node_of (entry ∷ J) q ≢ None → (made J < q) × (q ≤ made (entry ∷ J))
   new_below q new there =
       let x = some_of (node_of (entry ∷ J) q) there in
-      let up = made_up_to (entry ∷ J) (grown_all (entry ∷ J) legal) q x.0 x.1 in
-      (above up.0 (cases_lt (made J) q), up.1)
-    where
-      above : 1 ≤ q → (made J < q) ⊎ (q ≤ made J) → made J < q
-      above one (inl e) = e
-      above one (inr e) = (let y = plain_there J legal.0 plain.0 q one e in absurd (false≢true (sym (ap is_none y.1) ∙ new)))
+      (made_behind entry J q x.0 (gone (node_of J q) new) x.1, (made_up_to (entry ∷ J) (grown_all (entry ∷ J) legal) q x.0 x.1).1)
 
   pub new_paid : (n : Option Server → ℕ) (roster : Roster) (debts : Debts) (low high : ℕ) → low ≡ made J + 1 → high ≡ made (entry ∷ J) + 1 → debts.owed ≡ is_new J
       → IsTiedBut (entry ∷ J) n roster (paid_from debts low high) → IsTiedBut (entry ∷ J) n roster (record debts { owed = λ q. false; slack = outside debts.slack low high })

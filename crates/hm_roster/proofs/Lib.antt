@@ -13,7 +13,7 @@ mod Claimed
 mod Changed
 mod Alike
 mod Parents
-pub mod Plain
+mod Numbers
 pub mod Listing
 mod Tried
 mod Numbered

@@ -1,8 +1,8 @@
 -- What an entry makes is enlisted one after another, and taken out again where it isn't recorded.
-use Rattle.std.proofs.Common.{◌≡◌, ◌≢◌, ℕ, zero, suc, ◌+◌, ◌-◌, ◌<◌, ◌≤◌, ◌^◌, List, [], ◌∷◌, length, Option, Some, None, slice_get, refl, inl, inr, ap, sym, ◌∙◌, subst, arith}
+use Rattle.std.proofs.Common.{◌≡◌, ◌≢◌, ℕ, zero, suc, ◌+◌, ◌-◌, ◌<◌, ◌≤◌, ◌^◌, List, [], ◌∷◌, length, false, Option, Some, None, slice_get, refl, inl, inr, ap, sym, ◌∙◌, subst, arith}
 use Rattle.std.specs.Option.{option_map}
 use Rattle.std.specs.Prelude.{IfSome, IsSome}
-use Rattle.std.proofs.lemmas.Bool.{cases_eq, cases_lt}
+use Rattle.std.proofs.lemmas.Bool.{cases_eq, cases_lt, true≢false}
 use Rattle.std.proofs.lemmas.Option.{none-some, same_Some}
 use Rattle.hm_names.specs.Server.{Server}
 use Rattle.hm_names.specs.declared.pid.Pid.{Pid}
@@ -11,15 +11,17 @@ use Rattle.hm_data.specs.declared.args.Args.TheVariants as args_are
 use Rattle.hm_data.specs.declared.entry.Entry.{Entry}
 use Rattle.hm_data.specs.declared.entry.Entry.TheVariants as entry_is
 use Rattle.hm_locks.specs.Book.{AreChanged, IsEnlisted, Row, above_child, above_in, new_row, row_of}
+use Rattle.hm_locks.specs.Needs.{HasFirst}
 use Rattle.hm_model.specs.Journal.{Past}
 use Rattle.hm_model.specs.Locks.{asks}
-use Rattle.hm_model.specs.Plain.{IsPlain}
+use Rattle.hm_model.specs.Laws.{is_part}
 use Rattle.hm_model.specs.Rules.{IsLegal}
 use Rattle.hm_model.specs.Tree.{Node, args_in, child_of, made, node_of, root_node, submitted}
 use Rattle.hm_model.proofs.Grown.{down_new, grown_all, submit_new, undo_new}
 use Rattle.hm_model.proofs.Trees.{node_new, step_of}
 use Rattle.hm_model.proofs.Trees.{grown_all as trees_grown}
 use Rattle.hm_procedures.specs.Kept.{args_made}
+use Rattle.hm_records.proofs.Firsts.{node_first}
 use Rattle.hm_tied.specs.Tied.{IsOpen, IsTied, Roster, no_debts}
 use Rattle.hm_tied.specs.Uses.{EnlistsBelow}
 use Rattle.hm_tied.proofs.Going.{go_open}
@@ -57,38 +59,43 @@ only_one own args zero is = (refl, same_Some own args is)
 only_one own args (suc i) is = absurd (none-some args is)
 
 -- what an entry makes, by its place
-pub is_made : (entry : Entry) (J : Past) → IsLegal (entry ∷ J) → IsPlain entry → (i : ℕ) (args : Args) → slice_get (args_made J entry) i ≡ Some args → IsMadeOf J entry i args
-is_made (entry_is.Submit nonce request) J legal plain i args is =
+pub is_made : (entry : Entry) (J : Past) → IsLegal (entry ∷ J) → is_part entry ≡ false → (i : ℕ) (args : Args) → slice_get (args_made J entry) i ≡ Some args → IsMadeOf J entry i args
+is_made (entry_is.Submit nonce request) J legal off i args is =
     let one = only_one _ args i is in
     (submitted J request (made J + 1 + i), submit_new nonce request J (made J + 1 + i) (ap (λ k. made J + 1 + k) one.0 ∙ first_place J), one.1, refl)
-is_made (entry_is.Step pid pick out) J legal plain i args is =
+is_made (entry_is.Step pid pick out) J legal off i args is =
     let step = step_of pid pick out J (trees_grown J legal.0) legal in (
       child_of pid.0 step.node args,
       node_new pid pick out J step.node step.node_is (made J + 1 + i) (omega arith) ∙ ap (λ k. option_map (child_of pid.0 step.node) (slice_get (args_in out.children) k)) (place_back J i) ∙ ap (option_map (child_of pid.0 step.node)) is,
       refl,
       ap (above_node pid.0) step.node_is,
     )
-is_made (entry_is.Undo pid row out) J legal plain i args is = (
+is_made (entry_is.Undo pid row out) J legal off i args is = (
   root_node (made J + 1 + i) args 1,
   undo_new pid row out J (made J + 1 + i) (omega arith) ∙ ap (λ k. option_map (λ args. root_node (made J + 1 + i) args 1) (slice_get (args_in out.followers) k)) (place_back J i) ∙ ap (option_map (λ args. root_node (made J + 1 + i) args 1)) is,
   refl,
   refl,
 )
-is_made (entry_is.Down server) J legal plain i args is =
+is_made (entry_is.Down server) J legal off i args is =
     let one = only_one _ args i is in
     (root_node (made J + 1 + i) (args_are.Crash server) 1, down_new server J (made J + 1 + i) (ap (λ k. made J + 1 + k) one.0 ∙ first_place J), one.1, refl)
-is_made (entry_is.Base part) J legal plain i args is = absurd plain
-is_made entry J legal plain i args is = absurd (none-some args is)
+is_made (entry_is.Base part) J legal off i args is = absurd (true≢false off)
+is_made entry J legal off i args is = absurd (none-some args is)
+
+-- so the first region id of what it works on can be drawn
+pub works_first : (entry : Entry) (J : Past) → IsLegal (entry ∷ J) → is_part entry ≡ false → (i : ℕ) (args : Args) → slice_get (args_made J entry) i ≡ Some args → HasFirst args
+works_first entry J legal off i args is =
+    let its = is_made entry J legal off i args is in
+    subst HasFirst its.2 (node_first (entry ∷ J) legal (made J + 1 + i) its.0 its.1)
 
 -- how many there are after an entry
-pub made_more : (entry : Entry) (J : Past) → IsPlain entry → made (entry ∷ J) ≡ made J + length (args_made J entry)
-made_more (entry_is.Submit nonce request) J plain = refl
-made_more (entry_is.Step pid pick out) J plain = refl
-made_more (entry_is.Undo pid row out) J plain = refl
-made_more (entry_is.Down server) J plain = refl
-made_more (entry_is.Adopt sheets) J plain = absurd plain
-made_more (entry_is.Base part) J plain = absurd plain
-made_more entry J plain = omega arith
+pub made_more : (entry : Entry) (J : Past) → is_part entry ≡ false → made (entry ∷ J) ≡ made J + length (args_made J entry)
+made_more (entry_is.Submit nonce request) J off = refl
+made_more (entry_is.Step pid pick out) J off = refl
+made_more (entry_is.Undo pid row out) J off = refl
+made_more (entry_is.Down server) J off = refl
+made_more (entry_is.Base part) J off = absurd (true≢false off)
+made_more entry J off = omega arith
 
 -- the parent of those that an entry makes hasn't ended
 pub made_parent : (entry : Entry) (J : Past) → IsLegal (entry ∷ J) → (pid : Pid) → parent_made entry ≡ Some pid → IsOpen J pid.0
@@ -202,7 +209,7 @@ pub lists_next : (J : Past) (old : List Row) (desk new : Desk) (entry : Entry) (
     → AreChanged (rows_on desk) (made J + 1 + place) (Some (new_row (rows_on desk) (made J + 1 + place) parent (asks args))) (rows_on new)
     → EnlistsBelow J (entry ∷ J) old (rows_on desk) (made J + 1 + place) → EnlistsBelow J (entry ∷ J) old (rows_on new) (made J + 1 + place + 1)
 lists_next J old desk new entry works parent place args legal more makes is changed below =
-    let its = is_made entry J (legal, makes.allowed) makes.plain place args (ap (λ l. slice_get l place) makes.args ∙ is) in
+    let its = is_made entry J (legal, makes.allowed) makes.no_part place args (ap (λ l. slice_get l place) makes.args ∙ is) in
     enlisting_goes_on J (entry ∷ J) old (rows_on desk) (rows_on new) (made J + 1 + place) its.0 parent below ((grown_all J legal).numbered (made J + 1 + place) (omega arith)) its.1
     (above_told J legal desk place more parent (λ pid e. made_parent entry J (legal, makes.allowed) pid (makes.above ∙ e)) ∙ ap (above_made J) (sym makes.above) ∙ its.3)
     (subst (λ (l : List Rattle.hm_model.specs.declared.lock.Ask.Ask). AreChanged (rows_on desk) (made J + 1 + place) (Some (new_row (rows_on desk) (made J + 1 + place) parent l)) (rows_on new)) (ap asks (sym its.2)) changed)
@@ -211,7 +218,7 @@ lists_next J old desk new entry works parent place args legal more makes is chan
 pub lists_all : (J : Past) (old desk : Desk) (entry : Entry) (works : List Args) (parent : Option Pid) → IsLegal J → Follows J old → IsSameButBook old desk → Makes J entry works parent → made J + length works < pids_on old
     → EnlistsBelow J (entry ∷ J) (rows_on old) (rows_on desk) (made J + 1 + length works) → IsEnlistedFor (entry ∷ J) entry desk
 lists_all J old desk entry works parent legal follows same makes room below =
-    let count : made (entry ∷ J) ≡ made J + length works = made_more entry J makes.plain ∙ ap (λ (l : List Args). made J + length l) makes.args in
+    let count : made (entry ∷ J) ≡ made J + length works = made_more entry J makes.no_part ∙ ap (λ (l : List Args). made J + length l) makes.args in
     let next : made J + 1 + length works ≡ made (entry ∷ J) + 1 = omega (arith, count) in
     record {
       before = J;

@@ -17,6 +17,7 @@ use Rattle.hm_model.specs.Holding.{HoldsWith, InConflict}
 use Rattle.hm_model.specs.Journal.{Past}
 use Rattle.hm_model.specs.Locks.{asks}
 use Rattle.hm_model.specs.Phase.{ended}
+use Rattle.hm_model.specs.Procedures.{offset}
 use Rattle.hm_model.specs.Records.{record_at, record_of}
 use Rattle.hm_model.specs.Rules.{IsLegal}
 use Rattle.hm_model.specs.Tree.{Node, made, node_of, parent_in, pid_of}
@@ -27,6 +28,7 @@ use Rattle.hm_tied.specs.Tied.{IsOpen}
 use Rattle.hm_roster.specs.Opening.{IsBookBelow}
 use Rattle.hm_roster.proofs.Changed.{changed_here, changed_there, holding_row, row_some, some_row}
 use Rattle.hm_records.proofs.Firsts.{node_first}
+use Rattle.hm_roster.proofs.Numbers.{nobody_low}
 use Rattle.hm_roster.proofs.Parents.{parent_open}
 
 -- the row of a procedure is its own
@@ -38,7 +40,7 @@ row_own (first ∷ more) p row e = elim (cases_eq first.pid p) [
 ]
 
 -- before the first nobody is enlisted
-pub none_below : (J : Past) → IsLegal J → (rows : List Row) → rows ≡ [] → IsBookBelow J rows 1
+pub none_below : (J : Past) → IsLegal J → (rows : List Row) → rows ≡ [] → IsBookBelow J rows (offset J + 1)
 none_below J legal rows none = record {
   says = λ p row e. absurd (none-some row (sym (gone p) ∙ e));
   enlisted = λ p. (λ e. absurd (nobody p e), λ b. absurd (first p b.0 b.1.0));
@@ -51,8 +53,8 @@ none_below J legal rows none = record {
     nobody : (p : ℕ) → IsEnlisted rows p → ⊥
     nobody p e = (let some = row_some (row_of rows p) e in none-some some.0 (sym (gone p) ∙ some.1))
 
-    first : (p : ℕ) → p < 1 → node_of J p ≢ None → ⊥
-    first p lt some = some (ap (node_of J) (let e : p ≡ 0 = omega (arith, lt) in e) ∙ (grown_all J legal).none)
+    first : (p : ℕ) → p < offset J + 1 → node_of J p ≢ None → ⊥
+    first p lt some = some (nobody_low J legal p (omega (arith, lt)))
 
 module _ (J : Past) (rows : List Row) (n : ℕ) (below : IsBookBelow J rows n) where
   -- one that isn't there, or has ended, is passed

@@ -5,7 +5,6 @@ use Rattle.hm_names.specs.Server.{Server}
 use Rattle.hm_data.specs.declared.entry.Entry.{Entry}
 use Rattle.hm_model.specs.Journal.{Past}
 use Rattle.hm_model.specs.Phase.{is_parent}
-use Rattle.hm_model.specs.Plain.{ArePlain}
 use Rattle.hm_model.specs.Rules.{IsLegal}
 use Rattle.hm_model.specs.Tree.{Node, made, node_of, parent_in}
 use Rattle.hm_tied.specs.Calls.{without}
@@ -44,7 +43,7 @@ nearest : (above : List ℕ) (q : ℕ) → is_parent q above ≡ true → parent
 nearest [] q e = absurd (false≢true e)
 nearest (up ∷ above) q e = ap (λ p. Some p) (eqb-true up q e)
 
-module _ (entry : Entry) (J : Past) (legal : IsLegal (entry ∷ J)) (plain : ArePlain (entry ∷ J)) (p : ℕ) (node : Node) (late : Bool) (parent : Option ℕ) (up : parent ≡ parent_in node.above) (root : ℕ) (top : root ≡ node.root) (low high : ℕ) (from : low ≡ made J + 1) (to : high ≡ made (entry ∷ J) + 1) where
+module _ (entry : Entry) (J : Past) (legal : IsLegal (entry ∷ J)) (p : ℕ) (node : Node) (late : Bool) (parent : Option ℕ) (up : parent ≡ parent_in node.above) (root : ℕ) (top : root ≡ node.root) (low high : ℕ) (from : low ≡ made J + 1) (to : high ≡ made (entry ∷ J) + 1) where
   -- who is left of a test
   abbrev pub rest : (ℕ → Bool) → ℕ → Bool
   rest test = without (without_if (without (outside test low high) p) parent) root
@@ -78,7 +77,7 @@ module _ (entry : Entry) (J : Past) (legal : IsLegal (entry ∷ J)) (plain : Are
       let r = rest_is (λ n. is_new J n || touched p node n) q on in
       elim (or_cases (is_new J q) (touched p node q) r.0) [
         | inl new ↦
-            let at = new_below J entry legal plain q new there in
+            let at = new_below J entry legal q new there in
             elim r.4 [ inl e ↦ omega (arith, e, at, from) | inr e ↦ omega (arith, e, at, to) ]
         | inr on_it ↦ none_touched q on_it (r.1, r.2, r.3)
       ]

@@ -1,5 +1,5 @@
 -- What is known of a desk after an entry, before it was looked at who may go on or has ended.
-use Rattle.std.specs.Prelude.{◌≡◌, ℕ, ◌+◌, ◌<◌, ◌∷◌, Option, Some, None, Bool, ◌||◌, ◌==◌}
+use Rattle.std.specs.Prelude.{◌≡◌, ◌≢◌, ℕ, ◌+◌, ◌<◌, ◌∷◌, Option, Some, None, Bool, ◌||◌, ◌==◌}
 use Rattle.hm_names.specs.Server.{Server}
 use Rattle.hm_names.specs.declared.nonce.Nonce.{Nonce}
 use Rattle.hm_names.specs.declared.pid.Pid.{Pid}
@@ -74,6 +74,7 @@ pub record IsRooted (after : Past) (late : Bool) (desk : Desk) : Type 0 where
   pub entry : Entry
   pub is : after ≡ entry ∷ before
   pub more : made after ≡ made before + 1
+  pub there : node_of after (made after) ≢ None
   pub owes : Owes after desk (root_debts before late)
   pub room : made after < pids_on desk
   pub below : HasLists desk

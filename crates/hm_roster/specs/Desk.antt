@@ -1,5 +1,5 @@
 -- Room on a desk, and what of it stays where other parts change.
-use Rattle.std.specs.Prelude.{◌≡◌, ℕ, ◌+◌, ◌<◌, ◌≤◌, ◌^◌, List, Option, Some, None, vec_len, vec_capacity}
+use Rattle.std.specs.Prelude.{◌≡◌, ℕ, ◌+◌, ◌<◌, ◌≤◌, ◌^◌, List, Option, Some, None, false, vec_len, vec_capacity}
 use Rattle.hm_names.specs.Order.{server_cmp}
 use Rattle.hm_names.specs.Server.{Server}
 use Rattle.hm_names.specs.declared.pid.Pid.{Pid}
@@ -9,7 +9,7 @@ use Rattle.hm_data.specs.declared.entry.Entry.TheVariants as entry_is
 use Rattle.hm_index.specs.Index.{find}
 use Rattle.hm_locks.specs.Book.{IsEnlisted, Row, row_of}
 use Rattle.hm_model.specs.Journal.{Past}
-use Rattle.hm_model.specs.Plain.{IsPlain}
+use Rattle.hm_model.specs.Laws.{is_part}
 use Rattle.hm_model.specs.Rules.{Allowed}
 use Rattle.hm_model.specs.Tree.{made}
 use Rattle.hm_procedures.specs.Kept.{args_made}
@@ -59,10 +59,10 @@ abbrev pub parent_made : Entry → Option Pid
 parent_made (entry_is.Step pid pick out) = Some pid
 parent_made entry = None
 
--- an entry may follow that makes procedures which work on these, with this parent
+-- an entry may follow, no part of a base, that makes procedures which work on these, with this parent
 pub record Makes (before : Past) (entry : Entry) (works : List Args) (parent : Option Pid) : Type 0 where
   pub allowed : Allowed before entry
-  pub plain : IsPlain entry
+  pub no_part : is_part entry ≡ false
   pub args : args_made before entry ≡ works
   pub above : parent_made entry ≡ parent
 

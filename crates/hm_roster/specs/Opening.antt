@@ -4,7 +4,7 @@ use Rattle.hm_locks.specs.Book.{IsEnlisted, Row, is_holding, row_of}
 use Rattle.hm_locks.specs.Laws.{IsRowOf}
 use Rattle.hm_model.specs.Holding.{HoldsWith}
 use Rattle.hm_model.specs.Journal.{Past}
-use Rattle.hm_model.specs.Phase.{ended}
+use Rattle.hm_procedures.specs.Procedures.{is_unfinished}
 use Rattle.hm_sched.specs.Queues.{IsReady, StandsNowhere, members, ready_list}
 use Rattle.hm_tied.specs.Tied.{Debts, IsOpen, no_debts}
 use Rattle.hm_roster.specs.Roster.{Owes, is_of_crash, lists_on}
@@ -24,9 +24,9 @@ all_owed = record no_debts { owed = λ q. true }
 abbrev pub is_home : Bool → Bool → Bool
 is_home servers crash = if servers then crash else not crash
 
--- a procedure, where it hasn't ended, and belongs to a server's crash or doesn't
+-- a procedure, where it is there and hasn't ended, and belongs to a server's crash or doesn't
 abbrev pub own_open : Past → Bool → ℕ → List ℕ
-own_open J servers p = if not (ended J p) && is_home servers (is_of_crash J p) then p ∷ [] else []
+own_open J servers p = if is_unfinished J p && is_home servers (is_of_crash J p) then p ∷ [] else []
 
 -- those of the first so many procedures that haven't ended, and belong to a server's crash or don't, in order
 abbrev pub open_among : Past → Bool → ℕ → List ℕ

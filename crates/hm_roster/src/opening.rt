@@ -1,6 +1,7 @@
 //! A desk that is made from what a journal says.
 ghost use Rattle.std.specs.Prelude.{◌≡◌, ℕ, ◌+◌, ◌<◌, ◌≤◌, [], Bool, IfOk, OnOk, true};
 ghost use Rattle.hm_model.specs.Fleet.{came_up};
+ghost use Rattle.hm_model.specs.Procedures.{offset};
 ghost use Rattle.hm_model.specs.Tree.{made};
 ghost use Rattle.hm_names.specs.Server.{Server};
 ghost use Rattle.hm_roster.specs.Desk.{IsNumbered, IsSameButBook};
@@ -15,6 +16,15 @@ use crate::desk::Desk;
 use hm_names::Pid;
 use hm_records::Records;
 use std::alloc::{AllocError, Global};
+
+// The number of the first procedure, behind the last of a base.
+fn first_pid(records: &Records) -> u64
+    ensures { result ≡ offset records.now.past + 1 }
+{
+    let procedures = records.procedures();
+    let _last = procedures.last_pid();
+    procedures.offset() + 1
+}
 
 impl Desk {
     // Enlists a procedure that hasn't ended, with its parent. It takes what it asks for where it has a step.
@@ -44,7 +54,7 @@ impl Desk {
         ensures same { IsSameButBook self.old self.new }
     {
         let last = records.procedures().last_pid();
-        for pid in 1..last + 1 {
+        for pid in first_pid(records)..last + 1 {
             self.open_row(alloc, records, Pid(pid))?;
         }
         Ok(())
@@ -53,7 +63,7 @@ impl Desk {
     // A procedure is ready unless it has ended.
     fn ready_one(&mut self, records: &Records, pid: Pid)
         requires known { pid.0 < self.old.sched.pids }
-        requires low { 1 ≤ pid.0 }
+        requires low { offset records.now.past < pid.0 }
         requires high { pid.0 ≤ made records.now.past }
         requires below { IsReadyBelow records.now.past self.old pid.0 }
         requires free { self.old.claimed.items ≡ [] }
@@ -72,7 +82,7 @@ impl Desk {
     fn ready_all(&mut self, records: &Records)
         requires room { made records.now.past < self.old.sched.pids }
         requires below { HasLists self.old }
-        requires none { IsReadyBelow records.now.past self.old 1 }
+        requires none { IsReadyBelow records.now.past self.old (offset records.now.past + 1) }
         requires free { self.old.claimed.items ≡ [] }
         ensures follows { Follows records.now.past self.new }
         ensures order { (servers : Bool) → members self.new.sched.lists (ready_list servers) ≡ open_among records.now.past servers (made records.now.past) }
@@ -80,7 +90,7 @@ impl Desk {
         ensures same { IsSameBut self.old self.new }
     {
         let last = records.procedures().last_pid();
-        for pid in 1..last + 1 {
+        for pid in first_pid(records)..last + 1 {
             self.ready_one(records, Pid(pid));
         }
     }

@@ -1,6 +1,7 @@
 ghost use Rattle.std.specs.Prelude.{◌≡◌, ◌≢◌, ◌+◌, ◌<◌, ◌≤◌, ◌^◌, ◌∷◌, ◌++◌, [], length, None, OnOk, IfOk, IfErr};
 ghost use Rattle.std.specs.Option.{option_copied, option_map};
 ghost use Rattle.hm_data.specs.declared.entry.Entry.{Entry};
+ghost use Rattle.hm_model.specs.Editions.{editions as editions_in, sheets_in};
 ghost use Rattle.hm_model.specs.Evaluation.{CanRun};
 ghost use Rattle.hm_model.specs.Journal.{back};
 ghost use Rattle.hm_model.specs.Loads.{places_of};
@@ -9,16 +10,16 @@ ghost use Rattle.hm_model.specs.Plain.{ArePlain, IsPlain};
 ghost use Rattle.hm_model.specs.Records.{record_of, unfinished};
 ghost use Rattle.hm_model.specs.Reports.{call_of, is_settled};
 ghost use Rattle.hm_model.specs.Rules.{Allowed, IsLegal};
-ghost use Rattle.hm_model.specs.Base.{AreSheets};
+ghost use Rattle.hm_model.specs.Base.{AreSheets, IsBegun};
 ghost use Rattle.hm_model.specs.Sheets.{sheets_of};
 ghost use Rattle.hm_model.specs.Standings.{standings_of};
 ghost use Rattle.hm_model.specs.Tree.{drawn, made, node_of, pid_of};
 ghost use Rattle.hm_catalog.specs.Rows.{rows_in};
 ghost use Rattle.hm_judge.specs.Inputs.{CanEvaluate, IsInput};
-ghost use Rattle.hm_judge.specs.Judge.{IsWhy};
 ghost use Rattle.hm_procedures.specs.Procedures.{children, unfinished_procedures};
 ghost use Rattle.hm_records.specs.Parts.{AreParts, size_of};
 ghost use Rattle.hm_records.specs.Records.{AreForgotten, is_open};
+ghost use Rattle.hm_state.specs.Why.{IsWhyPlainly};
 ghost use Rattle.hm_undo.specs.Laws.{Tells};
 
 use crate::ready::Ready;
@@ -61,7 +62,7 @@ fn begin(alloc: Global, entry: Entry, sheets: Vec<Valid>) -> Result<Records, All
     requires sheets { AreSheets sheets.items }
     ensures { IfOk result (λ records. records.past ≡ entry ∷ []) }
 {
-    let records = Records::start(alloc, &entry, sheets);
+    let records = Records::begin(alloc, &entry, sheets);
     drop(entry);
     records
 }
@@ -82,6 +83,7 @@ impl State {
         ensures count { result ≡ length self.now.entries }
         ensures legal { IsLegal (back self.now.entries) }
         ensures plain { ArePlain (back self.now.entries) }
+        ensures has_begun { IsBegun (back self.now.entries) }
         ensures begun { 0 < result }
         ensures small { result < 2 ^ 63 }
     {
@@ -202,13 +204,17 @@ impl State {
         self.procedures().unfinished_procedures()
     }
 
-    /// Whether an entry may follow these.
+    /// Whether an entry may follow these; one that adopts sheets is refused by rule 19.
     pub fn allowed(&self, alloc: Global, entry: &Entry) -> Result<(), NotAllowed>
         ensures ok { OnOk result (Allowed (back self.now.entries) entry.now) }
         ensures plain { OnOk result (IsPlain entry.now) }
-        ensures why { IfErr result (IsWhy (back self.now.entries) entry.now) }
+        ensures why { IfErr result (IsWhyPlainly (back self.now.entries) entry.now) }
     {
-        hm_judge::allowed(alloc, &self.records, entry)
+        let _begun = self.entries();
+        match entry {
+            Entry::Adopt { sheets: _ } => Err(NotAllowed::Rule(19)),
+            _ => hm_judge::allowed(alloc, &self.records, entry),
+        }
     }
 
     /// What the next call of a procedure's handler sees.
@@ -220,7 +226,8 @@ impl State {
     ) -> Result<StepIn, AllocError>
         requires { node_of (back self.now.entries) pid.0 ≢ None }
         ensures input { IfOk result (IsInput (back self.now.entries) pid.0 (option_copied pick.entry)) }
-        ensures runs { IfOk result (λ at. CanEvaluate (back self.now.entries) pid.0 (option_copied pick.entry) → CanRun (sheets_of (back self.now.entries)) at) }
+        ensures runs { IfOk result (λ at. CanEvaluate (back self.now.entries) pid.0 (option_copied pick.entry) → CanRun (sheets_in (back self.now.entries) at.edition) at) }
+        ensures edition { IfOk result (λ at. at.edition ≤ editions_in (back self.now.entries)) }
     {
         hm_judge::step_in(alloc, &self.records, pid, pick)
     }
@@ -263,6 +270,7 @@ impl State {
         ensures kept { self.old.spare ≤ self.new.spare }
     {
         self.records.asks_for_regions(entry);
+        self.records.adopts_valid(entry);
         let Some(parts) = self.records.prepare(alloc, entry)? else {
             unreachable!()
         };

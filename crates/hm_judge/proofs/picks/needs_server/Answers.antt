@@ -15,7 +15,7 @@ returns-then-places c =
     λ x is shown.
     c.wants_server.ensures
     ∙ ap (λ b. b && wants c.args.records.now.past c.args.found.now.args) (sym c.if-places.true)
-    ∙ needs_row c.args.records.now.past c.procedures.ensures.legal c.procedures.ensures.plain c.args.pid.0 c.args.found.now x is shown (undoes_not c.args.records.now.past c.args.pid.0 x is c.undoes.result c.if-undoes.false tells) c.next_row.result c.next_row.ensures c.in-Some.row c.in-Some.is c.places.result c.places.ensures
+    ∙ needs_row c.args.records.now.past c.procedures.ensures.legal c.args.pid.0 c.args.found.now x is shown (undoes_not c.args.records.now.past c.args.pid.0 x is c.undoes.result c.if-undoes.false tells) c.next_row.result c.next_row.ensures c.in-Some.row c.in-Some.is c.places.result c.places.ensures
 
 pub returns-else-places : goal.returns-else-places
 returns-else-places c =
@@ -23,10 +23,10 @@ returns-else-places c =
     λ x is shown.
     c.if-places.false
     ∙ ap (λ b. b && wants c.args.records.now.past c.args.found.now.args) (sym c.if-places.false)
-    ∙ needs_row c.args.records.now.past c.procedures.ensures.legal c.procedures.ensures.plain c.args.pid.0 c.args.found.now x is shown (undoes_not c.args.records.now.past c.args.pid.0 x is c.undoes.result c.if-undoes.false tells) c.next_row.result c.next_row.ensures c.in-Some.row c.in-Some.is c.places.result c.places.ensures
+    ∙ needs_row c.args.records.now.past c.procedures.ensures.legal c.args.pid.0 c.args.found.now x is shown (undoes_not c.args.records.now.past c.args.pid.0 x is c.undoes.result c.if-undoes.false tells) c.next_row.result c.next_row.ensures c.in-Some.row c.in-Some.is c.places.result c.places.ensures
 
 pub returns-in-None : goal.returns-in-None
 returns-in-None c =
     let tells = subst (λ J. IsTrue c.undoes.result ↔ MayUndo J c.args.pid.0) c.procedures.ensures.past c.undoes.ensures in
     λ x is shown.
-    needs_no_row c.args.records.now.past c.procedures.ensures.legal c.procedures.ensures.plain c.args.pid.0 c.args.found.now x is shown (undoes_not c.args.records.now.past c.args.pid.0 x is c.undoes.result c.if-undoes.false tells) c.next_row.result c.next_row.ensures c.in-None.is
+    needs_no_row c.args.records.now.past c.procedures.ensures.legal c.args.pid.0 c.args.found.now x is shown (undoes_not c.args.records.now.past c.args.pid.0 x is c.undoes.result c.if-undoes.false tells) c.next_row.result c.next_row.ensures c.in-None.is

@@ -1,7 +1,7 @@
 use Rattle.std.proofs.Common.{map, ap, ◌∙◌}
 use Rattle.hm_locks.specs.Book.{above_child}
 use Rattle.hm_procedures.specs.Kept.{args_made}
-use Rattle.hm_records.specs.Book.{above_made, asks_in, draft_of, enlisted, stepper_of}
+use Rattle.hm_records.specs.Book.{above_made, asks_in, draft_of, enlisted}
 use Rattle.hm_records.proofs.BookTold.{above_told}
 use Rattle.hm_records.proofs.Drafts.{asks_same}
 use Rattle.hm_records.proofs.book.drafts_of.Goals as goal

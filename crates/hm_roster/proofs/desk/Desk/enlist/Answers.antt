@@ -6,8 +6,7 @@ use Rattle.hm_model.specs.Tree.{made}
 use Rattle.hm_tied.specs.Uses.{EnlistsBelow}
 use Rattle.hm_roster.specs.Roster.{rows_on}
 use Rattle.hm_roster.proofs.Alike.{book_on, book_self}
-use Rattle.hm_records.proofs.Firsts.{made_first}
-use Rattle.hm_roster.proofs.Listing.{lists_all, lists_first, lists_next, made_parent, more_same, none_more, one_more, parents_enlisted}
+use Rattle.hm_roster.proofs.Listing.{lists_all, lists_first, lists_next, made_parent, more_same, none_more, one_more, parents_enlisted, works_first}
 use Rattle.hm_roster.proofs.Tried.{when_err, when_ok}
 use Rattle.hm_roster.proofs.desk.Desk.enlist.Goals as goal
 
@@ -25,7 +24,7 @@ loop-place-init c =
 pub enlist_one-requires-clause-first : goal.enlist_one-requires-clause-first
 enlist_one-requires-clause-first c =
     let next = c.requires.next in
-    made_first next.0 c.args.records.now.past (c.procedures.ensures.legal, next.1.allowed) next.1.plain c.loop-place.place c.index-made-place.result
+    works_first next.0 c.args.records.now.past (c.procedures.ensures.legal, next.1.allowed) next.1.no_part c.loop-place.place c.index-made-place.result
     (ap (λ l. slice_get l c.loop-place.place) next.1.args ∙ get_is c.args.made.now c.loop-place.place c.index-made-place.result (omega arith) c.index-made-place.is)
 
 pub enlist_one-requires-clause-parent : goal.enlist_one-requires-clause-parent
