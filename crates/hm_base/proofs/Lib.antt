@@ -1,0 +1,12 @@
+mod Fresh
+mod Fitting
+mod Among
+mod Least
+mod Lists
+mod Each
+mod Covered
+mod OpenServed
+mod ValidSheets
+mod Reading
+mod Judging
+mod Kept
