@@ -31,7 +31,6 @@ use Rattle.hm_hall.specs.declared.hall.Task.TheVariants as task_is
 use Rattle.hm_hall.specs.declared.taken.Given.{Given}
 use Rattle.hm_hall.specs.declared.taken.Given.TheVariants as given_is
 use Rattle.hm_hall.specs.declared.taken.Taken.{Taken}
-use Rattle.hm_model.specs.Evaluation.{answer_of}
 use Rattle.hm_model.specs.Journal.{Past, back}
 use Rattle.hm_model.specs.Locks.{IsIn}
 use Rattle.hm_model.specs.Records.{record_at, record_of}
@@ -40,7 +39,7 @@ use Rattle.hm_model.specs.Tree.{Node, node_of}
 use Rattle.hm_model.specs.Claims.{Unclaims}
 use Rattle.hm_refusals.specs.declared.aborts.AbortRefused.{AbortRefused}
 use Rattle.hm_refusals.specs.declared.aborts.AbortRefused.TheVariants as abort_is
-use Rattle.hm_exec.specs.Claiming.{IsHandedOut, RefusesCommit, entry_by, entry_of}
+use Rattle.hm_exec.specs.Claiming.{IsAnswer, IsHandedOut, RefusesCommit, entry_by, entry_of}
 use Rattle.hm_exec.specs.Moment.{IsGoing, Moment, past_of}
 use Rattle.hm_exec.specs.Submitting.{AnswersAbort}
 use Rattle.hm_world.specs.Carrying.{CanCarry, OnlyExec}
@@ -129,7 +128,7 @@ module _ (old : Scene) (taken : Taken) (out : StepOut) where
       (fault, mid, subst (λ (t : Taken). Gives old taken out (Err (t, fault)) mid) gives.0.0 gives, subst (λ (t : Taken). Returns mid t new) gives.0.0 returned, halts.1)
 
   -- the handler was run for what becomes of its answer
-  pub becomes_runs : {E : Type 0} (new : Scene) (r : Result Worked E) → answer_of (sheets_of (past_in old)) taken.was ≡ Some out → IfOk r (λ worked. Becomes old taken out worked new) → IfOk r (λ worked. RunsTo old taken worked new)
+  pub becomes_runs : {E : Type 0} (new : Scene) (r : Result Worked E) → IsAnswer (past_in old) taken.was out → IfOk r (λ worked. Becomes old taken out worked new) → IfOk r (λ worked. RunsTo old taken worked new)
   becomes_runs new (Ok worked) answered becomes = (out, answered, becomes)
   becomes_runs new (Err e) answered becomes = tt
 

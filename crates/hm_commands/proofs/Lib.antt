@@ -6,6 +6,7 @@ pub mod Growth
 pub mod Failing
 pub mod Adding
 pub mod Serving
+pub mod Running
 pub mod Working
 pub mod Clusters
 pub mod Moving

@@ -57,11 +57,15 @@ found_same f (first ∷ kinds) (sheet ∷ sheets) found same kind runs =
 pub own_is : (first sheets : List Sheet) → map Some sheets ≡ map (λ kind. sheet_for first kind) all_kinds → own_sheets first ≡ sheets
 own_is first sheets found = listed_are (sheet_for first) all_kinds sheets found
 
+-- it lists its sheets of all kinds, and has them for edition 0
+abbrev pub Lists : {R : Type 0} (f own : R → List Sheet) (has : R → ℕ → Option (List Sheet)) → R → Type 0
+Lists f own has r = AreWhole (f r) (own r) × (has r 0 ≡ Some (own r))
+
 -- so a run uses the sheets that the first registry lists
-pub used_are : {R : Type 0} (f own : R → List Sheet) (hands : List R) → HandsAgree (map f hands) → All (λ r. AreWhole (f r) (own r)) hands → (x : R) → x ≡ get_or hands 0 x → (slice : List Sheet) → slice ≡ own x
+pub used_are : {R : Type 0} (f own : R → List Sheet) (has : R → ℕ → Option (List Sheet)) (hands : List R) → HandsAgree (map f hands) → All (Lists f own has) hands → (x : R) → x ≡ get_or hands 0 x → (slice : List Sheet) → slice ≡ own x
     → own_sheets (first_sheets (map f hands)) ≡ slice
-used_are f own hands agree each x is slice same =
-    let list = all_first f hands agree (λ r. AreWhole (f r) (own r)) x is each in
+used_are f own has hands agree each x is slice same =
+    let list = (all_first f hands agree (Lists f own has) x is each).0 in
     ap own_sheets (first_is f hands agree x is) ∙ own_is (f x) (own x) list.found ∙ sym same
 
 -- the handlers agree with the sheets that are listed

@@ -51,6 +51,11 @@ abbrev pub first_sheets : List (List Sheet) → List Sheet
 first_sheets [] = []
 first_sheets (first ∷ others) = first
 
+-- the sheets that the first of registries has for an edition, if it has that edition
+abbrev pub first_in : List (ℕ → Option (List Sheet)) → ℕ → Option (List Sheet)
+first_in [] edition = None
+first_in (first ∷ others) edition = first edition
+
 -- the sheets of the first of these registries, for all kinds of procedures
 abbrev pub sheets_used : HandsUse → List Sheet
 sheets_used hands = own_sheets (first_sheets hands.before)

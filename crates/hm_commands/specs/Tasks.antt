@@ -7,10 +7,9 @@ use Rattle.hm_hall.specs.declared.fault.HallFault.{HallFault}
 use Rattle.hm_hall.specs.declared.hall.Task.TheVariants as task_is
 use Rattle.hm_hall.specs.declared.taken.Given.TheVariants as given_is
 use Rattle.hm_hall.specs.declared.taken.Taken.{Taken}
-use Rattle.hm_model.specs.Evaluation.{answer_of}
 use Rattle.hm_model.specs.Rest.{IsAtRest}
-use Rattle.hm_model.specs.Sheets.{sheets_of}
 use Rattle.hm_world_model.specs.Measure.{left_to_carry}
+use Rattle.hm_exec.specs.Claiming.{IsAnswer}
 use Rattle.hm_world.specs.Carrying.{Carries}
 use Rattle.hm_world.specs.Scene.{GoesOn, Scene, past_in, world_of}
 use Rattle.hm_world.specs.Taking.{Gives, IsStill, Returns, Takes}
@@ -32,7 +31,7 @@ Becomes mid taken out worked_is.Idle new = ⊥
 
 -- the handler of what was taken was run, and that became of its answer
 abbrev pub RunsTo : Scene → Taken → Worked → Scene → Type 0
-RunsTo mid taken worked new = (out : StepOut) × (answer_of (sheets_of (past_in mid)) taken.was ≡ Some out) × Becomes mid taken out worked new
+RunsTo mid taken worked new = (out : StepOut) × IsAnswer (past_in mid) taken.was out × Becomes mid taken out worked new
 
 -- a step: a procedure that is available was claimed, its handler was run, and the claim ended
 pub record Steps (old : Scene) (worked : Worked) (new : Scene) : Type 0 where

@@ -1,9 +1,9 @@
 //! Answers a command.
-ghost use Rattle.std.specs.Prelude.{◌≡◌, IfErr, IfOk, None, Some, map};
+ghost use Rattle.std.specs.Prelude.{◌≡◌, All, IfErr, IfOk, None, Some, map};
 ghost use Rattle.std.specs.Result.{result_ok};
 ghost use Rattle.hm_data.specs.declared.entry.Entry.{Entry as EntryValue};
 ghost use Rattle.hm_model.specs.Journal.{back};
-ghost use Rattle.hm_sheet.specs.Registry.{sheets_of};
+ghost use Rattle.hm_sheet.specs.Registry.{IsRegistry, sheets_of};
 ghost use Rattle.hm_world.specs.Scene.{GoesOn, Scene as SceneValue};
 ghost use Rattle.hm_commands.specs.Commands.{Aborts, Answers, Comes, ComesAt, ComesOther, IsUnanswered, asked};
 ghost use Rattle.hm_commands.specs.Submissions.{Submits};
@@ -56,11 +56,13 @@ impl<D: Disk> Cluster<D> {
     ) -> Result<Answer, AllocError>
         requires going { GoesOn (scene_in self.old) }
         requires hands { Serve (map (sheets_of ⟦<dyn Handler as Handler>⟧) hands.old.items) (journal_at (scene_in self.old)) }
+        requires each { All (IsRegistry ⟦<dyn Handler as Handler>⟧) hands.old.items }
         requires offered { IsOffered command }
         requires other { asked command ≡ None }
         ensures comes { ComesOther command (scene_in self.old) (result_ok result) (scene_in self.new) }
         ensures opened { self.new.recorder.opened ≡ self.old.recorder.opened }
         ensures ran { Ran (hands_use ⟦<dyn Handler as Handler>⟧ hands.old.items hands.new.items) (journal_at (scene_in self.old)) (journal_at (scene_in self.new)) }
+        ensures each { All (IsRegistry ⟦<dyn Handler as Handler>⟧) hands.new.items }
     {
         match command {
             Command::Abort { pid } => self.abort(alloc, pid),
@@ -91,10 +93,12 @@ impl<D: Disk> Cluster<D> {
         command: Command,
     ) -> Result<Answer, AllocError>
         requires hands { Serve (map (sheets_of ⟦<dyn Handler as Handler>⟧) hands.old.items) (journal_at (scene_in self.old)) }
+        requires each { All (IsRegistry ⟦<dyn Handler as Handler>⟧) hands.old.items }
         requires offered { IsOffered command }
         ensures comes { Comes command (scene_in self.old) (result_ok result) (scene_in self.new) }
         ensures opened { self.new.recorder.opened ≡ self.old.recorder.opened }
         ensures ran { Ran (hands_use ⟦<dyn Handler as Handler>⟧ hands.old.items hands.new.items) (journal_at (scene_in self.old)) (journal_at (scene_in self.new)) }
+        ensures each { All (IsRegistry ⟦<dyn Handler as Handler>⟧) hands.new.items }
     {
         if let Some(why) = self.halted() {
             drop(command);
@@ -116,10 +120,12 @@ impl<D: Disk> Cluster<D> {
         command: Command,
     ) -> Result<(Cluster<D>, Answer), (D, AllocError)>
         requires hands { Serve (map (sheets_of ⟦<dyn Handler as Handler>⟧) hands.old.items) (journal_at (scene_in self)) }
+        requires each { All (IsRegistry ⟦<dyn Handler as Handler>⟧) hands.old.items }
         requires offered { IsOffered command }
         ensures answers { IfOk result (λ r. Answers command (scene_in self) r.1 (scene_in r.0)) }
         ensures opened { IfOk result (λ r. r.0.recorder.opened ≡ self.recorder.opened) }
         ensures ran { IfOk result (λ r. Ran (hands_use ⟦<dyn Handler as Handler>⟧ hands.old.items hands.new.items) (journal_at (scene_in self)) (journal_at (scene_in r.0))) }
+        ensures each { All (IsRegistry ⟦<dyn Handler as Handler>⟧) hands.new.items }
         ensures early { IfErr result (λ e. (new : SceneValue) × IsUnanswered command (scene_in self) new × IsLeftBy D.Disk self.recorder.opened new e.0
             × Ran (hands_use ⟦<dyn Handler as Handler>⟧ hands.old.items hands.new.items) (journal_at (scene_in self)) (journal_at new)) }
     {

@@ -1,17 +1,16 @@
 //! Tasks: what the run does for `step` and `settle`.
-ghost use Rattle.std.specs.Prelude.{◌≡◌, ◌+◌, ◌++◌, ◌≤◌, [], ℕ, List, IfOk, MatchResult, None, Ok, OnErr, OnOk, Some, map};
+ghost use Rattle.std.specs.Prelude.{◌≡◌, ◌+◌, ◌++◌, ◌≤◌, [], ℕ, List, All, IfOk, MatchResult, None, Ok, OnErr, OnOk, Some, map};
 ghost use Rattle.std.specs.Result.{result_ok};
 ghost use Rattle.hm_data.specs.declared.entry.Entry.{Entry as EntryValue};
 ghost use Rattle.hm_hall.specs.declared.fault.Halt.{Halt as HaltValue};
-ghost use Rattle.hm_model.specs.Evaluation.{CanRun, answer_of};
-ghost use Rattle.hm_model.specs.Sheets.{sheets_of as begun_with};
-ghost use Rattle.hm_sheet.specs.Registry.{sheets_of};
-ghost use Rattle.hm_exec.specs.Claiming.{IsHandedOut};
+ghost use Rattle.hm_sheet.specs.Learnt.{CanRunIn, answer_in};
+ghost use Rattle.hm_sheet.specs.Registry.{IsRegistry, sheets_at, sheets_of};
+ghost use Rattle.hm_exec.specs.Claiming.{IsAnswer, IsHandedOut};
 ghost use Rattle.hm_world.specs.Carrying.{CanCarry, IsNearer};
 ghost use Rattle.hm_world.specs.Scene.{GoesOn, Scene as SceneValue, past_in};
 ghost use Rattle.hm_world.specs.Taking.{Takes};
 ghost use Rattle.hm_commands.specs.Commands.{Settles, WorksFor};
-ghost use Rattle.hm_commands.specs.Hands.{HandsAgree, Ran, RunBy, Serve, first_sheets, hands_use, steps_in};
+ghost use Rattle.hm_commands.specs.Hands.{HandsAgree, Ran, RunBy, Serve, first_in, hands_use, steps_in};
 ghost use Rattle.hm_commands.specs.Scenes.{IsOnly, IsUnrecorded, journal_at};
 ghost use Rattle.hm_commands.specs.Tasks.{Becomes, Carried, IsDone, LacksMemory, RunsTo, Tasks, Works, left_to_do};
 ghost use Rattle.hm_commands.specs.Telling.{halt_of_fault};
@@ -55,11 +54,13 @@ fn nothing(alloc: Global) -> StepOut {
     }
 }
 
-// Runs the handler for an input, and gives what it answers.
+// Runs the first registry for an input, and gives what it answers.
 fn run_once(alloc: Global, hands: &mut Vec<Registry>, at: &StepIn) -> Result<StepOut, AllocError>
     requires agree { HandsAgree (map (sheets_of ⟦<dyn Handler as Handler>⟧) hands.old.items) }
-    requires runs { CanRun (first_sheets (map (sheets_of ⟦<dyn Handler as Handler>⟧) hands.old.items)) at.now }
-    ensures out { IfOk result (λ out. answer_of (first_sheets (map (sheets_of ⟦<dyn Handler as Handler>⟧) hands.old.items)) at.now ≡ Some out) }
+    requires each { All (IsRegistry ⟦<dyn Handler as Handler>⟧) hands.old.items }
+    requires runs { CanRunIn (first_in (map sheets_at hands.old.items) at.now.edition) at.now }
+    ensures out { IfOk result (λ out. answer_in (first_in (map sheets_at hands.old.items) at.now.edition) at.now ≡ Some out) }
+    ensures each { All (IsRegistry ⟦<dyn Handler as Handler>⟧) hands.new.items }
     ensures runs { OnOk result (RunBy (hands_use ⟦<dyn Handler as Handler>⟧ hands.old.items hands.new.items) 1) }
     ensures later { RunBy (hands_use ⟦<dyn Handler as Handler>⟧ hands.old.items hands.new.items) 0 }
 {
@@ -96,7 +97,7 @@ fn record<D: Disk>(
     requires going { GoesOn (scene_in world.old) }
     requires handed { IsHandedOut (past_in (scene_in world.old)) taken }
     requires claimed { IsOnly taken.pid.0 world.old.claimed }
-    requires answer { answer_of (begun_with (past_in (scene_in world.old))) taken.was ≡ Some out }
+    requires answer { IsAnswer (past_in (scene_in world.old)) taken.was out }
     ensures becomes { IfOk result (λ worked. Becomes (scene_in world.old) taken out worked (scene_in world.new)) }
     ensures err { OnErr result (IsUnrecorded (scene_in world.old) (scene_in world.new)) }
     ensures claimed { world.new.claimed ≡ [] }
@@ -137,11 +138,13 @@ fn work<D: Disk>(
     requires handed { IsHandedOut (past_in (scene_in world.old)) taken }
     requires claimed { IsOnly taken.pid.0 world.old.claimed }
     requires hands { Serve (map (sheets_of ⟦<dyn Handler as Handler>⟧) hands.old.items) (journal_at (scene_in world.old)) }
+    requires each { All (IsRegistry ⟦<dyn Handler as Handler>⟧) hands.old.items }
     ensures runs { IfOk result (λ worked. RunsTo (scene_in world.old) taken worked (scene_in world.new)) }
     ensures err { OnErr result (IsUnrecorded (scene_in world.old) (scene_in world.new)) }
     ensures claimed { world.new.claimed ≡ [] }
     ensures opened { world.new.recorder.opened ≡ world.old.recorder.opened }
     ensures ran { Ran (hands_use ⟦<dyn Handler as Handler>⟧ hands.old.items hands.new.items) (journal_at (scene_in world.old)) (journal_at (scene_in world.new)) }
+    ensures each { All (IsRegistry ⟦<dyn Handler as Handler>⟧) hands.new.items }
 {
     world.state().entries();
     match run_once(alloc, hands, &taken.was) {
@@ -176,11 +179,13 @@ impl<D: Disk> Cluster<D> {
     fn task(&mut self, alloc: Global, hands: &mut Vec<Registry>) -> Result<Worked, AllocError>
         requires going { GoesOn (scene_in self.old) }
         requires hands { Serve (map (sheets_of ⟦<dyn Handler as Handler>⟧) hands.old.items) (journal_at (scene_in self.old)) }
+        requires each { All (IsRegistry ⟦<dyn Handler as Handler>⟧) hands.old.items }
         ensures works { IfOk result (λ worked. Works (scene_in self.old) worked (scene_in self.new)) }
         ensures less { result ≡ Ok Worked.Done → left_to_do (scene_in self.new) + 1 ≤ left_to_do (scene_in self.old) }
         ensures err { OnErr result (LacksMemory (scene_in self.old) (scene_in self.new)) }
         ensures opened { self.new.recorder.opened ≡ self.old.recorder.opened }
         ensures ran { Ran (hands_use ⟦<dyn Handler as Handler>⟧ hands.old.items hands.new.items) (journal_at (scene_in self.old)) (journal_at (scene_in self.new)) }
+        ensures each { All (IsRegistry ⟦<dyn Handler as Handler>⟧) hands.new.items }
     {
         self.keeps();
         match take::<D, Brand>(&mut self.world, alloc, Blank::new(1)) {
@@ -201,9 +206,11 @@ impl<D: Disk> Cluster<D> {
     ) -> Result<Answer, AllocError>
         requires going { GoesOn (scene_in self.old) }
         requires hands { Serve (map (sheets_of ⟦<dyn Handler as Handler>⟧) hands.old.items) (journal_at (scene_in self.old)) }
+        requires each { All (IsRegistry ⟦<dyn Handler as Handler>⟧) hands.old.items }
         ensures comes { WorksFor most (scene_in self.old) (result_ok result) (scene_in self.new) }
         ensures opened { self.new.recorder.opened ≡ self.old.recorder.opened }
         ensures ran { Ran (hands_use ⟦<dyn Handler as Handler>⟧ hands.old.items hands.new.items) (journal_at (scene_in self.old)) (journal_at (scene_in self.new)) }
+        ensures each { All (IsRegistry ⟦<dyn Handler as Handler>⟧) hands.new.items }
     {
         let mut done = 0;
         while done < most {
@@ -237,9 +244,11 @@ impl<D: Disk> Cluster<D> {
     ) -> Result<Answer, AllocError>
         requires going { GoesOn (scene_in self.old) }
         requires hands { Serve (map (sheets_of ⟦<dyn Handler as Handler>⟧) hands.old.items) (journal_at (scene_in self.old)) }
+        requires each { All (IsRegistry ⟦<dyn Handler as Handler>⟧) hands.old.items }
         ensures comes { Settles (scene_in self.old) (result_ok result) (scene_in self.new) }
         ensures opened { self.new.recorder.opened ≡ self.old.recorder.opened }
         ensures ran { Ran (hands_use ⟦<dyn Handler as Handler>⟧ hands.old.items hands.new.items) (journal_at (scene_in self.old)) (journal_at (scene_in self.new)) }
+        ensures each { All (IsRegistry ⟦<dyn Handler as Handler>⟧) hands.new.items }
     {
         loop {
             match self.task(alloc, hands) {

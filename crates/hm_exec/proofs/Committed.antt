@@ -12,15 +12,14 @@ use Rattle.hm_hall.specs.declared.fault.HallFault.{HallFault}
 use Rattle.hm_hall.specs.declared.fault.HallFault.TheVariants as fault_is
 use Rattle.hm_hall.specs.declared.taken.Taken.{Taken}
 use Rattle.hm_judge.specs.Fresh.{FreshStepsFollow, FreshUndosFollow}
-use Rattle.hm_judge.proofs.Plainly.{own_sheets}
+use Rattle.hm_judge.proofs.Editions.{seen_sheets}
 use Rattle.hm_locks.specs.Book.{NoneClash}
 use Rattle.hm_model.specs.Evaluation.{answer_of}
 use Rattle.hm_model.specs.Holding.{IsFree}
 use Rattle.hm_model.specs.Journal.{Past, back}
 use Rattle.hm_model.specs.Locks.{IsIn}
-use Rattle.hm_model.specs.Plain.{ArePlain}
 use Rattle.hm_model.specs.Rules.{Allowed, IsLegal}
-use Rattle.hm_model.specs.Sheets.{sheets_by, sheets_of}
+use Rattle.hm_model.specs.Sheets.{sheets_by}
 use Rattle.hm_model.specs.Tree.{made, root_of}
 use Rattle.hm_model.specs.Claims.{Unclaims}
 use Rattle.hm_roster.specs.Behind.{IsUndoOf}
@@ -32,7 +31,7 @@ use Rattle.hm_tied.specs.Tied.{IsTied, Roster}
 use Rattle.hm_tied.proofs.Ables.{claimed_stay_able}
 use Rattle.hm_tied.proofs.Uses.{none_clash_ties}
 use Rattle.hm_exec.specs.Adding.{Adds}
-use Rattle.hm_exec.specs.Claiming.{Commits, IsFresh, RefusesCommit, entry_by, entry_of}
+use Rattle.hm_exec.specs.Claiming.{Commits, IsAnswer, IsFresh, RefusesCommit, entry_by, entry_of}
 use Rattle.hm_exec.specs.Moment.{IsGoing, Moment, past_of}
 use Rattle.hm_exec.specs.View.{AreAble, IsExec}
 use Rattle.hm_exec.proofs.Going.{past_more}
@@ -55,10 +54,10 @@ undo_is taken out other = by taken.was.turn refl
     by (turn_is.Undo edits) is = ap (λ (t : Turn). entry_by t taken.pid.0 taken.was out) is
 
 -- a fresh answer of a claimed procedure may follow
-module _ (J : Past) (desk : Desk) (taken : Taken) (out : StepOut) (legal : IsLegal J) (plain : ArePlain J) (follows : Follows J desk) (able : AreAble J desk) (mine : IsIn taken.pid.0 (claims_on desk)) (fresh : IsFresh J taken) (answer : answer_of (sheets_of J) taken.was ≡ Some out) where
+module _ (J : Past) (desk : Desk) (taken : Taken) (out : StepOut) (legal : IsLegal J) (follows : Follows J desk) (able : AreAble J desk) (mine : IsIn taken.pid.0 (claims_on desk)) (fresh : IsFresh J taken) (answer : IsAnswer J taken.was out) where
   -- it is by the sheets of its root
   own_answer : answer_of (sheets_by J fresh.1.0.root) taken.was ≡ Some out
-  own_answer = ap (λ sheets. answer_of sheets taken.was) (own_sheets J legal plain taken.pid.0 fresh.1.0 fresh.1.1) ∙ answer
+  own_answer = ap (λ sheets. answer_of sheets taken.was) (seen_sheets J legal taken.pid.0 fresh.1.0 fresh.1.1 (let was = taken.was in was.pick) taken.was fresh.1.2) ∙ answer
 
   pub step_allowed : FreshStepsFollow → NoneClash (rows_on desk) → taken.was.turn ≡ turn_is.Step → Allowed J (entry_is.Step taken.pid taken.was.pick out)
   step_allowed follow apart turn =
@@ -154,21 +153,21 @@ module _ (old new : Recording) (claims after : List ℕ) (taken : Taken) (out : 
 
 -- a claimed procedure's fresh answer is to be recorded
 abbrev pub CanCommit : Moment → Taken → StepOut → Type 0
-CanCommit now taken out = IsGoing now × IsIn taken.pid.0 now.claimed × IsFresh (past_of now) taken × (answer_of (sheets_of (past_of now)) taken.was ≡ Some out)
+CanCommit now taken out = IsGoing now × IsIn taken.pid.0 now.claimed × IsFresh (past_of now) taken × IsAnswer (past_of now) taken.was out
 
 module _ (kept : Recording) (entries : List Entry) (desk : Desk) (was : IsExec kept entries desk) (taken : Taken) (out : StepOut) (can : CanCommit (record { kept = kept; claimed = claims_on desk }) taken out) where
   fresh_now : IsFresh (back entries) taken
   fresh_now = subst (λ (l : List Entry). IsFresh (back l) taken) was.same can.2
 
-  answer_now : answer_of (sheets_of (back entries)) taken.was ≡ Some out
-  answer_now = subst (λ (l : List Entry). answer_of (sheets_of (back l)) taken.was ≡ Some out) was.same can.3
+  answer_now : IsAnswer (back entries) taken.was out
+  answer_now = subst (λ (l : List Entry). IsAnswer (back l) taken.was out) was.same can.3
 
   -- its entry may follow
-  pub step_now : IsLegal (back entries) → ArePlain (back entries) → FreshStepsFollow → NoneClash (rows_on desk) → taken.was.turn ≡ turn_is.Step → Allowed (back entries) (entry_is.Step taken.pid taken.was.pick out)
-  step_now legal plain = step_allowed (back entries) desk taken out legal plain was.follows was.able can.1 fresh_now answer_now
+  pub step_now : IsLegal (back entries) → FreshStepsFollow → NoneClash (rows_on desk) → taken.was.turn ≡ turn_is.Step → Allowed (back entries) (entry_is.Step taken.pid taken.was.pick out)
+  step_now legal = step_allowed (back entries) desk taken out legal was.follows was.able can.1 fresh_now answer_now
 
-  pub undo_now : IsLegal (back entries) → ArePlain (back entries) → FreshUndosFollow → taken.was.turn ≢ turn_is.Step → Allowed (back entries) (entry_is.Undo taken.was.pid taken.was.row out) × (root_of (back entries) taken.was.pid.0 ≡ taken.pid.0)
-  undo_now legal plain = undo_allowed (back entries) desk taken out legal plain was.follows was.able can.1 fresh_now answer_now
+  pub undo_now : IsLegal (back entries) → FreshUndosFollow → taken.was.turn ≢ turn_is.Step → Allowed (back entries) (entry_is.Undo taken.was.pid taken.was.row out) × (root_of (back entries) taken.was.pid.0 ≡ taken.pid.0)
+  undo_now legal = undo_allowed (back entries) desk taken out legal was.follows was.able can.1 fresh_now answer_now
 
   -- what is told where it was recorded, and where it wasn't
   module _ (entry : Entry) (is : entry_of taken out ≡ entry) (allowed : Allowed (back entries) entry) (new : Recording) (after : List ℕ) where

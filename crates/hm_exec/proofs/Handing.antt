@@ -1,5 +1,5 @@
 -- What is handed out of a procedure that can go on: what its handler's next call sees, with a pick that is right.
-use Rattle.std.proofs.Common.{◌≡◌, ◌==◌, ◌&&◌, ◌||◌, ◌⊎◌, ℕ, List, [], ◌∷◌, Bool, true, false, not, if◌then◌else◌, Option, Some, None, refl, inl, inr, ap, sym, ◌∙◌, subst}
+use Rattle.std.proofs.Common.{◌≡◌, ◌≤◌, ◌==◌, ◌&&◌, ◌||◌, ◌⊎◌, ℕ, List, [], ◌∷◌, Bool, true, false, not, if◌then◌else◌, Option, Some, None, refl, inl, inr, ap, sym, ◌∙◌, subst}
 use Rattle.std.proofs.lemmas.Bool.{and_parts, cases_Bool, true≢false}
 use Rattle.std.proofs.lemmas.Option.{none-some, same_Some}
 use Rattle.hm_names.specs.Server.{Server}
@@ -13,7 +13,7 @@ use Rattle.hm_model.specs.Picks.{PicksRight, fits_input, has_pick, is_another, i
 use Rattle.hm_model.specs.Places.{tries_of}
 use Rattle.hm_model.specs.Rest.{MayStepPicked, MayUndo}
 use Rattle.hm_model.specs.Rules.{IsLegal}
-use Rattle.hm_model.specs.Sheets.{sheets_of}
+use Rattle.hm_model.specs.Editions.{editions, sheets_in}
 use Rattle.hm_model.specs.Tree.{Node, node_of}
 use Rattle.hm_model.specs.Undo.{Undoable, stack}
 use Rattle.hm_model.specs.Wanted.{wanted_of}
@@ -98,9 +98,9 @@ can_be_called J p pick right (inr may) = inr may
 
 -- what is handed out of it
 pub handed : CandidatesFit → PicksAreThere → (J : Past) → IsLegal J → (pid : Pid) (pick : Option Server) (was : StepIn) → MayStepPicked J pid.0 ⊎ MayUndo J pid.0
-    → ((node : Node) → node_of J pid.0 ≡ Some node → pick ≡ candidate J pid.0 node) → IsInput J pid.0 pick was → (CanEvaluate J pid.0 pick → CanRun (sheets_of J) was)
+    → ((node : Node) → node_of J pid.0 ≡ Some node → pick ≡ candidate J pid.0 node) → IsInput J pid.0 pick was → was.edition ≤ editions J → (CanEvaluate J pid.0 pick → CanRun (sheets_in J was.edition) was)
     → IsHandedOut J (record { pid = pid; was = was })
-handed fit there J legal pid pick was may chosen sees runs =
+handed fit there J legal pid pick was may chosen sees within runs =
     let x = goer J pid.0 may in
     let right = subst (PicksRight J pid.0) (sym (chosen x.0 x.1)) (right_pick J legal pid.0 x.0 x.1 fit there may) in
     let seen = sees x.0 x.1 in
@@ -109,5 +109,6 @@ handed fit there J legal pid pick was may chosen sees runs =
       sees = (x.0, x.1, subst (λ o. was ≡ input J pid.0 x.0 o) (sym same) seen);
       picks = subst (PicksRight J pid.0) (sym same) right;
       chosen = λ node is. same ∙ chosen node is;
+      edition = within;
       runs = runs (can_be_called J pid.0 pick right may);
     }

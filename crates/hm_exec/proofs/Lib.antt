@@ -8,5 +8,6 @@ mod Going
 mod Handing
 mod Living
 mod Looked
+mod Makes
 mod Recording
 mod Rooted

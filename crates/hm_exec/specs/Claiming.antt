@@ -1,5 +1,5 @@
 -- What claims and commits are answered, and what is left.
-use Rattle.std.specs.Prelude.{◌≡◌, ◌⊎◌, ℕ, Result, Ok, Err, Option, Some, None}
+use Rattle.std.specs.Prelude.{◌≡◌, ◌≤◌, ◌⊎◌, ℕ, Result, Ok, Err, Option, Some, None}
 use Rattle.hm_names.specs.Server.{Server}
 use Rattle.hm_data.specs.declared.entry.Entry.{Entry}
 use Rattle.hm_data.specs.declared.entry.Entry.TheVariants as entry_is
@@ -14,12 +14,12 @@ use Rattle.hm_hall.specs.declared.taken.Given.{Given}
 use Rattle.hm_hall.specs.declared.taken.Given.TheVariants as given_is
 use Rattle.hm_hall.specs.declared.taken.Taken.{Taken}
 use Rattle.hm_model.specs.Rest.{IsAvailable}
-use Rattle.hm_model.specs.Evaluation.{CanRun}
+use Rattle.hm_model.specs.Editions.{editions, sheets_in}
+use Rattle.hm_model.specs.Evaluation.{CanRun, answer_of}
 use Rattle.hm_model.specs.Inputs.{input}
 use Rattle.hm_model.specs.Journal.{Past}
 use Rattle.hm_model.specs.Picks.{PicksRight}
 use Rattle.hm_model.specs.Rules.{Allowed}
-use Rattle.hm_model.specs.Sheets.{sheets_of}
 use Rattle.hm_model.specs.Tree.{Node, node_of}
 use Rattle.hm_model.specs.Claims.{IsClaimedToo, Unclaims}
 use Rattle.hm_model.specs.Choice.{candidate}
@@ -33,12 +33,14 @@ SeesNow J p pick at = (node : Node) × (node_of J p ≡ Some node) × (at ≡ in
 abbrev pub IsChosen : Past → ℕ → Option Server → Type 0
 IsChosen J p pick = (node : Node) → node_of J p ≡ Some node → pick ≡ candidate J p node
 
--- what is handed out: the input that fits the procedure now, with a pick that fits, on which its sheet can be asked
+-- what is handed out: the input that fits the procedure now, with a pick that fits, on which its sheet of its edition can be
+-- asked
 pub record IsHandedOut (J : Past) (taken : Taken) : Type 0 where
   pub sees : (let pid = taken.pid in (let was = taken.was in SeesNow J pid.0 was.pick was))
   pub picks : (let pid = taken.pid in (let was = taken.was in PicksRight J pid.0 was.pick))
   pub chosen : (let pid = taken.pid in (let was = taken.was in IsChosen J pid.0 was.pick))
-  pub runs : CanRun (sheets_of J) taken.was
+  pub edition : (let was = taken.was in was.edition ≤ editions J)
+  pub runs : (let was = taken.was in CanRun (sheets_in J was.edition) was)
 
 -- a procedure that is claimed is available, and is claimed from now on
 abbrev pub Claims : Moment → Taken → Moment → Type 0
@@ -56,6 +58,10 @@ AnswersClaim old (Err (fault_is.Halted why)) new = IsHalted old why new
 AnswersClaim old (Err fault_is.Memory) new =
     IsGoing old × ((q : ℕ) × IsAvailable (past_of old) old.claimed old.claimed q) × (new ≡ old)
 AnswersClaim old (Err fault) new = ⊥
+
+-- what was answered is what the sheet says of the input's edition
+abbrev pub IsAnswer : Past → StepIn → StepOut → Type 0
+IsAnswer J was out = answer_of (sheets_in J was.edition) was ≡ Some out
 
 -- the entry of an answer: a step, or what undoes one
 abbrev pub entry_by : Turn → ℕ → StepIn → StepOut → Entry

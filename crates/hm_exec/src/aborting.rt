@@ -49,6 +49,7 @@ impl<R: Recorder> Exec<R> {
         if let Some(why) = self.recorder.halted() {
             return Err(AbortRefused::Fault(HallFault::Halted(why)));
         }
+        let _begun = self.state.entries();
         match judge_abort(self.state.records(), pid) {
             Err(why) => return Err(why),
             Ok(true) => return Ok(true),

@@ -5,14 +5,12 @@ ghost use Rattle.hm_ports.specs.Faults.{Rose};
 ghost use Rattle.hm_data.specs.declared.entry.Entry.TheVariants as entry_is;
 ghost use Rattle.hm_data.specs.declared.step.StepIn.{StepIn as StepInValue};
 ghost use Rattle.hm_data.specs.declared.step.Turn.TheVariants as turn_is;
-ghost use Rattle.hm_exec.specs.Claiming.{AnswersCommit, Commits, GivesUp, IsFresh, IsNow, RefusesCommit};
+ghost use Rattle.hm_exec.specs.Claiming.{AnswersCommit, Commits, GivesUp, IsAnswer, IsFresh, IsNow, RefusesCommit};
 ghost use Rattle.hm_exec.specs.Moment.{IsGoing, past_of};
 ghost use Rattle.hm_exec.specs.Sparing.{SparesAt, SparesCommit};
 ghost use Rattle.hm_exec.specs.View.{moment_of};
-ghost use Rattle.hm_model.specs.Evaluation.{answer_of};
 ghost use Rattle.hm_model.specs.Journal.{back};
 ghost use Rattle.hm_model.specs.Locks.{IsIn};
-ghost use Rattle.hm_model.specs.Sheets.{sheets_of};
 ghost use Rattle.hm_model.specs.Tree.{node_of};
 ghost use Rattle.hm_tied.specs.Entries.{alters as changes};
 
@@ -87,7 +85,7 @@ impl<R: Recorder> Exec<R> {
         requires going { IsGoing (moment_of R.kept self.old) }
         requires claimed { IsIn taken.now.pid.0 self.old.claimed }
         requires fresh { IsFresh (past_of (moment_of R.kept self.old)) taken.now }
-        requires answer { answer_of (sheets_of (past_of (moment_of R.kept self.old))) taken.now.was ≡ Some out }
+        requires answer { IsAnswer (past_of (moment_of R.kept self.old)) taken.now.was out }
         requires step { taken.now.was.turn ≡ turn_is.Step }
         ensures kept { IfOk result (λ number. Commits (moment_of R.kept self.old) taken.now out number (moment_of R.kept self.new)) }
         ensures refused { IfErr result (λ fault. RefusesCommit (moment_of R.kept self.old) taken.now out fault (moment_of R.kept self.new)) }
@@ -122,7 +120,7 @@ impl<R: Recorder> Exec<R> {
         requires going { IsGoing (moment_of R.kept self.old) }
         requires claimed { IsIn taken.now.pid.0 self.old.claimed }
         requires fresh { IsFresh (past_of (moment_of R.kept self.old)) taken.now }
-        requires answer { answer_of (sheets_of (past_of (moment_of R.kept self.old))) taken.now.was ≡ Some out }
+        requires answer { IsAnswer (past_of (moment_of R.kept self.old)) taken.now.was out }
         requires undo { taken.now.was.turn ≢ turn_is.Step }
         ensures kept { IfOk result (λ number. Commits (moment_of R.kept self.old) taken.now out number (moment_of R.kept self.new)) }
         ensures refused { IfErr result (λ fault. RefusesCommit (moment_of R.kept self.old) taken.now out fault (moment_of R.kept self.new)) }
@@ -160,7 +158,7 @@ impl<R: Recorder> Exec<R> {
         requires going { IsGoing (moment_of R.kept self.old) }
         requires claimed { IsIn taken.now.pid.0 self.old.claimed }
         requires fresh { IsFresh (past_of (moment_of R.kept self.old)) taken.now }
-        requires answer { answer_of (sheets_of (past_of (moment_of R.kept self.old))) taken.now.was ≡ Some out }
+        requires answer { IsAnswer (past_of (moment_of R.kept self.old)) taken.now.was out }
         ensures kept { IfOk result (λ number. Commits (moment_of R.kept self.old) taken.now out number (moment_of R.kept self.new)) }
         ensures refused { IfErr result (λ fault. RefusesCommit (moment_of R.kept self.old) taken.now out fault (moment_of R.kept self.new)) }
         ensures fault { IsErrOf result HallFault.LogFault → Rose (R.faults self.old.recorder) (R.faults self.new.recorder) }
@@ -177,7 +175,7 @@ impl<R: Recorder> Exec<R> {
     // Commits an answer of a claimed procedure, but for giving back what was taken.
     fn answer(&mut self, alloc: Global, taken: &Taken, out: StepOut) -> Result<Answered, HallFault>
         requires claimed { IsIn taken.now.pid.0 self.old.claimed }
-        requires answer { answer_of (sheets_of (past_of (moment_of R.kept self.old))) taken.now.was ≡ Some out }
+        requires answer { IsAnswer (past_of (moment_of R.kept self.old)) taken.now.was out }
         ensures kept { IfOk result (λ answered. (number : ℕ) → answered ≡ Answered.Kept number → Commits (moment_of R.kept self.old) taken.now out number (moment_of R.kept self.new)) }
         ensures stale { IfOk result (λ answered. (now : StepInValue) → answered ≡ Answered.Stale now → GivesUp (moment_of R.kept self.old) taken.now now (moment_of R.kept self.new)) }
         ensures refused { IfErr result (λ fault. RefusesCommit (moment_of R.kept self.old) taken.now out fault (moment_of R.kept self.new)) }
@@ -209,7 +207,7 @@ impl<R: Recorder> Exec<R> {
         out: StepOut,
     ) -> Result<Given, (Taken, HallFault)>
         requires claimed { IsIn taken.pid.0 self.old.claimed }
-        requires answer { answer_of (sheets_of (past_of (moment_of R.kept self.old))) taken.was ≡ Some out }
+        requires answer { IsAnswer (past_of (moment_of R.kept self.old)) taken.was out }
         ensures answers { AnswersCommit (moment_of R.kept self.old) taken out result (moment_of R.kept self.new) }
         ensures fault { IfErr result (λ e. e.1 ≡ HallFault.LogFault → Rose (R.faults self.old.recorder) (R.faults self.new.recorder)) }
         ensures counts { IfErr result (λ e. e.1 ≡ HallFault.Memory → R.faults self.new.recorder ≡ R.faults self.old.recorder) }

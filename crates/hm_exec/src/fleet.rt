@@ -35,7 +35,7 @@ fn fleet_is_told(state: &State)
     ensures tell { StandingsTell (back state.now.entries) }
 {
     servers_follow();
-    let _begun = state.records().procedures();
+    let _begun = state.entries();
 }
 
 // A copy of the older live server of the address of one that may come up, if there is one.

@@ -41,6 +41,7 @@ impl<R: Recorder> Exec<R> {
         if let Some(why) = self.recorder.halted() {
             return Err(Refused::Halted(why));
         }
+        let _begun = self.state.entries();
         if let Some(pid) = judge_submission(self.state.records(), nonce, request)? {
             return Ok(Some(pid));
         }

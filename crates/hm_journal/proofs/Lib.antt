@@ -1,7 +1,6 @@
 pub mod Spelled
 pub mod SameSheets
 pub mod Judging
-pub mod Valid
 pub mod Keeping
 pub mod Refusing
 pub mod Places

@@ -10,11 +10,11 @@ ghost use Rattle.hm_journal.specs.Stored.{IsJournal, IsJournalByKind, frames_of,
 ghost use Rattle.hm_journal.specs.Judged.{IsBadFrom, IsBegun, IsFound, IsNoJournalIn, IsNotAdded, IsNotAddedFrom, Spells, SpellsAt, bad_entry};
 ghost use Rattle.hm_journal.specs.Verdict.{IsNoEntry, IsNoJournal};
 
-use crate::sheets::{are_sheets, copy_sheets, lowest_difference};
+use crate::sheets::{copy_sheets, lowest_difference};
 use crate::why::JournalWhy;
 use hm_data::{Entry, Sheet};
 use hm_entry::{EntryFault, decode};
-use hm_judge::NotAllowed;
+use hm_judge::{NotAllowed, are_sheets};
 use hm_log::Frames;
 use hm_names::Copied;
 use hm_state::State;

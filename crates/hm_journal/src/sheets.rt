@@ -1,57 +1,12 @@
 //! Tests of the sheets that a journal begins with.
-ghost use Rattle.std.specs.Prelude.{◌≡◌, ◌↔◌, map, option_copied, IsTrue, IfOk, IfSome, IfNone};
-ghost use Rattle.hm_model.specs.Base.{AreSheets};
+ghost use Rattle.std.specs.Prelude.{◌≡◌, ◌↔◌, option_copied, IsTrue, IfOk, IfSome, IfNone};
 ghost use Rattle.hm_model.specs.Sheets.{sheet_for as first_of};
-ghost use Rattle.hm_model.specs.Validity.{AllValid, IsValid};
 ghost use Rattle.hm_journal.specs.Stored.{SameSheets};
 ghost use Rattle.hm_journal.specs.Verdict.{IsLowestDifference};
 
 use hm_data::Sheet;
 use hm_names::{Copied, List, Same};
-use hm_sheet::{all_kinds, check_sheet};
 use std::alloc::{AllocError, Global};
-
-// Whether there is one for each of these kinds, in their order.
-fn have_kinds(sheets: &[Sheet], kinds: &[u8]) -> bool
-    ensures { IsTrue result ↔ (map (λ sheet. sheet.kind) sheets.now ≡ kinds.now) }
-{
-    if sheets.len() != kinds.len() {
-        return false;
-    }
-    for (place, sheet) in sheets.iter().enumerate() {
-        if sheet.kind != kinds[place] {
-            return false;
-        }
-    }
-    true
-}
-
-fn is_valid(sheet: &Sheet) -> bool
-    ensures { IsTrue result ↔ IsValid sheet.now }
-{
-    match check_sheet(sheet) {
-        Ok(()) => true,
-        Err(_) => false,
-    }
-}
-
-fn are_valid(sheets: &[Sheet]) -> bool
-    ensures { IsTrue result ↔ AllValid sheets.now }
-{
-    for sheet in sheets {
-        if !is_valid(sheet) {
-            return false;
-        }
-    }
-    true
-}
-
-// Whether a journal may begin with them.
-pub(crate) fn are_sheets(sheets: &[Sheet]) -> bool
-    ensures { IsTrue result ↔ AreSheets sheets.now }
-{
-    have_kinds(sheets, all_kinds()) && are_valid(sheets)
-}
 
 // The first sheet of a kind.
 fn sheet_for(sheets: &[Sheet], kind: u8) -> Option<&Sheet>

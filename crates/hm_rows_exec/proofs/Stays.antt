@@ -9,6 +9,7 @@ use Rattle.hm_data.specs.declared.call.ReportMsg.{ReportMsg}
 use Rattle.hm_data.specs.declared.entry.Entry.{Entry}
 use Rattle.hm_data.specs.declared.entry.Entry.TheVariants as entry_is
 use Rattle.hm_data.specs.declared.request.Request.{Request}
+use Rattle.hm_data.specs.declared.sheet.Sheet.{Sheet}
 use Rattle.hm_data.specs.declared.step.StepIn.{StepIn}
 use Rattle.hm_data.specs.declared.step.StepOut.{StepOut}
 use Rattle.hm_data.specs.declared.step.Turn.{Turn}
@@ -19,10 +20,10 @@ use Rattle.hm_hall.specs.declared.fault.HallFault.TheVariants as fault_is
 use Rattle.hm_hall.specs.declared.taken.Given.{Given}
 use Rattle.hm_hall.specs.declared.taken.Given.TheVariants as given_is
 use Rattle.hm_hall.specs.declared.taken.Taken.{Taken}
+use Rattle.hm_model.specs.Editions.{sheets_in}
 use Rattle.hm_model.specs.Evaluation.{answer_of}
 use Rattle.hm_model.specs.Journal.{Past, back}
 use Rattle.hm_model.specs.Locks.{IsIn}
-use Rattle.hm_model.specs.Sheets.{sheets_of}
 use Rattle.hm_model.proofs.Prefixes.{back-push}
 use Rattle.hm_model.specs.Claims.{Unclaims}
 use Rattle.hm_refusals.specs.declared.aborts.AbortRefused.{AbortRefused}
@@ -43,15 +44,15 @@ use Rattle.hm_exec.specs.declared.answers.UpWhy.{UpWhy}
 use Rattle.hm_exec.specs.declared.answers.UpWhy.TheVariants as up_why
 use Rattle.hm_rows_exec.specs.Outs.{AreLeft, AreOthers, AreOut, IsOut, IsTaken, StayOut, sheets_at}
 
--- an entry that isn't the first leaves the sheets
+-- an entry that isn't the first leaves the sheets of each edition
 abbrev Leaves : Entry → Type 0
-Leaves entry = (J : Past) → sheets_of (entry ∷ J) ≡ sheets_of J
+Leaves entry = (J : Past) → sheets_in (entry ∷ J) ≡ sheets_in J
 
 -- the sheets of what was recorded with one entry more
 recorded_leaves : (old new : Recording) (entry : Entry) → Leaves entry → new ≡ record old { entries = old.entries ++ entry ∷ []; next = None }
-    → sheets_of (back new.entries) ≡ sheets_of (back old.entries)
+    → sheets_in (back new.entries) ≡ sheets_in (back old.entries)
 recorded_leaves old new entry leaves is =
-    ap (λ (k : Recording). sheets_of (back k.entries)) is ∙ ap sheets_of (back-push old.entries entry) ∙ leaves (back old.entries)
+    ap (λ (k : Recording). sheets_in (back k.entries)) is ∙ ap sheets_in (back-push old.entries entry) ∙ leaves (back old.entries)
 
 by_same : (old new : Moment) → new ≡ old → StayOut old new
 by_same old new same = (ap (λ (m : Moment). m.claimed) same, ap sheets_at same)
@@ -61,8 +62,8 @@ by_added old new entry leaves added = (added.3, recorded_leaves old.kept new.kep
 
 by_faults : (old new : Moment) (entry : Entry) (fault : HallFault) → FaultsAt old entry fault new → StayOut old new
 by_faults old new entry (fault_is.Halted why) faults = by_same old new faults.1
-by_faults old new entry fault_is.LogFault faults = (faults.2.1, ap (λ (k : Recording). sheets_of (back k.entries)) faults.2.0.2)
-by_faults old new entry (fault_is.JournalFull bytes) faults = (faults.2.1, ap (λ (k : Recording). sheets_of (back k.entries)) faults.2.0.3)
+by_faults old new entry fault_is.LogFault faults = (faults.2.1, ap (λ (k : Recording). sheets_in (back k.entries)) faults.2.0.2)
+by_faults old new entry (fault_is.JournalFull bytes) faults = (faults.2.1, ap (λ (k : Recording). sheets_in (back k.entries)) faults.2.0.3)
 by_faults old new entry fault_is.Memory faults = by_same old new faults.2.1
 
 then : (old between new : Moment) → StayOut old between → StayOut between new → StayOut old new
@@ -70,7 +71,7 @@ then old between new first second = (second.0 ∙ first.0, second.1 ∙ first.1)
 
 -- a submission
 by_full : (old new : Moment) (entry : Entry) (bytes : ℕ) → IsFault old entry (fault_is.JournalFull bytes) new → StayOut old new
-by_full old new entry bytes fault = (fault.1, ap (λ (k : Recording). sheets_of (back k.entries)) fault.0.3)
+by_full old new entry bytes fault = (fault.1, ap (λ (k : Recording). sheets_in (back k.entries)) fault.0.3)
 
 pub submit_stays : (old new : Moment) (nonce : Nonce) (request : Request) (result : Result Accepted Refused) → AnswersSubmit old nonce request result new → StayOut old new
 submit_stays old new nonce request (Ok accepted) (inl made) = by_added old new (entry_is.Submit nonce request) (λ J. refl) made.3
@@ -82,7 +83,7 @@ submit_stays old new nonce request (Err (refused_is.TooManyRegions count)) answe
 submit_stays old new nonce request (Err (refused_is.JournalFull bytes)) (inl soft) = by_same old new soft.3
 submit_stays old new nonce request (Err (refused_is.JournalFull bytes)) (inr hard) = by_full old new (entry_is.Submit nonce request) bytes hard.1
 submit_stays old new nonce request (Err refused_is.Memory) answers = by_same old new answers.1.1
-submit_stays old new nonce request (Err refused_is.LogFault) answers = (answers.1.1, ap (λ (k : Recording). sheets_of (back k.entries)) answers.1.0.2)
+submit_stays old new nonce request (Err refused_is.LogFault) answers = (answers.1.1, ap (λ (k : Recording). sheets_in (back k.entries)) answers.1.0.2)
 
 -- an abort
 pub abort_stays : (old new : Moment) (pid : Pid) (result : Result Bool AbortRefused) → AnswersAbort old pid result new → StayOut old new
@@ -146,7 +147,7 @@ up_stays old new server (Err (up_why.Fault (fault_is.JournalFull bytes))) answer
 out_stays : (old new : Moment) → StayOut old new → (out : Pid × StepIn × StepOut) → IsOut old out → IsOut new out
 out_stays old new stay (pid, was, out) is = (
   subst (IsIn (let p = pid in p.0)) (sym stay.0) is.0,
-  subst (λ sheets. answer_of sheets was ≡ Some out) (sym stay.1) is.1,
+  subst (λ (sheets : ℕ → List Sheet). answer_of (sheets was.edition) was ≡ Some out) (sym stay.1) is.1,
 )
 
 pub outs_stay : (old new : Moment) (outs : List (Pid × StepIn × StepOut)) → StayOut old new → AreOut old outs → AreOut new outs
@@ -158,12 +159,12 @@ all_by P Q R by [] one other = All-nil R
 all_by P Q R by (x ∷ xs) one other =
     All-cons R x xs (by x (All-head P x xs one) (All-head Q x xs other)) (all_by P Q R by xs (All-tail P x xs one) (All-tail Q x xs other))
 
--- a claim ends, and the journal begins with the same sheets: the others stay claimed
+-- a claim ends, and each edition has the same sheets: the others stay claimed
 other_stays : (old new : Moment) (pid : Pid) → Unclaims pid.0 old.claimed new.claimed → sheets_at new ≡ sheets_at old
     → (out : Pid × StepIn × StepOut) → IsOut old out → (let one = out.0 in one.0 ≢ pid.0) → IsOut new out
 other_stays old new pid unclaims sheets (one, was, out) is differs = (
   (unclaims (let o = one in o.0)).1 (is.0, differs),
-  subst (λ sheets. answer_of sheets was ≡ Some out) (sym sheets) is.1,
+  subst (λ (sheets : ℕ → List Sheet). answer_of (sheets was.edition) was ≡ Some out) (sym sheets) is.1,
 )
 
 pub others_stay : (old new : Moment) (pid : Pid) (outs : List (Pid × StepIn × StepOut))
@@ -184,7 +185,7 @@ claim_stays old new (Ok (Some taken)) outs answers are =
     stays : (out : Pid × StepIn × StepOut) → IsOut old out → IsOut new out
     stays (pid, was, out) is = (
       (answers.4 (let p = pid in p.0)).1 (inr is.0),
-      subst (λ sheets. answer_of sheets was ≡ Some out) (ap (λ (k : Recording). sheets_of (back k.entries)) (sym answers.3)) is.1,
+      subst (λ (sheets : ℕ → List Sheet). answer_of (sheets was.edition) was ≡ Some out) (ap (λ (k : Recording). sheets_in (back k.entries)) (sym answers.3)) is.1,
     )
 
 -- a commit
@@ -201,7 +202,7 @@ kept_stay old new taken out number outs answers others are =
 pub stale_stay : (old new : Moment) (taken : Taken) (out : StepOut) (was now : StepIn) (outs : List (Pid × StepIn × StepOut))
     → AnswersCommit old taken out (Ok (given_is.Stale was now)) new → AreOthers taken.pid outs → AreOut old outs → AreOut new outs
 stale_stay old new taken out was now outs answers others are =
-    others_stay old new taken.pid outs answers.1.4 (ap (λ (k : Recording). sheets_of (back k.entries)) answers.1.3) others are
+    others_stay old new taken.pid outs answers.1.4 (ap (λ (k : Recording). sheets_in (back k.entries)) answers.1.3) others are
 
 pub given_stay : (old new : Moment) (taken : Taken) (out : StepOut) (given : Given) (outs : List (Pid × StepIn × StepOut))
     → AnswersCommit old taken out (Ok given) new → AreOthers taken.pid outs → AreOut old outs → AreOut new outs
@@ -218,7 +219,7 @@ refused_stays old new taken out (fault_is.JournalFull bytes) answers = by_faults
 pub put_back_stays : (old new : Moment) (taken : Taken) (outs : List (Pid × StepIn × StepOut))
     → PutsBack old taken new → AreOthers taken.pid outs → AreOut old outs → AreOut new outs
 put_back_stays old new taken outs puts others are =
-    others_stay old new taken.pid outs puts.1 (ap (λ (k : Recording). sheets_of (back k.entries)) puts.0) others are
+    others_stay old new taken.pid outs puts.1 (ap (λ (k : Recording). sheets_in (back k.entries)) puts.0) others are
 
 -- one is taken from what is claimed
 pub taken_left : (outs left : List (Pid × StepIn × StepOut)) (place : ℕ) (out : Pid × StepIn × StepOut) → place < length outs → left ≡ remove outs place → out ≡ get_or outs place out

@@ -1,19 +1,19 @@
 -- What is claimed, and what a call of the executor leaves of it.
-use Rattle.std.specs.Prelude.{◌≡◌, ◌≢◌, List, Option, Some, None, All}
+use Rattle.std.specs.Prelude.{◌≡◌, ◌≢◌, ℕ, List, Option, Some, None, All}
 use Rattle.hm_names.specs.declared.pid.Pid.{Pid}
 use Rattle.hm_data.specs.declared.sheet.Sheet.{Sheet}
 use Rattle.hm_data.specs.declared.step.StepIn.{StepIn}
 use Rattle.hm_data.specs.declared.step.StepOut.{StepOut}
 use Rattle.hm_hall.specs.Recording.{Recording}
+use Rattle.hm_exec.specs.Claiming.{IsAnswer}
 use Rattle.hm_exec.specs.Moment.{Moment, past_of}
 use Rattle.hm_exec.specs.View.{ExecView}
-use Rattle.hm_model.specs.Evaluation.{answer_of}
+use Rattle.hm_model.specs.Editions.{sheets_in}
 use Rattle.hm_model.specs.Locks.{IsIn}
-use Rattle.hm_model.specs.Sheets.{sheets_of}
 
--- the sheets with which the journal begins
-abbrev pub sheets_at : Moment → List Sheet
-sheets_at at = sheets_of (past_of at)
+-- the sheets of each edition of the journal
+abbrev pub sheets_at : Moment → ℕ → List Sheet
+sheets_at at = sheets_in (past_of at)
 
 -- what an executor over a list keeps, and who is claimed
 abbrev pub at_exec : ExecView Recording → Moment
@@ -21,7 +21,7 @@ at_exec exec = record { kept = exec.recorder; claimed = exec.claimed }
 
 -- a procedure is claimed, and its handler answers this to what was handed out for it
 abbrev pub IsOut : Moment → Pid × StepIn × StepOut → Type 0
-IsOut at (pid, was, out) = IsIn pid.0 at.claimed × (answer_of (sheets_at at) was ≡ Some out)
+IsOut at (pid, was, out) = IsIn pid.0 at.claimed × IsAnswer (past_of at) was out
 
 abbrev pub AreOut : Moment → List (Pid × StepIn × StepOut) → Type 0
 AreOut at outs = All (IsOut at) outs
@@ -44,6 +44,6 @@ pub record RunView : Type 0 where
   pub exec : ExecView Recording
   pub outs : List (Pid × StepIn × StepOut)
 
--- the same are claimed, and the journal begins with the same sheets
+-- the same are claimed, and each edition has the same sheets
 abbrev pub StayOut : Moment → Moment → Type 0
 StayOut old new = (new.claimed ≡ old.claimed) × (sheets_at new ≡ sheets_at old)

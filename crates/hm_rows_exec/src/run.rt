@@ -1,11 +1,12 @@
 //! An executor that runs over a list, and what is claimed.
 ghost use Rattle.std.specs.Prelude.{◌≡◌, ◌<◌, ◌≤◌, length, IfOk, IfSome, IsTrue, None, Some};
-ghost use Rattle.hm_exec.specs.Claiming.{AnswersClaim};
-ghost use Rattle.hm_model.specs.Evaluation.{CanRun, answer_of};
+ghost use Rattle.hm_exec.specs.Claiming.{AnswersClaim, IsAnswer};
+ghost use Rattle.hm_exec.specs.Moment.{past_of};
+ghost use Rattle.hm_model.specs.Editions.{editions, sheets_in};
+ghost use Rattle.hm_model.specs.Evaluation.{CanRun};
 ghost use Rattle.hm_model.specs.Journal.{back};
 ghost use Rattle.hm_model.specs.Locks.{IsIn};
 ghost use Rattle.hm_model.specs.Base.{AreSheets};
-ghost use Rattle.hm_model.specs.Sheets.{sheets_of};
 ghost use Rattle.hm_rows_exec.specs.Keeping.{IsBegun};
 ghost use Rattle.hm_rows_exec.specs.Outs.{AreLeft, AreOthers, IsTaken, at_exec, sheets_at};
 
@@ -104,12 +105,13 @@ fn next_claim<L: Ledger>(
 
 // What was claimed, with what its handler answers.
 fn answered(alloc: Global, state: &State, taken: Taken) -> Result<Out, AllocError>
-    requires { CanRun (sheets_of (back state.now.entries)) taken.was }
+    requires edition { taken.was.edition ≤ editions (back state.now.entries) }
+    requires runs { CanRun (sheets_in (back state.now.entries) taken.was.edition) taken.was }
     ensures pid { IfOk result (λ out. out.0 ≡ taken.pid) }
-    ensures answer { IfOk result (λ out. answer_of (sheets_of (back state.now.entries)) out.1 ≡ Some out.2) }
+    ensures answer { IfOk result (λ out. IsAnswer (back state.now.entries) out.1 out.2) }
 {
     let Taken { pid, was } = taken;
-    let out = answer(alloc, state.sheets(), &was)?;
+    let out = answer(alloc, state.records().sheets_of(was.edition), &was)?;
     Ok((pid, was, out))
 }
 
@@ -218,7 +220,8 @@ impl Run {
     // Keeps what was claimed, with what its handler answers.
     fn keep(&mut self, alloc: Global, taken: Taken) -> Result<(), AllocError>
         requires claimed { IsIn taken.pid.0 self.old.exec.claimed }
-        requires runs { CanRun (sheets_at (at_exec self.old.exec)) taken.was }
+        requires edition { taken.was.edition ≤ editions (past_of (at_exec self.old.exec)) }
+        requires runs { CanRun (sheets_at (at_exec self.old.exec) taken.was.edition) taken.was }
     {
         let out = answered(alloc, self.exec.state(), taken)?;
         match self.outs.reserve(1) {

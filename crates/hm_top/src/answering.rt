@@ -1,7 +1,7 @@
 //! Answers commands, one after another.
 ghost use Rattle.std.specs.Prelude.{◌≡◌, ◌≤◌, ◌+◌, [], length, map, vec_len, vec_capacity, All, IfOk, IfErr, Ok, Err};
 ghost use Rattle.hm_ports.specs.Faults.{Rose};
-ghost use Rattle.hm_sheet.specs.Registry.{sheets_of};
+ghost use Rattle.hm_sheet.specs.Registry.{IsRegistry, sheets_of};
 ghost use Rattle.hm_world.specs.Scene.{Scene as SceneValue};
 ghost use Rattle.hm_commands.specs.Hands.{Ran, Serve, hands_use};
 ghost use Rattle.hm_commands.specs.Offered.{IsOffered};
@@ -32,6 +32,7 @@ pub(crate) fn answer_all<D: Disk, K: Sink>(
     requires room { vec_len marks.old + length commands.items ≤ vec_capacity marks.old }
     requires offered { All IsOffered commands.items }
     requires hands { Serve (map (sheets_of ⟦<dyn Handler as Handler>⟧) hands.old.items) (journal_at (scene_in cluster)) }
+    requires each { All (IsRegistry ⟦<dyn Handler as Handler>⟧) hands.old.items }
     ensures done { IfOk result (λ answered. IsAnsweringOn K.tells (K.got out.old) (K.got out.new) (Ok tt) commands.items (scene_in cluster) marks.new.items (scene_in answered)) }
     ensures opened { IfOk result (λ answered. answered.recorder.opened ≡ cluster.recorder.opened) }
     ensures ran { IfOk result (λ answered. Ran (hands_use ⟦<dyn Handler as Handler>⟧ hands.old.items hands.new.items) (journal_at (scene_in cluster)) (journal_at (scene_in answered))) }

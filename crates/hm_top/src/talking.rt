@@ -77,6 +77,7 @@ pub(crate) fn answer_over<D: Disk, K: Sink>(
     requires offered { All IsOffered commands.items }
     requires going { store.kept.halted ≡ None }
     requires hands { Serve (map (sheets_of ⟦<dyn Handler as Handler>⟧) hands.old.items) store.kept.entries }
+    requires each { All (IsRegistry ⟦<dyn Handler as Handler>⟧) hands.old.items }
     ensures done { IfOk result (λ cluster. IsAnswering K.tells (K.got out.old) (K.got out.new) (Ok tt) commands.items (new_scene store.kept) marks.new.items (scene_in cluster)) }
     ensures opened { IfOk result (λ cluster. cluster.recorder.opened ≡ store.opened) }
     ensures ran { IfOk result (λ cluster. Ran (hands_use ⟦<dyn Handler as Handler>⟧ hands.old.items hands.new.items) store.kept.entries (journal_at (scene_in cluster))) }

@@ -20,7 +20,7 @@ use Rattle.hm_hall.specs.declared.taken.Taken.{Taken}
 use Rattle.hm_model.specs.Inputs.{input, step_input, turn_input, undo_input, undoes}
 use Rattle.hm_model.specs.Journal.{Past, back}
 use Rattle.hm_model.specs.Rest.{IsAtRest, IsAvailable}
-use Rattle.hm_model.specs.Sheets.{sheets_of}
+use Rattle.hm_model.specs.Editions.{sheets_in}
 use Rattle.hm_model.specs.Tree.{Node, node_of}
 use Rattle.hm_model.specs.Undo.{Undoable, stack}
 use Rattle.hm_model.proofs.Prefixes.{back-push}
@@ -36,7 +36,7 @@ use Rattle.hm_world.specs.Scene.{Scene, past_in}
 use Rattle.hm_world.specs.Taking.{Gives, Returns, Takes}
 
 -- the entry of an answer leaves the sheets
-entry_leaves : (turn : Turn) (p : ℕ) (was : StepIn) (out : StepOut) (J : Past) → sheets_of (entry_by turn p was out ∷ J) ≡ sheets_of J
+entry_leaves : (turn : Turn) (p : ℕ) (was : StepIn) (out : StepOut) (J : Past) → sheets_in (entry_by turn p was out ∷ J) ≡ sheets_in J
 entry_leaves turn_is.Step p was out J = refl
 entry_leaves (turn_is.Undo edits) p was out J = refl
 
@@ -54,11 +54,11 @@ same_hall k l c d kept claimed = ap (λ (x : Recording). hall_with x c) kept ∙
 
 -- one entry more, which leaves the sheets
 hall_added : (old new : Recording) (claimed : List ℕ) (entry : Entry) → new ≡ record old { entries = old.entries ++ entry ∷ []; next = None }
-    → sheets_of (entry ∷ back old.entries) ≡ sheets_of (back old.entries)
+    → sheets_in (entry ∷ back old.entries) ≡ sheets_in (back old.entries)
     → hall_with new claimed ≡ record (hall_with old claimed) { items = old.entries ++ entry ∷ [] }
 hall_added old new claimed entry is leaves =
     ap (λ (k : Recording). hall_with k claimed) is
-    ∙ ap (λ (s : List Sheet). record (hall_with old claimed) { items = old.entries ++ entry ∷ []; sheets = s }) (ap sheets_of (back-push old.entries entry) ∙ leaves)
+    ∙ ap (λ (s : ℕ → List Sheet). record (hall_with old claimed) { items = old.entries ++ entry ∷ []; sheets = s }) (ap sheets_in (back-push old.entries entry) ∙ leaves)
 
 -- the faults of what would record an entry
 fails_at : (old new : Moment) (entry : Entry) (fault : HallFault) → FaultsAt old entry fault new → Fails (hall_at old) fault (hall_at new)

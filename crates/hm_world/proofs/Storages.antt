@@ -2,8 +2,9 @@
 use Rattle.std.proofs.Common.{◌≡◌, ℕ, ◌+◌, List, [], ◌∷◌, map, ◌==◌, ◌&&◌, ◌||◌, Bool, true, false, if◌then◌else◌, None, Some, refl, sym, ap, ◌∙◌, inl, inr, subst}
 use Rattle.std.proofs.Math.Numerals.{add-one}
 use Rattle.std.proofs.Math.Path.{fun_ext}
-use Rattle.std.proofs.lemmas.Option.{same_Some}
+use Rattle.std.proofs.lemmas.Option.{none-some, same_Some}
 use Rattle.std.specs.List.{list_any}
+use Rattle.std.specs.Option.{option_map}
 use Rattle.hm_names.specs.Server.{Server}
 use Rattle.hm_names.specs.declared.pid.Pid.{Pid}
 use Rattle.hm_data.specs.declared.call.Told.{Told}
@@ -12,11 +13,12 @@ use Rattle.hm_data.specs.declared.record.Record.{Record}
 use Rattle.hm_judge.proofs.Found.{there_of}
 use Rattle.hm_model.specs.Storages.{Storage, empty_storage, fence_in, lay_in}
 use Rattle.hm_model.specs.Answers.{report_of}
+use Rattle.hm_model.specs.Calls.{CallsAreOwn, ReportsFit}
 use Rattle.hm_model.specs.Fleet.{came_up, is_fenced, same_server, servers_of}
 use Rattle.hm_model.specs.Journal.{Past}
 use Rattle.hm_model.specs.Layouts.{laid_by, laid_if, layout_called}
 use Rattle.hm_model.specs.Plain.{ArePlain}
-use Rattle.hm_model.specs.Records.{record_of}
+use Rattle.hm_model.specs.Records.{record_at, record_of}
 use Rattle.hm_model.specs.Reports.{verb_of}
 use Rattle.hm_model.specs.Rules.{IsLegal}
 use Rattle.hm_model.specs.Standings.{standing_of, standings_of}
@@ -113,6 +115,13 @@ told_as J legal n told its is found root b =
     let there = there_of J n its found in
     let args : its.args ≡ node.0.args = ap (λ (r : Record). r.args) there.2 ∙ ap (λ (x : Node). x.args) (same_Some there.0 node.0 (sym there.1 ∙ node.1)) in
     ap (λ o. laid_if (layout_called (verb_of J n)) (laid_told o) root b) (sym is) ∙ ap (λ v. laid_if (layout_called v) (laid_by told) root b) (fits.1 ∙ sym node.2 ∙ ap verb_in (sym args))
+
+-- a procedure that has a report is shown
+pub told_there : (J : Past) → IsLegal J → CallsAreOwn → ReportsFit → (n : ℕ) (told : Told) → Some told ≡ report_of J n → None ≡ record_of J n → ⊥
+told_there J legal own fit n told is none =
+    let fits = fit J legal n told (sym is) in
+    let node = own J legal n fits.0 fits.1 in
+    none-some (record_at J n node.0) (none ∙ ap (option_map (record_at J n)) node.1)
 
 -- or it says that one is there, or gone
 pub layout_shown : (J : Past) (n : ℕ) (old new : Storage) (root : Pid) (there : Bool) → ((other : ℕ) (b : Bool) → laid_if (layout_called (verb_of J n)) (laid_told (report_of J n)) other b ≡ (if root.0 == other then there else b))

@@ -2,14 +2,14 @@
 use Rattle.std.specs.Prelude.{ℕ, List}
 use Rattle.hm_hall.specs.Recording.{Recording}
 use Rattle.hm_model.specs.Journal.{back}
-use Rattle.hm_model.specs.Sheets.{sheets_of}
+use Rattle.hm_model.specs.Editions.{sheets_in}
 use Rattle.hm_exec.specs.Moment.{Moment}
 use Rattle.hm_hall.specs.Hall.{HallView}
 use Rattle.hm_world.specs.Scene.{Scene}
 
--- what is recorded, who is claimed, what halted the recorder, and the sheets with which the journal began
+-- what is recorded, who is claimed, what halted the recorder, and the sheets of each edition
 abbrev pub hall_with : Recording → List ℕ → HallView
-hall_with kept claimed = record { items = kept.entries; outs = claimed; stopped = kept.halted; sheets = sheets_of (back kept.entries) }
+hall_with kept claimed = record { items = kept.entries; outs = claimed; stopped = kept.halted; sheets = sheets_in (back kept.entries) }
 
 -- an executor as a hall
 abbrev pub hall_at : Moment → HallView

@@ -7,7 +7,6 @@ ghost use Rattle.hm_world.specs.Acts.{Arms, Dies, Loses, Repeats, Starts};
 ghost use Rattle.hm_world.specs.Carrying.{OnlyExec};
 ghost use Rattle.hm_world.specs.Scene.{scene_of};
 
-use crate::due::has_begun;
 use crate::world::World;
 use hm_data::{Peer, Request};
 use hm_exec::{AbortRefused, Accepted, DownWhy, Refused, UpWhy, may_come_up};
@@ -29,7 +28,7 @@ impl<R: Recorder> World<R> {
         ensures later { R.faults self.old.recorder ≤ R.faults self.new.recorder }
         ensures opened { R.opened self.new.recorder ≡ R.opened self.old.recorder }
     {
-        has_begun(self.exec.state());
+        let _begun = self.exec.state().entries();
         self.exec.submit(alloc, nonce, request)
     }
 

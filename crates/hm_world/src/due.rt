@@ -1,6 +1,5 @@
 //! Calls that are due.
 ghost use Rattle.std.specs.Prelude.{◌≡◌, IfNone, IfOk, IfSome, IsSome, Some, true, false};
-ghost use Rattle.hm_model.specs.Base.{IsBegun};
 ghost use Rattle.hm_model.specs.Journal.{back};
 ghost use Rattle.hm_model.specs.Reports.{call_of as recorded, peer_in};
 ghost use Rattle.hm_fleet.specs.Fleet.{outside_of};
@@ -24,13 +23,6 @@ fn peer_runs(fleet: &Fleet, args: &Args) -> bool
         Args::CloseCall { region: _, server } => fleet.runs_server(server),
         _ => true,
     }
-}
-
-// The journal of a state has begun: a law that does nothing.
-pub(crate) fn has_begun(state: &State)
-    ensures { IsBegun (back state.now.entries) }
-{
-    state.records().procedures();
 }
 
 // Whether the call of a procedure is due.

@@ -1,10 +1,8 @@
 //! Tasks: what there is to do next, and what becomes of it.
 ghost use Rattle.std.specs.Prelude.{◌≡◌, ◌≤◌, false, true, IfErr, None, Ok, Some};
 ghost use Rattle.hm_ports.specs.Faults.{Rose};
-ghost use Rattle.hm_exec.specs.Claiming.{AnswersClaim};
-ghost use Rattle.hm_model.specs.Evaluation.{answer_of};
+ghost use Rattle.hm_exec.specs.Claiming.{AnswersClaim, IsAnswer};
 ghost use Rattle.hm_model.specs.Locks.{IsIn};
-ghost use Rattle.hm_model.specs.Sheets.{sheets_of};
 ghost use Rattle.hm_world.specs.Carrying.{CanCarry};
 ghost use Rattle.hm_world.specs.Scene.{GoesOn, past_in, scene_of};
 ghost use Rattle.hm_world.specs.Taking.{Gives, IsStill, Returns, Takes};
@@ -67,7 +65,7 @@ impl<R: Recorder> World<R> {
         out: StepOut,
     ) -> Result<Given, (Taken, HallFault)>
         requires claimed { IsIn taken.pid.0 self.old.claimed }
-        requires answer { answer_of (sheets_of (past_in (scene_of R.kept self.old))) taken.was ≡ Some out }
+        requires answer { IsAnswer (past_in (scene_of R.kept self.old)) taken.was out }
         ensures gives { Gives (scene_of R.kept self.old) taken out result (scene_of R.kept self.new) }
         ensures fault { IfErr result (λ e. e.1 ≡ HallFault.LogFault → Rose (R.faults self.old.recorder) (R.faults self.new.recorder)) }
         ensures later { R.faults self.old.recorder ≤ R.faults self.new.recorder }

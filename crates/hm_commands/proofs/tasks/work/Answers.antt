@@ -1,24 +1,32 @@
 use Rattle.std.proofs.Common.{List, refl, sym, subst}
 use Rattle.hm_data.specs.declared.entry.Entry.{Entry}
 use Rattle.hm_model.specs.Journal.{back}
+use Rattle.hm_model.specs.Plain.{ArePlain}
 use Rattle.hm_model.specs.Rules.{IsLegal}
+use Rattle.hm_sheet.specs.Registry.{sheets_at, sheets_by, whole_of}
 use Rattle.hm_commands.specs.View.{scene_in}
 use Rattle.hm_commands.proofs.Claims.{none_claimed}
 use Rattle.hm_commands.proofs.Clusters.{becomes_ran, becomes_runs}
-use Rattle.hm_commands.proofs.Serving.{answered_there, runs_there}
+use Rattle.hm_commands.proofs.Running.{answered_first, runs_first}
 use Rattle.hm_commands.proofs.tasks.work.Goals as goal
 
 pub run_once-requires-clause-runs : goal.run_once-requires-clause-runs
 run_once-requires-clause-runs g c =
     let entries = c.args.world.now.recorder.kept.entries in
     let legal = subst (λ (es : List Entry). IsLegal (back es)) (sym c.state.ensures) c.entries.ensures.legal in
-    runs_there (back entries) legal c.args.taken.was _ c.requires.hands.begins c.requires.handed.runs
+    let plain = subst (λ (es : List Entry). ArePlain (back es)) (sym c.state.ensures) c.entries.ensures.plain in
+    let handed = c.requires.handed in
+    let hands = c.requires.hands in
+    runs_first (λ (r : _). sheets_by (goal.Handler-dyn g) r) (λ (r : _). whole_of r) (λ (r : _). sheets_at r) (back entries) legal plain c.args.taken.was handed.edition handed.runs c.args.hands.now.items hands.agree hands.begins c.requires.each
 
 pub record-requires-clause-answer : goal.record-requires-clause-answer
 record-requires-clause-answer g c =
     let entries = c.args.world.now.recorder.kept.entries in
     let legal = subst (λ (es : List Entry). IsLegal (back es)) (sym c.state.ensures) c.entries.ensures.legal in
-    answered_there (back entries) legal c.args.taken.was _ c.in-Ok.out c.requires.hands.begins c.requires.handed.runs c.in-Ok.ensures.out
+    let plain = subst (λ (es : List Entry). ArePlain (back es)) (sym c.state.ensures) c.entries.ensures.plain in
+    let handed = c.requires.handed in
+    let hands = c.requires.hands in
+    answered_first (λ (r : _). sheets_by (goal.Handler-dyn g) r) (λ (r : _). whole_of r) (λ (r : _). sheets_at r) (back entries) legal plain c.args.taken.was handed.edition handed.runs c.args.hands.now.items hands.agree hands.begins c.requires.each c.in-Ok.out c.in-Ok.ensures.out
 
 pub put_back-requires : goal.put_back-requires
 put_back-requires g c = (c.requires.claimed c.args.taken.pid.0).1 refl
@@ -27,7 +35,10 @@ pub returns-in-Ok-clause-runs : goal.returns-in-Ok-clause-runs
 returns-in-Ok-clause-runs g c =
     let entries = c.args.world.now.recorder.kept.entries in
     let legal = subst (λ (es : List Entry). IsLegal (back es)) (sym c.state.ensures) c.entries.ensures.legal in
-    let answered = answered_there (back entries) legal c.args.taken.was _ c.in-Ok.out c.requires.hands.begins c.requires.handed.runs c.in-Ok.ensures.out in
+    let plain = subst (λ (es : List Entry). ArePlain (back es)) (sym c.state.ensures) c.entries.ensures.plain in
+    let handed = c.requires.handed in
+    let hands = c.requires.hands in
+    let answered = answered_first (λ (r : _). sheets_by (goal.Handler-dyn g) r) (λ (r : _). whole_of r) (λ (r : _). sheets_at r) (back entries) legal plain c.args.taken.was handed.edition handed.runs c.args.hands.now.items hands.agree hands.begins c.requires.each c.in-Ok.out c.in-Ok.ensures.out in
     becomes_runs (scene_in c.args.world.now) c.args.taken c.in-Ok.out (scene_in c.record.new.world) c.record.result answered c.record.ensures.becomes
 
 pub returns-in-Ok-clause-ran : goal.returns-in-Ok-clause-ran

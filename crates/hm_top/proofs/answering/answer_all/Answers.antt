@@ -24,6 +24,7 @@ loop-command-init g c =
       begun = refl;
       opened = refl;
       ran = ran_idle _ (journal_at was) (journal_at was) refl (run_none _ _);
+      each = c.requires.each;
       sink_later = omega arith;
     }
 
@@ -73,6 +74,7 @@ loop-command-preserved g c =
       begun = comes_sheets c.in-Some.command (scene_in so_far.cluster) (Some c.in-Ok.answered.1) now c.in-Ok.ensures.answers ∙ so_far.invariant.begun;
       opened = c.in-Ok.ensures.opened ∙ so_far.invariant.opened;
       ran = ran_on (journal_at (scene_in c.args.cluster)) (journal_at (scene_in so_far.cluster)) (journal_at now) _ _ _ _ _ _ so_far.invariant.ran c.in-Ok.ensures.ran;
+      each = c.answer.ensures.each;
       sink_later = let later = c.say-said.ensures.cause.later in omega (arith, so_far.invariant.sink_later, later);
     }
 

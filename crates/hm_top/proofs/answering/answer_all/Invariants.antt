@@ -1,9 +1,9 @@
-use Rattle.std.proofs.Common.{◌≡◌, ◌≤◌, ◌+◌, ◌++◌, length, map, vec_len}
+use Rattle.std.proofs.Common.{◌≡◌, ◌≤◌, ◌+◌, ◌++◌, All, length, map, vec_len}
 use Rattle.std.specs.Vec.{vec_capacity}
 use Rattle.std.specs.Vec.Iter.{into_iter_items, into_iter_len}
 use Rattle.hm_model.specs.Journal.{back}
 use Rattle.hm_model.specs.Sheets.{sheets_of}
-use Rattle.hm_sheet.specs.Registry.{sheets_by}
+use Rattle.hm_sheet.specs.Registry.{IsRegistryBy, sheets_by}
 use Rattle.hm_commands.specs.Hands.{Ran}
 use Rattle.hm_commands.specs.Scenes.{journal_at}
 use Rattle.hm_commands.specs.View.{scene_in}
@@ -24,5 +24,6 @@ invariant-loop-command g l = record {
     runs_before = map (λ r. r.runs) l.fn.hands.items;
     runs_after = map (λ r. r.runs) l.hands.items;
   }) (journal_at (scene_in l.fn.cluster)) (journal_at (scene_in l.cluster));
+  each : All (λ r. IsRegistryBy (goal.Handler-dyn g) r) l.hands.items;
   sink_later : g.K.Sink.faults l.fn.out ≤ g.K.Sink.faults l.out;
 }

@@ -6,7 +6,7 @@ use Rattle.hm_model.specs.Records.{record_of}
 use Rattle.hm_model.specs.Verbs.{verb_in}
 use Rattle.hm_server.specs.Actors.{storage_of}
 use Rattle.hm_world_model.proofs.Layouts.{none_if}
-use Rattle.hm_world.proofs.Storages.{layout_kept, layout_shown, told_as, untold}
+use Rattle.hm_world.proofs.Storages.{layout_kept, layout_shown, told_as, told_there, untold}
 use Rattle.hm_world.proofs.shown.show_layout.Goals as goal
 
 pub returns-in_default : goal.returns-in_default
@@ -15,6 +15,12 @@ returns-in_default c =
     layout_kept J c.args.pid.0 (storage_of c.args.storage.now)
     (untold J c.args.pid.0 (sym (c.in_default.ensures ∙ ap (λ (K : Past). report_of K c.args.pid.0) c.procedures-procedures.ensures)))
     c.requires
+
+pub unreachable-requires : goal.unreachable-requires
+unreachable-requires c =
+    told_there (back c.args.state.now.entries) c.entries-legal.ensures.legal c.calls_are_own.ensures.own c.calls_are_own.ensures.fit c.args.pid.0 c.in-Some.told
+    (c.in-Some.ensures ∙ ap (λ (K : Past). report_of K c.args.pid.0) c.procedures-procedures.ensures)
+    (c.in_default-find.ensures ∙ ap (λ (K : Past). record_of K c.args.pid.0) c.procedures-procedures.ensures)
 
 pub returns-in_default-layout_of : goal.returns-in_default-layout_of
 returns-in_default-layout_of c =

@@ -13,7 +13,7 @@ use Rattle.hm_commands.proofs.cluster.Cluster.settle.Goals as goal
 pub loop-why-init : goal.loop-why-init
 loop-why-init g c =
     let at = scene_in c.args.self.now in
-    record { tasks = (0, refl); going = c.requires.going; opened = refl; ran = ran_idle _ (journal_at at) (journal_at at) refl (run_none _ _) }
+    record { tasks = (0, refl); going = c.requires.going; opened = refl; ran = ran_idle _ (journal_at at) (journal_at at) refl (run_none _ _); each = c.requires.each }
 
 pub task-requires-clause-hands : goal.task-requires-clause-hands
 task-requires-clause-hands g c =
@@ -33,6 +33,7 @@ loop-why-preserved g c =
       going = done_going was new works;
       opened = c.task.ensures.opened ∙ c.loop-why.invariant.opened;
       ran = ran_on (journal_at old) (journal_at was) (journal_at new) _ _ _ _ _ _ c.loop-why.invariant.ran c.task.ensures.ran;
+      each = c.task.ensures.each;
     }
 
 pub rested-requires : goal.rested-requires

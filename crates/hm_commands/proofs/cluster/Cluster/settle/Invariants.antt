@@ -1,5 +1,5 @@
-use Rattle.std.proofs.Common.{◌≡◌, ℕ, map}
-use Rattle.hm_sheet.specs.Registry.{sheets_by}
+use Rattle.std.proofs.Common.{◌≡◌, ℕ, All, map}
+use Rattle.hm_sheet.specs.Registry.{IsRegistryBy, sheets_by}
 use Rattle.hm_world.specs.Scene.{GoesOn}
 use Rattle.hm_commands.specs.Hands.{Ran}
 use Rattle.hm_commands.specs.Scenes.{journal_at}
@@ -18,6 +18,7 @@ invariant-loop-why g l = record {
     runs_before = map (λ r. r.runs) l.fn.hands.items;
     runs_after = map (λ r. r.runs) l.hands.items;
   }) (journal_at (scene_in l.fn.self)) (journal_at (scene_in l.self));
+  each : All (λ r. IsRegistryBy (goal.Handler-dyn g) r) l.hands.items;
 }
 
 abbrev pub decreases-loop-why : goal.decreases-loop-why

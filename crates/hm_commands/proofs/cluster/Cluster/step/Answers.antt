@@ -13,7 +13,7 @@ use Rattle.hm_commands.proofs.cluster.Cluster.step.Goals as goal
 pub loop-done-init : goal.loop-done-init
 loop-done-init g c =
     let at = scene_in c.args.self.now in
-    record { tasks = refl; within = omega arith; going = c.requires.going; opened = refl; ran = ran_idle _ (journal_at at) (journal_at at) refl (run_none _ _) }
+    record { tasks = refl; within = omega arith; going = c.requires.going; opened = refl; ran = ran_idle _ (journal_at at) (journal_at at) refl (run_none _ _); each = c.requires.each }
 
 pub task-requires-clause-hands : goal.task-requires-clause-hands
 task-requires-clause-hands g c =
@@ -34,6 +34,7 @@ loop-done-preserved g c =
       going = done_going was new works;
       opened = c.task.ensures.opened ∙ c.loop-done.invariant.opened;
       ran = ran_on (journal_at old) (journal_at was) (journal_at new) _ _ _ _ _ _ c.loop-done.invariant.ran c.task.ensures.ran;
+      each = c.task.ensures.each;
     }
 
 pub returns-in-Err-clause-comes : goal.returns-in-Err-clause-comes

@@ -1,4 +1,4 @@
-use Rattle.std.proofs.Common.{◌≡◌, ◌∙◌, refl, sym, subst, ap}
+use Rattle.std.proofs.Common.{◌∙◌, refl, sym, subst, ap}
 use Rattle.hm_data.specs.declared.entry.Entry.TheVariants as entry_is
 use Rattle.hm_model.specs.Journal.{Past, back}
 use Rattle.hm_model.specs.Rules.{Allowed}

@@ -24,7 +24,7 @@ add_made-requires-clause-allowed g c =
     let entries = c.self.inside.state.entries in
     let taken = c.args.taken.now in
     let can = subst (λ (e : ExecView _). CanCommit (moment_of g.R.Recorder.kept e) taken c.args.out) (sym c.self.view_is) (c.requires.going, c.requires.claimed, c.requires.fresh, c.requires.answer) in
-    let may = step_now kept entries c.self.inside.desk c.self.invariant taken c.args.out can c.entries-legal.ensures.legal c.entries-legal.ensures.plain c.fresh_answers_follow.ensures.steps c.holds-apart.ensures.none_clash c.requires.step in
+    let may = step_now kept entries c.self.inside.desk c.self.invariant taken c.args.out can c.entries-legal.ensures.legal c.fresh_answers_follow.ensures.steps c.holds-apart.ensures.none_clash c.requires.step in
     subst (Allowed (back entries)) (sym c.in_ok-entry.ensures) may
 
 pub add_made-requires-clause-plain : goal.add_made-requires-clause-plain
@@ -36,7 +36,7 @@ add_made-requires-clause-fits g c =
     let entries = c.self.inside.state.entries in
     let taken = c.args.taken.now in
     let can = subst (λ (e : ExecView _). CanCommit (moment_of g.R.Recorder.kept e) taken c.args.out) (sym c.self.view_is) (c.requires.going, c.requires.claimed, c.requires.fresh, c.requires.answer) in
-    let may = step_now kept entries c.self.inside.desk c.self.invariant taken c.args.out can c.entries-legal.ensures.legal c.entries-legal.ensures.plain c.fresh_answers_follow.ensures.steps c.holds-apart.ensures.none_clash c.requires.step in
+    let may = step_now kept entries c.self.inside.desk c.self.invariant taken c.args.out can c.entries-legal.ensures.legal c.fresh_answers_follow.ensures.steps c.holds-apart.ensures.none_clash c.requires.step in
     subst CanBeRecorded (sym c.in_ok-entry.ensures) (c.entries_fit_frames.ensures.step entries taken.pid taken.was.pick c.args.out c.entries-legal.ensures.legal (subst (λ (l : List Entry). All EntryFits l) c.self.invariant.same c.halted-fits.ensures.fits) may)
 
 pub add_made-requires-clause-parent : goal.add_made-requires-clause-parent
@@ -66,7 +66,7 @@ invariant_of-self-2 g c =
     let entries = c.self.inside.state.entries in
     let taken = c.args.taken.now in
     let can = subst (λ (e : ExecView _). CanCommit (moment_of g.R.Recorder.kept e) taken c.args.out) (sym c.self.view_is) (c.requires.going, c.requires.claimed, c.requires.fresh, c.requires.answer) in
-    let may = step_now kept entries c.self.inside.desk c.self.invariant taken c.args.out can c.entries-legal.ensures.legal c.entries-legal.ensures.plain c.fresh_answers_follow.ensures.steps c.holds-apart.ensures.none_clash c.requires.step in
+    let may = step_now kept entries c.self.inside.desk c.self.invariant taken c.args.out can c.entries-legal.ensures.legal c.fresh_answers_follow.ensures.steps c.holds-apart.ensures.none_clash c.requires.step in
     let records = subst (λ (e : Entry). Records kept e (Ok c.in_ok-number.number) (g.R.Recorder.kept c.add_made.new.recorder)) c.in_ok-entry.ensures c.in_ok-number.ensures.adds in
     goes_on_by kept (g.R.Recorder.kept c.add_made.new.recorder) entries c.add_made.new.state.entries c.self.inside.desk c.behind_step.new.self (entry_is.Step taken.pid taken.was.pick c.args.out) c.in_ok-number.number taken.pid.0 c.self.invariant c.add_made.ensures.entries
     (subst (λ (J : Past). Follows J c.behind_step.new.self) c.records.ensures c.behind_step.ensures.follows) c.entries-legal.ensures.legal may records
@@ -79,7 +79,7 @@ returns-clause-kept g c =
     let entries = c.self.inside.state.entries in
     let taken = c.args.taken.now in
     let can = subst (λ (e : ExecView _). CanCommit (moment_of g.R.Recorder.kept e) taken c.args.out) (sym c.self.view_is) (c.requires.going, c.requires.claimed, c.requires.fresh, c.requires.answer) in
-    let may = step_now kept entries c.self.inside.desk c.self.invariant taken c.args.out can c.entries-legal.ensures.legal c.entries-legal.ensures.plain c.fresh_answers_follow.ensures.steps c.holds-apart.ensures.none_clash c.requires.step in
+    let may = step_now kept entries c.self.inside.desk c.self.invariant taken c.args.out can c.entries-legal.ensures.legal c.fresh_answers_follow.ensures.steps c.holds-apart.ensures.none_clash c.requires.step in
     let records = subst (λ (e : Entry). Records kept e (Ok c.in_ok-number.number) (g.R.Recorder.kept c.add_made.new.recorder)) c.in_ok-entry.ensures c.in_ok-number.ensures.adds in
     subst (λ (e : ExecView _). Commits (moment_of g.R.Recorder.kept e) taken c.args.out c.in_ok-number.number (record { kept = g.R.Recorder.kept c.add_made.new.recorder; claimed = claims_on c.behind_step.new.self })) c.self.view_is
     (commits_now kept entries c.self.inside.desk c.self.invariant taken c.args.out can (entry_is.Step taken.pid taken.was.pick c.args.out) (step_is taken c.args.out c.requires.step) may (g.R.Recorder.kept c.add_made.new.recorder) (claims_on c.behind_step.new.self) c.in_ok-number.number records
@@ -91,7 +91,7 @@ returns-in_err-number-clause-refused g c =
     let entries = c.self.inside.state.entries in
     let taken = c.args.taken.now in
     let can = subst (λ (e : ExecView _). CanCommit (moment_of g.R.Recorder.kept e) taken c.args.out) (sym c.self.view_is) (c.requires.going, c.requires.claimed, c.requires.fresh, c.requires.answer) in
-    let may = step_now kept entries c.self.inside.desk c.self.invariant taken c.args.out can c.entries-legal.ensures.legal c.entries-legal.ensures.plain c.fresh_answers_follow.ensures.steps c.holds-apart.ensures.none_clash c.requires.step in
+    let may = step_now kept entries c.self.inside.desk c.self.invariant taken c.args.out can c.entries-legal.ensures.legal c.fresh_answers_follow.ensures.steps c.holds-apart.ensures.none_clash c.requires.step in
     let adds = subst (λ (e : Entry). Adds kept e (Err c.in_err-number.field-0.0) (g.R.Recorder.kept c.add_made.new.recorder)) c.in_ok-entry.ensures c.in_err-number.ensures.adds in
     let told =
     subst (λ (e : ExecView _). RefusesCommit (moment_of g.R.Recorder.kept e) taken c.args.out c.in_err-number.field-0.0 (record { kept = g.R.Recorder.kept c.add_made.new.recorder; claimed = claims_on c.add_made.new.desk })) c.self.view_is

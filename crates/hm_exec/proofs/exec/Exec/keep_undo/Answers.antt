@@ -20,7 +20,7 @@ add_made-requires-clause-allowed g c =
     let entries = c.self.inside.state.entries in
     let taken = c.args.taken.now in
     let can = subst (λ (e : ExecView _). CanCommit (moment_of g.R.Recorder.kept e) taken c.args.out) (sym c.self.view_is) (c.requires.going, c.requires.claimed, c.requires.fresh, c.requires.answer) in
-    let may = undo_now kept entries c.self.inside.desk c.self.invariant taken c.args.out can c.entries-legal.ensures.legal c.entries-legal.ensures.plain c.fresh_answers_follow.ensures.undos c.requires.undo in
+    let may = undo_now kept entries c.self.inside.desk c.self.invariant taken c.args.out can c.entries-legal.ensures.legal c.fresh_answers_follow.ensures.undos c.requires.undo in
     may.0
 
 pub add_made-requires-clause-fits : goal.add_made-requires-clause-fits
@@ -29,7 +29,7 @@ add_made-requires-clause-fits g c =
     let entries = c.self.inside.state.entries in
     let taken = c.args.taken.now in
     let can = subst (λ (e : ExecView _). CanCommit (moment_of g.R.Recorder.kept e) taken c.args.out) (sym c.self.view_is) (c.requires.going, c.requires.claimed, c.requires.fresh, c.requires.answer) in
-    let may = undo_now kept entries c.self.inside.desk c.self.invariant taken c.args.out can c.entries-legal.ensures.legal c.entries-legal.ensures.plain c.fresh_answers_follow.ensures.undos c.requires.undo in
+    let may = undo_now kept entries c.self.inside.desk c.self.invariant taken c.args.out can c.entries-legal.ensures.legal c.fresh_answers_follow.ensures.undos c.requires.undo in
     c.entries_fit_frames.ensures.undo entries taken.was.pid taken.was.row c.args.out c.entries-legal.ensures.legal (subst (λ (l : List Entry). All EntryFits l) c.self.invariant.same c.halted-fits.ensures.fits) may.0
 
 pub invariant_of-self : goal.invariant_of-self
@@ -43,7 +43,7 @@ behind_undo-requires g c =
     let entries = c.self.inside.state.entries in
     let taken = c.args.taken.now in
     let can = subst (λ (e : ExecView _). CanCommit (moment_of g.R.Recorder.kept e) taken c.args.out) (sym c.self.view_is) (c.requires.going, c.requires.claimed, c.requires.fresh, c.requires.answer) in
-    let may = undo_now kept entries c.self.inside.desk c.self.invariant taken c.args.out can c.entries-legal.ensures.legal c.entries-legal.ensures.plain c.fresh_answers_follow.ensures.undos c.requires.undo in
+    let may = undo_now kept entries c.self.inside.desk c.self.invariant taken c.args.out can c.entries-legal.ensures.legal c.fresh_answers_follow.ensures.undos c.requires.undo in
     let records = c.in_ok-number.ensures.adds in
     let made_for = c.in_ok-number.ensures.behind in
     subst (λ (J : Past). IsUndoOf J taken.pid (c.last_pid-low.result + 1) c.alters-late.result c.add_made.new.desk) (sym c.records.ensures)
@@ -56,7 +56,7 @@ invariant_of-self-2 g c =
     let entries = c.self.inside.state.entries in
     let taken = c.args.taken.now in
     let can = subst (λ (e : ExecView _). CanCommit (moment_of g.R.Recorder.kept e) taken c.args.out) (sym c.self.view_is) (c.requires.going, c.requires.claimed, c.requires.fresh, c.requires.answer) in
-    let may = undo_now kept entries c.self.inside.desk c.self.invariant taken c.args.out can c.entries-legal.ensures.legal c.entries-legal.ensures.plain c.fresh_answers_follow.ensures.undos c.requires.undo in
+    let may = undo_now kept entries c.self.inside.desk c.self.invariant taken c.args.out can c.entries-legal.ensures.legal c.fresh_answers_follow.ensures.undos c.requires.undo in
     let records = c.in_ok-number.ensures.adds in
     goes_on_by kept (g.R.Recorder.kept c.add_made.new.recorder) entries c.add_made.new.state.entries c.self.inside.desk c.behind_undo.new.self (entry_is.Undo taken.was.pid taken.was.row c.args.out) c.in_ok-number.number taken.pid.0 c.self.invariant c.add_made.ensures.entries
     (subst (λ (J : Past). Follows J c.behind_undo.new.self) c.records.ensures c.behind_undo.ensures.follows) c.entries-legal.ensures.legal may.0 records
@@ -69,7 +69,7 @@ returns-clause-kept g c =
     let entries = c.self.inside.state.entries in
     let taken = c.args.taken.now in
     let can = subst (λ (e : ExecView _). CanCommit (moment_of g.R.Recorder.kept e) taken c.args.out) (sym c.self.view_is) (c.requires.going, c.requires.claimed, c.requires.fresh, c.requires.answer) in
-    let may = undo_now kept entries c.self.inside.desk c.self.invariant taken c.args.out can c.entries-legal.ensures.legal c.entries-legal.ensures.plain c.fresh_answers_follow.ensures.undos c.requires.undo in
+    let may = undo_now kept entries c.self.inside.desk c.self.invariant taken c.args.out can c.entries-legal.ensures.legal c.fresh_answers_follow.ensures.undos c.requires.undo in
     let records = c.in_ok-number.ensures.adds in
     subst (λ (e : ExecView _). Commits (moment_of g.R.Recorder.kept e) taken c.args.out c.in_ok-number.number (record { kept = g.R.Recorder.kept c.add_made.new.recorder; claimed = claims_on c.behind_undo.new.self })) c.self.view_is
     (commits_now kept entries c.self.inside.desk c.self.invariant taken c.args.out can (entry_is.Undo taken.was.pid taken.was.row c.args.out) (undo_is taken c.args.out c.requires.undo) may.0 (g.R.Recorder.kept c.add_made.new.recorder) (claims_on c.behind_undo.new.self) c.in_ok-number.number records
@@ -81,7 +81,7 @@ returns-in_err-number-clause-refused g c =
     let entries = c.self.inside.state.entries in
     let taken = c.args.taken.now in
     let can = subst (λ (e : ExecView _). CanCommit (moment_of g.R.Recorder.kept e) taken c.args.out) (sym c.self.view_is) (c.requires.going, c.requires.claimed, c.requires.fresh, c.requires.answer) in
-    let may = undo_now kept entries c.self.inside.desk c.self.invariant taken c.args.out can c.entries-legal.ensures.legal c.entries-legal.ensures.plain c.fresh_answers_follow.ensures.undos c.requires.undo in
+    let may = undo_now kept entries c.self.inside.desk c.self.invariant taken c.args.out can c.entries-legal.ensures.legal c.fresh_answers_follow.ensures.undos c.requires.undo in
     let told =
     subst (λ (e : ExecView _). RefusesCommit (moment_of g.R.Recorder.kept e) taken c.args.out c.in_err-number.field-0.0 (record { kept = g.R.Recorder.kept c.add_made.new.recorder; claimed = claims_on c.add_made.new.desk })) c.self.view_is
     (refuses_now kept entries c.self.inside.desk c.self.invariant taken c.args.out can (entry_is.Undo taken.was.pid taken.was.row c.args.out) (undo_is taken c.args.out c.requires.undo) may.0 (g.R.Recorder.kept c.add_made.new.recorder) (claims_on c.add_made.new.desk) c.in_err-number.field-0.0 c.in_err-number.ensures.adds c.add_made.ensures.claimed) in

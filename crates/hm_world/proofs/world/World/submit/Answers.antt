@@ -10,4 +10,4 @@ use Rattle.hm_world.proofs.world.World.submit.Goals as goal
 pub invariant_of-self : goal.invariant_of-self
 invariant_of-self g c =
     sound_quiet _ _ _ _ c.self.invariant
-    (submit_enters IsQuiet (moment_of g.R.Recorder.kept c.self.inside.exec) (moment_of g.R.Recorder.kept c.submit.new.self) c.args.nonce c.args.request (subst (λ (l : List Entry). IsBegun (back l)) (sym c.state.ensures) c.has_begun.ensures) (refl, (λ o. tt), tt) c.submit.result c.submit.ensures.answers)
+    (submit_enters IsQuiet (moment_of g.R.Recorder.kept c.self.inside.exec) (moment_of g.R.Recorder.kept c.submit.new.self) c.args.nonce c.args.request (subst (λ (l : List Entry). IsBegun (back l)) (sym c.state.ensures) c.entries-begun.ensures.has_begun) (refl, (λ o. tt), tt) c.submit.result c.submit.ensures.answers)

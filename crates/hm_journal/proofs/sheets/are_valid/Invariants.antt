@@ -1,6 +1,0 @@
-use Rattle.std.proofs.Common.{take}
-use Rattle.hm_model.specs.Validity.{AllValid}
-use Rattle.hm_journal.proofs.sheets.are_valid.Given as goal
-
-abbrev pub invariant-loop-sheet : goal.invariant-loop-sheet
-invariant-loop-sheet l = AllValid (take l.sheet-index l.sheets)
