@@ -2,7 +2,7 @@
 use Rattle.std.proofs.Common.{◌≡◌, ◌⊎◌, ℕ, length, Result, Ok, Err, Some, None, refl, ap, sym, ◌∙◌, inl, inr}
 use Rattle.std.proofs.lemmas.Option.{none-some}
 use Rattle.hm_data.specs.declared.entry.Entry.{Entry}
-use Rattle.hm_hall.specs.Recording.{Recording, Passes, Records, bytes_of}
+use Rattle.hm_hall.specs.Recording.{Recording, Passes, Records, behind, bytes_of}
 use Rattle.hm_hall.specs.declared.fault.Halt.{Halt}
 use Rattle.hm_hall.specs.declared.fault.RecordFault.{RecordFault}
 use Rattle.hm_hall.specs.declared.fault.RecordFault.TheVariants as fault_is
@@ -28,7 +28,7 @@ full_next old entry (Err fault_is.LogFault) new is going passes = absurd (is.1 p
 
 -- else it is, or the log failed
 pub recorded_else : (old : Recording) (entry : Entry) (answer : Result ℕ RecordFault) (new : Recording) → Records old entry answer new → old.halted ≡ None → (Passes old.hard old.entries entry → ⊥)
-    → (answer ≡ Ok (length old.entries)) ⊎ (answer ≡ Err fault_is.LogFault)
+    → (answer ≡ Ok (length (behind old.entries))) ⊎ (answer ≡ Err fault_is.LogFault)
 recorded_else old entry (Ok number) new is going within = inl (ap (λ (n : ℕ). Ok n) is.2)
 recorded_else old entry (Err (fault_is.Halted why)) new is going within = absurd (none-some why (sym going ∙ is.0))
 recorded_else old entry (Err (fault_is.JournalFull bytes)) new is going within = absurd (within is.1)

@@ -17,12 +17,14 @@ use Rattle.hm_hall.specs.declared.taken.Given.{Given}
 use Rattle.hm_hall.specs.declared.taken.Given.TheVariants as given_is
 use Rattle.hm_hall.specs.declared.taken.Taken.{Taken}
 use Rattle.hm_model.specs.Evaluation.{CanRun}
-use Rattle.hm_model.specs.Journal.{back}
+use Rattle.hm_model.specs.Journal.{Past, back}
 use Rattle.hm_model.specs.Locks.{IsIn}
 use Rattle.hm_model.specs.Rest.{IsAvailable}
 
--- what is recorded, the pids that are out, what stopped it, and the sheets of each edition, by which its procedures run
+-- the parts of the base, what is recorded behind it, the pids that are out, what stopped it, and the sheets of each edition, by which
+-- its procedures run
 pub record HallView : Type 0 where
+  pub base : List Entry
   pub items : List Entry
   pub outs : List ℕ
   pub stopped : Option Halt
@@ -44,9 +46,13 @@ GoesOut p old new = (q : ℕ) → IsIn q new ↔ ((q ≡ p) ⊎ IsIn q old)
 abbrev pub ComesBack : ℕ → List ℕ → List ℕ → Type 0
 ComesBack p old new = (q : ℕ) → IsIn q new ↔ (IsIn q old × (q ≢ p))
 
+-- the journal, back from its newest entry
+abbrev pub journal_of : HallView → Past
+journal_of at = back (at.base ++ at.items)
+
 -- a procedure may go on, beside those that are out
 abbrev pub CanGoOut : HallView → ℕ → Type 0
-CanGoOut at p = IsAvailable (back at.items) at.outs at.outs p
+CanGoOut at p = IsAvailable (journal_of at) at.outs at.outs p
 
 -- none may
 abbrev pub NoneCanGoOut : HallView → Type 0
@@ -81,7 +87,7 @@ IsStepOf taken out (entry_is.Step pid pick its) = let was = taken.was in (pid �
 IsStepOf taken out (entry_is.Undo pid row its) = let was = taken.was in (pid ≡ was.pid) × (row ≡ was.row) × (its ≡ out)
 IsStepOf taken out entry = ⊥
 
--- an answer is recorded as the entry with this number, and its pid comes back
+-- an answer is recorded behind the base in this place, and its pid comes back
 abbrev pub Keeps : HallView → Taken → StepOut → ℕ → HallView → Type 0
 Keeps old taken out number new =
     let pid = taken.pid in

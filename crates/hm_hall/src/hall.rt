@@ -1,9 +1,9 @@
 //! The trait of what hands out the tasks of a master.
-ghost use Rattle.std.specs.Prelude.{◌≡◌, ◌≤◌, ℕ, List, IfErr, IsErrOf, Ok, Some};
+ghost use Rattle.std.specs.Prelude.{◌≡◌, ◌≤◌, ℕ, IfErr, IsErrOf, Ok, Some};
 ghost use Rattle.hm_ports.specs.Faults.{Rose};
-ghost use Rattle.hm_data.specs.declared.entry.Entry.{Entry as EntryValue};
-ghost use Rattle.hm_hall.specs.Hall.{AnswersCarry, AnswersGive, AnswersTake, GetsBack, HallView};
+ghost use Rattle.hm_hall.specs.Hall.{AnswersCarry, AnswersGive, AnswersTake, GetsBack, HallView, journal_of};
 ghost use Rattle.hm_model.specs.Evaluation.{answer_of};
+ghost use Rattle.hm_model.specs.Journal.{Past};
 ghost use Rattle.hm_model.specs.Locks.{IsIn};
 
 use crate::fault::HallFault;
@@ -28,11 +28,12 @@ pub enum Task {
 /// Hands out what there is to do, one task after another, and records what comes of it. A procedure that was taken is out until it
 /// is given back with an answer, or put back. What stopped a hall is answered by each call before anything else, and nothing goes on.
 pub trait Hall {
-    // What is recorded, who is out, what stopped it, and the sheets of each edition, by which its procedures run.
+    // The parts of the base, what is recorded behind it, who is out, what stopped it, and the sheets of each edition, by which its
+    // procedures run.
     ghost hall: { Self → HallView };
 
-    // Which lists of entries are at rest.
-    ghost rests: { List EntryValue → Type 0 };
+    // Which journals are at rest, back from their newest entry.
+    ghost rests: { Past → Type 0 };
 
     // How often what it records on failed.
     ghost faults: { Self → ℕ };
@@ -40,7 +41,7 @@ pub trait Hall {
     /// The next task. Nothing is recorded.
     fn take(&mut self, alloc: Global) -> Result<Task, HallFault>
         ensures answers { AnswersTake (hall self.old) result (hall self.new) }
-        ensures idle { result ≡ Ok Task.Idle → rests (hall self.old).items }
+        ensures idle { result ≡ Ok Task.Idle → rests (journal_of (hall self.old)) }
         ensures later { faults self.old ≤ faults self.new };
 
     /// Gives back what the handler answered to what was taken. An error gives that back.

@@ -1,9 +1,9 @@
 //! Laws of the definitions that the contracts cite.
-ghost use Rattle.std.specs.Prelude.{◌≡◌, ◌⊎◌, ℕ, length, Bool, Result, Ok, Err, Some, None};
+ghost use Rattle.std.specs.Prelude.{◌≡◌, ◌⊎◌, ℕ, List, [], ◌∷◌, ◌++◌, length, Bool, false, Result, Ok, Err, Some, None};
 ghost use Rattle.hm_data.specs.declared.entry.Entry.{Entry};
 ghost use Rattle.hm_data.specs.declared.step.StepOut.{StepOut};
 ghost use Rattle.hm_hall.specs.Hall.{AnswersCarry, AnswersGive, AnswersTake, GetsBack, HallView};
-ghost use Rattle.hm_hall.specs.Recording.{Recording, Passes, Records, bytes_of};
+ghost use Rattle.hm_hall.specs.Recording.{Recording, Passes, Records, behind, bytes_of, parts_of};
 ghost use Rattle.hm_hall.specs.declared.fault.HallFault.{HallFault};
 ghost use Rattle.hm_hall.specs.declared.fault.HallFault.TheVariants as hall_is;
 ghost use Rattle.hm_hall.specs.declared.fault.Halt.{Halt};
@@ -12,9 +12,10 @@ ghost use Rattle.hm_hall.specs.declared.fault.RecordFault.TheVariants as fault_i
 ghost use Rattle.hm_hall.specs.declared.hall.Task.{Task};
 ghost use Rattle.hm_hall.specs.declared.taken.Given.{Given};
 ghost use Rattle.hm_hall.specs.declared.taken.Taken.{Taken};
+ghost use Rattle.hm_model.specs.Laws.{is_part};
 
 /// What recording answers is decided by the recorder and the entry, but for a fault of the log: it is that the recorder
-/// was halted, where it was; else that the journal is full, where the entry passes the hard mark; else the number of the
+/// was halted, where it was; else that the journal is full, where the entry passes the hard mark; else the place of the
 /// entry, or that fault.
 pub fn recording_is_decided()
     ensures halted { (old : Recording) (entry : Entry) (answer : Result ℕ FaultValue) (new : Recording) (why : Halt) →
@@ -23,7 +24,14 @@ pub fn recording_is_decided()
         Records old entry answer new → old.halted ≡ None → Passes old.hard old.entries entry → answer ≡ Err (fault_is.JournalFull (bytes_of old.entries)) }
     ensures recorded { (old : Recording) (entry : Entry) (answer : Result ℕ FaultValue) (new : Recording) →
         Records old entry answer new → old.halted ≡ None → (Passes old.hard old.entries entry → ⊥) →
-        (answer ≡ Ok (length old.entries)) ⊎ (answer ≡ Err fault_is.LogFault) }
+        (answer ≡ Ok (length (behind old.entries))) ⊎ (answer ≡ Err fault_is.LogFault) }
+{}
+
+/// A journal is its base, or none, and the entries behind it, where each entry comes that is no part of a base.
+pub fn parts_stand_first()
+    ensures all { (entries : List Entry) → parts_of entries ++ behind entries ≡ entries }
+    ensures parts { (entries : List Entry) (entry : Entry) → is_part entry ≡ false → parts_of (entries ++ entry ∷ []) ≡ parts_of entries }
+    ensures behind { (entries : List Entry) (entry : Entry) → is_part entry ≡ false → behind (entries ++ entry ∷ []) ≡ behind entries ++ entry ∷ [] }
 {}
 
 /// What stopped a hall is answered by each of its calls, and the call changes nothing.

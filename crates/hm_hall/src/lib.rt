@@ -9,6 +9,6 @@ mod taken;
 
 pub use fault::{HallFault, Halt, RecordFault};
 pub use hall::{Hall, Task};
-pub use laws::{recording_is_decided, sheets_stay, stops_are_answered_first};
+pub use laws::{parts_stand_first, recording_is_decided, sheets_stay, stops_are_answered_first};
 pub use recorder::Recorder;
 pub use taken::{Given, Taken};

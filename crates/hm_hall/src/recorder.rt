@@ -1,8 +1,9 @@
 //! The trait of what records entries.
-ghost use Rattle.std.specs.Prelude.{◌≡◌, ◌≢◌, ◌≤◌, ◌↔◌, ℕ, MatchResult, OnErr, IsErrOf, IsTrue, Some, None};
+ghost use Rattle.std.specs.Prelude.{◌≡◌, ◌≢◌, ◌≤◌, ◌↔◌, ℕ, MatchResult, OnErr, IsErrOf, IsTrue, Some, None, false};
 ghost use Rattle.hm_ports.specs.Faults.{Rose};
 ghost use Rattle.hm_data.specs.declared.entry.Entry.{Entry as EntryValue};
 ghost use Rattle.hm_hall.specs.Recording.{Recording, AllFit, CanBeRecorded, Accepts, Records, full_at, next_of, with_next, halt_of};
+ghost use Rattle.hm_model.specs.Laws.{is_part};
 
 use crate::fault::{Halt, RecordFault};
 use hm_data::Entry;
@@ -31,10 +32,11 @@ pub trait Recorder {
         requires { CanBeRecorded entry.now }
         ensures { IsTrue result ↔ (Accepts (kept self.now) entry.now → ⊥) };
 
-    /// Makes an entry ready to be recorded, in place of one that was. Memory runs out only for an entry that would be
+    /// Makes an entry that is no part of a base ready to be recorded, in place of one that was. Memory runs out only for an entry that would be
     /// recorded.
     fn ready(&mut self, alloc: Global, entry: &Entry) -> Result<(), AllocError>
-        requires { CanBeRecorded entry.now }
+        requires fits { CanBeRecorded entry.now }
+        requires other { is_part entry.now ≡ false }
         ensures kept { MatchResult result
             (λ _. kept self.new ≡ with_next (kept self.old) entry.now)
             (λ _. kept self.new ≡ kept self.old) }
@@ -42,7 +44,7 @@ pub trait Recorder {
         ensures faults { faults self.new ≡ faults self.old }
         ensures opened { opened self.new ≡ opened self.old };
 
-    /// Records the entry that is ready, and gives its number. It takes no memory.
+    /// Records the entry that is ready, and gives its place behind the base. It takes no memory.
     fn record_entry(&mut self) -> Result<u64, RecordFault>
         requires { next_of (kept self.old) ≢ None }
         ensures records { (entry : EntryValue) → next_of (kept self.old) ≡ Some entry →

@@ -11,7 +11,7 @@ pub struct Taken {
 /// What became of an answer.
 #[derive(Drop)]
 pub enum Given {
-    /// It was recorded as the entry of this number.
+    /// It was recorded in this place behind the base.
     Kept(u64),
     /// It was made for an input that isn't the procedure's any more; the claim is given up.
     Stale { was: StepIn, now: StepIn },
