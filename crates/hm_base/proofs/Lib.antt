@@ -1,7 +1,6 @@
 mod Fresh
 mod Fitting
 mod Among
-mod Least
 mod Lists
 mod Each
 mod Covered

@@ -1,9 +1,6 @@
 -- The places of a journal tell whether each region that is open is so at a live server.
-use Rattle.std.proofs.Common.{◌≡◌, ◌↔◌, List, [], ◌∷◌, Option, Some, None, Bool, if◌then◌else◌, refl, inl, inr, ap, sym, ◌∙◌, subst}
+use Rattle.std.proofs.Common.{◌≡◌, ◌↔◌, Option, Some, None, Bool, refl, ap, sym, ◌∙◌, subst}
 use Rattle.std.specs.List.{AllByRecursion}
-use Rattle.std.specs.Ordering.{is_eq}
-use Rattle.std.specs.declared.cmp.Ordering.{Ordering}
-use Rattle.std.specs.declared.cmp.Ordering.TheVariants.{Less, Equal, Greater}
 use Rattle.std.proofs.lemmas.Bool.{false≢true}
 use Rattle.hm_names.specs.Order.{region_cmp}
 use Rattle.hm_names.specs.Region.{Region}
@@ -20,25 +17,9 @@ use Rattle.hm_model.specs.Standings.{is_live_in, standings_of}
 use Rattle.hm_model.specs.TransitActs.{is_placed, told_place}
 use Rattle.hm_model.proofs.KeyTests.{region_cmp-is}
 use Rattle.hm_places.specs.Laws.{AllStandingsTell, PlacesTell}
+use Rattle.hm_ranges.proofs.Lists.{found_in, in_map}
 use Rattle.hm_base.specs.Whole.{AreServed, IsServed}
 use Rattle.hm_base.proofs.Each.{each_in, each_of}
-use Rattle.hm_base.proofs.Lists.{in_map}
-
--- what is found of a region stands in the list
-found_in : (places : List (Region × Place)) (region : Region) (place : Place) → find region_cmp places region ≡ Some place → IsIn (region, place) places
-found_in [] region place e = absurd (clash e)
-  where
-    clash : None ≡ Some place → ⊥
-    clash e = cc
-found_in ((here, own) ∷ more) region place e = by (λ further. found_in more region place further) (region_cmp here region) refl e
-  where
-    apart : (a b : Place) → Some a ≡ Some b → a ≡ b
-    apart a b e = cc
-
-    by : (find region_cmp more region ≡ Some place → IsIn (region, place) more) → (o : Ordering) → region_cmp here region ≡ o → (if is_eq o then Some own else find region_cmp more region) ≡ Some place → IsIn (region, place) ((here, own) ∷ more)
-    by rest Less c e = inr (rest e)
-    by rest Equal c e = inl (ap (λ (r : Region). (r, place)) (sym (region_cmp-is here region c)) ∙ ap (λ (p : Place). (here, p)) (sym (apart own place e)))
-    by rest Greater c e = inr (rest e)
 
 -- a place at a server that is live by one reading is so by another
 served_by : (one other : Server → Bool) → ((server : Server) → one server ≡ other server) → (place : Place) → IsServed one place → IsServed other place
@@ -53,7 +34,7 @@ module _ (places : PlacesTell) (stand : AllStandingsTell) (J : Past) (legal : Is
   on_region each region None e = λ on. absurd (false≢true (ap (λ p. is_placed p) (ap told_place (sym e) ∙ (places J).0 region) ∙ on))
   on_region each region (Some place) e =
       subst (λ p. IsServed (is_live J) p) (ap told_place (sym e) ∙ (places J).0 region)
-      (served_by (is_live_in (standings_of J)) (is_live J) (stand J legal).live place (each_in (IsServedThere J) (places_of J) each (region, place) (found_in (places_of J) region place e)))
+      (served_by (is_live_in (standings_of J)) (is_live J) (stand J legal).live place (each_in (IsServedThere J) (places_of J) each (region, place) (found_in region_cmp region_cmp-is (places_of J) region place e)))
 
   on_row : AreServed J → (row : Region × Place) → IsIn row (places_of J) → IsServedThere J row
   on_row served row among =

@@ -1,13 +1,10 @@
 -- When parts are a whole base.
-use Rattle.std.specs.Prelude.{◌≡◌, ◌≢◌, Bool, List, Option, None, Some, true, codes, if◌then◌else◌}
-use Rattle.std.specs.List.{filter, filter_map}
+use Rattle.std.specs.Prelude.{◌≡◌, ◌≢◌, Bool, None, Some, true, codes}
 use Rattle.hm_names.specs.Region.{Region}
 use Rattle.hm_names.specs.Server.{Server}
-use Rattle.hm_names.specs.declared.range.KeyRange.{KeyRange}
 use Rattle.hm_names.specs.declared.table.TableName.{TableName}
 use Rattle.hm_data.specs.declared.catalog.CatKey.{CatKey}
 use Rattle.hm_data.specs.declared.catalog.CatKey.TheVariants as key_is
-use Rattle.hm_data.specs.declared.catalog.CatRow.{CatRow}
 use Rattle.hm_data.specs.declared.place.Place.{Place}
 use Rattle.hm_data.specs.declared.place.RegionState.TheVariants as place_is
 use Rattle.hm_model.specs.Catalog.{Catalog}
@@ -15,22 +12,14 @@ use Rattle.hm_model.specs.Fleet.{is_live}
 use Rattle.hm_model.specs.Journal.{Past}
 use Rattle.hm_model.specs.Places.{place_of}
 use Rattle.hm_model.specs.Ranges.{IsCovered}
-use Rattle.hm_model.specs.RowsSaid.{Rows, is_live_status, range_in, status_in}
+use Rattle.hm_model.specs.RowsSaid.{Rows}
 use Rattle.hm_model.specs.TransitActs.{is_placed}
-use Rattle.hm_catalog.specs.Kept.{is_region_of}
 use Rattle.hm_ranges.specs.Holes.{IsLeast}
+use Rattle.hm_ranges.specs.Live.{ranges_in}
 
 -- the namespaces are there that are there from the start of other journals
 abbrev pub HasSpaces : Catalog → Type 0
 HasSpaces there = (there (key_is.Ns (codes "default")) ≢ None) × (there (key_is.Ns (codes "hbase")) ≢ None)
-
--- the range of a live region, by its row
-abbrev pub live_in : Option CatRow → Option KeyRange
-live_in row = if is_live_status (status_in row) then range_in row else None
-
--- the ranges of a table's live regions, in the order of the rows
-abbrev pub ranges_in : Rows → TableName → List KeyRange
-ranges_in rows table = filter_map (λ row. live_in (Some row.1)) (filter (λ row. is_region_of table row.0) rows)
 
 -- where a key is a table's, its live regions leave no key out
 abbrev pub HasNoHole : Rows → CatKey → Type 0

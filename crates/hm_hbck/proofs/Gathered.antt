@@ -24,6 +24,7 @@ use Rattle.hm_model.proofs.NameTies.{regions_total}
 use Rattle.hm_catalog.specs.Rows.{rows_in}
 use Rattle.hm_places.specs.Places.{place_in}
 use Rattle.hm_server.specs.Actors.{ActorView}
+use Rattle.hm_ranges.proofs.Lists.{in_either, in_front, in_rest}
 use Rattle.hm_hbck.specs.Findings.{NamesDiffer, running, said}
 use Rattle.hm_hbck.specs.Found.{Adds, AllAreHeld, Hold, all_held, of_hold, of_place}
 use Rattle.hm_hbck.specs.Holes.{IsHoleAmong}
@@ -31,7 +32,6 @@ use Rattle.hm_hbck.specs.Pairs.{IsPairOf, meet}
 use Rattle.hm_hbck.specs.declared.finding.Finding.{Finding}
 use Rattle.hm_hbck.specs.declared.finding.Finding.TheVariants as finding_is
 use Rattle.hm_hbck.proofs.Holders.{held, hold_row, hold_runs, holder, holds_so, runner, runs_held, so_no_row, so_stray}
-use Rattle.hm_hbck.proofs.Lists.{in_either, in_front, in_rest}
 use Rattle.hm_hbck.proofs.Placed.{placed_so, so_dead_place, so_no_actor, so_not_held}
 use Rattle.hm_hbck.proofs.Rows.{hole_so, so_hole}
 

@@ -20,14 +20,16 @@ use Rattle.hm_model.specs.Ranges.{IsLiveWith}
 use Rattle.hm_model.specs.RowsSaid.{Rows}
 use Rattle.hm_model.proofs.NameTies.{same_server-is, same_server-refl}
 use Rattle.hm_server.specs.Actors.{ActorView, AreHeldBy, actor_of, held_in}
+use Rattle.hm_ranges.specs.Live.{live_in}
+use Rattle.hm_ranges.proofs.Lists.{in_either, in_front, in_map, in_rest}
+use Rattle.hm_ranges.proofs.LiveRows.{live_is}
 use Rattle.hm_hbck.specs.Findings.{NamesDiffer, running, said}
-use Rattle.hm_hbck.specs.Found.{AllAreHeld, Hold, all_held, held_at, held_by, live_in, of_hold, only_if}
+use Rattle.hm_hbck.specs.Found.{AllAreHeld, Hold, all_held, held_at, held_by, of_hold, only_if}
 use Rattle.hm_hbck.specs.Pairs.{RowsAgree}
 use Rattle.hm_hbck.specs.declared.finding.Finding.{Finding}
 use Rattle.hm_hbck.specs.declared.finding.Finding.TheVariants as finding_is
-use Rattle.hm_hbck.proofs.Lists.{flat_map_in, in_either, in_flat_map, in_front, in_map, in_one, in_rest, map_in, one_in}
+use Rattle.hm_hbck.proofs.Lists.{flat_map_in, in_flat_map, in_one, map_in, one_in}
 use Rattle.hm_hbck.proofs.Placed.{not_true}
-use Rattle.hm_hbck.proofs.Rows.{live_is}
 
 -- a region at a server, with its row
 abbrev pub held : Rows → Region → Server → Hold

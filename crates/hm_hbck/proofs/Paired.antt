@@ -14,10 +14,11 @@ use Rattle.hm_model.specs.RowsSaid.{range_in}
 use Rattle.hm_model.specs.Single.{overlap_if}
 use Rattle.hm_model.proofs.KeyTests.{same_region-is, same_region-refl, same_table-is, same_table-refl}
 use Rattle.hm_model.proofs.NameTies.{regions_total, servers_total}
+use Rattle.hm_ranges.proofs.Lists.{in_either, in_front, in_rest}
 use Rattle.hm_hbck.specs.Found.{Adds, Hold}
 use Rattle.hm_hbck.specs.Pairs.{IsPairOf, by_name, meet, name_cmp, of_pair, of_pairs, twice}
 use Rattle.hm_hbck.specs.declared.finding.Finding.{Finding}
-use Rattle.hm_hbck.proofs.Lists.{flat_map_in, in_either, in_flat_map, in_front, in_rest}
+use Rattle.hm_hbck.proofs.Lists.{flat_map_in, in_flat_map}
 use Rattle.hm_hbck.proofs.Order.{alike, true_less}
 
 names_total : IsTotalOrder name_cmp

@@ -1,9 +1,6 @@
 -- What is found of the places of a journal's regions is exactly what is so of them.
-use Rattle.std.proofs.Common.{◌≡◌, List, [], ◌∷◌, Option, Some, None, Bool, true, false, not, ◌&&◌, if◌then◌else◌, refl, inl, inr, ap, sym, ◌∙◌, subst}
+use Rattle.std.proofs.Common.{◌≡◌, [], Option, Some, None, Bool, true, false, not, ◌&&◌, if◌then◌else◌, refl, inl, inr, ap, sym, ◌∙◌, subst}
 use Rattle.std.specs.List.{flat_map}
-use Rattle.std.specs.Ordering.{is_eq}
-use Rattle.std.specs.declared.cmp.Ordering.{Ordering}
-use Rattle.std.specs.declared.cmp.Ordering.TheVariants.{Less, Equal, Greater}
 use Rattle.std.proofs.lemmas.Bool.{and_from, and_parts, false≢true}
 use Rattle.hm_names.specs.Order.{region_cmp}
 use Rattle.hm_names.specs.Region.{Region}
@@ -22,32 +19,18 @@ use Rattle.hm_model.specs.TransitActs.{is_placed, is_state, told_place}
 use Rattle.hm_model.proofs.KeyTests.{region_cmp-is}
 use Rattle.hm_model.proofs.NameTies.{same_server-is, same_server-refl}
 use Rattle.hm_places.specs.Places.{place_in}
+use Rattle.hm_ranges.proofs.Lists.{found_in, in_either, in_front, in_map, in_rest}
 use Rattle.hm_hbck.specs.Findings.{said}
 use Rattle.hm_hbck.specs.Found.{of_open, of_place, of_server, only_if}
 use Rattle.hm_hbck.specs.declared.finding.Finding.{Finding}
 use Rattle.hm_hbck.specs.declared.finding.Finding.TheVariants as finding_is
-use Rattle.hm_hbck.proofs.Lists.{flat_map_in, in_either, in_flat_map, in_front, in_map, in_one, in_rest, one_in}
+use Rattle.hm_hbck.proofs.Lists.{flat_map_in, in_flat_map, in_one, one_in}
 
 pub not_true : (b : Bool) → not b ≡ true → b ≡ false
 not_true true e = absurd (false≢true e)
 not_true false e = refl
 
 -- a region with a server has a place
-found_in : (places : List (Region × Place)) (region : Region) (place : Place) → find region_cmp places region ≡ Some place → IsIn (region, place) places
-found_in [] region place e = absurd (clash e)
-  where
-    clash : None ≡ Some place → ⊥
-    clash e = cc
-found_in ((here, own) ∷ more) region place e = by (λ further. found_in more region place further) (region_cmp here region) refl e
-  where
-    apart : (a b : Place) → Some a ≡ Some b → a ≡ b
-    apart a b e = cc
-
-    by : (find region_cmp more region ≡ Some place → IsIn (region, place) more) → (o : Ordering) → region_cmp here region ≡ o → (if is_eq o then Some own else find region_cmp more region) ≡ Some place → IsIn (region, place) ((here, own) ∷ more)
-    by rest Less c e = inr (rest e)
-    by rest Equal c e = inl (ap (λ (r : Region). (r, place)) (sym (region_cmp-is here region c)) ∙ ap (λ (p : Place). (here, p)) (sym (apart own place e)))
-    by rest Greater c e = inr (rest e)
-
 has_place : (J : Past) (region : Region) (server : Server) → place_in (places_of J) region ≡ place_of J region → (place_of J region).server ≡ Some server → IsIn (region, place_of J region) (places_of J)
 has_place J region server tells there = by (find region_cmp (places_of J) region) refl
   where
@@ -56,7 +39,7 @@ has_place J region server tells there = by (find region_cmp (places_of J) region
 
     by : (o : Option Place) → find region_cmp (places_of J) region ≡ o → IsIn (region, place_of J region) (places_of J)
     by None e = absurd (clash (ap (λ (p : Place). p.server) (sym (ap told_place e) ∙ tells) ∙ there))
-    by (Some place) e = subst (λ (p : Place). IsIn (region, p) (places_of J)) (sym (ap told_place e) ∙ tells) (found_in (places_of J) region place e)
+    by (Some place) e = subst (λ (p : Place). IsIn (region, p) (places_of J)) (sym (ap told_place e) ∙ tells) (found_in region_cmp region_cmp-is (places_of J) region place e)
 
 module _ (J : Past) (actors runs : Server → Option Actor) (lives : Server → Bool) (runs_are : (server : Server) → runs server ≡ actors server) (lives_are : (server : Server) → lives server ≡ is_live J server) where
   open_so : (region : Region) (server : Server) (finding : Finding) → is_state place_is.Opened (place_of J region) ≡ true → (place_of J region).server ≡ Some server

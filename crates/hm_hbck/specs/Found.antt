@@ -5,7 +5,6 @@ use Rattle.std.specs.Option.{option_copied, option_map}
 use Rattle.hm_names.specs.Order.{server_cmp}
 use Rattle.hm_names.specs.Region.{Region}
 use Rattle.hm_names.specs.Server.{Server}
-use Rattle.hm_names.specs.declared.range.KeyRange.{KeyRange}
 use Rattle.hm_data.specs.declared.catalog.CatKey.TheVariants as key_is
 use Rattle.hm_data.specs.declared.catalog.CatRow.{CatRow}
 use Rattle.hm_data.specs.declared.place.Place.{Place}
@@ -15,8 +14,9 @@ use Rattle.hm_model.specs.Actors.{Actor, holds}
 use Rattle.hm_model.specs.Catalog.{row_at}
 use Rattle.hm_model.specs.Locks.{IsIn}
 use Rattle.hm_model.specs.Places.{is_at}
-use Rattle.hm_model.specs.RowsSaid.{Rows, is_live_status, range_in, status_in}
+use Rattle.hm_model.specs.RowsSaid.{Rows}
 use Rattle.hm_model.specs.TransitActs.{is_placed, is_state}
+use Rattle.hm_ranges.specs.Live.{live_in}
 use Rattle.hm_server.specs.Actors.{ActorView, AreHeldBy, actor_of, held_in}
 use Rattle.hm_hbck.specs.declared.finding.Finding.{Finding}
 use Rattle.hm_hbck.specs.declared.finding.Finding.TheVariants as finding_is
@@ -58,10 +58,6 @@ of_server actors live region place (Some server) =
 
 abbrev pub of_place : (Server → Option Actor) → (Server → Bool) → Region × Place → List Finding
 of_place actors live row = of_server actors live row.0 row.1 row.1.server
-
--- the range of a live region, by its row
-abbrev pub live_in : Option CatRow → Option KeyRange
-live_in row = if is_live_status (status_in row) then range_in row else None
 
 -- a region at a holder, with the region's row
 pub record Hold : Type 0 where

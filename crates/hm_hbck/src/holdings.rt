@@ -1,19 +1,21 @@
 //! The regions that are held, and what is found of each.
-ghost use Rattle.std.specs.Prelude.{◌≡◌, ◌++◌, IfOk, OnOk, Some, false, is_none};
+ghost use Rattle.std.specs.Prelude.{◌≡◌, ◌++◌, IfOk, OnOk, false, is_none};
 ghost use Rattle.std.specs.List.{flat_map};
 ghost use Rattle.std.specs.Option.{option_copied};
 ghost use Rattle.hm_model.specs.Places.{is_at};
 ghost use Rattle.hm_places.specs.Places.{place_in};
 ghost use Rattle.hm_places.specs.Servers.{is_fenced_in};
+ghost use Rattle.hm_ranges.specs.Live.{live_in};
 ghost use Rattle.hm_server.specs.Actors.{AreHeldBy, actor_of, held_in};
-ghost use Rattle.hm_hbck.specs.Found.{AllAreHeld, all_held, held_at, held_by, hold_of, holds_of, live_in, of_hold};
+ghost use Rattle.hm_hbck.specs.Found.{AllAreHeld, all_held, held_at, held_by, hold_of, holds_of, of_hold};
 
 use crate::finding::{Finding, Kind, add_if};
 use crate::places::is_placed;
 use hm_catalog::{Catalog, Name};
-use hm_data::{CatRow, Place, Status};
-use hm_names::{KeyRange, RegionName, ServerName};
+use hm_data::{CatRow, Place};
+use hm_names::{RegionName, ServerName};
 use hm_places::{Places, Servers};
+use hm_ranges::live_range;
 use hm_server::Actor;
 use std::alloc::{AllocError, Global};
 
@@ -77,25 +79,6 @@ pub(crate) fn holdings<'a>(
         add_unless_fenced(catalog, servers, actor, &mut list)?;
     }
     Ok(list)
-}
-
-// The range of a region that is live.
-pub(crate) fn live_range(row: &CatRow) -> Option<&KeyRange>
-    ensures { option_copied result ≡ live_in (Some row.now) }
-{
-    match row {
-        CatRow::Region {
-            range,
-            status,
-            parents: _,
-        } => match status {
-            Status::Live => Some(range),
-            Status::Split => None,
-            Status::Merged => None,
-        },
-        CatRow::Ns => None,
-        CatRow::Table { .. } => None,
-    }
 }
 
 // Whether there is no row of a live region.

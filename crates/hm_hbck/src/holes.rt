@@ -1,42 +1,14 @@
 //! The keys that the live regions of tables leave out.
-ghost use Rattle.std.specs.Prelude.{◌≡◌, IfOk, OnOk, map};
-ghost use Rattle.std.specs.List.Sorted.{IsPermutation};
-ghost use Rattle.hm_ranges.specs.Holes.{StartsRise};
+ghost use Rattle.std.specs.Prelude.{OnOk};
 ghost use Rattle.hm_hbck.specs.Found.{Adds};
-ghost use Rattle.hm_hbck.specs.Holes.{IsHoleAmong, IsHoleAt, IsHoleOf, ranges_in};
+ghost use Rattle.hm_hbck.specs.Holes.{IsHoleAmong, IsHoleAt, IsHoleOf};
 
 use crate::finding::Finding;
-use crate::holdings::live_range;
-use hm_catalog::{Catalog, Span};
+use hm_catalog::Catalog;
 use hm_data::{CatKey, CatRow};
-use hm_names::{Copied, KeyRange, RowKey, TableName};
-use hm_ranges::least_left_out;
+use hm_names::{Copied, RowKey, TableName};
+use hm_ranges::{least_left_out, live_ranges};
 use std::alloc::{AllocError, Global};
-
-// The ranges of a table's live regions, in the order of their names.
-fn live_ranges<'a>(
-    alloc: Global,
-    catalog: &'a Catalog,
-    table: &'a TableName,
-) -> Result<Vec<&'a KeyRange>, AllocError>
-    ensures { IfOk result (λ ranges. map (λ range. range.now) ranges.items ≡ ranges_in catalog.now.rows table.now) }
-{
-    let mut ranges = Vec::new(alloc);
-    for (_key, row) in catalog.rows_of(Span::Regions(table)) {
-        if let Some(range) = live_range(row) {
-            ranges.push(range)?;
-        }
-    }
-    Ok(ranges)
-}
-
-// Sorts ranges by where they start.
-fn sort_ranges(ranges: &mut Vec<&KeyRange>) -> Result<(), AllocError>
-    ensures sorted { OnOk result (StartsRise (map (λ range. range.now) ranges.new.items)) }
-    ensures same { IsPermutation ranges.old.items ranges.new.items }
-{
-    ranges.sort_by(|one, other| one.start.cmp(&other.start))
-}
 
 // Adds the hole of a table.
 fn add_hole(
@@ -47,8 +19,7 @@ fn add_hole(
 ) -> Result<(), AllocError>
     ensures { OnOk result (Adds (IsHoleOf catalog.now.rows table.now) found.old.items found.new.items) }
 {
-    let mut ranges = live_ranges(alloc, catalog, table)?;
-    sort_ranges(&mut ranges)?;
+    let ranges = live_ranges(alloc, catalog, table)?;
     let Some(key) = least_left_out(&ranges) else {
         return Ok(());
     };

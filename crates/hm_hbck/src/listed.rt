@@ -1,7 +1,6 @@
 //! All findings.
 ghost use Rattle.std.specs.Prelude.{◌≡◌, ◌↔◌, IfOk};
 ghost use Rattle.hm_model.specs.Findings.{IsSo};
-ghost use Rattle.hm_model.specs.Journal.{back};
 ghost use Rattle.hm_model.specs.Locks.{IsIn};
 ghost use Rattle.hm_hbck.specs.Findings.{AreFindings, NamesDiffer, running, said};
 ghost use Rattle.hm_hbck.specs.declared.finding.Finding.{Finding as FindingValue};
@@ -24,13 +23,13 @@ use std::alloc::{AllocError, Global};
 // All that is found, in no order, and some of it more than once. No two live regions of a table overlap.
 fn gather(alloc: Global, state: &State, actors: &[Actor]) -> Result<Vec<Finding>, AllocError>
     requires { NamesDiffer actors.now }
-    ensures { IfOk result (λ found. (finding : FindingValue) → IsIn finding found.items ↔ IsSo (back state.now.entries) (running actors.now) (said finding)) }
+    ensures { IfOk result (λ found. (finding : FindingValue) → IsIn finding found.items ↔ IsSo state.now.past (running actors.now) (said finding)) }
 {
     rows_tell();
     places_follow();
     servers_follow();
     live_regions_never_overlap();
-    let _legal = state.entries();
+    state.journal();
     let catalog = state.catalog();
     let servers = state.servers();
     let places = state.places();
@@ -49,7 +48,7 @@ fn gather(alloc: Global, state: &State, actors: &[Actor]) -> Result<Vec<Finding>
 /// call about, and in the pairs that are found, times a logarithm.
 pub fn findings(alloc: Global, state: &State, actors: &[Actor]) -> Result<List<Finding>, AllocError>
     requires { NamesDiffer actors.now }
-    ensures { IfOk result (λ list. AreFindings (back state.now.entries) (running actors.now) list) }
+    ensures { IfOk result (λ list. AreFindings state.now.past (running actors.now) list) }
 {
     findings_order();
     let mut found = gather(alloc, state, actors)?;

@@ -1,3 +1,4 @@
 pub mod Ranges
 pub mod Holes
 pub mod Laws
+pub mod Live

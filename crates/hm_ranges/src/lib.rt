@@ -2,12 +2,14 @@
 #![tactic(auto)]
 
 mod laws;
+mod live;
 mod ranged;
 mod ranges;
 mod spot;
 mod sweep;
 
 pub use laws::ranges_tell;
+pub use live::{live_range, live_ranges};
 pub use ranged::Ranged;
 pub use ranges::Ranges;
 pub use sweep::least_left_out;

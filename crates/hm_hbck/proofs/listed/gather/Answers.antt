@@ -4,7 +4,6 @@ use Rattle.std.proofs.lemmas.Bool.{false≢true}
 use Rattle.hm_names.specs.Region.{Region}
 use Rattle.hm_names.specs.Server.{Server}
 use Rattle.hm_data.specs.declared.place.Place.{Place}
-use Rattle.hm_model.specs.Journal.{back}
 use Rattle.hm_model.specs.Standings.{is_live_in}
 use Rattle.hm_model.specs.declared.standing.Standing.{Standing}
 use Rattle.hm_places.specs.Places.{place_in}
@@ -22,11 +21,11 @@ add_pairs-requires c =
 
 pub returns : goal.returns
 returns c =
-    let J = back c.args.state.now.entries in
+    let J = c.args.state.now.past in
     let standings = c.servers-servers.result.now.servers in
     let places = c.places-places.result.now.places in
     let crew = c.in_ok-crew.crew.pairs in
-    let stands = c.servers_follow.ensures.tell J c.entries-legal.ensures.legal in
+    let stands = c.servers_follow.ensures.tell J c.journal.ensures.legal in
     let tells = (c.places_follow.ensures.tell J).0 in
     let read : AreRead J (is_fenced_in standings) (is_live_in standings) c.args.actors.now (running_in (λ actor. actor.now) crew) (place_in places) = record {
       rows = c.rows_tell.ensures.rows J;
@@ -37,7 +36,7 @@ returns c =
       tell = tells;
       differ = c.requires;
       held = c.in_ok-held.ensures.held;
-      apart = λ a b so. false≢true (sym (c.live_regions_never_overlap.ensures J c.entries-legal.ensures.legal b.table a b (so.3).0 (so.3).1 so.1 refl so.2 (so.3).2 (so.3).3) ∙ (so.3).4);
+      apart = λ a b so. false≢true (sym (c.live_regions_never_overlap.ensures J c.journal.ensures.legal b.table a b (so.3).0 (so.3).1 so.1 refl so.2 (so.3).2 (so.3).3) ∙ (so.3).4);
     } in
     gathered_by J (is_fenced_in standings) (is_live_in standings) c.args.actors.now (running_in (λ actor. actor.now) crew) (place_in places) read
     c.catalog-catalog.result.now.rows places _ _ _ _ _ _

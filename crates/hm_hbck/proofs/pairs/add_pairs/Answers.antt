@@ -1,9 +1,9 @@
 use Rattle.std.proofs.Common.{ap, ◌∙◌, ◌++◌}
 use Rattle.std.proofs.lemmas.List.Sorted.{IsPermutation-map}
 use Rattle.std.proofs.lemmas.Result.{on_ok_weaker}
+use Rattle.hm_ranges.proofs.Lists.{in_moved, in_unmoved}
 use Rattle.hm_hbck.specs.Found.{hold_of, holds_of}
 use Rattle.hm_hbck.specs.Pairs.{of_pairs}
-use Rattle.hm_hbck.proofs.Lists.{in_moved, in_unmoved}
 use Rattle.hm_hbck.proofs.Paired.{pairs_added}
 use Rattle.hm_hbck.proofs.pairs.add_pairs.Goals as goal
 

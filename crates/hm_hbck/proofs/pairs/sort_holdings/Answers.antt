@@ -2,8 +2,8 @@ use Rattle.std.proofs.Common.{rules}
 use Rattle.std.proofs.lemmas.Fn.{always_returns_same}
 use Rattle.std.proofs.lemmas.List.Sorted.{IsPermutation-map, sorted_far}
 use Rattle.std.proofs.lemmas.Result.{on_ok_weaker}
+use Rattle.hm_ranges.proofs.Lists.{in_unmoved}
 use Rattle.hm_hbck.specs.Found.{hold_of, holds_of}
-use Rattle.hm_hbck.proofs.Lists.{in_unmoved}
 use Rattle.hm_hbck.proofs.Meeting.{comes_first, each_ends, in_order, starts_order}
 use Rattle.hm_hbck.proofs.pairs.sort_holdings.Goals as goal
 

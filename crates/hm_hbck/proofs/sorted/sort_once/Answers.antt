@@ -2,7 +2,7 @@ use Rattle.std.proofs.Common.{sym, ◌∙◌}
 use Rattle.std.proofs.lemmas.List.Filters.{dedup_is}
 use Rattle.std.proofs.lemmas.List.Kept.{Contains-dedup, Contains-from_dedup, IsStrictlySortedBy-dedup}
 use Rattle.std.proofs.lemmas.List.Sorted.{Contains-permutation, IsPermutation-sym}
-use Rattle.hm_hbck.proofs.Lists.{contains_in, in_contains}
+use Rattle.hm_ranges.proofs.Lists.{contains_in, in_contains}
 use Rattle.hm_hbck.proofs.Order.{equal_is}
 use Rattle.hm_hbck.proofs.sorted.sort_once.Goals as goal
 

@@ -1,30 +1,28 @@
--- The least key that ranges leave out in any order of theirs.
-use Rattle.std.proofs.Common.{◌≡◌, ℕ, zero, suc, ◌≤◌, ◌<◌, List, [], ◌∷◌, map, length, get_or, Option, Some, None, Bool, false, arith, subst}
+-- Ranges in the order of their starts, and the least key that they leave out in any order of theirs.
+use Rattle.std.proofs.Common.{◌≡◌, ℕ, zero, suc, ◌≤◌, ◌<◌, List, [], ◌∷◌, map, length, get_or, Option, Some, None, Bool, false, arith}
 use Rattle.std.specs.Cmp.{IsStrictWeakOrder}
 use Rattle.std.specs.List.{AllByRecursion}
 use Rattle.std.specs.List.Sorted.{IsPermutation}
 use Rattle.std.specs.Ordering.{is_lt}
 use Rattle.std.proofs.lemmas.Cmp.{nat_list_cmp_total}
-use Rattle.std.proofs.lemmas.List.Sorted.{IsPermutation-map, ranks_by}
+use Rattle.std.proofs.lemmas.List.Sorted.{ranks_by}
 use Rattle.hm_names.specs.Order.{bytes_cmp}
 use Rattle.hm_names.specs.declared.range.KeyRange.{KeyRange}
 use Rattle.hm_model.specs.Locks.{IsIn}
 use Rattle.hm_ranges.specs.Holes.{IsLeast, IsOut, StartsRise}
-use Rattle.hm_base.proofs.Lists.{in_moved, in_unmoved}
+use Rattle.hm_ranges.proofs.Lists.{in_moved, in_unmoved}
 
 -- the same ranges in another order have the same least key
 out_same : (xs ys : List KeyRange) (key : List ℕ) → ((range : KeyRange) → IsIn range ys → IsIn range xs) → IsOut xs key → IsOut ys key
 out_same xs ys key into out range there = out range (into range there)
 
-pub least_same : (xs ys : List KeyRange) → ((range : KeyRange) → IsIn range xs → IsIn range ys) → ((range : KeyRange) → IsIn range ys → IsIn range xs) → (least : Option (List ℕ)) → IsLeast xs least → IsLeast ys least
+least_same : (xs ys : List KeyRange) → ((range : KeyRange) → IsIn range xs → IsIn range ys) → ((range : KeyRange) → IsIn range ys → IsIn range xs) → (least : Option (List ℕ)) → IsLeast xs least → IsLeast ys least
 least_same xs ys into back None none = λ key out. none key (out_same ys xs key into out)
 least_same xs ys into back (Some key) is = (out_same xs ys key back is.0, λ lesser less out. is.1 lesser less (out_same ys xs lesser into out))
 
 -- the same of ranges that were sorted
-pub least_sorted : {A : Type 0} (view : A → KeyRange) (old new : List A) (ranges : List KeyRange) → map view old ≡ ranges → IsPermutation old new → (least : Option (List ℕ)) → IsLeast (map view new) least → IsLeast ranges least
-least_sorted view old new ranges same sorted least is =
-    let moved = IsPermutation-map view old new sorted in
-    subst (λ (l : List KeyRange). IsLeast l least) same (least_same (map view new) (map view old) (in_unmoved (map view old) (map view new) moved) (in_moved (map view old) (map view new) moved) least is)
+pub least_sorted : (ranges sorted : List KeyRange) → IsPermutation ranges sorted → (least : Option (List ℕ)) → IsLeast sorted least → IsLeast ranges least
+least_sorted ranges sorted moved least is = least_same sorted ranges (in_unmoved ranges sorted moved) (in_moved ranges sorted moved) least is
 
 -- the order of ranges by where they start
 abbrev pub starts_first : {A : Type 0} → (A → KeyRange) → A → A → Bool

@@ -2,8 +2,8 @@ use Rattle.std.proofs.Common.{rules}
 use Rattle.std.proofs.lemmas.Fn.{always_returns_same}
 use Rattle.std.proofs.lemmas.List.Sorted.{sorted_far}
 use Rattle.std.proofs.lemmas.Result.{on_ok_weaker}
-use Rattle.hm_hbck.proofs.Least.{starts_first, starts_rise, starts_weak}
-use Rattle.hm_hbck.proofs.holes.sort_ranges.Goals as goal
+use Rattle.hm_ranges.proofs.Sorted.{starts_first, starts_rise, starts_weak}
+use Rattle.hm_ranges.proofs.live.sort_ranges.Goals as goal
 
 pub returns-clause-sorted : goal.returns-clause-sorted
 returns-clause-sorted c =

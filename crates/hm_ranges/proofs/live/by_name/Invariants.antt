@@ -1,8 +1,7 @@
 use Rattle.std.proofs.Common.{◌≡◌, ◌++◌, map, Some}
 use Rattle.std.specs.List.{filter_map}
-use Rattle.hm_base.specs.Whole.{live_in}
-use Rattle.hm_base.specs.Whole.{ranges_in}
-use Rattle.hm_base.proofs.cover.live_ranges.Given as goal
+use Rattle.hm_ranges.specs.Live.{live_in, ranges_in}
+use Rattle.hm_ranges.proofs.live.by_name.Given as goal
 
 abbrev pub invariant-loop-key : goal.invariant-loop-key
 invariant-loop-key l =
