@@ -6,7 +6,6 @@ ghost use Rattle.hm_names.specs.Region.{Region};
 ghost use Rattle.hm_names.specs.Server.{Server};
 ghost use Rattle.hm_balance.specs.Loads.{AreAmong, IsNamed};
 ghost use Rattle.hm_data.specs.declared.place.RegionState.TheVariants as place_is;
-ghost use Rattle.hm_model.specs.Journal.{back};
 ghost use Rattle.hm_model.specs.Standings.{live_servers};
 ghost use Rattle.hm_model.specs.TransitActs.{is_state};
 ghost use Rattle.hm_places.specs.Chosen.{Rises};
@@ -144,7 +143,7 @@ fn choose(alloc: Global, held: &Held<'_>, shifts: Vec<Shift>) -> Result<Vec<Move
 
 /// How many shifts the plan for the live servers has, and the moves that they make.
 pub fn moves(alloc: Global, state: &State) -> Result<(u64, Vec<Move>), AllocError>
-    ensures { IfOk result (λ r. ArePlanned (back state.now.entries) r.0 r.1.items) }
+    ensures { IfOk result (λ r. ArePlanned state.now.past r.0 r.1.items) }
 {
     places_follow();
     let servers = state.servers();

@@ -1,6 +1,6 @@
 -- What procedures hold, one by one.
 use Rattle.std.proofs.Common.{◌≡◌, ℕ, List, [], ◌∷◌, ◌++◌, map, Option, Some, None, refl, ap, sym, ◌∙◌, subst, append_assoc, append-nil}
-use Rattle.std.specs.List.{cons_option, flat_map}
+use Rattle.std.specs.List.{cons_option, filter_map, flat_map}
 use Rattle.std.specs.Option.{option_map}
 use Rattle.std.proofs.lemmas.Option.{none-some, same_Some}
 use Rattle.hm_names.specs.declared.pid.Pid.{Pid}
@@ -11,8 +11,8 @@ use Rattle.hm_model.specs.Records.{record_at, record_of}
 use Rattle.hm_model.specs.Rules.{IsLegal}
 use Rattle.hm_model.specs.Tree.{Node, node_of}
 use Rattle.hm_records.proofs.Firsts.{node_first}
-use Rattle.hm_show.specs.Locks.{held_by, locks_of}
-use Rattle.hm_show.specs.Procs.{pids, shown}
+use Rattle.hm_show.specs.Locks.{asked_by, held_by, locks_of}
+use Rattle.hm_show.specs.Procs.{pids}
 use Rattle.hm_show.specs.declared.lock_lines.Lock.{Lock}
 use Rattle.hm_show.proofs.Holders.{number}
 
@@ -24,15 +24,11 @@ first_of past legal p one is = by (node_of past p) refl is
     by None there e = absurd (none-some one e)
     by (Some node) there e = subst (λ (r : Record). HasFirst r.args) (same_Some (record_at past p node) one e) (node_first past legal p node there)
 
--- what procedures ask for
-abbrev pub asked_by : Past → List ℕ → List Lock
-asked_by past numbers = flat_map locks_of (shown past numbers)
-
 -- one more, and the others after it
 asked_more : (past : Past) (p : ℕ) (more : List ℕ) → asked_by past (p ∷ more) ≡ asked_by past (p ∷ []) ++ asked_by past more
 asked_more past p more = by (record_of past p)
   where
-    by : (o : Option Record) → flat_map locks_of (cons_option o (shown past more)) ≡ flat_map locks_of (cons_option o []) ++ asked_by past more
+    by : (o : Option Record) → flat_map locks_of (cons_option o (filter_map (record_of past) more)) ≡ flat_map locks_of (cons_option o []) ++ asked_by past more
     by None = refl
     by (Some one) = sym (ap (λ l. l ++ asked_by past more) (append-nil (locks_of one)))
 

@@ -1,6 +1,8 @@
 mod Joining
 mod Rest
 mod Shown
+mod OldRoots
+mod AllShown
 mod RegionRows
 mod Values
 mod Tables

@@ -1,6 +1,7 @@
 -- Lines that are added one by one.
-use Rattle.std.proofs.Common.{◌≡◌, ℕ, ◌+◌, ◌≤◌, List, [], ◌∷◌, ◌++◌, Option, Some, None, ap, sym, ◌∙◌, append_assoc, append-nil, subst, arith}
+use Rattle.std.proofs.Common.{◌≡◌, ℕ, ◌+◌, ◌≤◌, List, [], ◌∷◌, ◌++◌, Option, Some, None, ap, sym, ◌∙◌, append_assoc, append-nil, length-append, subst, arith}
 use Rattle.std.specs.List.{cons_option, flat_map}
+use Rattle.std.proofs.lemmas.Grind.{flat_map-append}
 use Rattle.hm_show.specs.Lines.{AreLines, AreLinesBut, IsMore, IsMoreIf}
 use Rattle.hm_show.specs.Tables.{Line, line_text}
 use Rattle.hm_show.specs.declared.lines.Lines.{Lines}
@@ -10,6 +11,13 @@ pub but_all : (all : List Line) (kept : Lines) → AreLines [] kept → AreLines
 but_all all kept none = record {
   text = ap (λ t. t ++ flat_map line_text all) none.text;
   count = (let n = none.count in omega (arith, n));
+}
+
+-- after some lines, before the rest
+pub but_rest : (done rest : List Line) (kept : Lines) → AreLines done kept → AreLinesBut rest (done ++ rest) kept
+but_rest done rest kept are = record {
+  text = ap (λ t. t ++ flat_map line_text rest) are.text ∙ sym (flat_map-append line_text done rest);
+  count = (let n = are.count in let long = length-append done rest in omega (arith, n, long));
 }
 
 -- after the last one

@@ -3,6 +3,7 @@ use Rattle.std.proofs.Common.{Vec, Global, ◌≡◌, ℕ, List, [], ◌∷◌, 
 use Rattle.hm_names.specs.Region.{Region}
 use Rattle.hm_names.specs.Server.{Server}
 use Rattle.hm_data.specs.declared.place.Place.{Place}
+use Rattle.hm_model.specs.Image.{counted}
 use Rattle.hm_model.specs.Journal.{Past}
 use Rattle.hm_model.specs.Loads.{load_in}
 use Rattle.hm_model.specs.Places.{load}
@@ -13,13 +14,13 @@ use Rattle.hm_show.specs.Tables.{Line, head_text, table_of}
 use Rattle.hm_show.specs.declared.lines.Lines.{Lines}
 
 -- what is made of the lines is the table of them
-pub table_said : {E : Type 0} (name : List ℕ) (past : Past) (entries : ℕ) (are lines : List Line) (kept : Lines) (r : Result (Vec ℕ Global) E) → entries ≡ length past → AreLines are kept → are ≡ lines
+pub table_said : {E : Type 0} (name : List ℕ) (past : Past) (entries : ℕ) (are lines : List Line) (kept : Lines) (r : Result (Vec ℕ Global) E) → entries ≡ counted past → AreLines are kept → are ≡ lines
     → IfOk r (λ table. table.items ≡ head_text name entries kept.count ++ string_bytes kept.text) → IfOk r (λ table. table.items ≡ table_of name past lines)
 table_said name past entries are lines kept (Ok table) count is same said =
     said
     ∙ ap (λ n. head_text name n kept.count ++ string_bytes kept.text) count
-    ∙ ap (λ n. head_text name (length past) n ++ string_bytes kept.text) is.count
-    ∙ ap (λ t. head_text name (length past) (length are) ++ t) is.text
+    ∙ ap (λ n. head_text name (counted past) n ++ string_bytes kept.text) is.count
+    ∙ ap (λ t. head_text name (counted past) (length are) ++ t) is.text
     ∙ ap (table_of name past) same
 table_said name past entries are lines kept (Err e) count is same said = tt
 

@@ -7,17 +7,17 @@ use Rattle.serde_json.specs.declared.value.Value.{Value}
 use Rattle.hm_data.specs.declared.record.Record.{Record}
 use Rattle.hm_model.specs.Journal.{Past}
 use Rattle.hm_model.specs.Records.{record_of}
-use Rattle.hm_show.specs.Procs.{proc_value, shown}
-use Rattle.hm_show.proofs.Shown.{gone_next, here_next, numbers_to}
+use Rattle.hm_show.specs.Procs.{proc_value}
+use Rattle.hm_show.proofs.Shown.{gone_next, here_next, numbers_to, told}
 
 -- the values so far and the rest
 abbrev pub SoFar : Past → ℕ → ℕ → List Value → List Data → Type 0
-SoFar past index count values all = map view values ++ map proc_value (shown past (numbers_to index count)) ≡ all
+SoFar past index count values all = map view values ++ map proc_value (told past (numbers_to index count)) ≡ all
 
 pub one_more : (past : Past) (index count : ℕ) (values new : List Value) (all : List Data) (value : Value) (one : Record) → index < count → record_of past (index + 1) ≡ Some one
     → view value ≡ proc_value one → new ≡ values ++ value ∷ [] → SoFar past index count values all → SoFar past (index + 1) count new all
 one_more past index count values new all value one lt is viewed pushed was =
-    let rest = map proc_value (shown past (numbers_to (index + 1) count)) in
+    let rest = map proc_value (told past (numbers_to (index + 1) count)) in
     let joined : (a : List Data) (x : Data) (b : List Data) → (a ++ x ∷ []) ++ b ≡ a ++ x ∷ b = λ a x b. simp append_assoc in
     ap (λ l. map view l ++ rest) pushed
     ∙ ap (λ l. l ++ rest) (map-append view values (value ∷ []))

@@ -1,7 +1,7 @@
 -- The table `locks`.
 use Rattle.std.specs.Prelude.{ℕ, List, [], ◌∷◌, ◌++◌, Bool, not, ◌&&◌, codes, filter, is_some, map}
 use Rattle.std.specs.Fmt.{decimal}
-use Rattle.std.specs.List.{flat_map}
+use Rattle.std.specs.List.{filter_map, flat_map}
 use Rattle.std.specs.declared.cmp.Ordering.{Ordering}
 use Rattle.std.specs.declared.cmp.Ordering.TheVariants.{Less, Equal, Greater}
 use Rattle.hm_data.specs.declared.record.Record.{Record}
@@ -10,9 +10,10 @@ use Rattle.hm_model.specs.Answers.{last_answer}
 use Rattle.hm_model.specs.Journal.{Past}
 use Rattle.hm_model.specs.Locks.{asks}
 use Rattle.hm_model.specs.Phase.{ended}
+use Rattle.hm_model.specs.Records.{record_of}
 use Rattle.hm_model.specs.declared.lock.Ask.{Ask}
 use Rattle.hm_model.specs.declared.lock.Resource.{Resource}
-use Rattle.hm_show.specs.Procs.{pids, shown}
+use Rattle.hm_show.specs.Procs.{pids}
 use Rattle.hm_show.specs.Tables.{Line, table_of}
 use Rattle.hm_show.specs.Words.{mode_text, resource_words}
 use Rattle.hm_show.specs.declared.lock_lines.Lock.{Lock}
@@ -53,9 +54,13 @@ by_resource (lock ∷ more) = with_lock lock (by_resource more)
 abbrev pub lock_line : Lock → Line
 lock_line lock = resource_words lock.ask.resource ++ mode_text lock.ask.exclusive ∷ decimal lock.pid ∷ []
 
--- what these procedures hold, in the order of their numbers
+-- what these procedures ask for, in the order of their numbers
+abbrev pub asked_by : Past → List ℕ → List Lock
+asked_by past numbers = flat_map locks_of (filter_map (record_of past) numbers)
+
+-- what those of them hold that hold what they ask for
 abbrev pub held_by : Past → List ℕ → List Lock
-held_by past numbers = flat_map locks_of (shown past (filter (holds past) numbers))
+held_by past numbers = asked_by past (filter (holds past) numbers)
 
 -- one line for each ask that is held, by resource and then by the number of who holds it
 abbrev pub locks_table : Past → List ℕ

@@ -1,5 +1,5 @@
 -- The table `procs`, and all procedures as JSON.
-use Rattle.std.specs.Prelude.{ℕ, List, [], ◌∷◌, ◌++◌, Option, Some, None, codes, filter, map}
+use Rattle.std.specs.Prelude.{ℕ, ◌+◌, ◌-◌, List, [], ◌∷◌, ◌++◌, Bool, Option, Some, None, codes, filter, is_none, map}
 use Rattle.std.specs.Fmt.{decimal}
 use Rattle.std.specs.List.{filter_map}
 use Rattle.serde_json.specs.Data.{Data, array, member, no_members, null, number, object, string, unsigned}
@@ -9,19 +9,29 @@ use Rattle.hm_names.specs.declared.pid.Pid.{Pid}
 use Rattle.hm_data.specs.declared.answer.Cause.{Cause}
 use Rattle.hm_data.specs.declared.record.Record.{Record}
 use Rattle.hm_model.specs.Journal.{Past}
+use Rattle.hm_model.specs.OldRoots.{shown_of}
 use Rattle.hm_model.specs.Pieces.{numbers_from}
+use Rattle.hm_model.specs.Procedures.{offset}
 use Rattle.hm_model.specs.Records.{record_of}
-use Rattle.hm_model.specs.Tree.{is_root, made}
+use Rattle.hm_model.specs.Tree.{made}
 use Rattle.hm_show.specs.Tables.{Line, table_of}
 use Rattle.hm_show.specs.Words.{cause_in, cause_text, kind_text, state_text, subject_text}
 
--- the numbers of all procedures, rising
+-- the numbers up to the last that was given, rising
 abbrev pub pids : Past → List ℕ
 pids past = numbers_from 1 (made past)
 
--- the procedures of these numbers
-abbrev pub shown : Past → List ℕ → List Record
-shown past numbers = filter_map (record_of past) numbers
+-- all who are shown by a number, in the order of their numbers: roots of the base, and procedures that entries made
+abbrev pub shown : Past → List Record
+shown past = filter_map (shown_of past) (pids past)
+
+-- the procedures that entries made, in the order of their numbers
+abbrev pub made_behind : Past → List Record
+made_behind past = filter_map (record_of past) (numbers_from (offset past + 1) (made past - offset past))
+
+-- it has no parent
+abbrev pub has_no_parent : Record → Bool
+has_no_parent one = is_none one.parent
 
 -- the name of a cause, as a word where there is one
 abbrev pub cause_words : Option Cause → Line
@@ -34,7 +44,7 @@ proc_line one = decimal one.pid.0 ∷ kind_text one.args ∷ subject_text one.ar
 
 -- one line for each root, in the order of their numbers
 abbrev pub procs_table : Past → List ℕ
-procs_table past = table_of (codes "procs") past (map proc_line (shown past (filter (is_root past) (pids past))))
+procs_table past = table_of (codes "procs") past (map proc_line (filter has_no_parent (shown past)))
 
 -- the name of a cause, or null
 abbrev pub cause_value : Option Cause → Data
@@ -56,6 +66,6 @@ proc_value one = object (
     member (codes "state") (string (state_text one.phase)) (
     member (codes "subject") (string (subject_text one.args)) no_members))))))
 
--- one line: an array of all procedures in the order of their numbers, without spaces
+-- one line: an array of all who are shown in the order of their numbers, without spaces
 abbrev pub procs_json : Past → List ℕ
-procs_json past = compact_text (array (items_of (map proc_value (shown past (pids past))))) ++ codes "\n"
+procs_json past = compact_text (array (items_of (map proc_value (shown past)))) ++ codes "\n"

@@ -1,7 +1,8 @@
-//! All procedures as JSON.
-ghost use Rattle.std.specs.Prelude.{◌≡◌, IfOk, map};
+//! All who are shown as JSON.
+ghost use Rattle.std.specs.Prelude.{◌≡◌, ◌++◌, IfOk, OnOk, map};
 ghost use Rattle.serde_json.specs.View.{view};
-ghost use Rattle.hm_show.specs.Procs.{cause_value, parent_value as value_of_parent, pids, proc_value as value_of, procs_json, shown};
+ghost use Rattle.hm_model.specs.OldRoots.{old_records};
+ghost use Rattle.hm_show.specs.Procs.{cause_value, made_behind, parent_value as value_of_parent, proc_value as value_of, procs_json, shown};
 
 use crate::words::{Subject, cause_name, cause_of, kind_name, state_name};
 use hm_data::{Cause, Record};
@@ -51,21 +52,51 @@ fn proc_value(alloc: Global, one: &Record) -> Result<Value, AllocError>
     })
 }
 
-// All procedures.
-fn proc_values(alloc: Global, procedures: &Procedures) -> Result<Vec<Value>, AllocError>
-    ensures { IfOk result (λ values. map view values.items ≡ map value_of (shown procedures.now.past (pids procedures.now.past))) }
+// Adds the roots of the base.
+fn add_old(
+    values: &mut Vec<Value>,
+    alloc: Global,
+    procedures: &Procedures,
+) -> Result<(), AllocError>
+    ensures { OnOk result (map view values.new.items ≡ map view values.old.items ++ map value_of (old_records procedures.now.past)) }
 {
+    let old = procedures.old_roots();
+    for one in old {
+        values.push(proc_value(alloc, one)?)?;
+    }
+    Ok(())
+}
+
+// Adds the procedures that entries made.
+fn add_made(
+    values: &mut Vec<Value>,
+    alloc: Global,
+    procedures: &Procedures,
+) -> Result<(), AllocError>
+    ensures { OnOk result (map view values.new.items ≡ map view values.old.items ++ map value_of (made_behind procedures.now.past)) }
+{
+    let offset = procedures.offset();
     let count = procedures.last_pid();
-    let mut values = Vec::new(alloc);
-    for index in 0..count {
+    for index in offset..count {
         if let Some(one) = procedures.find(Pid(index + 1)) {
             values.push(proc_value(alloc, one)?)?;
         }
     }
+    Ok(())
+}
+
+// All who are shown.
+fn proc_values(alloc: Global, procedures: &Procedures) -> Result<Vec<Value>, AllocError>
+    ensures { IfOk result (λ values. map view values.items ≡ map value_of (shown procedures.now.past)) }
+{
+    let _legal = procedures.last_pid();
+    let mut values = Vec::new(alloc);
+    add_old(&mut values, alloc, procedures)?;
+    add_made(&mut values, alloc, procedures)?;
     Ok(values)
 }
 
-// All procedures in the order of their numbers, as one line of JSON.
+// All who are shown, in the order of their numbers, as one line of JSON.
 pub(crate) fn procs_json(alloc: Global, records: &Records) -> Result<Vec<u8>, AllocError>
     ensures { IfOk result (λ text. text.items ≡ procs_json records.now.past) }
 {

@@ -23,7 +23,7 @@ impl Lines {
         }
     }
 
-    // The table of this name over a journal of so many entries that has these lines.
+    // The table of this name that has these lines, where so many entries were recorded.
     pub(crate) fn into_table(
         self,
         alloc: Global,

@@ -1,10 +1,10 @@
 //! The table `locks`.
-ghost use Rattle.std.specs.Prelude.{◌≡◌, ◌+◌, ◌<◌, ◌^◌, ◌++◌, [], ◌∷◌, IfOk, OnOk, filter, length, map};
-ghost use Rattle.std.specs.List.{flat_map};
+ghost use Rattle.std.specs.Prelude.{◌≡◌, ◌+◌, ◌<◌, ◌^◌, ◌++◌, [], ◌∷◌, IfOk, OnOk, filter, map};
 ghost use Rattle.hm_locks.specs.Needs.{HasFirst};
+ghost use Rattle.hm_model.specs.Image.{counted};
 ghost use Rattle.hm_show.specs.Lines.{AreLines, IsMore};
-ghost use Rattle.hm_show.specs.Locks.{by_resource, held_by, holds, lock_line, locks_of, locks_table, resource_cmp};
-ghost use Rattle.hm_show.specs.Procs.{pids, shown};
+ghost use Rattle.hm_show.specs.Locks.{asked_by, by_resource, held_by, holds, lock_line, locks_of, locks_table, resource_cmp};
+ghost use Rattle.hm_show.specs.Procs.{pids};
 
 use crate::lines::Lines;
 use crate::words::mode_name;
@@ -85,7 +85,7 @@ fn add_asks_of(
     procedures: &Procedures,
     pid: Pid,
 ) -> Result<(), AllocError>
-    ensures { OnOk result (locks.new.items ≡ locks.old.items ++ flat_map locks_of (shown procedures.now.past (pid.0 ∷ []))) }
+    ensures { OnOk result (locks.new.items ≡ locks.old.items ++ asked_by procedures.now.past (pid.0 ∷ [])) }
 {
     let _last = procedures.last_pid();
     match procedures.find(pid) {
@@ -147,9 +147,9 @@ fn lock_lines(alloc: Global, locks: &[Lock]) -> Result<Lines, AllocError>
     Ok(lines)
 }
 
-// The table `locks`: what is held, by resource and then by the number of who holds it. The journal has so many entries.
+// The table `locks`: what is held, by resource and then by the number of who holds it. So many entries were recorded.
 pub(crate) fn locks(alloc: Global, entries: u64, records: &Records) -> Result<Vec<u8>, AllocError>
-    requires { entries ≡ length records.now.past }
+    requires { entries ≡ counted records.now.past }
     ensures { IfOk result (λ table. table.items ≡ locks_table records.now.past) }
 {
     let mut held = all_held(alloc, records)?;

@@ -1,8 +1,8 @@
 //! The table `procs`.
-ghost use Rattle.std.specs.Prelude.{◌≡◌, ◌+◌, ◌<◌, ◌^◌, IfOk, OnOk, filter, length, map};
-ghost use Rattle.hm_model.specs.Tree.{is_root};
+ghost use Rattle.std.specs.Prelude.{◌≡◌, ◌+◌, ◌<◌, ◌^◌, IfOk, OnOk, filter, map};
+ghost use Rattle.hm_model.specs.Image.{counted};
 ghost use Rattle.hm_show.specs.Lines.{AreLines, IsMore};
-ghost use Rattle.hm_show.specs.Procs.{pids, proc_line, procs_table, shown};
+ghost use Rattle.hm_show.specs.Procs.{has_no_parent, proc_line, procs_table, shown};
 
 use crate::lines::Lines;
 use crate::words::{Subject, cause_name, cause_of, kind_name, state_name};
@@ -31,11 +31,16 @@ fn put_proc(lines: &mut Lines, one: &Record) -> Result<(), AllocError>
     Ok(())
 }
 
-// The lines of the roots.
+// The lines of the roots: of those of the base, and then of those that entries made.
 fn root_lines(alloc: Global, procedures: &Procedures) -> Result<Lines, AllocError>
-    ensures { IfOk result (AreLines (map proc_line (shown procedures.now.past (filter (is_root procedures.now.past) (pids procedures.now.past))))) }
+    ensures { IfOk result (AreLines (map proc_line (filter has_no_parent (shown procedures.now.past)))) }
 {
+    let _legal = procedures.last_pid();
     let mut lines = Lines::new(alloc);
+    let old = procedures.old_roots();
+    for one in old {
+        put_proc(&mut lines, one)?;
+    }
     let roots = procedures.roots();
     for root in roots {
         if let Some(one) = procedures.find(*root) {
@@ -45,9 +50,9 @@ fn root_lines(alloc: Global, procedures: &Procedures) -> Result<Lines, AllocErro
     Ok(lines)
 }
 
-// The table `procs`: the roots in the order of their numbers. The journal has so many entries.
+// The table `procs`: the roots in the order of their numbers. So many entries were recorded.
 pub(crate) fn procs(alloc: Global, entries: u64, records: &Records) -> Result<Vec<u8>, AllocError>
-    requires { entries ≡ length records.now.past }
+    requires { entries ≡ counted records.now.past }
     ensures { IfOk result (λ table. table.items ≡ procs_table records.now.past) }
 {
     root_lines(alloc, records.procedures())?.into_table(alloc, "procs", entries)

@@ -1,8 +1,9 @@
 //! The table `regions`.
-ghost use Rattle.std.specs.Prelude.{◌≡◌, ◌+◌, ◌<◌, ◌^◌, ◌++◌, ◌∷◌, [], IfOk, OnOk, codes, length, string_bytes};
+ghost use Rattle.std.specs.Prelude.{◌≡◌, ◌+◌, ◌<◌, ◌^◌, ◌++◌, ◌∷◌, [], IfOk, OnOk, codes, string_bytes};
 ghost use Rattle.std.specs.List.{filter_map};
 ghost use Rattle.hm_names.specs.Keys.{key_text};
 ghost use Rattle.hm_names.specs.Regions.{region_text};
+ghost use Rattle.hm_model.specs.Image.{counted};
 ghost use Rattle.hm_places.specs.Places.{place_in};
 ghost use Rattle.hm_show.specs.Lines.{AreLines, IsMore, IsMoreIf};
 ghost use Rattle.hm_show.specs.Regions.{key_line, region_line, regions_table};
@@ -85,9 +86,9 @@ fn region_lines(alloc: Global, catalog: &Catalog, places: &Places) -> Result<Lin
     Ok(lines)
 }
 
-// The table `regions`: those that have a row, in name order. The journal has so many entries.
+// The table `regions`: those that have a row, in name order. So many entries were recorded.
 pub(crate) fn regions(alloc: Global, entries: u64, records: &Records) -> Result<Vec<u8>, AllocError>
-    requires { entries ≡ length records.now.past }
+    requires { entries ≡ counted records.now.past }
     ensures { IfOk result (λ table. table.items ≡ regions_table records.now.past) }
 {
     places_follow();

@@ -1,5 +1,6 @@
 //! The table `servers`.
-ghost use Rattle.std.specs.Prelude.{◌≡◌, ◌+◌, ◌<◌, ◌^◌, IfOk, OnOk, length};
+ghost use Rattle.std.specs.Prelude.{◌≡◌, ◌+◌, ◌<◌, ◌^◌, IfOk, OnOk};
+ghost use Rattle.hm_model.specs.Image.{counted};
 ghost use Rattle.hm_show.specs.Lines.{AreLines, IsMore};
 ghost use Rattle.hm_show.specs.Servers.{line_of, lines_by, servers_table};
 
@@ -40,9 +41,9 @@ fn server_lines(alloc: Global, servers: &Servers, places: &Places) -> Result<Lin
     Ok(lines)
 }
 
-// The table `servers`: those that ever came up, in name order. The journal has so many entries.
+// The table `servers`: those that ever came up, in name order. So many entries were recorded.
 pub(crate) fn servers(alloc: Global, entries: u64, records: &Records) -> Result<Vec<u8>, AllocError>
-    requires { entries ≡ length records.now.past }
+    requires { entries ≡ counted records.now.past }
     ensures { IfOk result (λ table. table.items ≡ servers_table records.now.past) }
 {
     places_follow();

@@ -1,43 +1,45 @@
--- The entries stay a legal, plain journal that has begun.
-use Rattle.std.proofs.Common.{min, max, ◌≡◌, ℕ, ◌+◌, ◌-◌, ◌^◌, ◌≤◌, ◌<◌, List, [], ◌∷◌, ◌++◌, reverse, length, refl, arith, ap, sym, subst, ◌∙◌}
-use Rattle.std.proofs.lemmas.List.{length-reverse, reverse-append, reverse-reverse}
+-- The journal stays legal and begun, and its entries are counted.
+use Rattle.std.proofs.Common.{min, max, ◌≡◌, ℕ, ◌+◌, ◌-◌, ◌^◌, ◌≤◌, ◌<◌, List, [], ◌∷◌, length, false, refl, arith, ap, sym, subst, ◌∙◌}
+use Rattle.std.proofs.lemmas.Bool.{true≢false}
 use Rattle.hm_data.specs.declared.entry.Entry.{Entry}
 use Rattle.hm_data.specs.declared.entry.Entry.TheVariants as entry_is
 use Rattle.hm_data.specs.declared.sheet.Sheet.{Sheet}
-use Rattle.hm_model.specs.Journal.{Past, back}
-use Rattle.hm_model.specs.Base.{AreSheets}
-use Rattle.hm_model.specs.Plain.{ArePlain, IsPlain}
-use Rattle.hm_model.specs.Rules.{Allowed, IsLegal}
+use Rattle.hm_model.specs.Base.{AreSheets, IsBegun}
+use Rattle.hm_model.specs.Image.{counted}
+use Rattle.hm_model.specs.Journal.{Past}
+use Rattle.hm_model.specs.Laws.{is_part}
+use Rattle.hm_model.specs.Rules.{Allowed}
 use Rattle.hm_procedures.specs.Kept.{args_made}
 use Rattle.hm_records.specs.Parts.{edits_of, size_of}
 use Rattle.hm_state.specs.State.{IsState}
 
 -- a start alone
-pub state_start : (sheets : List Sheet) (past : Past) (count : ℕ) → AreSheets sheets → past ≡ entry_is.Start sheets ∷ [] → count ≡ 1 → IsState (reverse past) past count
-state_start sheets past count are past_is one = record {
-  past_is = sym (reverse-reverse past);
-  legal = subst IsLegal (sym past_is) (tt, ((refl, are), tt));
-  plain = subst ArePlain (sym past_is) (tt, tt);
-  begun = omega (arith, one);
-  counted = one ∙ sym (length-reverse past ∙ ap length past_is);
-  small = omega (arith, one);
-}
+pub state_start : (sheets : List Sheet) (past : Past) → AreSheets sheets → past ≡ entry_is.Start sheets ∷ [] → IsState past 1
+state_start sheets past are is = subst (λ (l : Past). IsState l 1) (sym is) (record {
+  legal = (tt, ((refl, are), tt));
+  begun = tt;
+  count_is = refl;
+  small = omega arith;
+})
+
+-- what an entry follows that is no part of a base has begun
+begun_on : (entry : Entry) (past : Past) → is_part entry ≡ false → IsBegun (entry ∷ past)
+begun_on (entry_is.Base part) past other = absurd (true≢false other)
+begun_on entry past other = tt
+
+-- and it counts
+counted_on : (entry : Entry) (past : Past) → is_part entry ≡ false → counted (entry ∷ past) ≡ counted past + 1
+counted_on (entry_is.Base part) past other = absurd (true≢false other)
+counted_on entry past other = refl
 
 -- an entry more
-pub state_on : (entry : Entry) (past : Past) (count : ℕ) → Allowed (back (reverse past)) entry → IsPlain entry → count + 1 < 2 ^ 63 → IsState (reverse past) past count
-    → IsState (reverse (entry ∷ past)) (entry ∷ past) (count + 1)
-state_on entry past count allowed plain few was = record {
-  past_is = sym (reverse-reverse (entry ∷ past));
-  legal = (was.legal, subst (λ (l : Past). Allowed l entry) (sym was.past_is) allowed);
-  plain = (was.plain, plain);
-  begun = omega arith;
-  counted = omega (arith, was.counted, length-reverse past, length-reverse (entry ∷ past));
+pub state_on : (entry : Entry) (past : Past) (count : ℕ) → Allowed past entry → is_part entry ≡ false → count + 1 < 2 ^ 63 → IsState past count → IsState (entry ∷ past) (count + 1)
+state_on entry past count allowed other few was = record {
+  legal = (was.legal, allowed);
+  begun = begun_on entry past other;
+  count_is = ap (λ n. n + 1) was.count_is ∙ sym (counted_on entry past other);
   small = few;
 }
-
--- and stands after the others
-pub behind : (entry : Entry) (past : Past) → reverse (entry ∷ past) ≡ reverse past ++ entry ∷ []
-behind entry past = reverse-append (entry ∷ []) past
 
 some : (x y b most : ℕ) → max (1 + x + y) b ≤ most → 1 ≤ most
 some x y b most fits = omega (arith, fits)

@@ -1,2 +1,3 @@
 mod Valid
 mod Entering
+mod Heads

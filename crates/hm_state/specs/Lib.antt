@@ -1,3 +1,2 @@
 pub mod Ready
 pub mod State
-pub mod Why

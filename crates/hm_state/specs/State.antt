@@ -1,21 +1,19 @@
 -- The state of a journal, and what it tells.
-use Rattle.std.specs.Prelude.{◌≡◌, ℕ, ◌^◌, ◌<◌, List, length}
-use Rattle.hm_data.specs.declared.entry.Entry.{Entry}
-use Rattle.hm_model.specs.Journal.{Past, back}
-use Rattle.hm_model.specs.Plain.{ArePlain}
+use Rattle.std.specs.Prelude.{◌≡◌, ℕ, ◌^◌, ◌<◌}
+use Rattle.hm_model.specs.Base.{IsBegun}
+use Rattle.hm_model.specs.Image.{counted}
+use Rattle.hm_model.specs.Journal.{Past}
 use Rattle.hm_model.specs.Rules.{IsLegal}
 
--- entries, for how much more there is room, and how much memory there is
+-- the journal, back from its newest entry, for how much more there is room, and how much memory there is
 pub record StateView : Type 0 where
-  pub entries : List Entry
+  pub past : Past
   pub spare : ℕ
   pub room : ℕ
 
--- the entries are a legal, plain journal that has begun, what is kept is of that, and they are counted
-pub record IsState (entries : List Entry) (past : Past) (count : ℕ) : Type 0 where
-  pub past_is : past ≡ back entries
+-- the journal is legal and has begun, and its entries are counted, with those that its base stands for
+pub record IsState (past : Past) (count : ℕ) : Type 0 where
   pub legal : IsLegal past
-  pub plain : ArePlain past
-  pub begun : 0 < count
-  pub counted : count ≡ length entries
+  pub begun : IsBegun past
+  pub count_is : count ≡ counted past
   pub small : count < 2 ^ 63

@@ -6,7 +6,6 @@ use Rattle.hm_index.specs.Index.{IsRising}
 use Rattle.hm_balance.specs.Loads.{AreAmong, Loads, NamesDiffer}
 use Rattle.hm_balance.specs.Plan.{IsPlan}
 use Rattle.hm_data.specs.declared.place.Place.{Place}
-use Rattle.hm_model.specs.Journal.{back}
 use Rattle.hm_model.specs.Standings.{live_servers}
 use Rattle.hm_model.specs.declared.standing.Standing.{Standing}
 use Rattle.hm_moves.specs.Opened.{AreOpened, opened_at}
@@ -25,7 +24,7 @@ choose-requires-clause-rise c =
 
 pub returns : goal.returns
 returns c =
-    let J = back c.args.state.now.entries in
+    let J = c.args.state.now.past in
     let loads = c.in_ok-held.held.loads.items in
     let are = opened_by c.places_follow.ensures.tell J c.places.result.now.places c.servers-servers.result.now.servers loads _ c.places.ensures c.servers-servers.ensures c.in_ok-held.ensures.opened in
     record {

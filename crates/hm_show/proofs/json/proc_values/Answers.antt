@@ -1,25 +1,9 @@
-use Rattle.std.proofs.Common.{Vec, Global, ◌+◌, map, ap, sym, ◌∙◌, subst}
-use Rattle.serde_json.specs.declared.value.Value.{Value}
-use Rattle.std.specs.Option.{option_copied}
-use Rattle.hm_show.specs.Procs.{pids, proc_value, shown}
-use Rattle.hm_show.proofs.Values.{SoFar, none_more, one_more}
-use Rattle.hm_show.proofs.json.proc_values.Goals.{in-Some+in_ok-proc_value+in_ok-push, in_default}
+use Rattle.std.proofs.Common.{map, ap}
+use Rattle.serde_json.specs.View.{view}
+use Rattle.hm_show.proofs.AllShown.{values_are}
 use Rattle.hm_show.proofs.json.proc_values.Goals as goal
 
-pub loop-index-preserved : goal.loop-index-preserved
-loop-index-preserved c =
-    let past = c.args.procedures.now.past in
-    let all = map proc_value (shown past (pids past)) in
-    let i = c.loop-index.index in
-    let count = c.last_pid-count.result in
-    elim c.match-find.branch [
-      | in-Some+in_ok-proc_value+in_ok-push w ↦
-          one_more past i count c.loop-index.values.items c.match-find.values.items all w.in_ok-proc_value.field-0 w.in-Some.one.now c.loop-index-test.true
-          (sym c.find.ensures ∙ ap option_copied w.in-Some.is)
-          w.in_ok-proc_value.ensures
-          (ap (λ (v : Vec Value Global). v.items) w.values-is ∙ w.in_ok-push.ensures.items)
-          c.loop-index.invariant
-      | in_default w ↦
-          subst (λ (v : Vec Value Global). SoFar past (i + 1) count v.items all) (sym w.values-is)
-          (none_more past i count c.loop-index.values.items all c.loop-index-test.true (sym c.find.ensures ∙ ap option_copied w.in_default.is) c.loop-index.invariant)
-    ]
+pub returns : goal.returns
+returns c =
+    values_are c.args.procedures.now.past c.last_pid-legal.ensures.legal (map view c.new-values.result.items) (map view c.add_old.new.values.items) (map view c.add_made.new.values.items)
+    (ap (map view) c.new-values.ensures.items) c.in_ok-add_old.ensures c.in_ok-add_made.ensures
