@@ -10,13 +10,12 @@ use Rattle.hm_data.specs.declared.entry.Entry.{Entry}
 use Rattle.hm_data.specs.declared.entry.Entry.TheVariants as entry_is
 use Rattle.hm_entry.specs.Spelling.{entry as spelling, number, server as server_spelled}
 use Rattle.hm_exec.specs.Adding.{Adds}
-use Rattle.hm_hall.specs.Recording.{Accepts, Passes, halt_of}
+use Rattle.hm_hall.specs.Recording.{Accepts, Passes, halt_of, past_in}
 use Rattle.hm_hall.specs.declared.fault.HallFault.{HallFault}
 use Rattle.hm_hall.specs.declared.fault.HallFault.TheVariants as fault_is
 use Rattle.hm_model.specs.Base.{IsBegun}
 use Rattle.hm_model.specs.Fleet.{has_older_live, is_live, same_address}
 use Rattle.hm_model.specs.Journal.{Past}
-use Rattle.hm_model.specs.Plain.{ArePlain}
 use Rattle.hm_model.specs.Rules.{Allowed, IsLegal}
 use Rattle.hm_model.specs.Standings.{standings_of}
 use Rattle.hm_places.specs.Laws.{StandingsTell}
@@ -110,13 +109,13 @@ at_fault P (Ok x) fault told holds = absurd told
 at_fault P (Err why) fault told holds = subst P (sym told) holds
 
 -- after the end of the older one of its address a server may come up
-pub up_after : (old new : Moment) (server older : Server) → IsLegal (past_of old) → ArePlain (past_of old) → StandingsTell (past_of old) → CanUp (past_of old) server → IsOlder (past_of old) server older → IsAdded old (entry_is.Down older) new
+pub up_after : (old new : Moment) (server older : Server) → IsLegal (past_of old) → StandingsTell (past_of old) → CanUp (past_of old) server → IsOlder (past_of old) server older → IsAdded old (entry_is.Down older) new
     → Allowed (past_of new) (entry_is.Up server)
-up_after old new server older legal plain tell can is added =
+up_after old new server older legal tell can is added =
     let kept = old.kept in
     let later = new.kept in
-    subst (λ J. Allowed J (entry_is.Up server)) (sym (past_more kept.entries later.entries old.kept new.kept (entry_is.Down older) added.2.0 refl refl added.2.1))
-    (up_behind (past_of old) legal plain server older is (newest (past_of old) server tell can))
+    subst (λ J. Allowed J (entry_is.Up server)) (sym (past_more (past_in kept) (past_in later) old.kept new.kept (entry_is.Down older) added.2.0 refl refl added.2.1))
+    (up_behind (past_of old) legal server older is (newest (past_of old) server tell can))
 
 -- the older server of the address that went down first, if there was one
 module _ (old mid : Moment) (server : Server) (down : Option (Server × Pid)) (none : IfNone down ((has_older_live (past_of old) server ≡ false) × (mid ≡ old))) (some : IfSome down (λ older. PutsDown old server older.0 older.1 mid)) where

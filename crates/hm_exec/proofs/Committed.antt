@@ -7,7 +7,7 @@ use Rattle.hm_data.specs.declared.entry.Entry.TheVariants as entry_is
 use Rattle.hm_data.specs.declared.step.StepOut.{StepOut}
 use Rattle.hm_data.specs.declared.step.Turn.{Turn}
 use Rattle.hm_data.specs.declared.step.Turn.TheVariants as turn_is
-use Rattle.hm_hall.specs.Recording.{Recording, Records, entries_of, halt_of}
+use Rattle.hm_hall.specs.Recording.{Recording, Records, past_in, halt_of}
 use Rattle.hm_hall.specs.declared.fault.HallFault.{HallFault}
 use Rattle.hm_hall.specs.declared.fault.HallFault.TheVariants as fault_is
 use Rattle.hm_hall.specs.declared.taken.Taken.{Taken}
@@ -16,7 +16,7 @@ use Rattle.hm_judge.proofs.Editions.{seen_sheets}
 use Rattle.hm_locks.specs.Book.{NoneClash}
 use Rattle.hm_model.specs.Evaluation.{answer_of}
 use Rattle.hm_model.specs.Holding.{IsFree}
-use Rattle.hm_model.specs.Journal.{Past, back}
+use Rattle.hm_model.specs.Journal.{Past}
 use Rattle.hm_model.specs.Locks.{IsIn}
 use Rattle.hm_model.specs.Rules.{Allowed, IsLegal}
 use Rattle.hm_model.specs.Sheets.{sheets_by}
@@ -76,14 +76,14 @@ abbrev older : Past → Past
 older [] = []
 older (entry ∷ before) = before
 
-module _ (old new : Recording) (entries more : List Entry) (number : ℕ) (was : entries_of old ≡ entries) (same : entries_of new ≡ more) where
+module _ (old new : Recording) (past more : Past) (number : ℕ) (was : past_in old ≡ past) (same : past_in new ≡ more) where
   -- what the journal said before the entry that was recorded
-  before_is : (entry : Entry) (desk : Desk) → Records old entry (Ok number) new → (behind : IsEnlistedFor (back more) entry desk) → made behind.before ≡ made (back entries)
-  before_is entry desk records behind = ap (λ (J : Past). made (older J)) (sym behind.is ∙ past_more entries more old new entry number was same records)
+  before_is : (entry : Entry) (desk : Desk) → Records old entry (Ok number) new → (behind : IsEnlistedFor more entry desk) → made behind.before ≡ made past
+  before_is entry desk records behind = ap (λ (J : Past). made (older J)) (sym behind.is ∙ past_more past more old new entry number was same records)
 
   -- what is known of the desk after a step
-  pub step_behind : (pid : Pid) (pick : Option Server) (out : StepOut) (desk : Desk) (low : ℕ) (late : Bool) → Records old (entry_is.Step pid pick out) (Ok number) new → IsEnlistedFor (back more) (entry_is.Step pid pick out) desk
-      → low ≡ made (back entries) + 1 → late ≡ alters out → IsIn pid.0 (claims_on desk) → IsStepOf (back more) pid low late desk
+  pub step_behind : (pid : Pid) (pick : Option Server) (out : StepOut) (desk : Desk) (low : ℕ) (late : Bool) → Records old (entry_is.Step pid pick out) (Ok number) new → IsEnlistedFor more (entry_is.Step pid pick out) desk
+      → low ≡ made past + 1 → late ≡ alters out → IsIn pid.0 (claims_on desk) → IsStepOf more pid low late desk
   step_behind pid pick out desk low late records behind first changes mine = record {
     pick = pick;
     out = out;
@@ -94,8 +94,8 @@ module _ (old new : Recording) (entries more : List Entry) (number : ℕ) (was :
   }
 
   -- and after an undo
-  pub undo_behind : (root pid : Pid) (row : ℕ) (out : StepOut) (desk : Desk) (low : ℕ) (late : Bool) → Records old (entry_is.Undo pid row out) (Ok number) new → IsEnlistedFor (back more) (entry_is.Undo pid row out) desk
-      → low ≡ made (back entries) + 1 → root_of (back entries) pid.0 ≡ root.0 → late ≡ alters out → IsIn root.0 (claims_on desk) → IsUndoOf (back more) root low late desk
+  pub undo_behind : (root pid : Pid) (row : ℕ) (out : StepOut) (desk : Desk) (low : ℕ) (late : Bool) → Records old (entry_is.Undo pid row out) (Ok number) new → IsEnlistedFor more (entry_is.Undo pid row out) desk
+      → low ≡ made past + 1 → root_of past pid.0 ≡ root.0 → late ≡ alters out → IsIn root.0 (claims_on desk) → IsUndoOf more root low late desk
   undo_behind root pid row out desk low late records behind first roots changes mine =
       let entry = entry_is.Undo pid row out in record {
         pid = pid;
@@ -103,34 +103,34 @@ module _ (old new : Recording) (entries more : List Entry) (number : ℕ) (was :
         out = out;
         behind = behind;
         first = first ∙ ap (λ (n : ℕ). n + 1) (sym (before_is entry desk records behind));
-        roots = sym roots ∙ ap (λ (J : Past). root_of (older J) pid.0) (sym (past_more entries more old new entry number was same records) ∙ behind.is);
+        roots = sym roots ∙ ap (λ (J : Past). root_of (older J) pid.0) (sym (past_more past more old new entry number was same records) ∙ behind.is);
         changes = changes;
         mine = mine;
       }
 
 -- after an entry by a claimed procedure, whose claim ends, all others that are claimed can go on
-pub goes_on_by : (old new : Recording) (entries more : List Entry) (desk after : Desk) (entry : Entry) (number p : ℕ) → IsExec old entries desk → entries_of new ≡ more → Follows (back more) after → IsLegal (back entries) → Allowed (back entries) entry
-    → Records old entry (Ok number) new → Unclaims p (claims_on desk) (claims_on after) → ((q : ℕ) → q ≢ p → IsNotBy (back entries) entry q) → IsExec new more after
-goes_on_by old new entries more desk after entry number p was same follows legal allowed records less others = record {
+pub goes_on_by : (old new : Recording) (past more : Past) (desk after : Desk) (entry : Entry) (number p : ℕ) → IsExec old past desk → past_in new ≡ more → Follows more after → IsLegal past → Allowed past entry
+    → Records old entry (Ok number) new → Unclaims p (claims_on desk) (claims_on after) → ((q : ℕ) → q ≢ p → IsNotBy past entry q) → IsExec new more after
+goes_on_by old new past more desk after entry number p was same follows legal allowed records less others = record {
   same = same;
   follows = follows;
   able =
-      subst (λ (J : Past). AreAble J after) (sym (past_more entries more old new entry number was.same same records))
+      subst (λ (J : Past). AreAble J after) (sym (past_more past more old new entry number was.same same records))
       (λ q is.
-      let both = (less q).0 is in claimed_stay_able entry (back entries) (number_on desk) (roster_of desk) (legal, allowed) was.follows.tied was.able q both.0 (others q both.1));
+      let both = (less q).0 is in claimed_stay_able entry past (number_on desk) (roster_of desk) (legal, allowed) was.follows.tied was.able q both.0 (others q both.1));
 }
 
 -- a recorder, and who is claimed
 abbrev at : Recording → List ℕ → Moment
 at kept claims = record { kept = kept; claimed = claims }
 
-module _ (old new : Recording) (claims after : List ℕ) (taken : Taken) (out : StepOut) (entry : Entry) (is : entry_of taken out ≡ entry) (going : halt_of old ≡ None) (fresh : IsFresh (back (entries_of old)) taken) (allowed : Allowed (back (entries_of old)) entry) where
+module _ (old new : Recording) (claims after : List ℕ) (taken : Taken) (out : StepOut) (entry : Entry) (is : entry_of taken out ≡ entry) (going : halt_of old ≡ None) (fresh : IsFresh (past_in old) taken) (allowed : Allowed (past_in old) entry) where
   -- what an answer that is recorded tells
   pub commits : (number : ℕ) → Records old entry (Ok number) new → Unclaims taken.pid.0 claims after → Commits (record { kept = old; claimed = claims }) taken out number (record { kept = new; claimed = after })
   commits number records less = (
     going,
     fresh,
-    subst (Allowed (back (entries_of old))) (sym is) allowed,
+    subst (Allowed (past_in old)) (sym is) allowed,
     subst (λ (e : Entry). Records old e (Ok number) new) (sym is) records,
     less,
   )
@@ -139,8 +139,8 @@ module _ (old new : Recording) (claims after : List ℕ) (taken : Taken) (out : 
   pub refuses_commit : (fault : HallFault) → Adds old entry (Err fault) new → after ≡ claims → RefusesCommit (record { kept = old; claimed = claims }) taken out fault (record { kept = new; claimed = after })
   refuses_commit fault adds same = by fault (subst (λ (e : Entry). Adds old e (Err fault) new) (sym is) adds)
     where
-      may : Allowed (back (entries_of old)) (entry_of taken out)
-      may = subst (Allowed (back (entries_of old))) (sym is) allowed
+      may : Allowed (past_in old) (entry_of taken out)
+      may = subst (Allowed (past_in old)) (sym is) allowed
 
       all : new ≡ old → at new after ≡ at old claims
       all kept = ap (λ (k : Recording). at k after) kept ∙ ap (at old) same
@@ -155,24 +155,24 @@ module _ (old new : Recording) (claims after : List ℕ) (taken : Taken) (out : 
 abbrev pub CanCommit : Moment → Taken → StepOut → Type 0
 CanCommit now taken out = IsGoing now × IsIn taken.pid.0 now.claimed × IsFresh (past_of now) taken × IsAnswer (past_of now) taken.was out
 
-module _ (kept : Recording) (entries : List Entry) (desk : Desk) (was : IsExec kept entries desk) (taken : Taken) (out : StepOut) (can : CanCommit (record { kept = kept; claimed = claims_on desk }) taken out) where
-  fresh_now : IsFresh (back entries) taken
-  fresh_now = subst (λ (l : List Entry). IsFresh (back l) taken) was.same can.2
+module _ (kept : Recording) (past : Past) (desk : Desk) (was : IsExec kept past desk) (taken : Taken) (out : StepOut) (can : CanCommit (record { kept = kept; claimed = claims_on desk }) taken out) where
+  fresh_now : IsFresh past taken
+  fresh_now = subst (λ (J : Past). IsFresh J taken) was.same can.2
 
-  answer_now : IsAnswer (back entries) taken.was out
-  answer_now = subst (λ (l : List Entry). IsAnswer (back l) taken.was out) was.same can.3
+  answer_now : IsAnswer past taken.was out
+  answer_now = subst (λ (J : Past). IsAnswer J taken.was out) was.same can.3
 
   -- its entry may follow
-  pub step_now : IsLegal (back entries) → FreshStepsFollow → NoneClash (rows_on desk) → taken.was.turn ≡ turn_is.Step → Allowed (back entries) (entry_is.Step taken.pid taken.was.pick out)
-  step_now legal = step_allowed (back entries) desk taken out legal was.follows was.able can.1 fresh_now answer_now
+  pub step_now : IsLegal past → FreshStepsFollow → NoneClash (rows_on desk) → taken.was.turn ≡ turn_is.Step → Allowed past (entry_is.Step taken.pid taken.was.pick out)
+  step_now legal = step_allowed past desk taken out legal was.follows was.able can.1 fresh_now answer_now
 
-  pub undo_now : IsLegal (back entries) → FreshUndosFollow → taken.was.turn ≢ turn_is.Step → Allowed (back entries) (entry_is.Undo taken.was.pid taken.was.row out) × (root_of (back entries) taken.was.pid.0 ≡ taken.pid.0)
-  undo_now legal = undo_allowed (back entries) desk taken out legal was.follows was.able can.1 fresh_now answer_now
+  pub undo_now : IsLegal past → FreshUndosFollow → taken.was.turn ≢ turn_is.Step → Allowed past (entry_is.Undo taken.was.pid taken.was.row out) × (root_of past taken.was.pid.0 ≡ taken.pid.0)
+  undo_now legal = undo_allowed past desk taken out legal was.follows was.able can.1 fresh_now answer_now
 
   -- what is told where it was recorded, and where it wasn't
-  module _ (entry : Entry) (is : entry_of taken out ≡ entry) (allowed : Allowed (back entries) entry) (new : Recording) (after : List ℕ) where
-    earlier : Allowed (back (entries_of kept)) entry
-    earlier = subst (λ (l : List Entry). Allowed (back l) entry) (sym was.same) allowed
+  module _ (entry : Entry) (is : entry_of taken out ≡ entry) (allowed : Allowed past entry) (new : Recording) (after : List ℕ) where
+    earlier : Allowed (past_in kept) entry
+    earlier = subst (λ (J : Past). Allowed J entry) (sym was.same) allowed
 
     pub commits_now : (number : ℕ) → Records kept entry (Ok number) new → Unclaims taken.pid.0 (claims_on desk) after
         → Commits (record { kept = kept; claimed = claims_on desk }) taken out number (record { kept = new; claimed = after })

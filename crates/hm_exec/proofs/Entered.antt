@@ -1,10 +1,9 @@
 -- What an entry that may follow answers, recorded or not.
 use Rattle.std.proofs.Common.{◌≡◌, ℕ, List, Err, None, Ok, ap, ◌∙◌}
 use Rattle.hm_data.specs.declared.entry.Entry.{Entry}
-use Rattle.hm_hall.specs.Recording.{Recording, Records, entries_of, halt_of}
+use Rattle.hm_hall.specs.Recording.{Recording, Records, halt_of, past_in}
 use Rattle.hm_hall.specs.declared.fault.HallFault.{HallFault}
 use Rattle.hm_hall.specs.declared.fault.HallFault.TheVariants as fault_is
-use Rattle.hm_model.specs.Journal.{back}
 use Rattle.hm_model.specs.Rules.{Allowed}
 use Rattle.hm_exec.specs.Adding.{Adds}
 use Rattle.hm_exec.specs.Fleet.{FaultsCopying}
@@ -17,7 +16,7 @@ moment kept claims = record { kept = kept; claimed = claims }
 pub same_moment : (old new : Recording) (claims after : List ℕ) → new ≡ old → after ≡ claims → moment new after ≡ moment old claims
 same_moment old new claims after kept same = ap (λ k. moment k after) kept ∙ ap (moment old) same
 
-module _ (old new : Recording) (claims after : List ℕ) (entry : Entry) (going : halt_of old ≡ None) (allowed : Allowed (back (entries_of old)) entry) (same : after ≡ claims) where
+module _ (old new : Recording) (claims after : List ℕ) (entry : Entry) (going : halt_of old ≡ None) (allowed : Allowed (past_in old) entry) (same : after ≡ claims) where
   -- it was recorded
   pub added : (number : ℕ) → Records old entry (Ok number) new → IsAdded (moment old claims) entry (moment new after)
   added number records = (going, allowed, (number, records), same)

@@ -3,6 +3,7 @@ mod Claimed
 mod Coming
 mod Committed
 mod Entered
+mod Fitted
 mod Given
 mod Going
 mod Handing

@@ -9,9 +9,11 @@ use Rattle.std.proofs.lemmas.Bool.Decides.{nat_tests}
 use Rattle.std.proofs.lemmas.Option.{none-some, same_Some}
 use Rattle.hm_names.specs.Server.{Server}
 use Rattle.hm_data.specs.declared.entry.Entry.TheVariants as entry_is
-use Rattle.hm_model.specs.Fleet.{came_up, has_newer, has_older_live, is_live, same_address, same_server, servers_of}
+use Rattle.hm_data.specs.declared.part.Part.{Part}
+use Rattle.hm_data.specs.declared.part.Part.TheVariants as part_is
+use Rattle.hm_model.specs.Base.{PartFits}
+use Rattle.hm_model.specs.Fleet.{came_up, has_newer, has_older_live, is_live, part_live, same_address, same_server, servers_of}
 use Rattle.hm_model.specs.Journal.{Past}
-use Rattle.hm_model.specs.Plain.{ArePlain}
 use Rattle.hm_model.specs.Rules.{Allowed, IsLegal}
 use Rattle.hm_model.specs.Standings.{MayComeUp, greatest_start, is_live_in, live_servers, standings_of}
 use Rattle.hm_model.proofs.CameUp.{live_came}
@@ -69,41 +71,58 @@ newer_met : (J : Past) (server one : Server) → came_up J one ≡ true → same
 newer_met J server one came there newer =
     any_by (λ other. same_address server other && not (nat_lt other.start server.start)) (servers_of J) one came (rw (there, newer) refl)
 
--- where a server may come up none is live at its address
-none_beside : (J : Past) (server one : Server) → Allowed J (entry_is.Up server) → is_live J one ≡ true → same_address server one ≡ true → ⊥
-none_beside J server one may live there = by (nat_lt one.start server.start) refl
+-- where no newer one of an address came up, and no older one is live, none is live there
+none_beside : (J : Past) (server one : Server) → has_newer J server ≡ false → has_older_live J server ≡ false → is_live J one ≡ true → same_address server one ≡ true → ⊥
+none_beside J server one newest oldest live there = by (nat_lt one.start server.start) refl
   where
     by : (b : Bool) → nat_lt one.start server.start ≡ b → ⊥
-    by true e = true≢false (sym (older_met J server one live there e) ∙ may.1.1.0)
-    by false e = true≢false (sym (newer_met J server one (live_came J one live) there e) ∙ may.1.0)
+    by true e = true≢false (sym (older_met J server one live there e) ∙ oldest)
+    by false e = true≢false (sym (newer_met J server one (live_came J one live) there e) ∙ newest)
+
+-- so with one more there no two are live
+one_more : (J : Past) (server : Server) → has_newer J server ≡ false → has_older_live J server ≡ false → (a b : Server)
+    → (same_server a server ≡ true) ⊎ (is_live J a ≡ true) → (same_server b server ≡ true) ⊎ (is_live J b ≡ true) → same_address a b ≡ true
+    → (is_live J a ≡ true → is_live J b ≡ true → same_address a b ≡ true → a ≡ b) → a ≡ b
+one_more J server newest oldest a b (inl one) (inl other) same before = same_server-is a server one ∙ sym (same_server-is b server other)
+one_more J server newest oldest a b (inl one) (inr was) same before =
+    absurd (none_beside J server b newest oldest was (subst (λ s. same_address s b ≡ true) (same_server-is a server one) same))
+one_more J server newest oldest a b (inr was) (inl other) same before =
+    absurd (none_beside J server a newest oldest was (subst (λ s. same_address s a ≡ true) (same_server-is b server other) (address_back a b same)))
+one_more J server newest oldest a b (inr was) (inr were) same before = before was were same
+
+-- one that a part of a base tells as live is its server, or was live
+told_live : (a server : Server) (fenced before : Bool) → ((same_server a server && not fenced) || before) ≡ true → (same_server a server ≡ true) ⊎ (before ≡ true)
+told_live a server fenced before on = elim (or_cases (same_server a server && not fenced) before on) [
+  | inl one ↦ inl (and_parts (same_server a server) (not fenced) one).0
+  | inr was ↦ inr was
+]
 
 -- at one address no two are live
-pub alone : (J : Past) → IsLegal J → ArePlain J → (a b : Server) → is_live J a ≡ true → is_live J b ≡ true → same_address a b ≡ true → a ≡ b
-alone [] legal plain a b on there same = absurd (true≢false (sym on))
-alone (entry_is.Up server ∷ J) legal plain a b on there same =
-    both (or_cases (same_server a server) (is_live J a) on) (or_cases (same_server b server) (is_live J b) there) (alone J legal.0 plain.0 a b)
+pub alone : (J : Past) → IsLegal J → (a b : Server) → is_live J a ≡ true → is_live J b ≡ true → same_address a b ≡ true → a ≡ b
+alone [] legal a b on there same = absurd (true≢false (sym on))
+alone (entry_is.Up server ∷ J) legal a b on there same =
+    one_more J server legal.1.1.0 legal.1.1.1.0 a b (or_cases (same_server a server) (is_live J a) on) (or_cases (same_server b server) (is_live J b) there) same (alone J legal.0 a b)
+alone (entry_is.Down server ∷ J) legal a b on there same =
+    alone J legal.0 a b (and_parts (not (same_server a server)) (is_live J a) on).1 (and_parts (not (same_server b server)) (is_live J b) there).1 same
+alone (entry_is.Base part ∷ J) legal a b on there same = by part legal.1.0 on there (alone J legal.0 a b)
   where
-    both : (same_server a server ≡ true) ⊎ (is_live J a ≡ true) → (same_server b server ≡ true) ⊎ (is_live J b ≡ true) → (is_live J a ≡ true → is_live J b ≡ true → same_address a b ≡ true → a ≡ b) → a ≡ b
-    both (inl one) (inl other) before = same_server-is a server one ∙ sym (same_server-is b server other)
-    both (inl one) (inr was) before = absurd (none_beside J server b legal.1 was (subst (λ s. same_address s b ≡ true) (same_server-is a server one) same))
-    both (inr was) (inl other) before = absurd (none_beside J server a legal.1 was (subst (λ s. same_address s a ≡ true) (same_server-is b server other) (address_back a b same)))
-    both (inr was) (inr were) before = before was were same
-alone (entry_is.Down server ∷ J) legal plain a b on there same =
-    alone J legal.0 plain.0 a b (and_parts (not (same_server a server)) (is_live J a) on).1 (and_parts (not (same_server b server)) (is_live J b) there).1 same
-alone (entry_is.Adopt sheets ∷ J) legal plain a b on there same = absurd plain.1
-alone (entry_is.Base part ∷ J) legal plain a b on there same = absurd plain.1
-alone (entry ∷ J) legal plain a b on there same = alone J legal.0 plain.0 a b on there same
+    by : (part : Part) → PartFits part J → part_live part a (is_live J a) ≡ true → part_live part b (is_live J b) ≡ true
+        → (is_live J a ≡ true → is_live J b ≡ true → same_address a b ≡ true → a ≡ b) → a ≡ b
+    by (part_is.Server server fenced) fits on there before =
+        one_more J server fits.1 fits.2 a b (told_live a server fenced (is_live J a) on) (told_live b server fenced (is_live J b) there) same before
+    by part fits on there before = before on there same
+alone (entry ∷ J) legal a b on there same = alone J legal.0 a b on there same
 
 -- after the end of the one that was live at its address a newer server may come up
-pub up_behind : (J : Past) → IsLegal J → ArePlain J → (server older : Server) → IsOlder J server older → has_newer J server ≡ false → Allowed (entry_is.Down older ∷ J) (entry_is.Up server)
-up_behind J legal plain server older is newest =
+pub up_behind : (J : Past) → IsLegal J → (server older : Server) → IsOlder J server older → has_newer J server ≡ false → Allowed (entry_is.Down older ∷ J) (entry_is.Up server)
+up_behind J legal server older is newest =
     let none : has_older_live (entry_is.Down older ∷ J) server ≡ false = false_from_ne_true (has_older_live (entry_is.Down older ∷ J) server) (λ any.
     let found = some_one (λ other. same_address server other && (nat_lt other.start server.start && (not (same_server other older) && is_live J other))) (servers_of J) any in
     let other = found.0 in
     let at = and_parts (same_address server other) (nat_lt other.start server.start && (not (same_server other older) && is_live J other)) found.1 in
     let more = and_parts (nat_lt other.start server.start) (not (same_server other older) && is_live J other) at.1 in
     let lives = and_parts (not (same_server other older)) (is_live J other) more.1 in
-    let one : other ≡ older = alone J legal plain other older lives.1 is.0 (address_on server other older at.0 is.1) in
+    let one : other ≡ older = alone J legal other older lives.1 is.0 (address_on server other older at.0 is.1) in
     let self : same_server other older ≡ true = ap (λ s. same_server s older) one ∙ same_server-refl older in
     true≢false (sym lives.0 ∙ ap not self)) in
     (tt, (newest, (none, tt)))

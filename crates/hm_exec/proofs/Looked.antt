@@ -2,12 +2,11 @@
 use Rattle.std.proofs.Common.{◌≡◌, ◌≢◌, ◌↔◌, ℕ, List, Bool, true, false, IsTrue, Option, None, Some, if◌then◌else◌, inl, inr, refl, ap, sym, subst, ◌∙◌}
 use Rattle.std.proofs.lemmas.Bool.{true≢false}
 use Rattle.hm_data.specs.declared.step.StepIn.{StepIn}
-use Rattle.hm_data.specs.declared.entry.Entry.{Entry}
-use Rattle.hm_hall.specs.Recording.{Recording, entries_of, halt_of}
+use Rattle.hm_hall.specs.Recording.{Recording, halt_of, past_in}
 use Rattle.hm_hall.specs.declared.taken.Taken.{Taken}
 use Rattle.hm_judge.specs.Inputs.{IsInput}
 use Rattle.hm_model.specs.Inputs.{input}
-use Rattle.hm_model.specs.Journal.{Past, back}
+use Rattle.hm_model.specs.Journal.{Past}
 use Rattle.hm_model.specs.Picks.{PicksRight}
 use Rattle.hm_model.specs.Tree.{Node, node_of}
 use Rattle.hm_model.specs.Claims.{Unclaims}
@@ -48,8 +47,8 @@ module _ (J : Past) (taken : Taken) (now : StepIn) (right : Bool) (picks : IsTru
       by false is = inr (λ told. absurd (true≢false (sym (picks.1 told) ∙ is)), at false is)
 
 -- a claim that is given up
-pub gives_up : (kept : Recording) (entries : List Entry) (claims after : List ℕ) (taken : Taken) (now : StepIn) → halt_of kept ≡ None → entries_of kept ≡ entries → (IsFresh (back entries) taken → ⊥) × IsNow (back entries) taken now
+pub gives_up : (kept : Recording) (past : Past) (claims after : List ℕ) (taken : Taken) (now : StepIn) → halt_of kept ≡ None → past_in kept ≡ past → (IsFresh past taken → ⊥) × IsNow past taken now
     → Unclaims taken.pid.0 claims after → GivesUp (record { kept = kept; claimed = claims }) taken now (record { kept = kept; claimed = after })
-gives_up kept entries claims after taken now going same told less =
-    let here = subst (λ (l : List Entry). (IsFresh (back l) taken → ⊥) × IsNow (back l) taken now) (sym same) told in
+gives_up kept past claims after taken now going same told less =
+    let here = subst (λ (J : Past). (IsFresh J taken → ⊥) × IsNow J taken now) (sym same) told in
     (going, here.0, here.1, refl, less)

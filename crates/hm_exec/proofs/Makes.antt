@@ -1,26 +1,19 @@
 -- An entry that is no part of a base, and makes procedures which are enlisted.
-use Rattle.std.proofs.Common.{◌≡◌, List, false, Option, refl, ap, sym, subst, ◌∙◌}
+use Rattle.std.proofs.Common.{◌≡◌, List, false, Option, ap, sym, subst, ◌∙◌}
 use Rattle.hm_names.specs.declared.pid.Pid.{Pid}
 use Rattle.hm_data.specs.declared.args.Args.{Args}
 use Rattle.hm_data.specs.declared.entry.Entry.{Entry}
-use Rattle.hm_data.specs.declared.entry.Entry.TheVariants as entry_is
 use Rattle.hm_model.specs.Journal.{Past}
 use Rattle.hm_model.specs.Laws.{is_part}
-use Rattle.hm_model.specs.Plain.{IsPlain}
 use Rattle.hm_model.specs.Rules.{Allowed}
 use Rattle.hm_procedures.specs.Kept.{args_made}
 use Rattle.hm_roster.specs.Desk.{Makes, parent_made}
 
--- a plain entry is no part of a base
-no_part : (entry : Entry) → IsPlain entry → is_part entry ≡ false
-no_part (entry_is.Base part) plain = absurd plain
-no_part entry plain = refl
-
--- what a plain entry makes that may follow
-pub makes : (J kept past : Past) (entry : Entry) (works : List Args) (parent : Option Pid) → kept ≡ J → past ≡ J → Allowed J entry → IsPlain entry → works ≡ args_made past entry → parent_made entry ≡ parent → Makes kept entry works parent
-makes J kept past entry works parent same was allowed plain made above = record {
+-- what such an entry makes that may follow
+pub makes : (J kept past : Past) (entry : Entry) (works : List Args) (parent : Option Pid) → kept ≡ J → past ≡ J → Allowed J entry → is_part entry ≡ false → works ≡ args_made past entry → parent_made entry ≡ parent → Makes kept entry works parent
+makes J kept past entry works parent same was allowed other made above = record {
   allowed = subst (λ (K : Past). Allowed K entry) (sym same) allowed;
-  no_part = no_part entry plain;
+  no_part = other;
   args = ap (λ (K : Past). args_made K entry) (same ∙ sym was) ∙ sym made;
   above = above;
 }

@@ -1,12 +1,12 @@
 -- What an executor has, and what recording an entry does to it.
 use Rattle.std.specs.Prelude.{◌≡◌, ℕ, List, Some, None, Ok, Err}
 use Rattle.hm_data.specs.declared.entry.Entry.{Entry}
-use Rattle.hm_hall.specs.Recording.{Accepts, Recording, Records}
+use Rattle.hm_hall.specs.Recording.{Accepts, Recording, Records, past_in}
 use Rattle.hm_hall.specs.declared.fault.Halt.{Halt}
 use Rattle.hm_hall.specs.declared.fault.HallFault.{HallFault}
 use Rattle.hm_hall.specs.declared.fault.HallFault.TheVariants as fault_is
 use Rattle.hm_hall.specs.declared.fault.RecordFault.TheVariants as record_is
-use Rattle.hm_model.specs.Journal.{Past, back}
+use Rattle.hm_model.specs.Journal.{Past}
 use Rattle.hm_model.specs.Rules.{Allowed}
 
 -- what the recorder keeps, and who is claimed
@@ -16,7 +16,7 @@ pub record Moment : Type 0 where
 
 -- the journal, back from its newest entry
 abbrev pub past_of : Moment → Past
-past_of at = let kept = at.kept in back kept.entries
+past_of at = past_in at.kept
 
 -- nothing halted it
 abbrev pub IsGoing : Moment → Type 0

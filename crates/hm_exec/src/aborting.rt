@@ -30,7 +30,7 @@ impl<R: Recorder> Exec<R> {
         ensures opened { R.opened self.new.recorder ≡ R.opened self.old.recorder }
     {
         entries_fit_frames();
-        let _legal = self.state.entries();
+        let _legal = self.state.journal();
         let entry = Entry::Abort { pid };
         add(&mut self.state, &mut self.recorder, alloc, entry)?;
         self.desk.behind_abort(self.state.records(), pid);
@@ -49,7 +49,7 @@ impl<R: Recorder> Exec<R> {
         if let Some(why) = self.recorder.halted() {
             return Err(AbortRefused::Fault(HallFault::Halted(why)));
         }
-        let _begun = self.state.entries();
+        let _begun = self.state.journal();
         match judge_abort(self.state.records(), pid) {
             Err(why) => return Err(why),
             Ok(true) => return Ok(true),

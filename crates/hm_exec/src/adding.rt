@@ -1,10 +1,9 @@
 //! An entry that may follow is recorded, and the state takes it in.
-ghost use Rattle.std.specs.Prelude.{◌≡◌, ◌≤◌, IsErrOf, None};
+ghost use Rattle.std.specs.Prelude.{◌≡◌, ◌≤◌, IsErrOf, None, false};
 ghost use Rattle.hm_ports.specs.Faults.{Rose};
 ghost use Rattle.hm_exec.specs.Adding.{Adds};
-ghost use Rattle.hm_hall.specs.Recording.{Accepts, CanBeRecorded, entries_of, halt_of};
-ghost use Rattle.hm_model.specs.Journal.{back};
-ghost use Rattle.hm_model.specs.Plain.{IsPlain};
+ghost use Rattle.hm_hall.specs.Recording.{Accepts, CanBeRecorded, halt_of, past_in};
+ghost use Rattle.hm_model.specs.Laws.{is_part};
 ghost use Rattle.hm_model.specs.Rules.{Allowed};
 
 use hm_data::Entry;
@@ -20,6 +19,7 @@ pub(crate) fn record<R: Recorder>(
 ) -> Result<u64, HallFault>
     requires going { halt_of (R.kept recorder.old) ≡ None }
     requires fits { CanBeRecorded entry.now }
+    requires other { is_part entry.now ≡ false }
     ensures adds { Adds (R.kept recorder.old) entry.now result (R.kept recorder.new) }
     ensures fault { IsErrOf result HallFault.LogFault → Rose (R.faults recorder.old) (R.faults recorder.new) }
     ensures counts { IsErrOf result HallFault.Memory → R.faults recorder.new ≡ R.faults recorder.old }
@@ -38,9 +38,10 @@ pub(crate) fn refuse<R: Recorder>(
 ) -> Result<u64, HallFault>
     requires going { halt_of (R.kept recorder.old) ≡ None }
     requires fits { CanBeRecorded entry }
+    requires other { is_part entry ≡ false }
     requires refused { Accepts (R.kept recorder.old) entry → ⊥ }
     ensures adds { Adds (R.kept recorder.old) entry result (R.kept recorder.new) }
-    ensures entries { entries_of (R.kept recorder.new) ≡ entries_of (R.kept recorder.old) }
+    ensures past { past_in (R.kept recorder.new) ≡ past_in (R.kept recorder.old) }
     ensures fault { IsErrOf result HallFault.LogFault → Rose (R.faults recorder.old) (R.faults recorder.new) }
     ensures counts { IsErrOf result HallFault.Memory → R.faults recorder.new ≡ R.faults recorder.old }
     ensures later { R.faults recorder.old ≤ R.faults recorder.new }
@@ -58,14 +59,14 @@ fn admit<R: Recorder>(
     alloc: Global,
     entry: Entry,
 ) -> Result<u64, HallFault>
-    requires same { entries_of (R.kept recorder.old) ≡ state.old.entries }
+    requires same { past_in (R.kept recorder.old) ≡ state.old.past }
     requires going { halt_of (R.kept recorder.old) ≡ None }
-    requires allowed { Allowed (back state.old.entries) entry }
-    requires plain { IsPlain entry }
+    requires allowed { Allowed state.old.past entry }
+    requires other { is_part entry ≡ false }
     requires fits { CanBeRecorded entry }
     requires accepted { Accepts (R.kept recorder.old) entry }
     ensures adds { Adds (R.kept recorder.old) entry result (R.kept recorder.new) }
-    ensures entries { entries_of (R.kept recorder.new) ≡ state.new.entries }
+    ensures past { past_in (R.kept recorder.new) ≡ state.new.past }
     ensures fault { IsErrOf result HallFault.LogFault → Rose (R.faults recorder.old) (R.faults recorder.new) }
     ensures counts { IsErrOf result HallFault.Memory → R.faults recorder.new ≡ R.faults recorder.old }
     ensures later { R.faults recorder.old ≤ R.faults recorder.new }
@@ -92,13 +93,13 @@ pub(crate) fn add<R: Recorder>(
     alloc: Global,
     entry: Entry,
 ) -> Result<u64, HallFault>
-    requires same { entries_of (R.kept recorder.old) ≡ state.old.entries }
+    requires same { past_in (R.kept recorder.old) ≡ state.old.past }
     requires going { halt_of (R.kept recorder.old) ≡ None }
-    requires allowed { Allowed (back state.old.entries) entry }
-    requires plain { IsPlain entry }
+    requires allowed { Allowed state.old.past entry }
+    requires other { is_part entry ≡ false }
     requires fits { CanBeRecorded entry }
     ensures adds { Adds (R.kept recorder.old) entry result (R.kept recorder.new) }
-    ensures entries { entries_of (R.kept recorder.new) ≡ state.new.entries }
+    ensures past { past_in (R.kept recorder.new) ≡ state.new.past }
     ensures fault { IsErrOf result HallFault.LogFault → Rose (R.faults recorder.old) (R.faults recorder.new) }
     ensures counts { IsErrOf result HallFault.Memory → R.faults recorder.new ≡ R.faults recorder.old }
     ensures later { R.faults recorder.old ≤ R.faults recorder.new }

@@ -15,7 +15,7 @@ pub struct Accepted {
 /// What became of a report.
 #[derive(Clone, Copy, Debug, PartialEq, Eq)]
 pub enum Heard {
-    /// It was recorded as the entry of this number.
+    /// It was recorded, at this place behind the base.
     Accepted(u64),
     Ignored(IgnoredWhy),
 }

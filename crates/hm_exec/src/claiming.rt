@@ -4,7 +4,6 @@ ghost use Rattle.hm_exec.specs.Claiming.{AnswersClaim, IsHandedOut, PutsBack};
 ghost use Rattle.hm_exec.specs.Looks.{LooksToClaim};
 ghost use Rattle.hm_exec.specs.Moment.{past_of};
 ghost use Rattle.hm_exec.specs.View.{moment_of};
-ghost use Rattle.hm_model.specs.Journal.{back};
 ghost use Rattle.hm_model.specs.Locks.{IsIn};
 ghost use Rattle.hm_model.specs.Rest.{MayStepPicked, MayUndo};
 ghost use Rattle.hm_roster.specs.Desk.{HasClaimRoom};
@@ -24,27 +23,27 @@ use std::sync::ledger::Ledger;
 
 // What is handed out for a procedure that can go on.
 fn hand_out(state: &State, alloc: Global, pid: Pid) -> Result<Taken, AllocError>
-    requires { MayStepPicked (back state.now.entries) pid.0 ⊎ MayUndo (back state.now.entries) pid.0 }
+    requires { MayStepPicked state.now.past pid.0 ⊎ MayUndo state.now.past pid.0 }
     ensures pid { IfOk result (λ taken. taken.pid ≡ pid) }
-    ensures handed { IfOk result (IsHandedOut (back state.now.entries)) }
+    ensures handed { IfOk result (IsHandedOut state.now.past) }
 {
     picks_are_there();
     candidates_fit();
-    let _legal = state.entries();
+    let _legal = state.journal();
     let was = state.step_in(alloc, pid, candidate(state.records(), pid))?;
     Ok(Taken { pid, was })
 }
 
 // Makes room for a claim of a procedure that was given and can go on, and what is handed out for it.
 fn hand_over(desk: &mut Desk, state: &State, alloc: Global, pid: Pid) -> Result<Taken, AllocError>
-    requires given { IsGiven (back state.now.entries) desk.old pid.0 }
-    requires go { MayStepPicked (back state.now.entries) pid.0 ⊎ MayUndo (back state.now.entries) pid.0 }
-    ensures given { IsGiven (back state.now.entries) desk.new pid.0 }
+    requires given { IsGiven state.now.past desk.old pid.0 }
+    requires go { MayStepPicked state.now.past pid.0 ⊎ MayUndo state.now.past pid.0 }
+    ensures given { IsGiven state.now.past desk.new pid.0 }
     ensures claimed { claims_on desk.new ≡ claims_on desk.old }
     ensures sched { desk.new.sched ≡ desk.old.sched }
     ensures room { OnOk result (HasClaimRoom desk.new) }
     ensures pid { IfOk result (λ taken. taken.pid ≡ pid) }
-    ensures handed { IfOk result (IsHandedOut (back state.now.entries)) }
+    ensures handed { IfOk result (IsHandedOut state.now.past) }
 {
     desk.reserve_claim(alloc)?;
     hand_out(state, alloc, pid)

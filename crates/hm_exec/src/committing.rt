@@ -9,7 +9,6 @@ ghost use Rattle.hm_exec.specs.Claiming.{AnswersCommit, Commits, GivesUp, IsAnsw
 ghost use Rattle.hm_exec.specs.Moment.{IsGoing, past_of};
 ghost use Rattle.hm_exec.specs.Sparing.{SparesAt, SparesCommit};
 ghost use Rattle.hm_exec.specs.View.{moment_of};
-ghost use Rattle.hm_model.specs.Journal.{back};
 ghost use Rattle.hm_model.specs.Locks.{IsIn};
 ghost use Rattle.hm_model.specs.Tree.{node_of};
 ghost use Rattle.hm_tied.specs.Entries.{alters as changes};
@@ -59,8 +58,8 @@ fn pick_if(right: bool, pick: &Option<ServerName>) -> Option<&ServerName>
 
 // The input that a claimed procedure has now, where it isn't the one that was handed out or its pick doesn't fit any more.
 fn look(state: &State, alloc: Global, taken: &Taken) -> Result<Option<StepIn>, AllocError>
-    requires { node_of (back state.now.entries) taken.now.pid.0 ≢ None }
-    ensures { IfOk result (λ other. MatchOption other (IsFresh (back state.now.entries) taken.now) (λ now. (IsFresh (back state.now.entries) taken.now → ⊥) × IsNow (back state.now.entries) taken.now now)) }
+    requires { node_of state.now.past taken.now.pid.0 ≢ None }
+    ensures { IfOk result (λ other. MatchOption other (IsFresh state.now.past taken.now) (λ now. (IsFresh state.now.past taken.now → ⊥) × IsNow state.now.past taken.now now)) }
 {
     let right = picks_right(state.records(), taken.pid, &taken.was.pick);
     let now = state.step_in(alloc, taken.pid, pick_if(right, &taken.was.pick))?;
@@ -96,7 +95,7 @@ impl<R: Recorder> Exec<R> {
     {
         fresh_answers_follow();
         entries_fit_frames();
-        let _legal = self.state.entries();
+        let _legal = self.state.journal();
         let _fits = self.recorder.halted();
         let _apart = self.desk.holds(taken.pid);
         let low = self.state.last_pid() + 1;
@@ -131,7 +130,7 @@ impl<R: Recorder> Exec<R> {
     {
         fresh_answers_follow();
         entries_fit_frames();
-        let _legal = self.state.entries();
+        let _legal = self.state.journal();
         let _fits = self.recorder.halted();
         let low = self.state.last_pid() + 1;
         let late = alters(&out);

@@ -3,9 +3,8 @@ ghost use Rattle.std.specs.Prelude.{◌≡◌, ℕ, [], IfErr, IfOk, None, lengt
 ghost use Rattle.hm_exec.specs.Moment.{past_of};
 ghost use Rattle.hm_exec.specs.Opening.{AreInOrder};
 ghost use Rattle.hm_exec.specs.View.{moment_of};
-ghost use Rattle.hm_hall.specs.Recording.{entries_of, halt_of};
+ghost use Rattle.hm_hall.specs.Recording.{halt_of, past_in};
 ghost use Rattle.hm_model.specs.Holding.{NoneClash};
-ghost use Rattle.hm_model.specs.Journal.{back};
 ghost use Rattle.hm_model.specs.Locks.{IsIn};
 ghost use Rattle.hm_sched.specs.Queues.{IsReady};
 ghost use Rattle.hm_tied.specs.Tied.{CanGo, IsOpen};
@@ -34,19 +33,19 @@ impl<R: Recorder> Model for Exec<R> {
 
     ghost view = { λ e. record { recorder = e.recorder; claimed = claims_on e.desk; lists = lists_on e.desk; rows = rows_on e.desk; room = room_on e.desk } };
 
-    ghost invariant = { λ e. IsExec (R.kept e.recorder) e.state.entries e.desk };
+    ghost invariant = { λ e. IsExec (R.kept e.recorder) e.state.past e.desk };
 }
 
 impl<R: Recorder> Exec<R> {
     /// The executor of a journal of which nothing is under way: all that haven't ended are ready, in the order of their numbers.
     /// An error gives the recorder back.
     pub fn new(alloc: Global, state: State, recorder: R) -> Result<Exec<R>, (R, AllocError)>
-        requires same { entries_of (R.kept recorder) ≡ state.entries }
+        requires same { past_in (R.kept recorder) ≡ state.past }
         requires going { halt_of (R.kept recorder) ≡ None }
         ensures recorder { IfOk result (λ exec. exec.recorder ≡ recorder) }
         ensures claimed { IfOk result (λ exec. exec.claimed ≡ []) }
-        ensures order { IfOk result (λ exec. AreInOrder (back state.entries) exec.lists) }
-        ensures ready { IfOk result (λ exec. (q : ℕ) → IsOpen (back state.entries) q → IsReady exec.lists q) }
+        ensures order { IfOk result (λ exec. AreInOrder state.past exec.lists) }
+        ensures ready { IfOk result (λ exec. (q : ℕ) → IsOpen state.past q → IsReady exec.lists q) }
         ensures back { IfErr result (λ e. e.0 ≡ recorder) }
     {
         match Desk::open(alloc, state.records()) {
@@ -64,7 +63,7 @@ impl<R: Recorder> Exec<R> {
 
     /// The state of the journal.
     pub fn state(&self) -> &State
-        ensures { entries_of (R.kept self.now.recorder) ≡ result.now.entries }
+        ensures { past_in (R.kept self.now.recorder) ≡ result.now.past }
     {
         &self.state
     }

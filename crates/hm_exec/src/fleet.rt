@@ -9,8 +9,6 @@ ghost use Rattle.hm_exec.specs.View.{moment_of};
 ghost use Rattle.hm_hall.specs.Recording.{Accepts};
 ghost use Rattle.hm_model.specs.Base.{IsBegun};
 ghost use Rattle.hm_model.specs.Fleet.{has_older_live as older_lives, is_live as lives};
-ghost use Rattle.hm_model.specs.Journal.{back};
-ghost use Rattle.hm_model.specs.Plain.{ArePlain};
 ghost use Rattle.hm_model.specs.Rules.{Allowed, IsLegal};
 ghost use Rattle.hm_model.specs.Tree.{made};
 ghost use Rattle.hm_places.specs.Laws.{StandingsTell};
@@ -29,13 +27,12 @@ use std::alloc::{AllocError, Global};
 
 // The journal of a state has begun, and its servers tell who is live: a law that does nothing.
 fn fleet_is_told(state: &State)
-    ensures begun { IsBegun (back state.now.entries) }
-    ensures legal { IsLegal (back state.now.entries) }
-    ensures plain { ArePlain (back state.now.entries) }
-    ensures tell { StandingsTell (back state.now.entries) }
+    ensures begun { IsBegun state.now.past }
+    ensures legal { IsLegal state.now.past }
+    ensures tell { StandingsTell state.now.past }
 {
     servers_follow();
-    let _begun = state.entries();
+    let _begun = state.journal();
 }
 
 // A copy of the older live server of the address of one that may come up, if there is one.
@@ -44,8 +41,8 @@ fn older_of(
     alloc: Global,
     server: &ServerName,
 ) -> Result<Option<ServerName>, AllocError>
-    ensures none { IfOk result (λ older. IfNone older (older_lives (back state.now.entries) server.now ≡ false)) }
-    ensures some { IfOk result (λ older. IfSome older (IsOlder (back state.now.entries) server.now)) }
+    ensures none { IfOk result (λ older. IfNone older (older_lives state.now.past server.now ≡ false)) }
+    ensures some { IfOk result (λ older. IfSome older (IsOlder state.now.past server.now)) }
 {
     fleet_is_told(state);
     state.servers().older_of(alloc, server)
@@ -53,8 +50,8 @@ fn older_of(
 
 /// Whether a server may come up, and else why not.
 pub fn may_come_up(state: &State, server: &ServerName) -> Result<(), UpRefused>
-    ensures can { OnOk result (CanUp (back state.now.entries) server.now) }
-    ensures cannot { IfErr result (CannotUp (back state.now.entries) server.now) }
+    ensures can { OnOk result (CanUp state.now.past server.now) }
+    ensures cannot { IfErr result (CannotUp state.now.past server.now) }
 {
     fleet_is_told(state);
     state.servers().may_come_up(server)
@@ -62,8 +59,8 @@ pub fn may_come_up(state: &State, server: &ServerName) -> Result<(), UpRefused>
 
 // Whether a server may go down, and else why not.
 fn may_go_down(state: &State, server: &ServerName) -> Result<(), DownRefused>
-    ensures can { OnOk result (lives (back state.now.entries) server.now ≡ true) }
-    ensures cannot { IfErr result (CannotDown (back state.now.entries) server.now) }
+    ensures can { OnOk result (lives state.now.past server.now ≡ true) }
+    ensures cannot { IfErr result (CannotDown state.now.past server.now) }
 {
     fleet_is_told(state);
     state.servers().may_go_down(server)
@@ -154,7 +151,7 @@ impl<R: Recorder> Exec<R> {
     {
         server_fits(&server);
         entries_fit_frames();
-        let _legal = self.state.entries();
+        let _legal = self.state.journal();
         add(
             &mut self.state,
             &mut self.recorder,

@@ -25,7 +25,7 @@ impl<R: Recorder> Exec<R> {
         ensures spared { SparesReport result → self.new.recorder ≡ self.old.recorder }
     {
         entries_fit_frames();
-        let _legal = self.state.entries();
+        let _legal = self.state.journal();
         if let Some(why) = self.recorder.halted() {
             return Err(HallFault::Halted(why));
         }

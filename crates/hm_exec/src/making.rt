@@ -1,11 +1,10 @@
 //! An entry that makes procedures is recorded: they are enlisted first.
-ghost use Rattle.std.specs.Prelude.{◌≡◌, ◌≤◌, ◌∷◌, length, IsErrOf, None, OnErr, OnOk};
+ghost use Rattle.std.specs.Prelude.{◌≡◌, ◌≤◌, ◌∷◌, length, IsErrOf, None, OnErr, OnOk, false};
 ghost use Rattle.hm_ports.specs.Faults.{Rose};
 ghost use Rattle.hm_exec.specs.Adding.{Adds};
 ghost use Rattle.hm_data.specs.declared.entry.Entry.{Entry};
-ghost use Rattle.hm_hall.specs.Recording.{Accepts, CanBeRecorded, entries_of, halt_of};
-ghost use Rattle.hm_model.specs.Journal.{back};
-ghost use Rattle.hm_model.specs.Plain.{IsPlain};
+ghost use Rattle.hm_hall.specs.Recording.{Accepts, CanBeRecorded, halt_of, past_in};
+ghost use Rattle.hm_model.specs.Laws.{is_part};
 ghost use Rattle.hm_model.specs.Rules.{Allowed};
 ghost use Rattle.hm_procedures.specs.Kept.{args_made};
 ghost use Rattle.hm_records.specs.Parts.{size_of};
@@ -48,20 +47,20 @@ fn enter<R: Recorder>(
     alloc: Global,
     ready: Ready,
 ) -> Result<u64, HallFault>
-    requires same { entries_of (R.kept recorder.old) ≡ state.old.entries }
+    requires same { past_in (R.kept recorder.old) ≡ state.old.past }
     requires going { halt_of (R.kept recorder.old) ≡ None }
-    requires past { ready.past ≡ back state.old.entries }
-    requires allowed { Allowed (back state.old.entries) ready.entry }
-    requires plain { IsPlain ready.entry }
+    requires past { ready.past ≡ state.old.past }
+    requires allowed { Allowed state.old.past ready.entry }
+    requires other { is_part ready.entry ≡ false }
     requires room { size_of ready.entry ≤ state.old.spare }
     requires fits { CanBeRecorded ready.entry }
     requires accepted { Accepts (R.kept recorder.old) ready.entry }
-    requires enlisted { IsEnlistedFor (ready.entry ∷ back state.old.entries) ready.entry desk.old }
-    requires more { HasMore (back state.old.entries) desk.old (length (args_made (back state.old.entries) ready.entry)) }
+    requires enlisted { IsEnlistedFor (ready.entry ∷ state.old.past) ready.entry desk.old }
+    requires more { HasMore state.old.past desk.old (length (args_made state.old.past ready.entry)) }
     ensures adds { Adds (R.kept recorder.old) ready.entry result (R.kept recorder.new) }
-    ensures entries { entries_of (R.kept recorder.new) ≡ state.new.entries }
-    ensures behind { OnOk result (IsEnlistedFor (back state.new.entries) ready.entry desk.new) }
-    ensures follows { OnErr result (Follows (back state.new.entries) desk.new) }
+    ensures past { past_in (R.kept recorder.new) ≡ state.new.past }
+    ensures behind { OnOk result (IsEnlistedFor state.new.past ready.entry desk.new) }
+    ensures follows { OnErr result (Follows state.new.past desk.new) }
     ensures claimed { claims_on desk.new ≡ claims_on desk.old }
     ensures fault { IsErrOf result HallFault.LogFault → Rose (R.faults recorder.old) (R.faults recorder.new) }
     ensures counts { IsErrOf result HallFault.Memory → R.faults recorder.new ≡ R.faults recorder.old }
@@ -90,20 +89,20 @@ fn enlist_and_enter<R: Recorder>(
     ready: Ready,
     parent: Option<Pid>,
 ) -> Result<u64, HallFault>
-    requires same { entries_of (R.kept recorder.old) ≡ state.old.entries }
+    requires same { past_in (R.kept recorder.old) ≡ state.old.past }
     requires going { halt_of (R.kept recorder.old) ≡ None }
-    requires past { ready.past ≡ back state.old.entries }
-    requires allowed { Allowed (back state.old.entries) ready.entry }
-    requires plain { IsPlain ready.entry }
+    requires past { ready.past ≡ state.old.past }
+    requires allowed { Allowed state.old.past ready.entry }
+    requires other { is_part ready.entry ≡ false }
     requires room { size_of ready.entry ≤ state.old.spare }
     requires fits { CanBeRecorded ready.entry }
     requires accepted { Accepts (R.kept recorder.old) ready.entry }
     requires parent { parent_made ready.entry ≡ parent }
-    requires follows { Follows (back state.old.entries) desk.old }
+    requires follows { Follows state.old.past desk.old }
     ensures adds { Adds (R.kept recorder.old) ready.entry result (R.kept recorder.new) }
-    ensures entries { entries_of (R.kept recorder.new) ≡ state.new.entries }
-    ensures behind { OnOk result (IsEnlistedFor (back state.new.entries) ready.entry desk.new) }
-    ensures follows { OnErr result (Follows (back state.new.entries) desk.new) }
+    ensures past { past_in (R.kept recorder.new) ≡ state.new.past }
+    ensures behind { OnOk result (IsEnlistedFor state.new.past ready.entry desk.new) }
+    ensures follows { OnErr result (Follows state.new.past desk.new) }
     ensures claimed { claims_on desk.new ≡ claims_on desk.old }
     ensures fault { IsErrOf result HallFault.LogFault → Rose (R.faults recorder.old) (R.faults recorder.new) }
     ensures counts { IsErrOf result HallFault.Memory → R.faults recorder.new ≡ R.faults recorder.old }
@@ -128,18 +127,18 @@ fn admit_made<R: Recorder>(
     entry: Entry,
     parent: Option<Pid>,
 ) -> Result<u64, HallFault>
-    requires same { entries_of (R.kept recorder.old) ≡ state.old.entries }
+    requires same { past_in (R.kept recorder.old) ≡ state.old.past }
     requires going { halt_of (R.kept recorder.old) ≡ None }
-    requires allowed { Allowed (back state.old.entries) entry }
-    requires plain { IsPlain entry }
+    requires allowed { Allowed state.old.past entry }
+    requires other { is_part entry ≡ false }
     requires fits { CanBeRecorded entry }
     requires accepted { Accepts (R.kept recorder.old) entry }
     requires parent { parent_made entry ≡ parent }
-    requires follows { Follows (back state.old.entries) desk.old }
+    requires follows { Follows state.old.past desk.old }
     ensures adds { Adds (R.kept recorder.old) entry result (R.kept recorder.new) }
-    ensures entries { entries_of (R.kept recorder.new) ≡ state.new.entries }
-    ensures behind { OnOk result (IsEnlistedFor (back state.new.entries) entry desk.new) }
-    ensures follows { OnErr result (Follows (back state.new.entries) desk.new) }
+    ensures past { past_in (R.kept recorder.new) ≡ state.new.past }
+    ensures behind { OnOk result (IsEnlistedFor state.new.past entry desk.new) }
+    ensures follows { OnErr result (Follows state.new.past desk.new) }
     ensures claimed { claims_on desk.new ≡ claims_on desk.old }
     ensures fault { IsErrOf result HallFault.LogFault → Rose (R.faults recorder.old) (R.faults recorder.new) }
     ensures counts { IsErrOf result HallFault.Memory → R.faults recorder.new ≡ R.faults recorder.old }
@@ -160,17 +159,17 @@ pub(crate) fn add_made<R: Recorder>(
     entry: Entry,
     parent: Option<Pid>,
 ) -> Result<u64, HallFault>
-    requires same { entries_of (R.kept recorder.old) ≡ state.old.entries }
+    requires same { past_in (R.kept recorder.old) ≡ state.old.past }
     requires going { halt_of (R.kept recorder.old) ≡ None }
-    requires allowed { Allowed (back state.old.entries) entry }
-    requires plain { IsPlain entry }
+    requires allowed { Allowed state.old.past entry }
+    requires other { is_part entry ≡ false }
     requires fits { CanBeRecorded entry }
     requires parent { parent_made entry ≡ parent }
-    requires follows { Follows (back state.old.entries) desk.old }
+    requires follows { Follows state.old.past desk.old }
     ensures adds { Adds (R.kept recorder.old) entry result (R.kept recorder.new) }
-    ensures entries { entries_of (R.kept recorder.new) ≡ state.new.entries }
-    ensures behind { OnOk result (IsEnlistedFor (back state.new.entries) entry desk.new) }
-    ensures follows { OnErr result (Follows (back state.new.entries) desk.new) }
+    ensures past { past_in (R.kept recorder.new) ≡ state.new.past }
+    ensures behind { OnOk result (IsEnlistedFor state.new.past entry desk.new) }
+    ensures follows { OnErr result (Follows state.new.past desk.new) }
     ensures claimed { claims_on desk.new ≡ claims_on desk.old }
     ensures fault { IsErrOf result HallFault.LogFault → Rose (R.faults recorder.old) (R.faults recorder.new) }
     ensures counts { IsErrOf result HallFault.Memory → R.faults recorder.new ≡ R.faults recorder.old }

@@ -41,7 +41,7 @@ impl<R: Recorder> Exec<R> {
         if let Some(why) = self.recorder.halted() {
             return Err(Refused::Halted(why));
         }
-        let _begun = self.state.entries();
+        let _begun = self.state.journal();
         if let Some(pid) = judge_submission(self.state.records(), nonce, request)? {
             return Ok(Some(pid));
         }
@@ -64,7 +64,7 @@ impl<R: Recorder> Exec<R> {
     {
         request_fits(&request);
         entries_fit_frames();
-        let _legal = self.state.entries();
+        let _legal = self.state.journal();
         let entry = Entry::Submit { nonce, request };
         add_made(
             &mut self.state,

@@ -1,7 +1,7 @@
 use Rattle.std.proofs.Common.{◌⊎◌, ℕ, List, Err, None, Ok, Some, ap, subst, sym, ◌∙◌}
 use Rattle.hm_hall.specs.declared.fault.HallFault.TheVariants as fault_is
 use Rattle.hm_names.specs.declared.pid.Pid.{Pid}
-use Rattle.hm_model.specs.Journal.{Past, back}
+use Rattle.hm_model.specs.Journal.{Past}
 use Rattle.hm_model.specs.Rest.{MayStepPicked, MayUndo}
 use Rattle.hm_roster.specs.Looks.{Looks}
 use Rattle.hm_roster.specs.Roster.{Follows, IsGiven, claims_on, is_of_crash}
@@ -21,7 +21,7 @@ pub returns-in_default-next-clause-answers : goal.returns-in_default-next-clause
 returns-in_default-next-clause-answers g c =
     let kept = g.R.Recorder.kept c.self.inside.recorder in
     subst (λ (e : ExecView _). AnswersClaim (moment_of g.R.Recorder.kept e) (Ok None) (record { kept = kept; claimed = claims_on c.next.new.self })) c.self.view_is
-    (none_left kept c.self.inside.state.entries c.records.result.now.past (claims_on c.self.inside.desk) (sym c.in_default.ensures.halted) c.self.invariant.same c.records.ensures (claims_on c.next.new.self)
+    (none_left kept c.self.inside.state.past c.records.result.now.past (claims_on c.self.inside.desk) (sym c.in_default.ensures.halted) c.self.invariant.same c.records.ensures (claims_on c.next.new.self)
     (ap (λ v. v.items) c.next.ensures.same.claimed) c.in_default-next.ensures.none)
 
 pub hand_over-requires-clause-given : goal.hand_over-requires-clause-given
@@ -60,25 +60,25 @@ pub returns-in-Ok-clause-answers : goal.returns-in-Ok-clause-answers
 returns-in-Ok-clause-answers g c =
     let kept = g.R.Recorder.kept c.self.inside.recorder in
     subst (λ (e : ExecView _). AnswersClaim (moment_of g.R.Recorder.kept e) (Ok (Some c.in-Ok.taken)) (record { kept = kept; claimed = claims_on c.claim.new.self })) c.self.view_is
-    (one_more kept c.self.inside.state.entries c.records.result.now.past (claims_on c.self.inside.desk) (sym c.in_default.ensures.halted) c.self.invariant.same c.records.ensures (claims_on c.hand_over.new.desk) (claims_on c.claim.new.self) c.in-Some-next.pid c.in-Ok.taken
+    (one_more kept c.self.inside.state.past c.records.result.now.past (claims_on c.self.inside.desk) (sym c.in_default.ensures.halted) c.self.invariant.same c.records.ensures (claims_on c.hand_over.new.desk) (claims_on c.claim.new.self) c.in-Some-next.pid c.in-Ok.taken
     (c.hand_over.ensures.claimed ∙ ap (λ v. v.items) c.next.ensures.same.claimed) c.in-Ok.ensures.pid c.in-Some-next.ensures.available c.in-Ok.ensures.handed c.claim.ensures.claimed)
 
 pub returns-in-Err-clause-answers : goal.returns-in-Err-clause-answers
 returns-in-Err-clause-answers g c =
     let kept = g.R.Recorder.kept c.self.inside.recorder in
     subst (λ (e : ExecView _). AnswersClaim (moment_of g.R.Recorder.kept e) (Err fault_is.Memory) (record { kept = kept; claimed = claims_on c.let_be.new.self })) c.self.view_is
-    (let_go kept c.self.inside.state.entries c.records.result.now.past (claims_on c.self.inside.desk) (sym c.in_default.ensures.halted) c.self.invariant.same c.records.ensures (claims_on c.let_be.new.self) c.in-Some-next.pid.0
+    (let_go kept c.self.inside.state.past c.records.result.now.past (claims_on c.self.inside.desk) (sym c.in_default.ensures.halted) c.self.invariant.same c.records.ensures (claims_on c.let_be.new.self) c.in-Some-next.pid.0
     (ap (λ v. v.items) c.let_be.ensures.same.claimed ∙ c.hand_over.ensures.claimed ∙ ap (λ v. v.items) c.next.ensures.same.claimed) c.in-Some-next.ensures.available)
 
 pub returns-in_default-next-clause-steps : goal.returns-in_default-next-clause-steps
 returns-in_default-next-clause-steps g c =
-    let here = c.records.ensures ∙ sym (ap back c.self.invariant.same) in
+    let here = c.records.ensures ∙ sym c.self.invariant.same in
     subst (λ (e : ExecView _). Looks (past_of (moment_of g.R.Recorder.kept e)) e.rows e.lists c.next.new.self.sched.lists None c.args.steps.now c.next.new.steps) c.self.view_is
     (subst (λ (J : Past). Looks J c.self.inside.desk.book.rows c.self.inside.desk.sched.lists c.next.new.self.sched.lists None c.args.steps.now c.next.new.steps) here c.in_default-next.ensures.looks)
 
 pub returns-in-Ok-clause-steps : goal.returns-in-Ok-clause-steps
 returns-in-Ok-clause-steps g c =
-    let here = c.records.ensures ∙ sym (ap back c.self.invariant.same) in
+    let here = c.records.ensures ∙ sym c.self.invariant.same in
     let given = c.in-Some-next.pid.0 in
     let stood = ap (λ s. s.lists) (c.claim.ensures.sched ∙ c.hand_over.ensures.sched) in
     subst (λ (q : ℕ). Looks (past_of (moment_of g.R.Recorder.kept c.args.self.now)) c.args.self.now.rows c.args.self.now.lists c.claim.new.self.sched.lists (Some q) c.args.steps.now c.next.new.steps)
@@ -89,7 +89,7 @@ returns-in-Ok-clause-steps g c =
 
 pub returns-in-Err-clause-steps : goal.returns-in-Err-clause-steps
 returns-in-Err-clause-steps g c =
-    let here = c.records.ensures ∙ sym (ap back c.self.invariant.same) in
+    let here = c.records.ensures ∙ sym c.self.invariant.same in
     let given = c.in-Some-next.pid.0 in
     let stood = ap (λ s. s.lists) c.hand_over.ensures.sched in (
       c.hand_over.new.desk.sched.lists,

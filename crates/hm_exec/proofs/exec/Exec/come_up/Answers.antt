@@ -3,7 +3,7 @@ use Rattle.std.specs.Option.{IfNone, IfSome}
 use Rattle.hm_hall.specs.declared.fault.HallFault.TheVariants as fault_is
 use Rattle.hm_model.specs.Base.{IsBegun}
 use Rattle.hm_model.specs.Fleet.{has_older_live}
-use Rattle.hm_model.specs.Journal.{Past, back}
+use Rattle.hm_model.specs.Journal.{Past}
 use Rattle.hm_places.specs.Laws.{StandingsTell}
 use Rattle.hm_exec.specs.Fleet.{AnswersUp, FaultsFirst, PutsDown}
 use Rattle.hm_exec.specs.Moment.{Moment, past_of}
@@ -15,7 +15,7 @@ use Rattle.hm_exec.proofs.exec.Exec.come_up.Goals as goal
 pub returns-in_err-number-clause-refused : goal.returns-in_err-number-clause-refused
 returns-in_err-number-clause-refused g c =
     let old = moment_of g.R.Recorder.kept c.args.self.now in
-    let here = ap back (sym c.self.invariant.same) ∙ ap (λ (e : ExecView _). past_of (moment_of g.R.Recorder.kept e)) c.self.view_is in
+    let here = sym c.self.invariant.same ∙ ap (λ (e : ExecView _). past_of (moment_of g.R.Recorder.kept e)) c.self.view_is in
     at_fault (λ f. AnswersUp old c.args.server (Err (up_why.Fault f)) (moment_of g.R.Recorder.kept c.number.new.self)) c.from_residual.result fault_is.Memory c.from_residual.ensures.1
     (subst (λ (m : Moment). AnswersUp old c.args.server (Err (up_why.Fault fault_is.Memory)) m) (sym c.number.ensures.same) (up_first old old c.args.server fault_is.Memory c.requires.can
     (first_memory old c.args.server c.requires.going (subst IsBegun here c.fleet_is_told.ensures.begun) (subst (λ (J : Past). StandingsTell J) here c.fleet_is_told.ensures.tell) c.requires.can)

@@ -1,7 +1,6 @@
-use Rattle.std.proofs.Common.{List, refl, subst, sym}
-use Rattle.hm_data.specs.declared.entry.Entry.{Entry}
+use Rattle.std.proofs.Common.{refl, subst, sym}
 use Rattle.hm_data.specs.declared.entry.Entry.TheVariants as entry_is
-use Rattle.hm_model.specs.Journal.{Past, back}
+use Rattle.hm_model.specs.Journal.{Past}
 use Rattle.hm_model.specs.Rules.{Allowed}
 use Rattle.hm_roster.specs.Roster.{Follows}
 use Rattle.hm_exec.specs.Moment.{past_of}
@@ -11,21 +10,21 @@ use Rattle.hm_exec.proofs.exec.Exec.record_abort.Goals as goal
 
 pub add-requires-clause-allowed : goal.add-requires-clause-allowed
 add-requires-clause-allowed g c =
-    subst (λ (l : List Entry). Allowed (back l) (entry_is.Abort c.args.pid)) c.self.invariant.same
+    subst (λ (J : Past). Allowed J (entry_is.Abort c.args.pid)) c.self.invariant.same
     (subst (λ (e : ExecView _). Allowed (past_of (moment_of g.R.Recorder.kept e)) (entry_is.Abort c.args.pid)) (sym c.self.view_is) c.requires.allowed)
 
 pub add-requires-clause-fits : goal.add-requires-clause-fits
 add-requires-clause-fits g c = c.entries_fit_frames.ensures.abort c.args.pid
 
 pub invariant_of-self : goal.invariant_of-self
-invariant_of-self g c = stays_so _ _ _ _ c.self.inside.desk c.self.invariant c.add.ensures.entries (entry_is.Abort c.args.pid) c.in_err-add.field-0.0 c.in_err-add.ensures.adds
+invariant_of-self g c = stays_so _ _ _ _ c.self.inside.desk c.self.invariant c.add.ensures.past (entry_is.Abort c.args.pid) c.in_err-add.field-0.0 c.in_err-add.ensures.adds
 
 pub invariant_of-self-2 : goal.invariant_of-self-2
 invariant_of-self-2 g c =
     let allowed =
-    subst (λ (l : List Entry). Allowed (back l) (entry_is.Abort c.args.pid)) c.self.invariant.same
+    subst (λ (J : Past). Allowed J (entry_is.Abort c.args.pid)) c.self.invariant.same
     (subst (λ (e : ExecView _). Allowed (past_of (moment_of g.R.Recorder.kept e)) (entry_is.Abort c.args.pid)) (sym c.self.view_is) c.requires.allowed) in
-    goes_on (g.R.Recorder.kept c.self.inside.recorder) (g.R.Recorder.kept c.add.new.recorder) c.self.inside.state.entries c.add.new.state.entries c.self.inside.desk c.self.inside.desk c.self.invariant
-    c.add.ensures.entries (subst (λ (J : Past). Follows J c.self.inside.desk) c.records.ensures c.behind_abort.ensures)
-    refl (entry_is.Abort c.args.pid) c.in_ok-add.field-0 c.entries-legal.ensures.legal allowed c.in_ok-add.ensures.adds
+    goes_on (g.R.Recorder.kept c.self.inside.recorder) (g.R.Recorder.kept c.add.new.recorder) c.self.inside.state.past c.add.new.state.past c.self.inside.desk c.self.inside.desk c.self.invariant
+    c.add.ensures.past (subst (λ (J : Past). Follows J c.self.inside.desk) c.records.ensures c.behind_abort.ensures)
+    refl (entry_is.Abort c.args.pid) c.in_ok-add.field-0 c.journal-legal.ensures.legal allowed c.in_ok-add.ensures.adds
     (λ q mine. tt)
