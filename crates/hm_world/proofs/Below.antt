@@ -1,10 +1,12 @@
 -- Calls that are due have their numbers in a list, for the procedures below a number.
-use Rattle.std.proofs.Common.{◌≡◌, ◌≢◌, ◌⊎◌, ℕ, ◌+◌, ◌<◌, List, [], None, sym, ap, ◌∙◌, inl, inr, subst, arith}
+use Rattle.std.proofs.Common.{◌≡◌, ◌≢◌, ◌⊎◌, ℕ, ◌+◌, ◌<◌, ◌≤◌, List, [], ◌∷◌, None, sym, refl, ◌∙◌, inl, inr, subst, arith}
 use Rattle.std.proofs.lemmas.Bool.{cases_eq}
 use Rattle.std.proofs.lemmas.Option.{none-some}
 use Rattle.hm_data.specs.declared.call.Call.{Call}
+use Rattle.hm_data.specs.declared.entry.Entry.TheVariants as entry_is
 use Rattle.hm_model.specs.Journal.{Past}
 use Rattle.hm_model.specs.Locks.{IsIn}
+use Rattle.hm_model.specs.Procedures.{offset}
 use Rattle.hm_model.specs.Rules.{IsLegal}
 use Rattle.hm_model.specs.Tree.{made, node_of}
 use Rattle.hm_model.proofs.Grown as grown
@@ -20,10 +22,18 @@ due_made J o call legal due none =
     let node = node_called J legal call.id.0 call.verb (parts_of J call due.0).1 in
     none-some node.0 (sym none ∙ node.1)
 
-pub below_none : (J : Past) (o : Outside) → IsLegal J → HaveDueBelow J o 1 []
-below_none J o legal call due less =
-    let e : call.id.0 ≡ 0 = omega (arith, less) in
-    due_made J o call legal due (ap (node_of J) e ∙ (grown.grown_all J legal).none)
+-- nobody has a number up to the last of a base
+pub none_low : (J : Past) → IsLegal J → (p : ℕ) → p ≤ offset J → node_of J p ≡ None
+none_low [] legal p le = refl
+none_low (entry_is.Submit nonce request ∷ J) legal p le = let low = (grown.grown_all J legal.0).low in grown.submit_old nonce request J p (λ e. omega (arith, le, low, e)) ∙ none_low J legal.0 p le
+none_low (entry_is.Step pid pick out ∷ J) legal p le = let low = (grown.grown_all J legal.0).low in grown.step_old pid pick out J p (omega (arith, le, low)) ∙ none_low J legal.0 p le
+none_low (entry_is.Undo pid row out ∷ J) legal p le = let low = (grown.grown_all J legal.0).low in grown.undo_old pid row out J p (omega (arith, le, low)) ∙ none_low J legal.0 p le
+none_low (entry_is.Down server ∷ J) legal p le = let low = (grown.grown_all J legal.0).low in grown.down_old server J p (λ e. omega (arith, le, low, e)) ∙ none_low J legal.0 p le
+none_low (entry_is.Base part ∷ J) legal p le = refl
+none_low (entry ∷ J) legal p le = none_low J legal.0 p le
+
+pub below_none : (J : Past) (o : Outside) (n : ℕ) (none : List ℕ) → IsLegal J → n ≡ offset J + 1 → none ≡ [] → HaveDueBelow J o n none
+below_none J o n none legal first empty = subst (HaveDueBelow J o n) (sym empty) (λ call due less. due_made J o call legal due (none_low J legal call.id.0 (omega (arith, less, first))))
 
 pub below_all : (J : Past) (o : Outside) (n : ℕ) (numbers : List ℕ) → IsLegal J → n ≡ made J + 1 → HaveDueBelow J o n numbers → HaveDue J o numbers
 below_all J o n numbers legal last below call due =

@@ -1,10 +1,9 @@
 -- Which calls are due after what happens.
-use Rattle.std.proofs.Common.{◌≡◌, ◌≢◌, ◌⊎◌, ℕ, ◌∷◌, true, false, is_some, None, Option, Some, List, Result, Ok, Err, refl, sym, ap, ◌∙◌, inl, inr, subst, arith}
+use Rattle.std.proofs.Common.{◌≡◌, ◌⊎◌, ℕ, ◌∷◌, true, false, is_some, None, Option, Some, List, Result, Ok, Err, refl, sym, ap, ◌∙◌, inl, inr, subst, arith}
 use Rattle.std.proofs.lemmas.Bool.{false≢true, or_from, or_parts}
 use Rattle.std.proofs.lemmas.Option.{none-some, same_Some}
 use Rattle.hm_data.specs.declared.call.Call.{Call}
 use Rattle.hm_data.specs.declared.call.Peer.{Peer}
-use Rattle.hm_data.specs.declared.call.Peer.TheVariants as peer_is
 use Rattle.hm_data.specs.declared.entry.Entry.{Entry}
 use Rattle.hm_hall.specs.Recording.{Recording, Records}
 use Rattle.hm_hall.specs.declared.fault.RecordFault.{RecordFault}

@@ -14,7 +14,7 @@ use Rattle.hm_hall.specs.declared.fault.RecordFault.{RecordFault}
 use Rattle.hm_hall.specs.declared.fault.RecordFault.TheVariants as record_is
 use Rattle.hm_model.specs.Base.{IsBegun}
 use Rattle.hm_model.specs.Journal.{back}
-use Rattle.hm_model.specs.Plain.{IsPlain}
+use Rattle.hm_model.specs.Laws.{is_part}
 use Rattle.hm_model.specs.Rules.{Allowed}
 use Rattle.hm_refusals.specs.declared.aborts.AbortRefused.{AbortRefused}
 use Rattle.hm_refusals.specs.declared.aborts.AbortRefused.TheVariants as abort_is
@@ -40,9 +40,9 @@ abbrev pub Entered : (Entry → Type 0) → Recording → Recording → Type 0
 Entered P old new =
     (new ≡ old) ⊎ ((entry : Entry) × P entry × Allowed (back old.entries) entry × (result : Result ℕ RecordFault) × Records old entry result new)
 
--- a plain entry that calls nobody and reports nothing
+-- an entry that calls nobody, reports nothing and is no part of a base
 abbrev pub IsQuiet : Entry → Type 0
-IsQuiet entry = (calls_made entry ≡ 0) × ((o : Outside) → IsTrueReport o entry) × IsPlain entry
+IsQuiet entry = (calls_made entry ≡ 0) × ((o : Outside) → IsTrueReport o entry) × (is_part entry ≡ false)
 
 -- it was recorded
 pub by_added : (P : Entry → Type 0) (old new : Moment) (entry : Entry) → P entry → IsAdded old entry new → Entered P old.kept new.kept
@@ -123,12 +123,12 @@ report_enters P old new report holds (Err (fault_is.JournalFull bytes)) answers 
 -- a server that comes up: an older one may go down first
 pub up_enters : (old new : Moment) (server : Server) (down : Option (Server × Pid)) → AnswersUp old server (Ok down) new → (between : Moment) × Entered IsQuiet old.kept between.kept × IsAdded between (entry_is.Up server) new
 up_enters old new server None answers = (old, inl refl, answers.2)
-up_enters old new server (Some (older, pid)) answers = (answers.1, by_added IsQuiet old answers.1 (entry_is.Down older) (refl, (λ o. tt), tt) answers.2.1, answers.3)
+up_enters old new server (Some (older, pid)) answers = (answers.1, by_added IsQuiet old answers.1 (entry_is.Down older) (refl, (λ o. tt), refl) answers.2.1, answers.3)
 
 -- one that doesn't
 first_enters : (old new : Moment) (server : Server) (fault : HallFault) → FaultsFirst old server fault new → Entered IsQuiet old.kept new.kept
-first_enters old new server fault (inl none) = by_copying IsQuiet old new (entry_is.Up server) fault (refl, (λ o. tt), tt) none.1
-first_enters old new server fault (inr older) = by_copying IsQuiet old new (entry_is.Down older.0) fault (refl, (λ o. tt), tt) older.2
+first_enters old new server fault (inl none) = by_copying IsQuiet old new (entry_is.Up server) fault (refl, (λ o. tt), refl) none.1
+first_enters old new server fault (inr older) = by_copying IsQuiet old new (entry_is.Down older.0) fault (refl, (λ o. tt), refl) older.2
 
 -- nothing was recorded, or one entry was or was refused, and after it another one
 abbrev pub EnteredTwice : Recording → Recording → Type 0
@@ -141,7 +141,7 @@ not_up_fault : (old new : Moment) (server : Server) (fault : HallFault)
     → FaultsFirst old server fault new ⊎ ((older : Server) × (pid : Pid) × (between : Moment) × PutsDown old server older pid between × FaultsAt between (entry_is.Up server) fault new) → EnteredTwice old.kept new.kept
 not_up_fault old new server fault (inl first) = once old.kept new.kept (first_enters old new server fault first)
 not_up_fault old new server fault (inr later) =
-    ((let between = later.2 in between.kept), by_added IsQuiet old later.2 (entry_is.Down later.0) (refl, (λ o. tt), tt) later.3.1, by_faults IsQuiet later.2 new (entry_is.Up server) fault (refl, (λ o. tt), tt) later.4)
+    ((let between = later.2 in between.kept), by_added IsQuiet old later.2 (entry_is.Down later.0) (refl, (λ o. tt), refl) later.3.1, by_faults IsQuiet later.2 new (entry_is.Up server) fault (refl, (λ o. tt), refl) later.4)
 
 pub not_up_enters : (old new : Moment) (server : Server) (why : UpWhy) → AnswersUp old server (Err why) new → EnteredTwice old.kept new.kept
 not_up_enters old new server (up_why.Up why) answers = once old.kept new.kept (by_same IsQuiet old new answers.2)

@@ -1,7 +1,6 @@
 -- A world stays sound after an answer that is given back.
 use Rattle.std.proofs.Common.{◌≡◌, ℕ, ◌∷◌, Bool, true, false, is_some, List, Ok, refl, sym, ap, ◌∙◌, inl, inr, subst, arith}
 use Rattle.hm_data.specs.declared.entry.Entry.{Entry}
-use Rattle.hm_data.specs.declared.entry.Entry.TheVariants as entry_is
 use Rattle.hm_data.specs.declared.step.StepIn.{StepIn}
 use Rattle.hm_data.specs.declared.step.StepOut.{StepOut}
 use Rattle.hm_data.specs.declared.step.Turn.{Turn}
@@ -9,14 +8,13 @@ use Rattle.hm_data.specs.declared.step.Turn.TheVariants as turn_is
 use Rattle.hm_hall.specs.Recording.{Recording}
 use Rattle.hm_hall.specs.declared.fault.HallFault.{HallFault}
 use Rattle.hm_hall.specs.declared.fault.HallFault.TheVariants as fault_is
-use Rattle.hm_hall.specs.declared.fault.RecordFault.TheVariants as record_is
 use Rattle.hm_hall.specs.declared.taken.Given.{Given}
 use Rattle.hm_hall.specs.declared.taken.Given.TheVariants as given_is
 use Rattle.hm_hall.specs.declared.taken.Taken.{Taken}
 use Rattle.hm_model.specs.Counts.{one_if}
 use Rattle.hm_model.specs.Journal.{back}
+use Rattle.hm_model.specs.Laws.{is_part}
 use Rattle.hm_model.specs.Locks.{IsIn}
-use Rattle.hm_model.specs.Plain.{IsPlain}
 use Rattle.hm_model.specs.Rules.{IsLegal}
 use Rattle.hm_model.proofs.Prefixes.{back-push}
 use Rattle.hm_exec.specs.Claiming.{AnswersCommit, RefusesCommit, entry_by, entry_of}
@@ -31,10 +29,10 @@ use Rattle.hm_world.proofs.Dues.{due_before}
 use Rattle.hm_world.proofs.Entered.{by_faults}
 use Rattle.hm_world.proofs.Sounds.{safe_entered}
 
--- what answers are of is no report, and plain
-no_report : (o : Outside) (turn : Turn) (p : ℕ) (was : StepIn) (out : StepOut) → IsTrueReport o (entry_by turn p was out) × IsPlain (entry_by turn p was out)
-no_report o turn_is.Step p was out = (tt, tt)
-no_report o (turn_is.Undo edits) p was out = (tt, tt)
+-- what answers are of is no report, and no part of a base
+no_report : (o : Outside) (turn : Turn) (p : ℕ) (was : StepIn) (out : StepOut) → IsTrueReport o (entry_by turn p was out) × (is_part (entry_by turn p was out) ≡ false)
+no_report o turn_is.Step p was out = (tt, refl)
+no_report o (turn_is.Undo edits) p was out = (tt, refl)
 
 not_one : (n : ℕ) → n ≡ 0 → n ≡ 1 → ⊥
 not_one n none one = omega (arith, none, one)
@@ -60,8 +58,8 @@ module _ (old new : Moment) (fleet : FleetView) (numbers : List ℕ) (taken : Ta
   abbrev its : Entry
   its = entry_of taken out
 
-  tells : (entry : Entry) → entry ≡ its → IsTrueReport (outside_of fleet) entry × IsPlain entry
-  tells entry is = subst (λ e. IsTrueReport (outside_of fleet) e × IsPlain e) (sym is) (no_report (outside_of fleet) (let was = taken.was in was.turn) (let pid = taken.pid in pid.0) taken.was out)
+  tells : (entry : Entry) → entry ≡ its → IsTrueReport (outside_of fleet) entry × (is_part entry ≡ false)
+  tells entry is = subst (λ e. IsTrueReport (outside_of fleet) e × (is_part e ≡ false)) (sym is) (no_report (outside_of fleet) (let was = taken.was in was.turn) (let pid = taken.pid in pid.0) taken.was out)
 
   -- it is recorded, or the claim is given up
   module _ (more : List ℕ) (all : (q : ℕ) → IsIn q numbers → IsIn q more) (own : is_some out.call ≡ true → IsIn (let pid = taken.pid in pid.0) more) where

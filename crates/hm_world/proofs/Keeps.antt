@@ -1,5 +1,5 @@
 -- A world stays sound after each of its calls.
-use Rattle.std.proofs.Common.{◌≡◌, ◌≢◌, ℕ, ◌+◌, ◌∷◌, ◌++◌, [], Bool, true, false, None, Some, List, refl, sym, ap, ◌∙◌, inl, inr, subst}
+use Rattle.std.proofs.Common.{◌≡◌, ℕ, ◌∷◌, ◌++◌, [], Bool, true, false, None, Some, List, refl, sym, ap, ◌∙◌, inl, inr, subst}
 use Rattle.std.proofs.Math.Path.{fun_ext}
 use Rattle.std.proofs.lemmas.Bool.{false≢true}
 use Rattle.std.proofs.lemmas.Option.{none-some, same_Some}
@@ -13,8 +13,8 @@ use Rattle.hm_data.specs.declared.entry.Entry.TheVariants as entry_is
 use Rattle.hm_hall.specs.Recording.{Recording}
 use Rattle.hm_model.specs.Fleet.{came_up}
 use Rattle.hm_model.specs.Journal.{back}
+use Rattle.hm_model.specs.Laws.{is_part}
 use Rattle.hm_model.specs.Locks.{IsIn}
-use Rattle.hm_model.specs.Plain.{IsPlain}
 use Rattle.hm_model.specs.Reports.{call_of, peer_in}
 use Rattle.hm_model.specs.Rules.{IsLegal}
 use Rattle.hm_server.specs.Actors.{IsStorage}
@@ -127,7 +127,7 @@ module _ (kept : Recording) (fleet new : FleetView) (numbers : List ℕ) (sound 
   }
 
 -- after a call of the executor
-pub sound_entered : (P : Entry → Type 0) (old new : Recording) (fleet : FleetView) (numbers : List ℕ) → ((entry : Entry) → P entry → calls_made entry ≡ 0) → ((entry : Entry) → P entry → IsTrueReport (outside_of fleet) entry × IsPlain entry) → IsSound old fleet numbers → Entered P old new → IsSound new fleet numbers
+pub sound_entered : (P : Entry → Type 0) (old new : Recording) (fleet : FleetView) (numbers : List ℕ) → ((entry : Entry) → P entry → calls_made entry ≡ 0) → ((entry : Entry) → P entry → IsTrueReport (outside_of fleet) entry × (is_part entry ≡ false)) → IsSound old fleet numbers → Entered P old new → IsSound new fleet numbers
 sound_entered P old new fleet numbers quiet tells sound entered = record {
   safe = safe_entered P old new (outside_of fleet) tells sound.safe entered;
   sent = sound.sent;
@@ -141,7 +141,7 @@ sound_quiet old new fleet numbers sound entered = sound_entered IsQuiet old new 
 -- after a report that waited
 pub sound_reported : (old new : Recording) (fleet : FleetView) (numbers : List ℕ) (report : ReportMsg) → IsIn report fleet.waiting → IsSound old fleet numbers → Entered (λ entry. entry ≡ report_entry report) old new → IsSound new fleet numbers
 sound_reported old new fleet numbers report waits sound entered =
-    sound_entered (λ entry. entry ≡ report_entry report) old new fleet numbers (λ entry is. ap calls_made is) (λ entry is. subst (λ e. IsTrueReport (outside_of fleet) e × IsPlain e) (sym is) ((report, sound.sent.waiting_is report waits, refl, refl), tt)) sound entered
+    sound_entered (λ entry. entry ≡ report_entry report) old new fleet numbers (λ entry is. ap calls_made is) (λ entry is. subst (λ e. IsTrueReport (outside_of fleet) e × (is_part e ≡ false)) (sym is) ((report, sound.sent.waiting_is report waits, refl, refl), refl)) sound entered
 
 -- storages that keep the same are one
 pub storage_is : (one other : Storage) → IsStorage one other → one ≡ other
@@ -159,7 +159,7 @@ sound_opened kept fleet numbers storage going tailless legal shown outside wire 
     safe = subst (Safe (back kept.entries)) (ap nobody shown ∙ sym outside) (safe_past (opened (back kept.entries)) (opened_kept (back kept.entries) legal));
     tailed = λ tail is. absurd (none-some tail (sym tailless ∙ is));
     tailless = λ on. tailless;
-    plain = λ tail is. absurd (none-some tail (sym tailless ∙ is));
+    other = λ tail is. absurd (none-some tail (sym tailless ∙ is));
   };
   sent = subst (λ w. IsSent w fleet.waiting (outside_of fleet)) (sym wire) (subst (λ w. IsSent [] w (outside_of fleet)) (sym waiting) (sent_lost (outside_of fleet)));
   due = due;
@@ -182,7 +182,7 @@ module _ (old new : Moment) (fleet started_fleet : FleetView) (numbers : List �
   ]
 
   pub sound_started : outside_of started_fleet ≡ started (outside_of fleet) server → started_fleet.wire ≡ fleet.wire → started_fleet.waiting ≡ fleet.waiting → IsSound new.kept started_fleet numbers
-  sound_started outside wire waiting = sound_quiet old.kept new.kept started_fleet numbers first (by_added IsQuiet old new (entry_is.Up server) (refl, (λ o. tt), tt) added)
+  sound_started outside wire waiting = sound_quiet old.kept new.kept started_fleet numbers first (by_added IsQuiet old new (entry_is.Up server) (refl, (λ o. tt), refl) added)
     where
       first : IsSound old.kept started_fleet numbers
       first = record {

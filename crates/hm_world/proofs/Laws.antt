@@ -1,17 +1,19 @@
 -- What the laws of worlds want is kept.
 use Rattle.std.proofs.Common.{◌≡◌, ◌≢◌, ℕ, zero, suc, List, ◌+◌, ◌≤◌, ◌∷◌, drop, length, false, None, Option, Some, ap, refl, sym, ◌∙◌, inl, inr, arith}
 use Rattle.std.specs.Option.{option_map}
+use Rattle.std.proofs.lemmas.Bool.{true≢false}
 use Rattle.std.proofs.lemmas.Option.{none-some}
 use Rattle.hm_data.specs.declared.entry.Entry.{Entry}
 use Rattle.hm_data.specs.declared.entry.Entry.TheVariants as entry_is
 use Rattle.hm_hall.specs.Recording.{Recording}
 use Rattle.hm_hall.specs.declared.fault.Halt.{Halt}
 use Rattle.hm_hall.specs.declared.fault.Halt.TheVariants as halt_is
+use Rattle.hm_model.specs.Base.{IsBegun}
 use Rattle.hm_model.specs.Holding.{NoneClash}
 use Rattle.hm_model.specs.Journal.{Past, back}
 use Rattle.hm_model.specs.Laws.{is_part}
 use Rattle.hm_model.specs.Locks.{IsIn}
-use Rattle.hm_model.specs.Plain.{ArePlain, IsPlain}
+use Rattle.hm_model.specs.Rules.{IsLegal}
 use Rattle.hm_model.specs.Tree.{node_of}
 use Rattle.hm_tied.specs.Tied.{CanGo}
 use Rattle.hm_fleet.specs.Fleet.{FleetView, outside_of}
@@ -40,20 +42,24 @@ tails_safe (Some entry) past o safe tailed zero le = tailed entry refl
 tails_safe (Some entry) past o safe tailed (suc zero) le = safe
 tails_safe (Some entry) past o safe tailed (suc (suc n)) le = absurd (omega (arith, le))
 
--- a journal is plain with its tail
-pub plain_whole : (tail : Option Entry) (past : Past) → ArePlain past → ((entry : Entry) → tail ≡ Some entry → IsPlain entry) → ArePlain (with_tail tail past)
-plain_whole None past plain tailed = plain
-plain_whole (Some entry) past plain tailed = (plain, tailed entry refl)
+-- the whole is legal
+pub legal_whole : (tail : Option Entry) (past : Past) (o : Outside) → Safe past o → ((entry : Entry) → tail ≡ Some entry → Safe (entry ∷ past) o) → IsLegal (with_tail tail past)
+legal_whole None past o safe tailed = safe.legal
+legal_whole (Some entry) past o safe tailed = let tail = tailed entry refl in tail.legal
 
--- a plain entry is no part of a base
-plain_other : (entry : Entry) → IsPlain entry → is_part entry ≡ false
-plain_other (entry_is.Base part) plain = absurd plain
-plain_other entry plain = refl
+-- and has begun, since its tail is no part of a base
+begun_behind : (entry : Entry) (past : Past) → is_part entry ≡ false → IsBegun (entry ∷ past)
+begun_behind (entry_is.Base part) past other = absurd (true≢false other)
+begun_behind entry past other = tt
 
--- so a plain tail stands behind what is durable
-plain_tailed : (tail : Option Entry) (past : Past) → ((entry : Entry) → tail ≡ Some entry → IsPlain entry) → IsPlainBehind (length past) (with_tail tail past)
-plain_tailed None past plain = plain_opened past
-plain_tailed (Some entry) past plain = plain_pushed entry past (length past) (plain_other entry (plain entry refl)) (plain_opened past)
+pub begun_whole : (tail : Option Entry) (past : Past) → IsBegun past → ((entry : Entry) → tail ≡ Some entry → is_part entry ≡ false) → IsBegun (with_tail tail past)
+begun_whole None past begun other = begun
+begun_whole (Some entry) past begun other = begun_behind entry past (other entry refl)
+
+-- no part stands behind what is durable
+plain_tailed : (tail : Option Entry) (past : Past) → ((entry : Entry) → tail ≡ Some entry → is_part entry ≡ false) → IsPlainBehind (length past) (with_tail tail past)
+plain_tailed None past other = plain_opened past
+plain_tailed (Some entry) past other = plain_pushed entry past (length past) (other entry refl) (plain_opened past)
 
 pub kept_of : (kept : Recording) (claimed : List ℕ) (fleet : FleetView) (numbers : List ℕ) → IsSound kept fleet numbers → NoneClash (back kept.entries) claimed → ((p : ℕ) → IsIn p claimed → CanGo (back kept.entries) p) → IsKept (world_of (scene_with kept claimed fleet))
 kept_of kept claimed fleet numbers sound apart able = record {
@@ -63,6 +69,6 @@ kept_of kept claimed fleet numbers sound apart able = record {
   waiting_is = sound.sent.waiting_is;
   apart = record { once = tt; among = λ p none. absurd none; there = λ p there. goes_there (back kept.entries) p (able p there); none_clash = apart };
   tails = tails_safe kept.tail (back kept.entries) (outside_of fleet) sound.safe.safe sound.safe.tailed;
-  plain = plain_tailed kept.tail (back kept.entries) sound.safe.plain;
+  plain = plain_tailed kept.tail (back kept.entries) sound.safe.other;
   rolls = λ r is. absurd (none-some r is);
 }

@@ -1,7 +1,9 @@
 -- The storage of a journal is built.
-use Rattle.std.proofs.Common.{◌≡◌, ℕ, ◌+◌, List, [], ◌∷◌, map, ◌==◌, ◌&&◌, ◌||◌, Bool, true, false, if◌then◌else◌, None, Some, refl, sym, ap, ◌∙◌, inl, inr, subst}
+use Rattle.std.proofs.Common.{◌≡◌, ℕ, zero, suc, ◌+◌, ◌<◌, ◌≤◌, List, [], ◌∷◌, map, length, take, get_or, ◌==◌, ◌&&◌, ◌||◌, Bool, true, false, if◌then◌else◌, None, Some, refl, sym, ap, ◌∙◌, inl, inr, subst, arith}
 use Rattle.std.proofs.Math.Numerals.{add-one}
 use Rattle.std.proofs.Math.Path.{fun_ext}
+use Rattle.std.proofs.lemmas.List.{map-append}
+use Rattle.std.proofs.lemmas.List.Folds.{list_any-append, list_any_more}
 use Rattle.std.proofs.lemmas.Option.{none-some, same_Some}
 use Rattle.std.specs.List.{list_any}
 use Rattle.std.specs.Option.{option_map}
@@ -9,22 +11,30 @@ use Rattle.hm_names.specs.Server.{Server}
 use Rattle.hm_names.specs.declared.pid.Pid.{Pid}
 use Rattle.hm_data.specs.declared.call.Told.{Told}
 use Rattle.hm_data.specs.declared.entry.Entry.TheVariants as entry_is
+use Rattle.hm_data.specs.declared.part.Part.{Part}
+use Rattle.hm_data.specs.declared.part.Part.TheVariants as part_is
 use Rattle.hm_data.specs.declared.record.Record.{Record}
 use Rattle.hm_judge.proofs.Found.{there_of}
 use Rattle.hm_model.specs.Storages.{Storage, empty_storage, fence_in, lay_in}
 use Rattle.hm_model.specs.Answers.{report_of}
+use Rattle.hm_model.specs.Base.{PartFits}
 use Rattle.hm_model.specs.Calls.{CallsAreOwn, ReportsFit}
 use Rattle.hm_model.specs.Fleet.{came_up, is_fenced, same_server, servers_of}
+use Rattle.hm_model.specs.Image.{old_layouts, with_layout}
 use Rattle.hm_model.specs.Journal.{Past}
-use Rattle.hm_model.specs.Layouts.{laid_by, laid_if, layout_called}
-use Rattle.hm_model.specs.Plain.{ArePlain}
+use Rattle.hm_model.specs.Laws.{IsGrown}
+use Rattle.hm_model.specs.Layouts.{is_laid, laid_by, laid_if, layout_called}
+use Rattle.hm_model.specs.Parts.{part_laid}
+use Rattle.hm_model.specs.Procedures.{offset}
 use Rattle.hm_model.specs.Records.{record_at, record_of}
 use Rattle.hm_model.specs.Reports.{verb_of}
 use Rattle.hm_model.specs.Rules.{IsLegal}
 use Rattle.hm_model.specs.Standings.{standing_of, standings_of}
-use Rattle.hm_model.specs.Tree.{Node, made}
+use Rattle.hm_model.specs.Tree.{Node, made, pid_of}
 use Rattle.hm_model.specs.Verbs.{verb_in}
 use Rattle.hm_model.proofs.CameUp.{fenced_came}
+use Rattle.hm_model.proofs.Grown as numbers
+use Rattle.hm_model.proofs.Parted.{by_parts}
 use Rattle.hm_model.proofs.Trees.{grown_all}
 use Rattle.hm_model.specs.declared.standing.Standing.{Standing}
 use Rattle.hm_server.specs.Actors.{IsStorage}
@@ -32,7 +42,8 @@ use Rattle.hm_world_model.specs.Layouts.{LayoutsTell, based_layout, laid_below, 
 use Rattle.hm_world_model.specs.World.{shown_storage}
 use Rattle.hm_world_model.proofs.Facts.{cases_server}
 use Rattle.hm_world_model.proofs.Layouts.{none_if}
-use Rattle.hm_world.specs.Shown.{IsFencedBut, fence_if, fenced_among, shown_below, with_fences}
+use Rattle.hm_world.specs.Shown.{IsFencedBut, fence_if, fenced_among, laid_among, shown_below, with_fences, with_laid}
+use Rattle.hm_world.proofs.Below.{none_low}
 use Rattle.hm_world.proofs.Keeps.{storage_is}
 
 -- the rows of a journal say who is fenced
@@ -85,25 +96,73 @@ fences_next J server standing rest old new before is = subst (IsFencedBut J rest
     by false each = (before.0, λ s. ap (λ b. b || old.fenced s) (sym (off (same_server server s) (fenced_among rest s))) ∙ each s)
     by true each = (ap (fence_in server) before.0, λ s. moved (same_server server s) (fenced_among rest s) (old.fenced s) ∙ each s)
 
--- a plain journal begins with no layout
-none_based : (J : Past) → ArePlain J → (root : ℕ) → based_layout J root ≡ false
-none_based [] plain root = refl
-none_based (entry_is.Base part ∷ J) plain root = absurd plain.1
-none_based (entry ∷ J) plain root = none_based J plain.0 root
+-- then there are all fences
+pub fences_last : (J : Past) (storage : Storage) → IsFencedBut J [] storage → storage ≡ with_laid J (λ root. false)
+fences_last J storage all = all.0 ∙ ap with_fences (fun_ext all.1)
 
-pub fences_last : (J : Past) → ArePlain J → (storage : Storage) → IsFencedBut J [] storage → storage ≡ shown_below J 0
-fences_last J plain storage all =
-    all.0 ∙ ap with_fences (fun_ext all.1)
-    ∙ ap (λ (l : Pid → Bool). let s : Storage = record { answer = λ id. None; fenced = is_fenced J; laid = l; refusals = 0 } in s) (fun_ext (λ (root : Pid). sym (none_based J plain root.0)))
+-- one layout of the base more
+pub layout_more : (J : Past) (roots : List Pid) (n : ℕ) (d : Pid) (old new : Storage) → n < length roots → old ≡ with_laid J (laid_among (take n roots)) → IsStorage (lay_in (get_or roots n d) true old) new → new ≡ with_laid J (laid_among (take (n + 1) roots))
+layout_more J roots n d old new less is laid =
+    sym (storage_is (lay_in root true old) new laid) ∙ ap (lay_in root true) is ∙ ap (with_laid J) (fun_ext says)
+  where
+    root : Pid
+    root = get_or roots n d
+
+    by : (a b : Bool) → (if b then true else a) ≡ (a || b)
+    by true true = refl
+    by true false = refl
+    by false true = refl
+    by false false = refl
+
+    says : (other : Pid) → (if root.0 == other.0 then true else laid_among (take n roots) other) ≡ laid_among (take (n + 1) roots) other
+    says other = by (laid_among (take n roots) other) (root.0 == other.0) ∙ sym (list_any_more (λ (own : Pid). own.0 == other.0) roots n d less)
+
+-- before a part of a base stands nothing else
+part_based : (part : Part) (J : Past) → PartFits part J → (root : ℕ) → is_laid J root ≡ based_layout J root
+part_based = by_parts (λ J. (root : ℕ) → is_laid J root ≡ based_layout J root) (λ root. refl) (λ own older root. refl)
+
+-- the layout of a part, beside those of the parts before it
+part_told : (part : Part) (roots : List ℕ) (root : Pid) → laid_among (map pid_of (with_layout part roots)) root ≡ part_laid part root.0 (laid_among (map pid_of roots) root)
+part_told (part_is.Layout pid) roots root =
+    ap (λ (l : List Pid). laid_among l root) (map-append pid_of roots (pid.0 ∷ []))
+    ∙ list_any-append (λ (own : Pid). own.0 == root.0) (map pid_of roots) (pid_of pid.0 ∷ []) ∙ by (laid_among (map pid_of roots) root) (pid.0 == root.0)
+  where
+    by : (a b : Bool) → (a || (b || false)) ≡ (if b then true else a)
+    by true true = refl
+    by true false = refl
+    by false true = refl
+    by false false = refl
+part_told part roots root = refl
+
+-- the base has the layouts that its parts tell
+based_told : (J : Past) → IsLegal J → (root : Pid) → laid_among (map pid_of (old_layouts J)) root ≡ based_layout J root.0
+based_told [] legal root = refl
+based_told (entry_is.Base part ∷ J) legal root = part_told part (old_layouts J) root ∙ ap (part_laid part root.0) (based_told J legal.0 root ∙ sym (part_based part J legal.1.0 root.0))
+based_told (entry ∷ J) legal root = based_told J legal.0 root
+
+pub layouts_last : (J : Past) → IsLegal J → (storage : Storage) → storage ≡ with_laid J (laid_among (map pid_of (old_layouts J))) → storage ≡ shown_below J 0
+layouts_last J legal storage is = is ∙ ap (with_laid J) (fun_ext (based_told J legal))
 
 -- the report of one more procedure says nothing of a layout
 pub layout_kept : (J : Past) (n : ℕ) (storage : Storage) → ((root : ℕ) (b : Bool) → laid_if (layout_called (verb_of J n)) (laid_told (report_of J n)) root b ≡ b) → storage ≡ shown_below J n → storage ≡ shown_below J (n + 1)
 layout_kept J n storage quiet is =
-    is ∙ ap (λ (l : Pid → Bool). let s : Storage = record { answer = λ id. None; fenced = is_fenced J; laid = l; refusals = 0 } in s) (fun_ext (λ (root : Pid). sym (quiet root.0 (laid_below J n root.0))))
+    is ∙ ap (with_laid J) (fun_ext (λ (root : Pid). sym (quiet root.0 (laid_below J n root.0))))
     ∙ ap (shown_below J) (sym (add-one n))
 
 pub untold : (J : Past) (n : ℕ) → report_of J n ≡ None → (root : ℕ) (b : Bool) → laid_if (layout_called (verb_of J n)) (laid_told (report_of J n)) root b ≡ b
 untold J n none root b = ap (λ o. laid_if (layout_called (verb_of J n)) (laid_told o) root b) none ∙ none_if (layout_called (verb_of J n)) root b
+
+-- no procedure up to the last of a base has one
+low_shown : (J : Past) → IsLegal J → (n : ℕ) → n ≤ offset J + 1 → (root : ℕ) → laid_below J n root ≡ based_layout J root
+low_shown J legal zero le root = refl
+low_shown J legal (suc n) le root =
+    untold J n (by_made.unreported n (none_low J legal n (omega (arith, le)))) root (laid_below J n root) ∙ low_shown J legal n (omega (arith, le)) root
+  where
+    by_made : IsGrown J
+    by_made = numbers.grown_all J legal
+
+pub shown_first : (J : Past) → IsLegal J → (n : ℕ) (storage : Storage) → n ≡ offset J + 1 → storage ≡ shown_below J 0 → storage ≡ shown_below J n
+shown_first J legal n storage first is = is ∙ ap (with_laid J) (fun_ext (λ (root : Pid). sym (low_shown J legal n (omega (arith, first)) root.0)))
 
 -- a procedure that has a report called for what it works on
 pub told_as : (J : Past) → IsLegal J → (n : ℕ) (told : Told) (its : Record) → Some told ≡ report_of J n → Some its ≡ record_of J n → (root : ℕ) (b : Bool)
@@ -128,9 +187,9 @@ pub layout_shown : (J : Past) (n : ℕ) (old new : Storage) (root : Pid) (there 
     → old ≡ shown_below J n → IsStorage (lay_in root there old) new → new ≡ shown_below J (n + 1)
 layout_shown J n old new root there says is laid =
     sym (storage_is (lay_in root there old) new laid) ∙ ap (lay_in root there) is
-    ∙ ap (λ (l : Pid → Bool). let s : Storage = record { answer = λ id. None; fenced = is_fenced J; laid = l; refusals = 0 } in s) (fun_ext (λ (other : Pid). sym (says other.0 (laid_below J n other.0))))
+    ∙ ap (with_laid J) (fun_ext (λ (other : Pid). sym (says other.0 (laid_below J n other.0))))
     ∙ ap (shown_below J) (sym (add-one n))
 
 pub shown_all : (J : Past) → IsLegal J → LayoutsTell → (n : ℕ) (storage : Storage) → n ≡ made J + 1 → storage ≡ shown_below J n → storage ≡ shown_storage J
 shown_all J legal tell n storage all is =
-    is ∙ ap (shown_below J) all ∙ ap (λ (l : Pid → Bool). let s : Storage = record { answer = λ id. None; fenced = is_fenced J; laid = l; refusals = 0 } in s) (fun_ext (λ (root : Pid). tell J legal root.0))
+    is ∙ ap (shown_below J) all ∙ ap (with_laid J) (fun_ext (λ (root : Pid). tell J legal root.0))

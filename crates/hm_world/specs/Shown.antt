@@ -1,7 +1,8 @@
 -- The storage of a journal, as far as it is built.
-use Rattle.std.specs.Prelude.{◌≡◌, ℕ, List, None, Bool, true, false, ◌&&◌, ◌||◌}
+use Rattle.std.specs.Prelude.{◌≡◌, ℕ, List, None, Bool, true, false, ◌==◌, ◌&&◌, ◌||◌}
 use Rattle.std.specs.List.{list_any}
 use Rattle.hm_names.specs.Server.{Server}
+use Rattle.hm_names.specs.declared.pid.Pid.{Pid}
 use Rattle.hm_model.specs.Storages.{Storage, fence_in}
 use Rattle.hm_model.specs.Fleet.{is_fenced, same_server}
 use Rattle.hm_model.specs.Journal.{Past}
@@ -13,9 +14,13 @@ abbrev pub fence_if : Bool → Server → Storage → Storage
 fence_if false server storage = storage
 fence_if true server storage = fence_in server storage
 
--- the storage with the fences of a journal, and the layouts that the reports of the procedures with a number below n show
+-- the storage with the fences of a journal, and with these layouts
+abbrev pub with_laid : Past → (Pid → Bool) → Storage
+with_laid J laid = record { answer = λ id. None; fenced = is_fenced J; laid = laid; refusals = 0 }
+
+-- the storage with the fences of a journal, and the layouts that the base and the reports of the procedures with a number below n show
 abbrev pub shown_below : Past → ℕ → Storage
-shown_below J n = record { answer = λ id. None; fenced = is_fenced J; laid = λ root. laid_below J n root.0; refusals = 0 }
+shown_below J n = with_laid J (λ root. laid_below J n root.0)
 
 -- a server is fenced, as some rows say
 abbrev pub fenced_among : List (Server × Standing) → Server → Bool
@@ -29,3 +34,7 @@ with_fences fenced = record { answer = λ id. None; fenced = fenced; laid = λ r
 abbrev pub IsFencedBut : Past → List (Server × Standing) → Storage → Type 0
 IsFencedBut J rows storage =
     (storage ≡ with_fences storage.fenced) × ((server : Server) → (fenced_among rows server || storage.fenced server) ≡ is_fenced J server)
+
+-- the layout of a root is among these
+abbrev pub laid_among : List Pid → Pid → Bool
+laid_among roots root = list_any (λ own. own.0 == root.0) roots

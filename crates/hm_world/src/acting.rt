@@ -28,7 +28,7 @@ impl<R: Recorder> World<R> {
         ensures later { R.faults self.old.recorder ≤ R.faults self.new.recorder }
         ensures opened { R.opened self.new.recorder ≡ R.opened self.old.recorder }
     {
-        let _begun = self.exec.state().entries();
+        self.exec.state().journal();
         self.exec.submit(alloc, nonce, request)
     }
 

@@ -1,6 +1,6 @@
 //! Calls that are due.
-ghost use Rattle.std.specs.Prelude.{◌≡◌, IfNone, IfOk, IfSome, IsSome, Some, true, false};
-ghost use Rattle.hm_model.specs.Journal.{back};
+ghost use Rattle.std.specs.Prelude.{◌≡◌, ◌+◌, IfNone, IfOk, IfSome, IsSome, Some, true, false};
+ghost use Rattle.hm_model.specs.Procedures.{offset};
 ghost use Rattle.hm_model.specs.Reports.{call_of as recorded, peer_in};
 ghost use Rattle.hm_fleet.specs.Fleet.{outside_of};
 ghost use Rattle.hm_world.specs.Due.{NoneIsBelow, IsDueAt, NoneDue};
@@ -27,10 +27,10 @@ fn peer_runs(fleet: &Fleet, args: &Args) -> bool
 
 // Whether the call of a procedure is due.
 pub(crate) fn is_due(state: &State, fleet: &Fleet, pid: Pid) -> bool
-    ensures due { result ≡ true → IsDueAt (back state.now.entries) (outside_of fleet.now) pid.0 }
-    ensures not_due { result ≡ false → IsDueAt (back state.now.entries) (outside_of fleet.now) pid.0 → ⊥ }
+    ensures due { result ≡ true → IsDueAt state.now.past (outside_of fleet.now) pid.0 }
+    ensures not_due { result ≡ false → IsDueAt state.now.past (outside_of fleet.now) pid.0 → ⊥ }
 {
-    let _legal = state.entries();
+    state.journal();
     let procedures = state.procedures();
     let Some(record) = procedures.find(pid) else {
         return false;
@@ -44,10 +44,19 @@ pub(crate) fn is_due(state: &State, fleet: &Fleet, pid: Pid) -> bool
     peer_runs(fleet, &record.args)
 }
 
+// The number of the first procedure that an entry made, behind the last of a base.
+pub(crate) fn first_pid(state: &State) -> u64
+    ensures { result ≡ offset state.now.past + 1 }
+{
+    let procedures = state.procedures();
+    let _last = procedures.last_pid();
+    procedures.offset() + 1
+}
+
 // The call of a procedure that called.
 pub(crate) fn call_of(state: &State, alloc: Global, pid: Pid) -> Result<Call, AllocError>
-    requires { IsSome (recorded (back state.now.entries) pid.0) }
-    ensures recorded { IfOk result (λ call. recorded (back state.now.entries) pid.0 ≡ Some call) }
+    requires { IsSome (recorded state.now.past pid.0) }
+    ensures recorded { IfOk result (λ call. recorded state.now.past pid.0 ≡ Some call) }
     ensures id { IfOk result (λ call. call.id ≡ pid) }
 {
     let Some(call) = state.call(alloc, pid)? else {
@@ -58,10 +67,10 @@ pub(crate) fn call_of(state: &State, alloc: Global, pid: Pid) -> Result<Call, Al
 
 // The number of the first call that is due. Lower ones, whose calls aren't due any more, are forgotten.
 pub(crate) fn first_due(due: &mut Numbers, state: &State, fleet: &Fleet) -> Option<Pid>
-    requires { HaveDue (back state.now.entries) (outside_of fleet.now) due.old.items }
-    ensures have { HaveDue (back state.now.entries) (outside_of fleet.now) due.new.items }
-    ensures some { IfSome result (λ p. IsDueAt (back state.now.entries) (outside_of fleet.now) p.0 × NoneIsBelow (back state.now.entries) (outside_of fleet.now) p.0) }
-    ensures none { IfNone result (NoneDue (back state.now.entries) (outside_of fleet.now)) }
+    requires { HaveDue state.now.past (outside_of fleet.now) due.old.items }
+    ensures have { HaveDue state.now.past (outside_of fleet.now) due.new.items }
+    ensures some { IfSome result (λ p. IsDueAt state.now.past (outside_of fleet.now) p.0 × NoneIsBelow state.now.past (outside_of fleet.now) p.0) }
+    ensures none { IfNone result (NoneDue state.now.past (outside_of fleet.now)) }
 {
     loop {
         let Some(number) = due.first() else {

@@ -1,6 +1,5 @@
 //! A world hands out the tasks of its journal.
 ghost use Rattle.std.specs.Prelude.{◌≡◌, ◌≤◌};
-ghost use Rattle.hm_model.specs.Journal.{back};
 ghost use Rattle.hm_model.specs.Rest.{IsAtRest};
 ghost use Rattle.hm_world.specs.Hall.{hall_of};
 ghost use Rattle.hm_world.specs.Scene.{scene_of};
@@ -8,7 +7,7 @@ ghost use Rattle.hm_world.specs.Taking.{Takes};
 
 use crate::world::World;
 use hm_data::StepOut;
-use hm_hall::{Given, Hall, HallFault, Recorder, Taken, Task};
+use hm_hall::{Given, Hall, HallFault, Recorder, Taken, Task, parts_stand_first};
 use hm_lists::Steps;
 use std::alloc::Global;
 use std::marker::Brand;
@@ -33,11 +32,12 @@ fn take_next<R: Recorder, L: Ledger>(
 impl<R: Recorder> Hall for World<R> {
     ghost hall = { λ world. hall_of (scene_of R.kept world) };
 
-    ghost rests = { λ items. IsAtRest (back items) };
+    ghost rests = { IsAtRest };
 
     ghost faults = { λ world. R.faults world.recorder };
 
     fn take(&mut self, alloc: Global) -> Result<Task, HallFault> {
+        parts_stand_first();
         take_next::<R, Brand>(self, alloc, Blank::new(1))
     }
 
@@ -47,6 +47,7 @@ impl<R: Recorder> Hall for World<R> {
         taken: Taken,
         out: StepOut,
     ) -> Result<Given, (Taken, HallFault)> {
+        parts_stand_first();
         World::give(self, alloc, taken, out)
     }
 
@@ -55,6 +56,7 @@ impl<R: Recorder> Hall for World<R> {
     }
 
     fn carry(&mut self, alloc: Global) -> Result<bool, HallFault> {
+        parts_stand_first();
         World::carry(self, alloc)
     }
 }

@@ -1,14 +1,14 @@
-//! The storage that the reports of a journal show.
-ghost use Rattle.std.specs.Prelude.{◌≡◌, ◌+◌, IfOk, OnOk};
+//! The storage that the base of a journal and its reports show.
+ghost use Rattle.std.specs.Prelude.{◌≡◌, ◌+◌, IfOk, OnOk, false};
 ghost use Rattle.std.specs.Option.{option_map};
 ghost use Rattle.hm_names.specs.declared.pid.Pid.{Pid as PidValue};
-ghost use Rattle.hm_model.specs.Journal.{back};
 ghost use Rattle.hm_model.specs.Layouts.{laid_by, layout_called};
 ghost use Rattle.hm_model.specs.Verbs.{verb_in};
 ghost use Rattle.hm_server.specs.Actors.{storage_of};
-ghost use Rattle.hm_world.specs.Shown.{fence_if, shown_below};
+ghost use Rattle.hm_world.specs.Shown.{fence_if, shown_below, with_laid};
 ghost use Rattle.hm_world_model.specs.World.{shown_storage};
 
+use crate::due::first_pid;
 use hm_data::{Args, Told};
 use hm_model::Standing;
 use hm_model::laws::calls_are_own;
@@ -35,13 +35,25 @@ fn show_fence(
 
 // A storage with the fences of a journal alone.
 fn with_fences(alloc: Global, state: &State) -> Result<StorageActor, AllocError>
-    ensures { IfOk result (λ storage. storage_of storage ≡ shown_below (back state.now.entries) 0) }
+    ensures { IfOk result (λ storage. storage_of storage ≡ with_laid state.now.past (λ root. false)) }
 {
-    let _legal = state.entries();
+    state.journal();
     let mut storage = StorageActor::new(alloc)?;
     let servers = state.servers().all();
     for (server, standing) in servers.iter() {
         show_fence(&mut storage, alloc, server, standing)?;
+    }
+    Ok(storage)
+}
+
+// A storage with the fences of a journal, and the layouts of its base.
+fn with_base(alloc: Global, state: &State) -> Result<StorageActor, AllocError>
+    ensures { IfOk result (λ storage. storage_of storage ≡ shown_below state.now.past 0) }
+{
+    state.journal();
+    let mut storage = with_fences(alloc, state)?;
+    for root in state.records().layouts() {
+        storage.show_laid(alloc, *root, true)?;
     }
     Ok(storage)
 }
@@ -75,11 +87,11 @@ fn show_layout(
     state: &State,
     pid: Pid,
 ) -> Result<(), AllocError>
-    requires { storage_of storage.old ≡ shown_below (back state.now.entries) pid.0 }
-    ensures { OnOk result (storage_of storage.new ≡ shown_below (back state.now.entries) (pid.0 + 1)) }
+    requires { storage_of storage.old ≡ shown_below state.now.past pid.0 }
+    ensures { OnOk result (storage_of storage.new ≡ shown_below state.now.past (pid.0 + 1)) }
 {
     calls_are_own();
-    let _legal = state.entries();
+    state.journal();
     let procedures = state.procedures();
     let Some(told) = procedures.report(pid) else {
         return Ok(());
@@ -97,15 +109,15 @@ fn show_layout(
     Ok(())
 }
 
-// The storage with the fences and the layouts that the reports of a journal show.
+// The storage with the fences and the layouts that the base of a journal and its reports show.
 pub(crate) fn storage_shown(alloc: Global, state: &State) -> Result<StorageActor, AllocError>
-    ensures { IfOk result (λ storage. storage_of storage ≡ shown_storage (back state.now.entries)) }
+    ensures { IfOk result (λ storage. storage_of storage ≡ shown_storage state.now.past) }
 {
     layouts_tell();
-    let _legal = state.entries();
-    let mut storage = with_fences(alloc, state)?;
+    state.journal();
+    let mut storage = with_base(alloc, state)?;
     let last = state.last_pid();
-    for pid in 0..last + 1 {
+    for pid in first_pid(state)..last + 1 {
         show_layout(&mut storage, alloc, state, Pid(pid))?;
     }
     Ok(storage)

@@ -1,8 +1,10 @@
 //! A world: the executor of a journal, the servers and the storage, and what travels between them.
-ghost use Rattle.std.specs.Prelude.{◌≡◌, length};
+ghost use Rattle.std.specs.Prelude.{◌≡◌};
 ghost use Rattle.hm_fleet.specs.Fleet.{holds_if};
-ghost use Rattle.hm_hall.specs.Recording.{entries_of};
-ghost use Rattle.hm_model.specs.Plain.{ArePlain};
+ghost use Rattle.hm_hall.specs.Recording.{past_in};
+ghost use Rattle.hm_model.specs.Base.{IsBegun};
+ghost use Rattle.hm_model.specs.Image.{counted};
+ghost use Rattle.hm_model.specs.Rules.{IsLegal};
 ghost use Rattle.hm_world.specs.Scene.{scene_of, world_of};
 ghost use Rattle.hm_world_model.specs.Safe.{IsKept};
 ghost use Rattle.hm_world_model.specs.World.{whole};
@@ -38,7 +40,7 @@ impl<R: Recorder> Model for World<R> {
 impl<R: Recorder> World<R> {
     /// The state of the journal.
     pub fn state(&self) -> &State
-        ensures { entries_of (R.kept self.now.recorder) ≡ result.now.entries }
+        ensures { past_in (R.kept self.now.recorder) ≡ result.now.past }
     {
         self.exec.state()
     }
@@ -50,22 +52,23 @@ impl<R: Recorder> World<R> {
         self.exec.recorder()
     }
 
-    /// How many entries are recorded: each of them is durable.
+    /// How many entries were recorded, those that a base stands for too: each of them is durable.
     pub fn durable(&self) -> u64
-        ensures { result ≡ length (entries_of (R.kept self.now.recorder)) }
+        ensures { result ≡ counted (past_in (R.kept self.now.recorder)) }
     {
-        self.state().entries()
+        self.state().counted()
     }
 
     /// What the laws of worlds want is kept, so that they speak of each world: no region is held by two servers that run and aren't
-    /// fenced, nor are two whose ranges overlap, whatever part of the journal a stop leaves. And the journal is plain, with the entry
-    /// whose recording failed. A law that does nothing.
+    /// fenced, nor are two whose ranges overlap, whatever part of the journal a stop leaves. And the journal is legal and has begun, with
+    /// the entry whose recording failed. A law that does nothing.
     pub fn keeps(&self)
         ensures kept { IsKept (world_of (scene_of R.kept self.now)) }
-        ensures plain { ArePlain (whole (world_of (scene_of R.kept self.now))) }
+        ensures legal { IsLegal (whole (world_of (scene_of R.kept self.now))) }
+        ensures begun { IsBegun (whole (world_of (scene_of R.kept self.now))) }
     {
         self.exec.claims_stand();
-        let _plain = self.exec.state().entries();
+        self.exec.state().journal();
     }
 
     /// Whether a server runs and holds a region.

@@ -1,6 +1,5 @@
 use Rattle.std.proofs.Common.{arith, refl}
 use Rattle.hm_fleet.specs.Fleet.{outside_of}
-use Rattle.hm_model.specs.Journal.{back}
 use Rattle.hm_world.proofs.Below.{forgotten}
 use Rattle.hm_world.proofs.due.first_due.Goals as goal
 
@@ -13,5 +12,5 @@ loop-number-smaller c = let less = c.pop.ensures.less c.in-Some.number c.in-Some
 
 pub loop-number-preserved : goal.loop-number-preserved
 loop-number-preserved c = record {
-  have = forgotten (back c.args.state.now.entries) (outside_of c.args.fleet.now) c.in-Some.number c.loop-number.due.items c.pop.new.self.items c.loop-number.invariant.have (c.pop.ensures.without c.in-Some.number c.in-Some.ensures.some) (c.if-is_due.ensures.not_due refl);
+  have = forgotten c.args.state.now.past (outside_of c.args.fleet.now) c.in-Some.number c.loop-number.due.items c.pop.new.self.items c.loop-number.invariant.have (c.pop.ensures.without c.in-Some.number c.in-Some.ensures.some) (c.if-is_due.ensures.not_due refl);
 }

@@ -1,7 +1,6 @@
-use Rattle.std.proofs.Common.{List, ap, subst, sym}
-use Rattle.hm_data.specs.declared.entry.Entry.{Entry}
+use Rattle.std.proofs.Common.{ap, subst, sym}
 use Rattle.hm_fleet.specs.Fleet.{outside_of}
-use Rattle.hm_model.specs.Journal.{back}
+use Rattle.hm_model.specs.Journal.{Past}
 use Rattle.hm_model.specs.Rules.{IsLegal}
 use Rattle.hm_world_model.specs.World.{shown_storage}
 use Rattle.hm_world.specs.Sound.{HaveDue, IsSound}
@@ -14,8 +13,8 @@ invariant_of-result g c =
     let fleet = c.in-Ok.fleet in
     let due = c.in-Ok.due in
     subst (λ r. IsSound (g.R.Recorder.kept r) fleet due.items) (sym c.in-Ok-new.ensures.recorder)
-    (sound_opened kept fleet due.items (shown_storage (back c.args.state.entries)) c.requires.going c.requires.tailless
-    (subst (λ (l : List Entry). IsLegal (back l)) (sym c.requires.same) c.entries-legal.ensures.legal)
-    (ap (λ (l : List Entry). shown_storage (back l)) c.requires.same)
+    (sound_opened kept fleet due.items (shown_storage c.args.state.past) c.requires.going c.requires.tailless
+    (subst IsLegal (sym c.requires.same) c.journal.ensures.legal)
+    (ap shown_storage c.requires.same)
     c.in-Ok.ensures.outside c.in-Ok.ensures.still.0 c.in-Ok.ensures.still.1
-    (subst (λ (l : List Entry). HaveDue (back l) (outside_of fleet) due.items) (sym c.requires.same) c.in-Ok.ensures.due))
+    (subst (λ (J : Past). HaveDue J (outside_of fleet) due.items) (sym c.requires.same) c.in-Ok.ensures.due))
