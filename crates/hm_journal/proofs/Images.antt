@@ -3,7 +3,7 @@ use Rattle.std.proofs.Common.{◌≡◌, ◌⊎◌, ℕ, ◌≤◌, List, [], �
 use Rattle.std.specs.Prelude.{IfErr, IfOk}
 use Rattle.hm_disk.specs.Disk.{LeavesOnly, LeavesThen}
 use Rattle.hm_disk.specs.declared.disk.Disk as Disk
-use Rattle.hm_disk.proofs.Moments.{started, weaker}
+use Rattle.hm_disk.proofs.Moments.{weaker}
 use Rattle.hm_log.specs.Format.{Reads, BeforeOrAfter, HoldsFrames}
 use Rattle.hm_log.specs.Opening.{IsBlank, IsMaking, Reopens}
 use Rattle.hm_data.specs.declared.entry.Entry.{Entry}
@@ -17,6 +17,11 @@ use Rattle.hm_journal.specs.Stored.{frames_of, HoldsJournal, GetsFirst, IsOpenin
 pub ok_both : {T E : Type 0} (r : Result T E) (P Q R : T → Type 0) → ((x : T) → P x → Q x → R x) → IfOk r P → IfOk r Q → IfOk r R
 ok_both (Ok x) P Q R so p q = so x p q
 ok_both (Err y) P Q R so p q = tt
+
+-- three facts of it
+pub ok_three : {T E : Type 0} (r : Result T E) (P Q R S : T → Type 0) → ((x : T) → P x → Q x → R x → S x) → IfOk r P → IfOk r Q → IfOk r R → IfOk r S
+ok_three (Ok x) P Q R S so p q s = so x p q s
+ok_three (Err y) P Q R S so p q s = tt
 
 -- two facts of an error
 pub err_both : {T E : Type 0} (r : Result T E) (P Q R : E → Type 0) → ((y : E) → P y → Q y → R y) → IfErr r P → IfErr r Q → IfErr r R

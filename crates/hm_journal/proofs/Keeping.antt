@@ -17,14 +17,16 @@ use Rattle.hm_entry.specs.Fits.{EntryFits}
 use Rattle.hm_entry.specs.Reading.{all_of}
 use Rattle.hm_entry.specs.Spelling.{entry as spelling}
 use Rattle.hm_entry.proofs.EntryCodec.{all_again}
-use Rattle.hm_hall.specs.Recording.{Recording, Passes, Records, bytes_of, with_next}
+use Rattle.hm_model.specs.Laws.{is_part}
+use Rattle.hm_hall.specs.Recording.{Recording, Passes, Records, behind, bytes_of, parts_of, with_next}
 use Rattle.hm_hall.specs.declared.fault.Halt.{Halt}
 use Rattle.hm_hall.specs.declared.fault.Halt.TheVariants as halt_is
 use Rattle.hm_hall.specs.declared.fault.RecordFault.TheVariants as fault_is
 use Rattle.hm_journal.specs.Stored.{frames_of}
-use Rattle.hm_journal.specs.View.{entry_in, entry_of, entries_in, kept_of, ready_of, IsFrameOf, IsReady, IsWellKept}
+use Rattle.hm_journal.specs.View.{entry_in, entry_of, entries_in, kept_of, ready_of, IsFrameOf, IsOrigin, IsReady, IsWellKept}
 use Rattle.hm_journal.specs.declared.limits.Limits.{Limits}
 use Rattle.hm_journal.specs.declared.next.Next.{Next}
+use Rattle.hm_journal.proofs.Judging.{origin_on}
 
 -- what spells an entry is read as it
 pub entry_read : (bytes : List ℕ) (entry : Entry) → EntryFits entry → bytes ≡ spelling entry → all_of bytes ≡ Ok entry
@@ -132,7 +134,7 @@ module _ (frames : List (Vec ℕ)) (next after : Option Next) (tail : Option (Ve
         )
 
     -- it is recorded
-    pub recorded : (number : ℕ) → number ≡ length (entries_in frames) → (more : List (Vec ℕ)) → more ≡ frames ++ frame ∷ [] → (entry : Entry) → ready_of next ≡ Some entry
+    pub recorded : (number : ℕ) → number ≡ length (behind (entries_in frames)) → (more : List (Vec ℕ)) → more ≡ frames ++ frame ∷ [] → (entry : Entry) → ready_of next ≡ Some entry
         → Records (kept_of frames next tail halted limits) entry (Ok number) (kept_of more after tail halted limits)
     recorded number count more pushed entry is =
         let same = the_entry next after halted found finds entry is in
@@ -146,22 +148,23 @@ module _ (frames : List (Vec ℕ)) (next after : Option Next) (tail : Option (Ve
         )
 
 -- the journal is going, and its log has its frames
-pub logs : (tells : Type 0) (image : List ℕ → Type 0) (logged : List (List ℕ)) (size : ℕ) (stalled : Bool) (next : Option Next) (tail : Option (Vec ℕ)) (bytes used room : ℕ) (kept : Recording)
-    → IsWellKept tells image logged size stalled next tail bytes used room kept → kept.halted ≡ None → tells → logged ≡ frames_of kept.entries
-logs tells image logged size stalled next tail bytes used room kept was going told = was.logged_is told (was.live (λ failed. absurd (cc)))
+pub logs : (tells : Type 0) (image : List ℕ → Type 0) (logged : List (List ℕ)) (size : ℕ) (stalled : Bool) (next : Option Next) (tail : Option (Vec ℕ)) (bytes parts based used room : ℕ) (kept : Recording)
+    → IsWellKept tells image logged size stalled next tail bytes parts based used room kept → kept.halted ≡ None → tells → logged ≡ frames_of kept.entries
+logs tells image logged size stalled next tail bytes parts based used room kept was going told = was.logged_is told (was.live (λ failed. absurd (cc)))
 
 -- what is kept where the log failed
 pub kept_failed : (tells : Type 0) (image image' : List ℕ → Type 0) (logged logged' : List (List ℕ)) (size size' : ℕ) (stalled stalled' : Bool) (frames : List (Vec ℕ)) (next after : Option Next) (tail : Option (Vec ℕ))
-    (halted : Option Halt) (limits : Limits) (found : Next) (frame : Vec ℕ) (bytes used room : ℕ)
-    → IsWellKept tells image logged size stalled next tail bytes used room (kept_of frames next tail halted limits) → Finds next after halted found
+    (halted : Option Halt) (limits : Limits) (found : Next) (frame : Vec ℕ) (bytes parts based used room : ℕ)
+    → IsWellKept tells image logged size stalled next tail bytes parts based used room (kept_of frames next tail halted limits) → Finds next after halted found
     → IsFrameOf (kept_of frames next tail halted limits) found.entry.disk used room frame.items → stalled' ≡ true
     → (tells → (c : List ℕ) → image' c → BeforeOrAfter logged frame.items c)
-    → IsWellKept tells image' logged' size' stalled' after (Some frame) bytes used room (kept_of frames after (Some frame) (Some halt_is.LogFault) limits)
-kept_failed tells image image' logged logged' size size' stalled stalled' frames next after tail halted limits found frame bytes used room was finds is stalls either =
+    → IsWellKept tells image' logged' size' stalled' after (Some frame) bytes parts based used room (kept_of frames after (Some frame) (Some halt_is.LogFault) limits)
+kept_failed tells image image' logged logged' size size' stalled stalled' frames next after tail halted limits found frame bytes parts based used room was finds is stalls either =
     let entry = found.entry.disk in
     let same : entry_in frame.items ≡ Some entry = entry_in_is frame.items entry is.fits is.spells in
     record {
       fits = was.fits;
+      origin = was.origin;
       count_is = was.count_is;
       next_is = subst (λ (n : Option Next). IfSome n (IsReady (kept_of frames after (Some frame) (Some halt_is.LogFault) limits) used room)) (sym finds.gone) tt;
       tail_is = (entry, is.spells, is.fits);
@@ -171,20 +174,22 @@ kept_failed tells image image' logged logged' size size' stalled stalled' frames
       size_is = λ no. absurd (cc);
       logged_is = λ told no. absurd (cc);
       stored = λ told c at.
-          let are : logged ≡ frames_of (entries_in frames) = logs tells image logged size stalled next tail bytes used room (kept_of frames next tail halted limits) was finds.going told in
+          let are : logged ≡ frames_of (entries_in frames) = logs tells image logged size stalled next tail bytes parts based used room (kept_of frames next tail halted limits) was finds.going told in
           ⊎_elim (λ reads. inl (subst (λ (fs : List (List ℕ)). Reads c fs) are reads))
           (λ reads. inr (entry, same, is.fits, subst (λ (fs : List (List ℕ)). Reads c fs) (more_frames logged (entries_in frames) frame.items entry are is.spells) reads)) (either told c at);
     }
 
 -- what is kept where the entry was recorded
 pub kept_recorded : (tells : Type 0) (image image' : List ℕ → Type 0) (logged logged' : List (List ℕ)) (size size' : ℕ) (stalled stalled' : Bool) (frames more : List (Vec ℕ)) (next after : Option Next) (tail : Option (Vec ℕ))
-    (halted : Option Halt) (limits : Limits) (found : Next) (frame : Vec ℕ) (written : List ℕ) (bytes long used used' room room' : ℕ)
-    → IsWellKept tells image logged size stalled next tail bytes used room (kept_of frames next tail halted limits) → Finds next after halted found
+    (halted : Option Halt) (limits : Limits) (found : Next) (frame : Vec ℕ) (written : List ℕ) (bytes long parts based used used' room room' : ℕ)
+    → IsWellKept tells image logged size stalled next tail bytes parts based used room (kept_of frames next tail halted limits) → Finds next after halted found
     → IsFrameOf (kept_of frames next tail halted limits) found.entry.disk used room frame.items → stalled' ≡ false
     → written ≡ frame.items → more ≡ frames ++ frame ∷ [] → used' ≡ used + 1 → long ≡ length frame.items → size' ≡ size + length written + 5
     → (tells → logged' ≡ logged ++ written ∷ []) → (tells → (c : List ℕ) → image' c → Reads c logged')
-    → IsWellKept tells image' logged' size' stalled' after tail (bytes + (long + 5)) used' room' (kept_of more after tail halted limits)
-kept_recorded tells image image' logged logged' size size' stalled stalled' frames more next after tail halted limits found frame written bytes long used used' room room' was finds is live value pushed counts longer larger added durable =
+    → ((entries : List Entry) (entry : Entry) → is_part entry ≡ false → parts_of (entries ++ entry ∷ []) ≡ parts_of entries)
+    → ((entries : List Entry) (entry : Entry) → is_part entry ≡ false → behind (entries ++ entry ∷ []) ≡ behind entries ++ entry ∷ [])
+    → IsWellKept tells image' logged' size' stalled' after tail (bytes + (long + 5)) parts based used' room' (kept_of more after tail halted limits)
+kept_recorded tells image image' logged logged' size size' stalled stalled' frames more next after tail halted limits found frame written bytes long parts based used used' room room' was finds is live value pushed counts longer larger added durable stay grow =
     let entry = found.entry.disk in
     let spelled : written ≡ spelling entry = value ∙ is.spells in
     let one : length written ≡ length (spelling entry) = ap length spelled in
@@ -195,6 +200,7 @@ kept_recorded tells image image' logged logged' size size' stalled stalled' fram
     ∙ more_frames logged (entries_in frames) written entry (was.logged_is told going) spelled ∙ ap frames_of (sym grown) in
     record {
       fits = subst (λ (es : List Entry). All EntryFits es) (sym grown) (All-push EntryFits (entries_in frames) entry was.fits is.fits);
+      origin = subst (IsOrigin parts based) (sym grown) (origin_on stay grow parts based (entries_in frames) entry is.other was.origin);
       count_is = rw grown (simp length-append (omega (arith, counts, was.count_is)));
       next_is = subst (λ (n : Option Next). IfSome n (IsReady (kept_of more after tail halted limits) used' room')) (sym finds.gone) tt;
       tail_is = was.tail_is;
@@ -205,6 +211,12 @@ kept_recorded tells image image' logged logged' size size' stalled stalled' fram
       logged_is = λ told no. are told;
       stored = λ told c at. inl (subst (λ (fs : List (List ℕ)). Reads c fs) (are told) (durable told c at));
     }
+
+-- how many entries are behind the base
+pub place_of : (parts based : ℕ) (entries : List Entry) → parts_of entries ++ behind entries ≡ entries → IsOrigin parts based entries → length entries ≡ parts + length (behind entries)
+place_of parts based entries all origin =
+    let long = ap length all in
+    omega (arith, origin.parts_are, long, length-append (parts_of entries) (behind entries))
 
 -- an entry made ready
 pub readied : (frames same : List (Vec ℕ)) (next : Option Next) (tail : Option (Vec ℕ)) (halted : Option Halt) (limits : Limits) (found : Next) (entry : Entry) (kept : Recording)

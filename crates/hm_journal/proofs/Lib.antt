@@ -1,9 +1,12 @@
-pub mod Spelled
 pub mod SameSheets
+pub mod Bases
 pub mod Judging
+pub mod Spelled
+pub mod Started
 pub mod Keeping
 pub mod Refusing
 pub mod Places
+pub mod Halves
 pub mod Images
 pub mod Found
 pub mod Beginning

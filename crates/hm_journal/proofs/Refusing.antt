@@ -1,6 +1,5 @@
 -- No journal is refused.
-use Rattle.std.proofs.Common.{◌≡◌, ◌⊎◌, ℕ, zero, suc, ◌+◌, List, [], ◌∷◌, ◌++◌, drop, take, length, slice_get, Some, Result, Ok, Err, All, refl, sym, ap, ◌∙◌, subst, inl, inr, ⊎_elim}
-use Rattle.std.proofs.lemmas.List.{reverse-append}
+use Rattle.std.proofs.Common.{◌≡◌, ◌≢◌, ◌⊎◌, ℕ, zero, suc, ◌+◌, List, [], ◌∷◌, ◌++◌, append_assoc, take, slice_get, Some, Result, Ok, Err, All, refl, sym, ap, ◌∙◌, subst, inl, inr, ⊎_elim}
 use Rattle.std.proofs.lemmas.List.Elements.{All-head, All-tail}
 use Rattle.std.proofs.lemmas.Option.{none-some, same_Some}
 use Rattle.std.specs.Prelude.{IfOk, IfErr, MatchResult}
@@ -9,7 +8,6 @@ use Rattle.hm_log.proofs.Exact.{refused_once}
 use Rattle.hm_log.specs.declared.why.OpenWhy.{OpenWhy}
 use Rattle.hm_log.specs.declared.why.OpenWhy.TheVariants as log_why_is
 use Rattle.hm_data.specs.declared.entry.Entry.{Entry}
-use Rattle.hm_data.specs.declared.entry.Entry.TheVariants as entry_is
 use Rattle.hm_data.specs.declared.sheet.Sheet.{Sheet}
 use Rattle.hm_entry.specs.declared.fault.EntryFault.{EntryFault}
 use Rattle.hm_entry.specs.Fits.{EntryFits}
@@ -17,16 +15,17 @@ use Rattle.hm_entry.specs.Reading.{all_of}
 use Rattle.hm_entry.specs.Spelling.{entry as spelling}
 use Rattle.hm_entry.proofs.EntryCodec.{all_again, one_entry}
 use Rattle.hm_model.specs.Journal.{Past, back}
-use Rattle.hm_model.specs.Plain.{ArePlain, BreaksPlainly, IsPlain}
-use Rattle.hm_model.specs.Rules.{AllHold, Allowed, Breaks, FirstFails, IsLegal, rules}
+use Rattle.hm_model.specs.Editions.{editions}
+use Rattle.hm_model.specs.Image.{counted}
+use Rattle.hm_model.specs.Rules.{AllHold, Allowed, FirstFails, IsLegal, rules}
 use Rattle.hm_model.specs.Sheets.{sheet_for, sheets_of}
-use Rattle.hm_model.proofs.Prefixes.{back-cut, back-push, legal_cut}
+use Rattle.hm_model.proofs.Prefixes.{back-append, back-push, legal_cut}
 use Rattle.hm_journal.specs.Stored.{IsJournal, IsJournalByKind, frames_of}
 use Rattle.hm_journal.specs.Judged.{IsNoJournalIn, of_log}
-use Rattle.hm_journal.specs.Verdict.{FailsAt, HasOthers, IsFirstBad, IsFirstIllegal, IsNoEntry, IsNoJournal, IsUnjudged, Refuses}
+use Rattle.hm_journal.specs.Verdict.{AreIllegal, FailsAt, HasOthers, IsFirstBad, IsNoEntry, IsNoJournal, IsUnjudged, Refuses}
 use Rattle.hm_journal.specs.declared.why.JournalWhy.{JournalWhy}
 use Rattle.hm_journal.specs.declared.why.JournalWhy.TheVariants as why_is
-use Rattle.hm_journal.proofs.Judging.{sheets_stay}
+use Rattle.hm_journal.proofs.Bases.{not_empty, sheets_kept}
 use Rattle.hm_journal.proofs.Spelled.{take_item}
 
 -- frames spell at most one list of entries
@@ -59,29 +58,9 @@ unbroken k [] hold fails = fails
 unbroken k (rule ∷ more) hold (inl fails) = fails.1 hold.0
 unbroken k (rule ∷ more) hold (inr fails) = unbroken k more hold.1 fails.1
 
--- the older entries of a plain journal are plain
-plain_before : (newer older : Past) → ArePlain (newer ++ older) → ArePlain older
-plain_before [] older plain = plain
-plain_before (entry ∷ newer) older plain = plain_before newer older plain.0
-
-plain_cut : (k : ℕ) (journal : List Entry) → ArePlain (back journal) → ArePlain (back (take k journal))
-plain_cut k journal plain = plain_before (back (drop k journal)) (back (take k journal)) (subst ArePlain (back-cut k journal) plain)
-
 -- the entries up to a place end with the one there
 with_item : (journal : List Entry) (number : ℕ) (entry : Entry) → slice_get journal number ≡ Some entry → back (take (number + 1) journal) ≡ entry ∷ back (take number journal)
 with_item journal number entry here = ap back (take_item journal number entry here) ∙ back-push (take number journal) entry
-
--- each entry of a plain journal is plain
-plain_at : (journal : List Entry) (number : ℕ) (entry : Entry) → ArePlain (back journal) → slice_get journal number ≡ Some entry → IsPlain entry
-plain_at journal number entry plain here =
-    let both : ArePlain (entry ∷ back (take number journal)) = subst ArePlain (with_item journal number entry here) (plain_cut (number + 1) journal plain) in
-    both.1
-
--- the rule that refuses a plain entry is one that it breaks
-plainly_breaks : (before : Past) (entry : Entry) (k : ℕ) → IsPlain entry → BreaksPlainly before entry k → Breaks before entry k
-plainly_breaks before (entry_is.Adopt sheets) k plain breaks = absurd plain
-plainly_breaks before (entry_is.Base part) k plain breaks = absurd plain
-plainly_breaks before entry k plain breaks = breaks
 
 -- the entry at a place of a legal journal is allowed there
 allowed_at : (journal : List Entry) (number : ℕ) (entry : Entry) → IsLegal (back journal) → slice_get journal number ≡ Some entry → Allowed (back (take number journal)) entry
@@ -89,27 +68,21 @@ allowed_at journal number entry legal here =
     let both : IsLegal (entry ∷ back (take number journal)) = subst IsLegal (with_item journal number entry here) (legal_cut (number + 1) journal legal) in
     both.1
 
-none_illegal : (sheets : List Sheet) (journal : List Entry) (number rule : ℕ) → IsLegal (back journal) → ArePlain (back journal) → IsFirstIllegal sheets journal number rule → ⊥
-none_illegal sheets journal number rule legal plain illegal =
-    let before = back (take number journal) in
-    unbroken rule (rules before illegal.entry) (allowed_at journal number illegal.entry legal illegal.there)
-    (plainly_breaks before illegal.entry rule (plain_at journal number illegal.entry plain illegal.there) illegal.breaks)
+none_illegal : (sheets : List Sheet) (journal : List Entry) (number rule : ℕ) → IsJournalByKind sheets journal → AreIllegal sheets journal number rule → ⊥
+none_illegal sheets journal number rule (given, same, is) (inl illegal) =
+    unbroken rule (rules (back (take number journal)) illegal.entry) (allowed_at journal number illegal.entry is.legal illegal.there) illegal.breaks
+none_illegal sheets journal number rule (given, same, is) (inr ends) = ends.unfinished (is.begun ends.some)
 
--- the sheets of a legal, plain journal are those of its first entry
-sheets_first : (newer : Past) (own : List Sheet) → IsLegal (newer ++ entry_is.Start own ∷ []) → ArePlain (newer ++ entry_is.Start own ∷ []) → sheets_of (newer ++ entry_is.Start own ∷ []) ≡ own
-sheets_first [] own legal plain = refl
-sheets_first (entry ∷ newer) own legal plain = sheets_stay (newer ++ entry_is.Start own ∷ []) entry (some newer) legal.1 plain.1 ∙ sheets_first newer own legal.0 plain.0
-  where
-    some : (newer : Past) → newer ++ entry_is.Start own ∷ [] ≡ [] → ⊥
-    some [] e = cc
-    some (entry ∷ newer) e = cc
-
+-- the sheets that a journal has are those that it brought, whichever of its entries did
 none_others : (sheets : List Sheet) (journal : List Entry) (kind : ℕ) → IsJournalByKind sheets journal → HasOthers sheets journal kind → ⊥
 none_others sheets journal kind (given, same, is) others =
-    let cut : back journal ≡ back others.more ++ entry_is.Start others.own ∷ [] = ap back others.starts ∙ reverse-append (entry_is.Start others.own ∷ []) others.more in
-    let begins : sheets_of (back journal) ≡ given = is.begins (λ none. absurd (let e : entry_is.Start others.own ∷ others.more ≡ [] = sym others.starts ∙ none in cc)) in
-    let own : sheets_of (back journal) ≡ others.own = ap sheets_of cut ∙ sheets_first (back others.more) others.own (subst IsLegal cut is.legal) (subst ArePlain cut is.plain) in
-    others.differs.differs (same kind others.differs.is_kind ∙ ap (λ (s : List Sheet). sheet_for s kind) (sym begins ∙ own))
+    let older = others.entry ∷ back others.front in
+    let cut : back journal ≡ back others.more ++ older = ap back (others.splits ∙ sym (append_assoc others.front (others.entry ∷ []) others.more))
+    ∙ back-append (others.front ++ others.entry ∷ []) others.more ∙ ap (λ (J : Past). back others.more ++ J) (back-push others.front others.entry) in
+    let some : journal ≢ [] = λ none. not_empty others.front (others.entry ∷ others.more) (λ e. cc) (sym others.splits ∙ none) in
+    let kept : sheets_of (back journal) ≡ sheets_of older = ap sheets_of cut
+    ∙ sheets_kept (back others.more) older (subst IsLegal cut is.legal) (λ e. cc) (sym (ap editions cut) ∙ is.keeps) in
+    others.differs.differs (same kind others.differs.is_kind ∙ ap (λ (s : List Sheet). sheet_for s kind) (sym (is.begins some) ∙ kept))
 
 -- where a journal was refused, memory had run out
 none_of : (sheets : List Sheet) (journal : List Entry) (why : JournalWhy) → IsJournalByKind sheets journal → IsNoJournal sheets journal why → why ≡ why_is.Memory
@@ -117,7 +90,7 @@ none_of sheets journal why_is.Fault is none = absurd none
 none_of sheets journal (why_is.NotALog place) is none = absurd none
 none_of sheets journal (why_is.BadFrame place) is none = absurd none
 none_of sheets journal (why_is.BadEntry number at) is none = absurd none
-none_of sheets journal (why_is.Illegal number rule) is none = absurd (none_illegal sheets journal number rule is.2.legal is.2.plain none)
+none_of sheets journal (why_is.Illegal number rule) is none = absurd (none_illegal sheets journal number rule is none)
 none_of sheets journal (why_is.SheetsDiffer kind) is none = absurd (none_others sheets journal kind is none)
 none_of sheets journal why_is.Memory is none = refl
 
@@ -147,11 +120,11 @@ log_unjudged why (inl fault) = inl (ap of_log fault)
 log_unjudged why (inr memory) = inr (ap of_log memory)
 
 -- a journal is counted, unless memory runs out
-pub counts_it : (sheets : List Sheet) (frames : List (List ℕ)) (r : Result ℕ JournalWhy) → IfOk r (λ n. (journal : List Entry) × IsJournalByKind sheets journal × (frames_of journal ≡ frames) × (n ≡ length journal))
-    → IfErr r (IsNoJournalIn sheets frames) → (journal : List Entry) → IsJournalByKind sheets journal → frames_of journal ≡ frames → MatchResult r (λ n. n ≡ length journal) IsUnjudged
-counts_it sheets frames (Ok n) counted none journal is are =
-    counted.3 ∙ ap length (same_entries counted.0 journal counted.1.2.fits is.2.fits (counted.2 ∙ sym are))
-counts_it sheets frames (Err why) counted none journal is are = inr (not_refused sheets journal frames why is are none)
+pub counts_it : (sheets : List Sheet) (frames : List (List ℕ)) (r : Result ℕ JournalWhy) → IfOk r (λ n. (journal : List Entry) × IsJournalByKind sheets journal × (frames_of journal ≡ frames) × (n ≡ counted (back journal)))
+    → IfErr r (IsNoJournalIn sheets frames) → (journal : List Entry) → IsJournalByKind sheets journal → frames_of journal ≡ frames → MatchResult r (λ n. n ≡ counted (back journal)) IsUnjudged
+counts_it sheets frames (Ok n) read none journal is are =
+    read.3 ∙ ap (λ (es : List Entry). counted (back es)) (same_entries read.0 journal read.1.2.fits is.2.fits (read.2 ∙ sym are))
+counts_it sheets frames (Err why) read none journal is are = inr (not_refused sheets journal frames why is are none)
 
 -- what is a log isn't refused as none
 pub is_log : (bytes : List ℕ) (frames : List (List ℕ)) → HoldsFrames bytes frames → (place : ℕ) → IsNotALog bytes place → ⊥

@@ -8,8 +8,9 @@ use Rattle.hm_data.specs.declared.entry.Entry.TheVariants as entry_is
 use Rattle.hm_data.specs.declared.sheet.Sheet.{Sheet}
 use Rattle.hm_entry.specs.Fits.{EntryFits}
 use Rattle.hm_entry.specs.Spelling.{entry as spelling}
+use Rattle.hm_model.specs.Base.{IsBegun}
+use Rattle.hm_model.specs.Editions.{editions}
 use Rattle.hm_model.specs.Journal.{back}
-use Rattle.hm_model.specs.Plain.{ArePlain}
 use Rattle.hm_model.specs.Rules.{IsLegal}
 use Rattle.hm_model.specs.Sheets.{sheet_for, sheets_of}
 use Rattle.hm_hall.specs.Recording.{Recording}
@@ -18,12 +19,14 @@ use Rattle.hm_hall.specs.Recording.{Recording}
 abbrev pub frames_of : List Entry → List (List ℕ)
 frames_of entries = map spelling entries
 
--- a legal, plain journal whose entries have spellings, and which begins with these sheets where it has begun
+-- a legal journal whose entries have spellings; where it has any it has begun, by a start or by a whole base, with these sheets, which
+-- are in force: it adopted no others
 pub record IsJournal (sheets : List Sheet) (journal : List Entry) : Type 0 where
   pub legal : IsLegal (back journal)
-  pub plain : ArePlain (back journal)
+  pub begun : journal ≢ [] → IsBegun (back journal)
   pub fits : All EntryFits journal
   pub begins : journal ≢ [] → sheets_of (back journal) ≡ sheets
+  pub keeps : editions (back journal) ≡ 0
 
 -- the bytes are a log of this journal; no bytes are the journal without entries
 pub record IsOnDisk (sheets : List Sheet) (bytes : List ℕ) (journal : List Entry) : Type 0 where

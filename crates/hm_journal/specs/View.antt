@@ -5,7 +5,10 @@ use Rattle.hm_data.specs.declared.entry.Entry.{Entry}
 use Rattle.hm_entry.specs.Fits.{EntryFits}
 use Rattle.hm_entry.specs.Reading.{all_of}
 use Rattle.hm_entry.specs.Spelling.{entry as spelling}
-use Rattle.hm_hall.specs.Recording.{Recording, Accepts, Passes, bytes_of}
+use Rattle.hm_model.specs.Image.{counted}
+use Rattle.hm_model.specs.Journal.{back}
+use Rattle.hm_model.specs.Laws.{is_part}
+use Rattle.hm_hall.specs.Recording.{Recording, Accepts, Passes, behind, bytes_of, parts_of}
 use Rattle.hm_hall.specs.declared.fault.Halt.{Halt}
 use Rattle.hm_hall.specs.declared.fault.Halt.TheVariants as halt_is
 use Rattle.hm_journal.specs.Opened.{Opened}
@@ -48,9 +51,10 @@ kept_of frames next tail halted limits =
 abbrev pub IsSpelling : List ℕ → Type 0
 IsSpelling bytes = (entry : Entry) × (bytes ≡ spelling entry) × EntryFits entry
 
--- a frame that spells the entry and that a log takes, and for which there is room
+-- a frame that spells the entry, which is no part of a base, and that a log takes, and for which there is room
 pub record IsFrameOf (kept : Recording) (entry : Entry) (used room : ℕ) (frame : List ℕ) : Type 0 where
   pub accepted : Accepts kept entry
+  pub other : is_part entry ≡ false
   pub spells : frame ≡ spelling entry
   pub fits : EntryFits entry
   pub short : length frame ≤ 65536
@@ -63,10 +67,17 @@ IsReady kept used room next = MatchOption next.frame
     ((kept.halted ≢ None) ⊎ Passes kept.hard kept.entries next.entry.disk)
     (λ frame. IsFrameOf kept next.entry.disk used room frame.items)
 
+-- so many of these entries are parts of a base, and that base stands for so many
+pub record IsOrigin (parts based : ℕ) (entries : List Entry) : Type 0 where
+  pub parts_are : parts ≡ length (parts_of entries)
+  pub counted_is : counted (back entries) ≡ based + length (behind entries)
+  pub few : based < 2 ^ 63
+
 -- What is kept of a journal's fields: the frames spell the entries, the log has these frames and this size while it isn't
 -- stalled, and each image of the disk is a log of the entries.
-pub record IsWellKept (tells : Type 0) (image : List ℕ → Type 0) (logged : List (List ℕ)) (size : ℕ) (stalled : Bool) (next : Option Next) (tail : Option (Vec ℕ)) (bytes used room : ℕ) (kept : Recording) : Type 0 where
+pub record IsWellKept (tells : Type 0) (image : List ℕ → Type 0) (logged : List (List ℕ)) (size : ℕ) (stalled : Bool) (next : Option Next) (tail : Option (Vec ℕ)) (bytes parts based used room : ℕ) (kept : Recording) : Type 0 where
   pub fits : All EntryFits kept.entries
+  pub origin : IsOrigin parts based kept.entries
   pub count_is : used ≡ length kept.entries
   pub next_is : IfSome next (IsReady kept used room)
   pub tail_is : IfSome tail (λ frame. IsSpelling frame.items)

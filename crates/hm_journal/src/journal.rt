@@ -5,17 +5,20 @@ ghost use Rattle.hm_data.specs.declared.entry.Entry.{Entry as EntryValue};
 ghost use Rattle.hm_entry.specs.Fits.{EntryFits};
 ghost use Rattle.hm_entry.specs.Spelling.{entry as spelling};
 ghost use Rattle.hm_hall.specs.declared.fault.Halt.TheVariants as halt_is;
-ghost use Rattle.hm_hall.specs.Recording.{CanBeRecorded, Accepts, Passes, Records, bytes_of, full_at, with_next};
+ghost use Rattle.hm_hall.specs.Recording.{CanBeRecorded, Accepts, Passes, Records, bytes_of, full_at, past_in, with_next};
+ghost use Rattle.hm_model.specs.Image.{counted};
+ghost use Rattle.hm_model.specs.Laws.{is_part};
 ghost use Rattle.hm_journal.specs.Stored.{AllStored, IsStored};
 ghost use Rattle.hm_journal.specs.Since.{Since};
 
 use crate::limits::Limits;
 use crate::next::Next;
 use crate::opened::Opening;
+use crate::origin::Origin;
 use hm_data::Entry;
 use hm_disk::Disk;
 use hm_entry::{encode_into, length};
-use hm_hall::{Halt, RecordFault, Recorder};
+use hm_hall::{Halt, RecordFault, Recorder, parts_stand_first};
 use hm_log::Log;
 use std::alloc::{AllocError, Global};
 use std::marker::Model;
@@ -27,6 +30,8 @@ pub struct Journal<D: Disk> {
     pub(crate) frames: Vec<Vec<u8>>,
     // The size of a log of the frames, which the log itself tells only while it isn't stalled.
     pub(crate) bytes: u64,
+    // Of the journal's base, which is among the frames.
+    pub(crate) origin: Origin,
     pub(crate) next: Option<Next>,
     pub(crate) tail: Option<Vec<u8>>,
     pub(crate) halted: Option<Halt>,
@@ -44,16 +49,17 @@ impl<D: Disk> Model for Journal<D> {
 
     ghost view = { λ a. record { disk = a.log.disk; opened = a.opened; kept = kept_of a.frames.items a.next a.tail a.halted a.limits; room = vec_capacity a.frames } };
 
-    ghost invariant = { λ a. IsWellKept D.tells (D.image a.log.disk) a.log.frames a.log.bytes a.log.stalled a.next a.tail a.bytes (vec_len a.frames) (vec_capacity a.frames)
+    ghost invariant = { λ a. IsWellKept D.tells (D.image a.log.disk) a.log.frames a.log.bytes a.log.stalled a.next a.tail a.bytes a.origin.parts a.origin.based (vec_len a.frames) (vec_capacity a.frames)
         (kept_of a.frames.items a.next a.tail a.halted a.limits)
         × Since D.Disk a.opened a.log.disk (entries_in a.frames.items) (entry_of a.tail) a.halted };
 }
 
 impl<D: Disk> Journal<D> {
-    /// Makes an entry ready to be recorded, in place of one that was. It takes the memory that recording needs: none for
-    /// an entry that will be refused.
+    /// Makes an entry that is no part of a base ready to be recorded, in place of one that was. It takes the memory that
+    /// recording needs: none for an entry that will be refused.
     pub fn ready(&mut self, alloc: Global, entry: &Entry) -> Result<(), AllocError>
-        requires { CanBeRecorded entry.now }
+        requires fits { CanBeRecorded entry.now }
+        requires other { is_part entry.now ≡ false }
         ensures kept { MatchResult result
             (λ _. self.new.kept ≡ with_next self.old.kept entry.now)
             (λ _. self.new.kept ≡ self.old.kept) }
@@ -83,8 +89,8 @@ impl<D: Disk> Journal<D> {
         self.halted.is_some() || !fits(self.bytes, length(entry) as usize, self.limits.hard)
     }
 
-    /// Records the entry that is ready, and gives its number. It takes no memory. At `Ok` the entry is on the disk. After
-    /// a fault of the log the disk may hold it or not, until it is opened anew.
+    /// Records the entry that is ready, and gives its place behind the base. It takes no memory. At `Ok` the entry is on the
+    /// disk. After a fault of the log the disk may hold it or not, until it is opened anew.
     pub fn record_entry(&mut self) -> Result<u64, RecordFault>
         requires { self.old.kept.next ≢ None }
 
@@ -111,15 +117,16 @@ impl<D: Disk> Journal<D> {
             self.halted = Some(Halt::JournalFull(bytes));
             return Err(RecordFault::JournalFull(bytes));
         };
+        parts_stand_first();
+        let place = self.frames.len() as u64 - self.origin.parts;
         if self.log.append(&frame).is_err() {
             self.tail = Some(frame);
             self.halted = Some(Halt::LogFault);
             return Err(RecordFault::LogFault);
         }
-        let number = self.frames.len() as u64;
         self.bytes += frame.len() as u64 + 5;
         self.frames.push_reserved(frame);
-        Ok(number)
+        Ok(place)
     }
 
     /// The bytes of the journal, where they have reached the soft mark.
@@ -143,12 +150,21 @@ impl<D: Disk> Journal<D> {
         self.halted
     }
 
-    /// How many entries are on the disk: all that were recorded.
+    /// How many entries are on the disk: all that were recorded, with those that the base stands for in place of its parts.
+    /// That sum is below 2^64: a base stands for less than 2^63, and no memory has room for as many frames.
     pub fn durable(&self) -> u64
-        ensures count { result ≡ length self.now.kept.entries }
+        ensures count { result ≡ counted (past_in self.now.kept) }
         ensures fits { All EntryFits self.now.kept.entries }
         ensures stored { D.tells → AllStored (D.image self.now.disk) self.now.kept }
         ensures since { Since D.Disk self.now.opened self.now.disk self.now.kept.entries self.now.kept.tail self.now.kept.halted }
+    {
+        parts_stand_first();
+        self.origin.based + (self.frames.len() as u64 - self.origin.parts)
+    }
+
+    // How many entries are kept, the parts of a base among them.
+    pub(crate) fn count(&self) -> u64
+        ensures { result ≡ length self.now.kept.entries }
     {
         self.frames.len() as u64
     }
@@ -171,6 +187,7 @@ impl<D: Disk> Journal<D> {
             log,
             frames: _,
             bytes: _,
+            origin: _,
             next: _,
             tail: _,
             halted: _,

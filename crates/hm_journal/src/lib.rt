@@ -1,11 +1,15 @@
 //! A journal on a disk: its entries as the frames of a log.
 #![tactic(auto)]
 
+mod based;
+mod first;
+mod frame;
 mod journal;
 mod limits;
 mod next;
 mod opened;
 mod opening;
+mod origin;
 mod reading;
 mod sheets;
 mod why;

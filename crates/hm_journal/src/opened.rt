@@ -4,7 +4,7 @@ ghost use Rattle.std.specs.Prelude.{◌≡◌};
 use hm_disk::{Anchor, Disk};
 use std::marker::Model;
 
-/// A disk as it was when a journal was opened on it, and how many entries it had.
+/// A disk as it was when a journal was opened on it, and how many entries it had, the parts of a base among them.
 #[derive(Drop)]
 pub struct Opening<D: Disk> {
     pub(crate) disk: Anchor<D>,

@@ -9,16 +9,19 @@ ghost use Rattle.hm_data.specs.declared.entry.Entry.{Entry as EntryValue};
 ghost use Rattle.hm_data.specs.declared.sheet.Sheet.{Sheet as SheetValue};
 ghost use Rattle.hm_entry.specs.Fits.{EntryFits};
 ghost use Rattle.hm_model.specs.Base.{AreSheets};
+ghost use Rattle.hm_model.specs.Image.{counted};
+ghost use Rattle.hm_model.specs.Journal.{back};
 ghost use Rattle.hm_hall.specs.Recording.{with_next};
 ghost use Rattle.hm_journal.specs.Stored.{IsJournal, IsOnDisk, IsOnDiskByKind, HoldsJournal, Spares, SameFrames, GetsFirst, IsOpening, frames_of, opened};
 ghost use Rattle.hm_journal.specs.Since.{Began, IsUnbegun};
 ghost use Rattle.hm_journal.specs.Judged.{IsNoJournalIn, of_log};
 ghost use Rattle.hm_journal.specs.Verdict.{Refuses, IsUnjudged};
-ghost use Rattle.hm_journal.specs.View.{entries_in, kept_of};
+ghost use Rattle.hm_journal.specs.View.{IsOrigin, entries_in, kept_of};
 
 use crate::journal::Journal;
 use crate::limits::Limits;
 use crate::opened::Opening;
+use crate::origin::Origin;
 use crate::reading::{count_entries, find_journal};
 use crate::sheets::copy_sheets;
 use crate::why::JournalWhy;
@@ -49,7 +52,13 @@ fn start_entry(alloc: Global, sheets: &[Sheet]) -> Result<Entry, AllocError>
 }
 
 // The journal of an open log, whose frames these are.
-fn journal_of<D: Disk>(log: Log<D>, frames: Vec<Vec<u8>>, limits: Limits) -> Journal<D>
+fn journal_of<D: Disk>(
+    log: Log<D>,
+    frames: Vec<Vec<u8>>,
+    origin: Origin,
+    limits: Limits,
+) -> Journal<D>
+    requires origin { IsOrigin origin.parts origin.based (entries_in frames.items) }
     requires live { log.stalled ≡ false }
     requires fits { All EntryFits (entries_in frames.items) }
     requires count { length frames.items ≡ length (entries_in frames.items) }
@@ -66,6 +75,7 @@ fn journal_of<D: Disk>(log: Log<D>, frames: Vec<Vec<u8>>, limits: Limits) -> Jou
         log,
         frames,
         bytes,
+        origin,
         next: None,
         tail: None,
         halted: None,
@@ -183,9 +193,9 @@ fn begin<D: Disk>(
     requires live { journal.kept.halted ≡ None }
     requires whole { journal.kept.tail ≡ None }
     requires here { journal.opened ≡ record { disk = journal.disk; count = length journal.kept.entries } }
-    requires state { state.entries ≡ opened sheets.now journal.kept.entries }
+    requires state { state.past ≡ back (opened sheets.now journal.kept.entries) }
     ensures kept { IfOk result (λ r. r.0.kept ≡ record journal.kept { entries = opened sheets.now journal.kept.entries }) }
-    ensures state { IfOk result (λ r. r.1.entries ≡ opened sheets.now journal.kept.entries) }
+    ensures state { IfOk result (λ r. r.1.past ≡ back (opened sheets.now journal.kept.entries)) }
     ensures empty { OnErr result (journal.kept.entries ≡ []) }
     ensures why { IfErr result (λ e. IsUnjudged e.1) }
     ensures untaken { IfErr result (λ e. e.1 ≢ JournalWhy.Fault → e.0 ≡ journal.disk) }
@@ -193,7 +203,7 @@ fn begin<D: Disk>(
     ensures opened { IfOk result (λ r. r.0.opened ≡ journal.opened) }
     ensures began { IfErr result (λ e. Began D.Disk (Entry.Start sheets.now) journal.disk e.0) }
 {
-    if journal.durable() > 0 {
+    if journal.count() > 0 {
         return Ok((journal, state));
     }
     match start(alloc, journal, sheets) {
@@ -218,7 +228,7 @@ fn of_frames<D: Disk>(
     requires durable { D.tells → (c : List ℕ) → D.image log.disk c → Reads c frames }
     ensures journal { IfOk result (λ r. (old : List EntryValue) × IsJournal sheets.now old × (frames_of old ≡ frames) × (r.0.kept.entries ≡ opened sheets.now old)
         × (r.0.opened ≡ record { disk = log.disk; count = length old })) }
-    ensures state { IfOk result (λ r. r.1.entries ≡ r.0.kept.entries) }
+    ensures state { IfOk result (λ r. r.1.past ≡ back r.0.kept.entries) }
     ensures fresh { IfOk result (λ r. (r.0.kept.next ≡ None) × (r.0.kept.tail ≡ None) × (r.0.kept.halted ≡ None)) }
     ensures limits { IfOk result (λ r. (r.0.kept.soft ≡ limits.soft) × (r.0.kept.hard ≡ limits.hard)) }
     ensures why { IfErr result (λ e. IsUnjudged e.1 ⊎ IsNoJournalIn sheets.now frames e.1) }
@@ -229,14 +239,21 @@ fn of_frames<D: Disk>(
     ensures called { IfErr result (λ e. IsCalled D.Disk 2 log.disk e.0) }
 {
     match find_journal(alloc, frames, sheets) {
-        Ok((frames, state)) => begin(alloc, journal_of(log, frames, limits), state, sheets),
+        Ok((frames, state, origin)) => {
+            begin(
+                alloc,
+                journal_of(log, frames, origin, limits),
+                state,
+                sheets,
+            )
+        }
         Err(why) => Err((log.into_disk(), why)),
     }
 }
 
 impl<D: Disk> Journal<D> {
-    /// Opens a disk as a journal of these sheets, and gives its state too. A disk of size 0, and a log without frames,
-    /// gets its first entry. A log of version 1, and one that is being moved, are moved into place first, in more changes
+    /// Opens a disk as a journal of these sheets, and gives its state too. A journal begins with a start or with a whole base,
+    /// and has adopted no other sheets. A disk of size 0, and a log without frames, gets its first entry, a start. A log of version 1, and one that is being moved, are moved into place first, in more changes
     /// of the disk. An error gives the disk back; unless it is a fault the disk reads as before, or as the same frames.
     pub fn open(
         alloc: Global,
@@ -251,7 +268,7 @@ impl<D: Disk> Journal<D> {
         ensures journal { IfOk result (λ r. (old : List EntryValue) × IsJournal sheets.now old × (r.0.kept.entries ≡ opened sheets.now old)
             × (r.0.opened.count ≡ length old) × (D.tells → IsOnDisk sheets.now (D.seen disk) old
             × LeavesThen D.moment D.left_since disk r.0.opened.disk (λ c. D.image disk c ⊎ IsMaking (D.seen disk) c) (λ c. Reads c (frames_of old)))) }
-        ensures state { IfOk result (λ r. r.1.entries ≡ r.0.kept.entries) }
+        ensures state { IfOk result (λ r. r.1.past ≡ back r.0.kept.entries) }
         ensures fresh { IfOk result (λ r. (r.0.kept.next ≡ None) × (r.0.kept.tail ≡ None) × (r.0.kept.halted ≡ None)) }
         ensures limits { IfOk result (λ r. (r.0.kept.soft ≡ limits.soft) × (r.0.kept.hard ≡ limits.hard)) }
 
@@ -278,13 +295,13 @@ impl<D: Disk> Journal<D> {
         }
     }
 
-    /// Judges a disk as `open` does, and counts the entries of its journal. It only reads. A disk of size 0 holds none.
-    /// Any sheets may be given: the journal's are compared with them kind by kind.
+    /// Judges a disk as `open` does, and counts the entries that were recorded of its journal, with those that its base stands
+    /// for. It only reads. A disk of size 0 holds none. Any sheets may be given: the journal's are compared with them kind by kind.
     pub fn check(alloc: Global, disk: &mut D, sheets: &[Sheet]) -> Result<u64, JournalWhy>
-        ensures count { D.tells → IfOk result (λ n. (journal : List EntryValue) × IsOnDiskByKind sheets.now (D.seen disk.old) journal × (n ≡ length journal)) }
+        ensures count { D.tells → IfOk result (λ n. (journal : List EntryValue) × IsOnDiskByKind sheets.now (D.seen disk.old) journal × (n ≡ counted (back journal))) }
         ensures why { D.tells → IfErr result (Refuses sheets.now (D.seen disk.old)) }
         ensures accepts { D.tells → (journal : List EntryValue) → IsOnDiskByKind sheets.now (D.seen disk.old) journal →
-            MatchResult result (λ n. n ≡ length journal) IsUnjudged }
+            MatchResult result (λ n. n ≡ counted (back journal)) IsUnjudged }
         ensures fault { IsErrOf result JournalWhy.Fault → Rose (D.faults disk.old) (D.faults disk.new) }
         ensures only_reads { OnlyReads D.Disk disk.old disk.new }
     {

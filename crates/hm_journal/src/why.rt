@@ -17,10 +17,11 @@ pub enum JournalWhy {
     /// The frame of this number spells no entry, from this byte of it on.
     #[error("frame {number} spells no entry from byte {at} on")]
     BadEntry { number: u64, at: u64 },
-    /// This rule refuses the entry of this number: the lowest that it breaks, and of a base or of new sheets their own.
+    /// This rule refuses the entry of this number: the lowest that it breaks. Where all are parts of a base that isn't whole,
+    /// that of bases, and the number is that of all entries.
     #[error("entry {number} breaks rule {rule}")]
     Illegal { number: u64, rule: u8 },
-    /// The journal began with another sheet of this kind, and with the same of each lower kind.
+    /// The journal began with another sheet of this kind, or adopted one, and the same of each lower kind.
     #[error("the sheets of kind {0} differ")]
     SheetsDiffer(u8),
     /// Memory ran out.

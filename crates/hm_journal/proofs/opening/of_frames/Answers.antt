@@ -7,6 +7,7 @@ use Rattle.hm_disk.specs.Disk.{LeavesOnly}
 use Rattle.hm_log.specs.Format.{Reads}
 use Rattle.hm_data.specs.declared.entry.Entry.{Entry}
 use Rattle.hm_hall.specs.Recording.{Recording}
+use Rattle.hm_model.specs.Journal.{back}
 use Rattle.hm_journal.specs.Stored.{IsJournal, GetsFirst, HoldsJournal, frames_of}
 use Rattle.hm_journal.proofs.Images.{began_keeps, err_both, gets_first, image_now, keeps_none, ok_both}
 use Rattle.hm_journal.proofs.Moving.{uncalled}
@@ -17,7 +18,7 @@ journal_of-requires-clause-durable g c tells bytes is = subst (Reads bytes) (sym
 
 pub returns-in-Ok-clause-state : goal.returns-in-Ok-clause-state
 returns-in-Ok-clause-state g c =
-    ok_both c.begin.result _ _ _ (λ r kept state. state ∙ sym (ap (λ (k : Recording). k.entries) kept)) c.begin.ensures.kept c.begin.ensures.state
+    ok_both c.begin.result _ _ _ (λ r kept state. state ∙ sym (ap (λ (k : Recording). back k.entries) kept)) c.begin.ensures.kept c.begin.ensures.state
 
 pub returns-in-Ok-clause-fresh : goal.returns-in-Ok-clause-fresh
 returns-in-Ok-clause-fresh g c =

@@ -1,4 +1,7 @@
-use Rattle.std.proofs.Common.{[], refl, sym, ◌∙◌}
+use Rattle.std.proofs.Common.{[], refl, sym, ap, ◌∙◌}
+use Rattle.std.proofs.lemmas.List.{reverse-reverse}
+use Rattle.hm_model.specs.Image.{counted}
+use Rattle.hm_model.specs.Journal.{back}
 use Rattle.hm_journal.proofs.Found.{no_frames}
 use Rattle.hm_journal.proofs.Judging.{by_kind, none_by_kind}
 use Rattle.hm_journal.proofs.reading.count_entries.Goals as goal
@@ -8,6 +11,6 @@ returns-then-count-eq0-clause-count c = ([], none_by_kind c.args.sheets.now, no_
 
 pub returns-clause-count : goal.returns-clause-count
 returns-clause-count c =
-    let state = c.in_ok-state.state in
-    let spells = c.in_ok-state.ensures.spelled in
-    (state.entries, by_kind c.args.sheets.now state.entries spells.fits c.in_ok-state.ensures.begun, spells.are, c.entries.ensures.count)
+    let past = c.in_ok-state.state.past in
+    let spells = c.in_ok-state.ensures.spells in
+    (back past, by_kind c.args.sheets.now past spells.fits c.in_ok-state.ensures.begun, spells.are, c.counted.ensures.count ∙ ap counted (sym (reverse-reverse past)))

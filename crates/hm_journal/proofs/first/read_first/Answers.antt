@@ -1,6 +1,6 @@
 use Rattle.std.proofs.lemmas.Result.{IfErr-weaker, err_from_is_err_and}
 use Rattle.hm_journal.proofs.Places.{first_refused, none_read}
-use Rattle.hm_journal.proofs.reading.read_first.Goals as goal
+use Rattle.hm_journal.proofs.first.read_first.Goals as goal
 
 pub returns-in_err-first-clause-why : goal.returns-in_err-first-clause-why
 returns-in_err-first-clause-why c entries spells =

@@ -1,6 +1,6 @@
 use Rattle.std.proofs.Common.{[], ◌∷◌, ◌++◌, refl}
 use Rattle.hm_journal.proofs.Spelled.{spells_more}
-use Rattle.hm_journal.proofs.reading.check_entries.Goals as goal
+use Rattle.hm_journal.proofs.frame.check_entries.Goals as goal
 
 pub loop-number-preserved : goal.loop-number-preserved
 loop-number-preserved c =
