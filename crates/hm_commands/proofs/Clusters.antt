@@ -1,8 +1,8 @@
 -- What the calls of a cluster make of those of its world.
-use Rattle.std.proofs.Common.{◌≡◌, ◌∷◌, [], All, List, ℕ, Bool, true, false, Option, Some, None, Result, Ok, Err, refl, sym, ap, ◌∙◌, subst, inl, inr, arith}
+use Rattle.std.proofs.Common.{◌≡◌, ◌≤◌, ◌∷◌, [], All, List, ℕ, Bool, true, false, Option, Some, None, Result, Ok, Err, refl, sym, ap, ◌∙◌, subst, inl, inr, arith}
 use Rattle.std.specs.Prelude.{IfOk, MatchResult, OnErr}
 use Rattle.std.specs.Option.{option_map}
-use Rattle.std.proofs.lemmas.Option.{none-some}
+use Rattle.std.proofs.lemmas.Option.{none-some, same_Some}
 use Rattle.std.proofs.lemmas.List.Elements.{All-head, All-tail}
 use Rattle.hm_names.specs.declared.nonce.Nonce.{Nonce}
 use Rattle.hm_names.specs.declared.pid.Pid.{Pid}
@@ -17,6 +17,7 @@ use Rattle.hm_commands.proofs.Growth.{Grows, other_grows, submit_grows}
 use Rattle.hm_data.specs.declared.act.Act.{Act}
 use Rattle.hm_data.specs.declared.entry.Entry.{Entry}
 use Rattle.hm_data.specs.declared.record.Record.{Record}
+use Rattle.hm_data.specs.declared.sheet.Sheet.{Sheet}
 use Rattle.hm_data.specs.declared.step.StepIn.{StepIn}
 use Rattle.hm_data.specs.declared.step.StepOut.{StepOut}
 use Rattle.hm_data.specs.declared.step.Turn.{Turn}
@@ -26,16 +27,18 @@ use Rattle.hm_journal.specs.Since.{with_tail}
 use Rattle.hm_hall.specs.declared.fault.Halt.{Halt}
 use Rattle.hm_hall.specs.declared.fault.HallFault.{HallFault}
 use Rattle.hm_hall.specs.declared.fault.HallFault.TheVariants as fault_is
-use Rattle.hm_hall.specs.declared.fault.RecordFault.TheVariants as record_is
 use Rattle.hm_hall.specs.declared.hall.Task.TheVariants as task_is
 use Rattle.hm_hall.specs.declared.taken.Given.{Given}
 use Rattle.hm_hall.specs.declared.taken.Given.TheVariants as given_is
 use Rattle.hm_hall.specs.declared.taken.Taken.{Taken}
+use Rattle.hm_model.specs.Editions.{editions, sheets_in}
 use Rattle.hm_model.specs.Journal.{Past, back}
+use Rattle.hm_model.specs.Kinds.{kind_of}
 use Rattle.hm_model.specs.Locks.{IsIn}
 use Rattle.hm_model.specs.Records.{record_at, record_of}
-use Rattle.hm_model.specs.Sheets.{row_in, sheet_for, sheets_of}
-use Rattle.hm_model.specs.Tree.{Node, node_of}
+use Rattle.hm_model.specs.Rules.{IsLegal}
+use Rattle.hm_model.specs.Sheets.{row_in, sheet_for}
+use Rattle.hm_model.specs.Tree.{Node, is_root_in, is_top, node_of}
 use Rattle.hm_model.specs.Claims.{Unclaims}
 use Rattle.hm_refusals.specs.declared.aborts.AbortRefused.{AbortRefused}
 use Rattle.hm_refusals.specs.declared.aborts.AbortRefused.TheVariants as abort_is
@@ -43,6 +46,8 @@ use Rattle.hm_exec.specs.Claiming.{IsAnswer, IsHandedOut, RefusesCommit, entry_b
 use Rattle.hm_exec.specs.Moment.{IsGoing, Moment, past_of}
 use Rattle.hm_exec.specs.Submitting.{AnswersAbort}
 use Rattle.hm_world.specs.Carrying.{CanCarry, OnlyExec}
+use Rattle.hm_model.proofs.Editions.{edition_within, root_has}
+use Rattle.hm_model.proofs.Forest.{rooted_all}
 use Rattle.hm_model.proofs.Prefixes.{back-push}
 use Rattle.hm_world_model.specs.World as model
 use Rattle.hm_world.specs.Scene.{GoesOn, Scene, past_in, world_of}
@@ -57,23 +62,34 @@ use Rattle.hm_commands.specs.declared.tasks.Worked.TheVariants as worked_is
 use Rattle.hm_commands.proofs.Claims.{at_rest, none_claimed, restless}
 use Rattle.hm_commands.proofs.Ran.{ran_idle, ran_none, run_less}
 
--- what a row of the sheet of a procedure that is kept does
+-- what a row of a procedure that is shown does
 abbrev kept_act : Past → ℕ → Option Record → Option Act
 kept_act J row None = None
-kept_act J row (Some it) = act_of_row (row_in (sheet_for (sheets_of J) it.kind) row)
+kept_act J row (Some it) = act_of_row (row_in (sheet_for (sheets_in J it.edition) it.kind) row)
 
-act_kept : (J : Past) (p row : ℕ) (node : Option Node) → act_by J node row ≡ kept_act J row (option_map (record_at J p) node)
-act_kept J p row None = refl
-act_kept J p row (Some node) = refl
+module _ (J : Past) (legal : IsLegal J) (p row : ℕ) where
+  act_kept : (node : Option Node) → node_of J p ≡ node → act_by J node row ≡ kept_act J row (option_map (record_at J p) node)
+  act_kept None is = refl
+  act_kept (Some node) is =
+      let root = rooted_all J legal p node is in
+      ap (λ (sheets : List Sheet). act_of_row (row_in (sheet_for sheets (kind_of node.args)) row)) (root_has J legal node.root (ap is_root_in root.there ∙ ap is_top root.at_top)).0
 
-pub act_none : (J : Past) (p row : ℕ) → record_of J p ≡ None → act_at J p row ≡ None
-act_none J p row is = act_kept J p row (node_of J p) ∙ ap (kept_act J row) is
+  pub act_none : record_of J p ≡ None → act_at J p row ≡ None
+  act_none is = act_kept (node_of J p) refl ∙ ap (kept_act J row) is
 
-pub act_some : (J : Past) (p row : ℕ) (it : Record) → record_of J p ≡ Some it → act_at J p row ≡ act_of_row (row_in (sheet_for (sheets_of J) it.kind) row)
-act_some J p row it is = act_kept J p row (node_of J p) ∙ ap (kept_act J row) is
+  pub act_some : (it : Record) → record_of J p ≡ Some it → act_at J p row ≡ act_of_row (row_in (sheet_for (sheets_in J it.edition) it.kind) row)
+  act_some it is = act_kept (node_of J p) refl ∙ ap (kept_act J row) is
+
+-- the edition that is shown is one of the journal's
+pub shown_within : (J : Past) (p : ℕ) (it : Record) → record_of J p ≡ Some it → it.edition ≤ editions J
+shown_within J p it = by (node_of J p)
+  where
+    by : (node : Option Node) → option_map (record_at J p) node ≡ Some it → it.edition ≤ editions J
+    by None is = absurd (none-some it is)
+    by (Some node) is = subst (λ (shown : Record). shown.edition ≤ editions J) (same_Some (record_at J p node) it is) (edition_within J node.root)
 
 -- an abort is told alike by the journal before it and after it
-pub abort_told : (old new : Moment) (pid : Pid) (result : Result Bool AbortRefused) → AnswersAbort old pid result new → told_abort (past_of new) pid result ≡ told_abort (past_of old) pid result
+abort_told : (old new : Moment) (pid : Pid) (result : Result Bool AbortRefused) → AnswersAbort old pid result new → told_abort (past_of new) pid result ≡ told_abort (past_of old) pid result
 abort_told old new pid (Ok true) a = refl
 abort_told old new pid (Ok false) a = refl
 abort_told old new pid (Err abort_is.Unknown) a = refl
@@ -81,6 +97,10 @@ abort_told old new pid (Err (abort_is.Child root)) a = refl
 abort_told old new pid (Err (abort_is.Finished phase)) a = refl
 abort_told old new pid (Err (abort_is.TooLate row)) a = ap (λ (m : Moment). told_abort (past_of m) pid (Err (abort_is.TooLate row))) a.2
 abort_told old new pid (Err (abort_is.Fault fault)) a = refl
+
+-- so what is told by the journal after it is told by that before
+pub abort_said : (old new : Moment) (J : Past) (pid : Pid) (result : Result Bool AbortRefused) (answer : Option Answer) → told_abort J pid result ≡ answer → past_of new ≡ J → AnswersAbort old pid result new → answer ≡ told_abort (past_of old) pid result
+abort_said old new J pid result answer told same a = sym told ∙ ap (λ (K : Past). told_abort K pid result) (sym same) ∙ abort_told old new pid result a
 
 -- a refusal ends no claim
 refused_claimed : (old mid : Moment) (taken : Taken) (out : StepOut) (fault : HallFault) → IsGoing old → RefusesCommit old taken out fault mid → mid.claimed ≡ old.claimed

@@ -1,4 +1,4 @@
--- What the first registry runs for what was handed out of a plain journal.
+-- What the first registry runs for what was handed out of a journal that adopted no sheets.
 use Rattle.std.proofs.Common.{◌≡◌, ◌≤◌, ℕ, List, [], ◌∷◌, map, set, get_or, All, Option, Some, sym, ap, ◌∙◌, subst, arith}
 use Rattle.std.proofs.lemmas.List.Elements.{All-head, All-set}
 use Rattle.hm_data.specs.declared.sheet.Sheet.{Sheet}
@@ -7,11 +7,9 @@ use Rattle.hm_data.specs.declared.step.StepOut.{StepOut}
 use Rattle.hm_model.specs.Editions.{editions, sheets_in}
 use Rattle.hm_model.specs.Evaluation.{CanRun, answer_of}
 use Rattle.hm_model.specs.Journal.{Past}
-use Rattle.hm_model.specs.Plain.{ArePlain}
 use Rattle.hm_model.specs.Rules.{IsLegal}
 use Rattle.hm_model.specs.Sheets.{sheets_of}
 use Rattle.hm_model.proofs.Editions.{last_in_force}
-use Rattle.hm_model.proofs.Plain.{no_editions}
 use Rattle.hm_sheet.specs.Learnt.{CanRunIn, answer_in}
 use Rattle.hm_sheet.specs.Words.{AreWhole}
 use Rattle.hm_exec.specs.Claiming.{IsAnswer}
@@ -41,13 +39,13 @@ module _ {R : Type 0} (f own : R → List Sheet) (has : R → ℕ → Option (Li
   first_lists [] agree each = absurd (let some = some_hands f [] agree in omega (arith, some))
   first_lists (r ∷ hands) agree each = let first = All-head (Lists f own has) r hands each in (own r, first.0, first.1)
 
-  module _ (J : Past) (legal : IsLegal J) (plain : ArePlain J) (was : StepIn) (within : was.edition ≤ editions J) (runs : CanRun (sheets_in J was.edition) was) (hands : List R) (agree : HandsAgree (map f hands)) (begins : AgreeOn (first_sheets (map f hands)) (sheets_of J)) (each : All (Lists f own has) hands) where
+  module _ (J : Past) (legal : IsLegal J) (unadopted : editions J ≡ 0) (was : StepIn) (within : was.edition ≤ editions J) (runs : CanRun (sheets_in J was.edition) was) (hands : List R) (agree : HandsAgree (map f hands)) (begins : AgreeOn (first_sheets (map f hands)) (sheets_of J)) (each : All (Lists f own has) hands) where
     -- there is one edition
     one_edition : was.edition ≡ 0
-    one_edition = let none = no_editions J plain in omega (arith, within, none)
+    one_edition = omega (arith, within, unadopted)
 
     in_force : sheets_in J was.edition ≡ sheets_of J
-    in_force = ap (sheets_in J) (one_edition ∙ sym (no_editions J plain)) ∙ last_in_force J
+    in_force = ap (sheets_in J) (one_edition ∙ sym unadopted) ∙ last_in_force J
 
     runs_now : CanRun (sheets_of J) was
     runs_now = subst (λ (s : List Sheet). CanRun s was) in_force runs

@@ -12,6 +12,7 @@ use Rattle.hm_data.specs.declared.sheet.Sheet.{Sheet}
 use Rattle.hm_data.specs.declared.step.StepIn.{StepIn}
 use Rattle.hm_data.specs.declared.step.StepOut.{StepOut}
 use Rattle.hm_hall.specs.Recording.{Recording}
+use Rattle.hm_model.specs.Editions.{editions}
 use Rattle.hm_model.specs.Evaluation.{CanBeAsked, CanRun, answer_of}
 use Rattle.hm_model.specs.Journal.{Past, back}
 use Rattle.hm_model.specs.Rules.{IsLegal}
@@ -66,27 +67,27 @@ pub answered_there : (J : Past) → IsLegal J → (at : StepIn) (sheets : List S
     → answer_of sheets at ≡ Some out → answer_of (sheets_of J) at ≡ Some out
 answered_there J legal at sheets out agree runs answered = said_alike (sheets_of J) sheets at (sym (same_sheet J legal at sheets agree runs)) ∙ answered
 
--- an entry that leaves the sheets
+-- an entry that leaves the sheets in force, and their edition
 abbrev LeavesSheets : Entry → Type 0
-LeavesSheets entry = (J : Past) → sheets_of (entry ∷ J) ≡ sheets_of J
+LeavesSheets entry = (J : Past) → (sheets_of (entry ∷ J) ≡ sheets_of J) × (editions (entry ∷ J) ≡ editions J)
 
 work_leaves : (entry : Entry) → IsWork entry → LeavesSheets entry
-work_leaves (entry_is.Step pid pick out) work J = refl
-work_leaves (entry_is.Undo pid row out) work J = refl
-work_leaves (entry_is.Report call told) work J = refl
+work_leaves (entry_is.Step pid pick out) work J = (refl, refl)
+work_leaves (entry_is.Undo pid row out) work J = (refl, refl)
+work_leaves (entry_is.Report call told) work J = (refl, refl)
 work_leaves entry work J = absurd work
 
 same_leaves : (entry other : Entry) → entry ≡ other → LeavesSheets other → LeavesSheets entry
-same_leaves entry other same leaves J = subst (λ (e : Entry). sheets_of (e ∷ J) ≡ sheets_of J) (sym same) (leaves J)
+same_leaves entry other same leaves = subst LeavesSheets (sym same) leaves
 
 other_leaves : (command : Command) (entry : Entry) → OtherMayAdd command entry → LeavesSheets entry
-other_leaves (command_is.Abort pid) entry may = same_leaves entry (entry_is.Abort pid) may (λ J. refl)
-other_leaves (command_is.Server server) entry (inl up) = same_leaves entry (entry_is.Up server) up (λ J. refl)
-other_leaves (command_is.Server server) entry (inr down) = same_leaves entry (entry_is.Down down.0) down.1 (λ J. refl)
-other_leaves (command_is.Expire server) entry may = same_leaves entry (entry_is.Down server) may (λ J. refl)
+other_leaves (command_is.Abort pid) entry may = same_leaves entry (entry_is.Abort pid) may (λ J. (refl, refl))
+other_leaves (command_is.Server server) entry (inl up) = same_leaves entry (entry_is.Up server) up (λ J. (refl, refl))
+other_leaves (command_is.Server server) entry (inr down) = same_leaves entry (entry_is.Down down.0) down.1 (λ J. (refl, refl))
+other_leaves (command_is.Expire server) entry may = same_leaves entry (entry_is.Down server) may (λ J. (refl, refl))
 other_leaves (command_is.Step count) entry may = work_leaves entry may
 other_leaves command_is.Settle entry may = work_leaves entry may
-other_leaves command_is.Balance entry may = same_leaves entry (entry_is.Submit no_nonce (request_is.Move may.0 (Some may.1))) may.2 (λ J. refl)
+other_leaves command_is.Balance entry may = same_leaves entry (entry_is.Submit no_nonce (request_is.Move may.0 (Some may.1))) may.2 (λ J. (refl, refl))
 other_leaves command entry may = absurd may
 
 may_leaves : (command : Command) (entry : Entry) → MayAdd command entry → LeavesSheets entry
@@ -94,27 +95,42 @@ may_leaves command entry = by (asked command)
   where
     by : (ask : Option (Nonce × Request)) → MatchOption ask (OtherMayAdd command entry) (λ ask. entry ≡ entry_is.Submit ask.0 ask.1) → LeavesSheets entry
     by None may = other_leaves command entry may
-    by (Some ask) may = same_leaves entry (entry_is.Submit ask.0 ask.1) may (λ J. refl)
+    by (Some ask) may = same_leaves entry (entry_is.Submit ask.0 ask.1) may (λ J. (refl, refl))
 
-sheets_all : (P : Entry → Type 0) → ((entry : Entry) → P entry → LeavesSheets entry) → (journal added : List Entry) → All P added → sheets_of (back (journal ++ added)) ≡ sheets_of (back journal)
-sheets_all P leaves journal [] all = ap (λ (j : List Entry). sheets_of (back j)) (append-nil journal)
-sheets_all P leaves journal (entry ∷ added) all =
-    ap (λ (j : List Entry). sheets_of (back j)) (sym (append_assoc journal (entry ∷ []) added))
-    ∙ sheets_all P leaves (journal ++ entry ∷ []) added (All-tail P entry added all)
-    ∙ ap sheets_of (back-push journal entry) ∙ leaves entry (All-head P entry added all) (back journal)
+-- what all such entries leave, what was added leaves
+module _ {X : Type 0} (told : Past → X) where
+  told_all : (P : Entry → Type 0) → ((entry : Entry) → P entry → (J : Past) → told (entry ∷ J) ≡ told J) → (journal added : List Entry) → All P added → told (back (journal ++ added)) ≡ told (back journal)
+  told_all P leaves journal [] all = ap (λ (j : List Entry). told (back j)) (append-nil journal)
+  told_all P leaves journal (entry ∷ added) all =
+      ap (λ (j : List Entry). told (back j)) (sym (append_assoc journal (entry ∷ []) added))
+      ∙ told_all P leaves (journal ++ entry ∷ []) added (All-tail P entry added all)
+      ∙ ap told (back-push journal entry) ∙ leaves entry (All-head P entry added all) (back journal)
 
-grown_sheets : (P : Entry → Type 0) → ((entry : Entry) → P entry → LeavesSheets entry) → (old new : Recording) → Grows P old new → sheets_of (back new.entries) ≡ sheets_of (back old.entries)
-grown_sheets P leaves old new grows = ap (λ (j : List Entry). sheets_of (back j)) grows.grown ∙ sheets_all P leaves old.entries grows.added grows.each
+  told_grown : (P : Entry → Type 0) → ((entry : Entry) → P entry → (J : Past) → told (entry ∷ J) ≡ told J) → (old new : Recording) → Grows P old new → told (back new.entries) ≡ told (back old.entries)
+  told_grown P leaves old new grows = ap (λ (j : List Entry). told (back j)) grows.grown ∙ told_all P leaves old.entries grows.added grows.each
 
--- the sheets after a command, and after tasks
-pub comes_sheets : (command : Command) (old : Scene) (answer : Option Answer) (new : Scene) → Comes command old answer new → sheets_of (back (journal_at new)) ≡ sheets_of (back (journal_at old))
-comes_sheets command old answer new c = grown_sheets (MayAdd command) (may_leaves command) (kept_at old) (kept_at new) (comes_grows old new command answer c)
+module _ (command : Command) (old : Scene) (answer : Option Answer) (new : Scene) (comes : Comes command old answer new) where
+  grows : Grows (MayAdd command) (kept_at old) (kept_at new)
+  grows = comes_grows old new command answer comes
 
-pub tasks_sheets : (count : ℕ) (old new : Scene) → Tasks count old new → sheets_of (back (journal_at new)) ≡ sheets_of (back (journal_at old))
-tasks_sheets count old new t = grown_sheets IsWork work_leaves (kept_at old) (kept_at new) (tasks_grow count old new t)
+  -- the sheets after a command, and their edition
+  pub comes_sheets : sheets_of (back (journal_at new)) ≡ sheets_of (back (journal_at old))
+  comes_sheets = told_grown sheets_of (MayAdd command) (λ entry may J. (may_leaves command entry may J).0) (kept_at old) (kept_at new) grows
 
--- registries that served a journal serve one with the same sheets
-pub serve_on : (one other : List (List Sheet)) (old new : List Entry) → Serve one old → other ≡ one → sheets_of (back new) ≡ sheets_of (back old) → Serve other new
-serve_on one other old new serve same sheets =
-    subst (λ (hands : List (List Sheet)). Serve hands new) (sym same)
-    (record { agree = serve.agree; begins = subst (AgreeOn (first_sheets one)) (sym sheets) serve.begins })
+  pub comes_editions : editions (back (journal_at new)) ≡ editions (back (journal_at old))
+  comes_editions = told_grown editions (MayAdd command) (λ entry may J. (may_leaves command entry may J).1) (kept_at old) (kept_at new) grows
+
+module _ (one other : List (List Sheet)) (old new : List Entry) (serve : Serve one old) (same : other ≡ one) where
+  -- registries that served a journal serve one with the same sheets and as many editions
+  pub serve_on : sheets_of (back new) ≡ sheets_of (back old) → editions (back new) ≡ editions (back old) → Serve other new
+  serve_on sheets edition =
+      subst (λ (hands : List (List Sheet)). Serve hands new) (sym same)
+      (record { agree = serve.agree; begins = subst (AgreeOn (first_sheets one)) (sym sheets) serve.begins; unadopted = edition ∙ serve.unadopted })
+
+-- so they do after tasks
+pub serve_behind : (one other : List (List Sheet)) (count : ℕ) (old new : Scene) → Serve one (journal_at old) → other ≡ one → Tasks count old new → Serve other (journal_at new)
+serve_behind one other count old new serve same t =
+    let grows = tasks_grow count old new t in
+    serve_on one other (journal_at old) (journal_at new) serve same
+    (told_grown sheets_of IsWork (λ entry work J. (work_leaves entry work J).0) (kept_at old) (kept_at new) grows)
+    (told_grown editions IsWork (λ entry work J. (work_leaves entry work J).1) (kept_at old) (kept_at new) grows)

@@ -1,5 +1,5 @@
 -- What becomes of each command: what it is answered, unless memory runs out, and what it leaves.
-use Rattle.std.specs.Prelude.{◌≡◌, ◌≢◌, ◌⊎◌, ◌<◌, ◌≤◌, ℕ, List, length, Bool, Option, Some, None, Result, MatchOption}
+use Rattle.std.specs.Prelude.{◌≡◌, ◌≢◌, ◌⊎◌, ◌<◌, ◌≤◌, ℕ, List, Bool, Option, Some, None, Result, MatchOption}
 use Rattle.hm_names.specs.Region.{Region}
 use Rattle.hm_names.specs.Server.{Server}
 use Rattle.hm_names.specs.declared.nonce.Nonce.{Nonce}
@@ -12,6 +12,7 @@ use Rattle.hm_data.specs.declared.request.Request.{Request}
 use Rattle.hm_data.specs.declared.request.Request.TheVariants as request_is
 use Rattle.hm_hall.specs.declared.fault.Halt.{Halt}
 use Rattle.hm_hall.specs.declared.fault.HallFault.{HallFault}
+use Rattle.hm_model.specs.Image.{counted}
 use Rattle.hm_model.specs.Records.{unfinished}
 use Rattle.hm_refusals.specs.declared.aborts.AbortRefused.{AbortRefused}
 use Rattle.hm_script.specs.declared.command.Command.{Command}
@@ -28,7 +29,7 @@ use Rattle.hm_world.specs.Acts.{Arms, Dies, Loses, Repeats, Starts}
 use Rattle.hm_world.specs.Carrying.{OnlyExec}
 use Rattle.hm_world.specs.Scene.{Scene, past_in}
 use Rattle.hm_commands.specs.Balancing.{Balances, no_nonce}
-use Rattle.hm_commands.specs.Scenes.{halt_at, journal_at}
+use Rattle.hm_commands.specs.Scenes.{halt_at}
 use Rattle.hm_commands.specs.Submissions.{Submits}
 use Rattle.hm_commands.specs.Tasks.{Breaks, IsDone, LacksMemory, Tasks}
 use Rattle.hm_commands.specs.Telling.{told_abort, told_arming, told_death, told_down, told_repeat, told_up}
@@ -82,7 +83,7 @@ RepeatsAll old answer new = (result : Result ℕ HallFault) × Repeats old resul
 -- so many tasks are done, or fewer where nothing is left then; the task that would have come next halts the run, or lacks memory
 abbrev pub WorksFor : ℕ → Scene → Option Answer → Scene → Type 0
 WorksFor most old (Some (answer_is.Stepped count at)) new =
-    Tasks count old new × (count ≤ most) × (count < most → IsDone new) × (at ≡ length (journal_at new))
+    Tasks count old new × (count ≤ most) × (count < most → IsDone new) × (at ≡ counted (past_in new))
 WorksFor most old (Some (answer_is.Halted why)) new = (count : ℕ) × (mid : Scene) × Tasks count old mid × (count < most) × Breaks mid why new
 WorksFor most old (Some answer) new = ⊥
 WorksFor most old None new = (count : ℕ) × (mid : Scene) × Tasks count old mid × (count < most) × LacksMemory mid new
@@ -93,8 +94,8 @@ Rests old roots new = ((count : ℕ) × Tasks count old new) × IsDone new × (r
 
 -- tasks are done until nothing is left; the one that would have come next halts the run, or lacks memory
 abbrev pub Settles : Scene → Option Answer → Scene → Type 0
-Settles old (Some (answer_is.Settled at)) new = Rests old 0 new × (at ≡ length (journal_at new))
-Settles old (Some (answer_is.Waiting at roots)) new = Rests old roots new × (roots ≢ 0) × (at ≡ length (journal_at new))
+Settles old (Some (answer_is.Settled at)) new = Rests old 0 new × (at ≡ counted (past_in new))
+Settles old (Some (answer_is.Waiting at roots)) new = Rests old roots new × (roots ≢ 0) × (at ≡ counted (past_in new))
 Settles old (Some (answer_is.Halted why)) new = (count : ℕ) × (mid : Scene) × Tasks count old mid × Breaks mid why new
 Settles old (Some answer) new = ⊥
 Settles old None new = (count : ℕ) × (mid : Scene) × Tasks count old mid × LacksMemory mid new

@@ -4,9 +4,10 @@ use Rattle.std.specs.List.{flat_map}
 use Rattle.hm_data.specs.declared.sheet.Sheet.{Sheet}
 use Rattle.hm_data.specs.declared.entry.Entry.{Entry}
 use Rattle.hm_data.specs.declared.entry.Entry.TheVariants as entry_is
-use Rattle.hm_model.specs.Kinds.{all_kinds}
+use Rattle.hm_model.specs.Editions.{editions}
 use Rattle.hm_model.specs.Journal.{back}
-use Rattle.hm_model.specs.Sheets.{sheet_for, sheets_of as begun_with}
+use Rattle.hm_model.specs.Kinds.{all_kinds}
+use Rattle.hm_model.specs.Sheets.{sheet_for, sheets_of as in_force}
 use Rattle.hm_sheet.specs.Own.{is_kind}
 use Rattle.hm_sheet.specs.declared.handler.Handler as Handler
 use Rattle.hm_sheet.specs.Registry.{runs_of, sheets_of}
@@ -65,10 +66,11 @@ pub record HandsAgree (hands : List (List Sheet)) : Type 0 where
   pub seventeen : length hands ≡ 17
   pub alike : All (AreEqual (first_sheets hands)) hands
 
--- registries that agree, and that have the sheets with which the journal begins
+-- registries that agree, and that have the sheets in force in a journal that adopted none: those of its start, or of its base
 pub record Serve (hands : List (List Sheet)) (journal : List Entry) : Type 0 where
   pub agree : HandsAgree hands
-  pub begins : AgreeOn (first_sheets hands) (begun_with (back journal))
+  pub begins : AgreeOn (first_sheets hands) (in_force (back journal))
+  pub unadopted : editions (back journal) ≡ 0
 
 -- the sum of counts rose by at least so many, or one of them stands at its end
 abbrev pub SumRisesBy : ℕ → List ℕ → List ℕ → Type 0

@@ -6,7 +6,7 @@ use Rattle.hm_data.specs.declared.act.Act.TheVariants as act_is
 use Rattle.hm_data.specs.declared.sheet.Row.{Row}
 use Rattle.hm_model.specs.Journal.{Past}
 use Rattle.hm_model.specs.Kinds.{kind_of}
-use Rattle.hm_model.specs.Sheets.{row_in, sheet_for, sheets_of}
+use Rattle.hm_model.specs.Sheets.{row_in, sheet_for, sheets_by}
 use Rattle.hm_model.specs.Tree.{Node, node_of}
 
 -- the name of a row that does this
@@ -66,10 +66,10 @@ row_text_if (Some act) = row_text act
 abbrev pub act_of_row : Option Row → Option Act
 act_of_row row = option_map (λ it. it.act) row
 
--- what a row of a procedure's sheet does
+-- what a row of a procedure does, by its root's sheets
 abbrev pub act_by : Past → Option Node → ℕ → Option Act
 act_by J None row = None
-act_by J (Some node) row = act_of_row (row_in (sheet_for (sheets_of J) (kind_of node.args)) row)
+act_by J (Some node) row = act_of_row (row_in (sheet_for (sheets_by J node.root) (kind_of node.args)) row)
 
 -- the same of a procedure by its number
 abbrev pub act_at : Past → ℕ → ℕ → Option Act

@@ -15,7 +15,7 @@ use Rattle.hm_world.specs.Scene.{Scene}
 abbrev pub kept_at : Scene → Recording
 kept_at at = let exec = at.exec in exec.kept
 
--- the journal
+-- the journal, from its oldest entry on: the parts of a base first
 abbrev pub journal_at : Scene → List Entry
 journal_at at = let kept = kept_at at in kept.entries
 
@@ -31,8 +31,7 @@ claimed_at at = let exec = at.exec in exec.claimed
 abbrev pub whole : Scene → List Entry
 whole at = let kept = kept_at at in with_tail kept.entries kept.tail
 
--- what is recorded where a journal was just opened: nobody runs but the storage, as the journal's reports show it, and nothing is
--- under way
+-- what is recorded where a journal was just opened: nobody runs but the storage, as the journal shows it, and nothing is under way
 abbrev pub new_scene : Recording → Scene
 new_scene kept = record {
   exec = record { kept = kept; claimed = [] };

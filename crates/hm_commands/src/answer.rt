@@ -59,10 +59,10 @@ pub enum Refusal {
     Active,
 }
 
-/// The lines that the run writes for the opening and for each command.
+/// The lines that the run writes for the opening and for each command. Entries are counted with those that a base stands for.
 #[derive(Drop)]
 pub enum Answer {
-    /// The log is open; its journal has so many entries.
+    /// The log is open; so many entries were recorded.
     Opened(u64),
     /// The submission was recorded as this procedure.
     Pid(u64),
@@ -90,11 +90,11 @@ pub enum Answer {
     Dead(ServerName),
     /// Some of the next calls are refused.
     Armed,
-    /// So many tasks were done, with so many entries in the journal then.
+    /// So many tasks were done, with so many entries recorded then.
     Stepped(u64, u64),
-    /// All roots have ended, with so many entries in the journal.
+    /// All roots have ended, with so many entries recorded.
     Settled(u64),
-    /// Nothing can go on, with so many entries in the journal, and so many roots haven't ended.
+    /// Nothing can go on, with so many entries recorded, and so many roots haven't ended.
     Waiting(u64, u64),
     /// So many calls and reports were lost.
     Lost(u64),
@@ -106,15 +106,15 @@ pub enum Answer {
     Balanced(Vec<u8>),
     /// Nothing is recorded any more, for this reason, which came now or before.
     Halted(Halt),
-    /// An image took the place of the entries, with so many in the journal.
+    /// An image took the place of the entries, with so many recorded.
     Rolled(u64),
     /// New sheets were adopted; this is the lowest kind of those that differ from the ones before.
     Adopted(u8),
-    /// The master stopped and began again, with so many entries in the journal.
+    /// The master stopped and began again, with so many entries recorded.
     Reopened(u64),
     /// The second master has read so many entries.
     Followed(u64),
-    /// The second master has taken the first one's place in this epoch, with so many entries in the journal.
+    /// The second master has taken the first one's place in this epoch, with so many entries recorded.
     Epoch(u64, u64),
     /// The first master was deposed by this epoch.
     Deposed(u64),

@@ -1,11 +1,10 @@
 //! Answers a command.
 ghost use Rattle.std.specs.Prelude.{◌≡◌, All, IfErr, IfOk, None, Some, map};
 ghost use Rattle.std.specs.Result.{result_ok};
-ghost use Rattle.hm_data.specs.declared.entry.Entry.{Entry as EntryValue};
 ghost use Rattle.hm_model.specs.Journal.{back};
 ghost use Rattle.hm_sheet.specs.Registry.{IsRegistry, sheets_of};
 ghost use Rattle.hm_world.specs.Scene.{GoesOn, Scene as SceneValue};
-ghost use Rattle.hm_commands.specs.Commands.{Aborts, Answers, Comes, ComesAt, ComesOther, IsUnanswered, asked};
+ghost use Rattle.hm_commands.specs.Commands.{Aborts, Answers, Comes, ComesOther, IsUnanswered, asked};
 ghost use Rattle.hm_commands.specs.Submissions.{Submits};
 ghost use Rattle.hm_commands.specs.Hands.{Ran, Serve, hands_use};
 ghost use Rattle.hm_commands.specs.Offered.{IsOffered};

@@ -1,7 +1,8 @@
 //! A journal on a disk, with what is outside its master.
-ghost use Rattle.std.specs.Prelude.{◌≡◌, ◌≢◌, [], IfErr, IfOk, None, length};
+ghost use Rattle.std.specs.Prelude.{◌≡◌, [], IfErr, IfOk, None};
+ghost use Rattle.hm_model.specs.Base.{IsBegun};
+ghost use Rattle.hm_model.specs.Image.{counted as counted_in};
 ghost use Rattle.hm_model.specs.Journal.{back};
-ghost use Rattle.hm_model.specs.Plain.{ArePlain};
 ghost use Rattle.hm_model.specs.Rules.{IsLegal};
 ghost use Rattle.hm_world_model.specs.Safe.{IsKept};
 ghost use Rattle.hm_world_model.specs.Twice.{Twice};
@@ -38,9 +39,9 @@ impl<D: Disk> Model for Cluster<D> {
 
 impl<D: Disk> Cluster<D> {
     /// The cluster of a journal that was opened: nobody runs but the storage, with the fences and layouts that the journal's
-    /// reports show. Where memory runs out for it, the disk is given back.
+    /// base and its reports show. Where memory runs out for it, the disk is given back.
     pub fn new(alloc: Global, state: State, journal: Journal<D>) -> Result<Cluster<D>, D>
-        requires same { journal.kept.entries ≡ state.entries }
+        requires same { back journal.kept.entries ≡ state.past }
         requires going { journal.kept.halted ≡ None }
         requires tailless { journal.kept.tail ≡ None }
         ensures disk { IfOk result (λ cluster. cluster.recorder.disk ≡ journal.disk) }
@@ -48,34 +49,33 @@ impl<D: Disk> Cluster<D> {
         ensures at { IfOk result (λ cluster. scene_in cluster ≡ new_scene journal.kept) }
         ensures left { IfErr result (IsLeftBy D.Disk journal.opened (new_scene journal.kept)) }
     {
-        let _legal = state.entries();
+        state.journal();
         match World::new(alloc, state, journal) {
             Ok(world) => Ok(Cluster { world }),
             Err((journal, _)) => Err(journal.into_disk()),
         }
     }
 
-    /// What holds of each cluster: its journal is legal, plain and has begun, and no region is held by two servers that run and aren't
+    /// What holds of each cluster: its journal is legal and has begun, and no region is held by two servers that run and aren't
     /// fenced, nor are two whose ranges overlap. A law that does nothing.
     pub fn keeps(&self)
         ensures kept { IsKept (world_of (scene_in self.now)) }
         ensures once { Twice (past_in (scene_in self.now)) (scene_in self.now).outside → ⊥ }
         ensures legal { IsLegal (back (whole (scene_in self.now))) }
-        ensures plain { ArePlain (back (whole (scene_in self.now))) }
-        ensures begun { back (journal_at (scene_in self.now)) ≢ [] }
+        ensures begun { IsBegun (back (journal_at (scene_in self.now))) }
+        ensures whole { IsBegun (back (whole (scene_in self.now))) }
         ensures idle { claimed_at (scene_in self.now) ≡ [] }
     {
         never_twice();
         self.world.keeps();
-        self.world.state().procedures();
-        let _legal = self.world.state().entries();
+        self.world.state().journal();
     }
 
-    /// The length of the journal.
-    pub fn entries(&self) -> u64
-        ensures length { result ≡ length (journal_at (scene_in self.now)) }
+    /// How many entries were recorded: those that the base stands for, and each entry behind it.
+    pub fn counted(&self) -> u64
+        ensures count { result ≡ counted_in (back (journal_at (scene_in self.now))) }
     {
-        self.world.state().entries()
+        self.world.state().counted()
     }
 
     /// What halted it.

@@ -1,5 +1,4 @@
 //! Commands that show a table.
-ghost use Rattle.std.specs.Prelude.{◌≡◌};
 ghost use Rattle.std.specs.Result.{result_ok};
 ghost use Rattle.hm_show.specs.Locks.{locks_table};
 ghost use Rattle.hm_show.specs.Procs.{procs_json as json_of, procs_table};

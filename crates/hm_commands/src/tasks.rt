@@ -146,7 +146,7 @@ fn work<D: Disk>(
     ensures ran { Ran (hands_use ⟦<dyn Handler as Handler>⟧ hands.old.items hands.new.items) (journal_at (scene_in world.old)) (journal_at (scene_in world.new)) }
     ensures each { All (IsRegistry ⟦<dyn Handler as Handler>⟧) hands.new.items }
 {
-    world.state().entries();
+    world.state().journal();
     match run_once(alloc, hands, &taken.was) {
         Ok(out) => record(world, alloc, taken, out),
         Err(fault) => {
@@ -217,11 +217,11 @@ impl<D: Disk> Cluster<D> {
             match self.task(alloc, hands) {
                 Ok(Worked::Done) => done += 1,
                 Ok(Worked::Halted(why)) => return Ok(Answer::Halted(why)),
-                Ok(Worked::Idle) => return Ok(Answer::Stepped(done, self.entries())),
+                Ok(Worked::Idle) => return Ok(Answer::Stepped(done, self.counted())),
                 Err(fault) => return Err(fault),
             }
         }
-        Ok(Answer::Stepped(done, self.entries()))
+        Ok(Answer::Stepped(done, self.counted()))
     }
 
     // What settling answers where nothing is left to do.
@@ -229,7 +229,7 @@ impl<D: Disk> Cluster<D> {
         requires done { IsDone (scene_in self.now) }
         ensures { (old : SceneValue) (count : ℕ) → Tasks count old (scene_in self.now) → Settles old (Some result) (scene_in self.now) }
     {
-        let at = self.entries();
+        let at = self.counted();
         match self.world.state().unfinished() {
             0 => Answer::Settled(at),
             roots => Answer::Waiting(at, roots),

@@ -1,7 +1,6 @@
 //! How what a call of the world answers is told. Want of memory has no line.
 ghost use Rattle.std.specs.Prelude.{◌≡◌, Some};
 ghost use Rattle.std.specs.Result.{result_ok};
-ghost use Rattle.hm_model.specs.Journal.{back};
 ghost use Rattle.hm_model.specs.Sheets.{row_in, sheet_for as sheet_of};
 ghost use Rattle.hm_commands.specs.RowNames.{act_at, act_of_row};
 ghost use Rattle.hm_commands.specs.Telling.{halt_of_fault, told_abort, told_accepted, told_arming, told_death, told_down, told_fault, told_full, told_repeat, told_submit, told_up};
@@ -98,12 +97,13 @@ fn act_of_kind(sheets: &[Valid], kind: u8, row: u8) -> Option<Act>
     }
 }
 
-// What a row of a procedure's sheet does.
+// What a row of a procedure does, by the sheets of its edition.
 fn act_of(state: &State, pid: Pid, row: u8) -> Option<Act>
-    ensures { result ≡ act_at (back state.now.entries) pid.0 row }
+    ensures { result ≡ act_at state.now.past pid.0 row }
 {
+    state.journal();
     match state.find(pid) {
-        Some(record) => act_of_kind(state.sheets(), record.kind, row),
+        Some(record) => act_of_kind(state.sheets_of(record.edition), record.kind, row),
         None => None,
     }
 }
@@ -114,7 +114,7 @@ pub(crate) fn tell_abort(
     pid: Pid,
     outcome: Result<bool, AbortRefused>,
 ) -> Result<Answer, AllocError>
-    ensures { told_abort (back state.now.entries) pid outcome ≡ result_ok result }
+    ensures { told_abort state.now.past pid outcome ≡ result_ok result }
 {
     match outcome {
         Ok(true) => Ok(Answer::AbortingAlready(pid.0)),

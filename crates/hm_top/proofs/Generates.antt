@@ -10,9 +10,11 @@ use Rattle.hm_script.specs.declared.command.Command.{Command}
 use Rattle.hm_world.specs.Scene.{Scene}
 use Rattle.hm_commands.specs.Hands.{HandsUse}
 use Rattle.hm_commands.specs.Scenes.{halt_at}
+use Rattle.hm_commands.specs.declared.answer.Answer.{Answer}
 use Rattle.hm_top.specs.declared.status.EarlyEnd.TheVariants as early_is
 use Rattle.hm_top.specs.declared.status.RunStatus.{RunStatus}
 use Rattle.hm_top.specs.declared.status.RunStatus.TheVariants.{Done, LogRefused, WriteFault, Memory}
+use Rattle.hm_top.specs.declared.status.LogWhy.{LogWhy}
 use Rattle.hm_top.specs.declared.status.LogWhy.TheVariants as log_why_is
 use Rattle.hm_top.specs.declared.talking.Stop.{Stop}
 use Rattle.hm_top.specs.declared.talking.Stop.TheVariants as stop_is
@@ -24,6 +26,12 @@ use Rattle.hm_top.specs.Run.{before_line}
 use Rattle.hm_top.specs.Session.{Outcome, Session, WasOpened}
 use Rattle.hm_top.proofs.Lines.{none_said}
 use Rattle.hm_top.proofs.Outcomes.{opened_map, outcome_map, spoken}
+use Rattle.hm_top.proofs.Refusals.{halt_tells}
+
+-- the line of a script that was answered is no refusal of the log
+pub line_tells : (out : SinkUse) (said : RunStatus → List Answer → Type 0) (seed count : ℕ) (halted : Option Halt) (at : Scene) (why : LogWhy) → TellsAs out said seed count halted at (LogRefused why) → ⊥
+line_tells out said seed count None at why tells = tells
+line_tells out said seed count (Some halt) at why tells = halt_tells (Some halt) why (sym tells.0)
 
 module _ (limits : Limits) (disk : DiskUse) (hands : HandsUse) (marks : List ℕ) (seed count : ℕ) where
   abbrev made : Session

@@ -1,10 +1,12 @@
 -- How making a cluster over a log that was opened ends.
-use Rattle.std.proofs.Common.{◌≡◌, ◌<◌, ◌≤◌, ℕ, List, [], length, Ok, refl, sym, ap, ◌∙◌, subst, arith}
+use Rattle.std.proofs.Common.{◌≡◌, ◌<◌, ℕ, List, [], Ok, refl, sym, ap, ◌∙◌, subst, arith}
 use Rattle.hm_disk.specs.declared.disk.Disk as Disk
 use Rattle.hm_data.specs.declared.entry.Entry.{Entry}
 use Rattle.hm_data.specs.declared.sheet.Sheet.{Sheet}
 use Rattle.hm_gen.specs.Generated.{generated}
-use Rattle.hm_hall.specs.Recording.{Recording}
+use Rattle.hm_model.specs.Image.{counted}
+use Rattle.hm_model.specs.Journal.{back}
+use Rattle.hm_hall.specs.Recording.{Recording, entries_of, past_in}
 use Rattle.hm_journal.specs.Stored.{IsOnDisk, opened}
 use Rattle.hm_journal.specs.declared.limits.Limits.{Limits}
 use Rattle.hm_journal.specs.declared.why.JournalWhy.{JournalWhy}
@@ -30,7 +32,7 @@ use Rattle.hm_top.specs.Standing.{fresh}
 use Rattle.hm_top.specs.Talking.{IsCalledToOpen, IsOpened, StopsBy}
 use Rattle.hm_top.specs.View.{StoreView}
 use Rattle.hm_top.proofs.Generates.{gen_refused, gen_stopped, gen_unopened, made_opened, made_outcome, told_of}
-use Rattle.hm_top.proofs.Runs.{equally_long, left_opened, opened_fresh, opened_same, talked_all, talked_on, talked_stopped, talked_unopened}
+use Rattle.hm_top.proofs.Runs.{left_opened, one_journal, opened_fresh, opened_same, talked_all, talked_on, talked_stopped, talked_unopened}
 
 module _ {D Setting : Type 0} (d : Disk.Ghosts D Setting) (limits : Limits) (disk new : D) (hands : HandsUse) (marks : List ℕ) (seed count : ℕ) (out : SinkUse) (commands : List Command)
     (script : commands ≡ generated seed count) where
@@ -51,20 +53,20 @@ module _ {D Setting : Type 0} (d : Disk.Ghosts D Setting) (limits : Limits) (dis
   -- It was opened.
   module _ (was : StoreView D) (opens : IsOpened d (sheets_used hands) limits disk was) (called : IsCalledToOpen d disk was.opened.disk) where
     -- its journal isn't fresh
-    pub made_refused : (out.tells → out.after ≡ out.before) → IsLeftBy d was.opened (new_scene was.kept) new → RunBy hands 0 → (entries : ℕ) → entries ≡ length was.kept.entries → 1 < entries → marks ≡ []
+    pub made_refused : (out.tells → out.after ≡ out.before) → IsLeftBy d was.opened (new_scene was.kept) new → RunBy hands 0 → (entries : ℕ) → entries ≡ counted (past_in was.kept) → 1 < entries → marks ≡ []
         → ends (LogRefused (log_why_is.NotEmpty entries))
     made_refused quiet leaves run entries is more none =
         let old = opens.0 in
-        let kept : entries ≡ length (opened (sheets_used hands) old) = is ∙ ap (λ (k : Recording). length k.entries) opens.2 in
+        let kept : entries ≡ counted (back (opened (sheets_used hands) old)) = is ∙ ap (λ (k : Recording). counted (past_in k)) opens.2 in
         let same = opened_same (sheets_used hands) old (subst (λ n. 1 < n) kept more) in
         let left = left_opened d IsFresh commands limits nowhere disk new hands marks was (new_scene was.kept) opens called leaves (ran_idle hands was.kept.entries was.kept.entries refl run) in
         gen_refused limits used hands marks seed count out quiet entries
-        (old, subst (λ (k : Recording). IsLeft used hands old (new_scene k)) opens.2 left, kept ∙ ap length same, more, none)
+        (old, subst (λ (k : Recording). IsLeft used hands old (new_scene k)) opens.2 left, kept ∙ ap (λ (l : List Entry). counted (back l)) same, more, none)
 
     -- It is, and commands were answered, or not to the end.
-    module _ (few : length was.kept.entries ≤ 1) (at : Scene) (leaves : IsLeftBy d was.opened at new) (ran : Ran hands was.kept.entries (journal_at at)) where
+    module _ (few : IsFresh was.kept.entries) (at : Scene) (leaves : IsLeftBy d was.opened at new) (ran : Ran hands was.kept.entries (journal_at at)) where
       taken : IsFresh opens.0
-      taken = opened_fresh (sheets_used hands) opens.0 (subst (λ n. n ≤ 1) (ap (λ (k : Recording). length k.entries) opens.2) few)
+      taken = opened_fresh (sheets_used hands) opens.0 (subst IsFresh (ap entries_of opens.2) few)
 
       pub made_told : IsAnswering ⊥ [] [] (Ok tt) commands (new_scene was.kept) marks at → (status : RunStatus) → TellsOf out (before_line out) seed count at status → ends status
       made_told answering status tells =
@@ -83,9 +85,8 @@ module _ {D Setting : Type 0} (d : Disk.Ghosts D Setting) (limits : Limits) (dis
 
 -- a journal that the disk holds and that is fresh isn't refused for its length
 pub not_refused : (sheets : List Sheet) (bytes : List ℕ) (old journal : List Entry) (kept : Recording) {limits : Limits} → kept ≡ fresh limits (opened sheets old) → IsOnDisk sheets bytes old → IsOnDisk sheets bytes journal
-    → (entries : ℕ) → entries ≡ length kept.entries → 1 < entries → length journal ≤ 1 → ⊥
+    → (entries : ℕ) → entries ≡ counted (past_in kept) → 1 < entries → IsFresh journal → ⊥
 not_refused sheets bytes old journal kept is on also entries all more few =
-    let held : entries ≡ length (opened sheets old) = all ∙ ap (λ (k : Recording). length k.entries) is in
-    let same = ap length (opened_same sheets old (subst (λ n. 1 < n) held more)) in
-    let equal = equally_long sheets bytes old journal on also in
-    omega (arith, held, same, equal)
+    let held : entries ≡ counted (back (opened sheets old)) = all ∙ ap (λ (k : Recording). counted (past_in k)) is in
+    let same = ap (λ (l : List Entry). counted (back l)) (opened_same sheets old (subst (λ n. 1 < n) held more) ∙ sym (one_journal sheets bytes old journal on also)) in
+    omega (arith, held, same, few)

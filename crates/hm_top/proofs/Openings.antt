@@ -1,5 +1,5 @@
 -- How a run begins: servers that are live are held to be dead, one after another.
-use Rattle.std.proofs.Common.{◌≡◌, ◌≢◌, ◌⊎◌, ◌<◌, ◌+◌, ℕ, zero, suc, List, [], ◌∷◌, ◌++◌, length, take, Option, Some, None, Result, Ok, Err, Bool, true, false, slice_get, if◌then◌else◌, refl, sym, ap, ◌∙◌, subst, inl, inr, append-nil, append_assoc, arith, All}
+use Rattle.std.proofs.Common.{◌≡◌, ◌≢◌, ◌⊎◌, ◌<◌, ℕ, zero, suc, List, [], ◌∷◌, ◌++◌, length, take, Option, Some, None, Result, Ok, Err, Bool, true, false, slice_get, if◌then◌else◌, refl, sym, ap, ◌∙◌, subst, inl, inr, append-nil, append_assoc, arith, All}
 use Rattle.std.specs.Prelude.{IfErr, IfOk, MatchOption}
 use Rattle.std.proofs.lemmas.Grind.{flat_map-append}
 use Rattle.std.proofs.lemmas.Option.{none-some}
@@ -11,7 +11,9 @@ use Rattle.hm_hall.specs.Recording.{Recording}
 use Rattle.hm_hall.specs.declared.fault.Halt.{Halt}
 use Rattle.hm_hall.specs.declared.fault.Halt.TheVariants as halt_is
 use Rattle.hm_hall.specs.declared.fault.HallFault.TheVariants as fault_is
+use Rattle.hm_model.specs.Editions.{editions}
 use Rattle.hm_model.specs.Fleet.{came_up, is_live, servers_of}
+use Rattle.hm_model.specs.Image.{counted}
 use Rattle.hm_model.specs.Journal.{back}
 use Rattle.hm_model.specs.Sheets.{sheets_of}
 use Rattle.hm_model.proofs.CameUp.{live_came}
@@ -86,6 +88,7 @@ pub record Keeps (old new : Scene) : Type 0 where
   pub going : GoesOn new
   pub servers : servers_of (past_in new) ≡ servers_of (past_in old)
   pub sheets : sheets_of (back (journal_at new)) ≡ sheets_of (back (journal_at old))
+  pub edition : editions (back (journal_at new)) ≡ editions (back (journal_at old))
   pub steps : AddsNoStep old new
 
 pub keeps_same : (old new : Scene) → new ≡ old → GoesOn old → Keeps old new
@@ -93,6 +96,7 @@ keeps_same old new same going = record {
   going = subst GoesOn (sym same) going;
   servers = ap (λ (s : Scene). servers_of (past_in s)) same;
   sheets = ap (λ (s : Scene). sheets_of (back (journal_at s))) same;
+  edition = ap (λ (s : Scene). editions (back (journal_at s))) same;
   steps = ([], ap journal_at same ∙ sym (append-nil (journal_at old)), refl);
 }
 
@@ -104,6 +108,7 @@ keeps_on old mid new first second =
       going = second.going;
       servers = second.servers ∙ first.servers;
       sheets = second.sheets ∙ first.sheets;
+      edition = second.edition ∙ first.edition;
       steps = (
         one.0 ++ two.0,
         two.1 ∙ ap (λ l. l ++ two.0) one.1 ∙ append_assoc (journal_at old) one.0 two.0,
@@ -121,6 +126,7 @@ down_keeps server old new lines down =
       going = ap (λ (k : Recording). k.halted) recorded.3 ∙ added.0;
       servers = ap servers_of past;
       sheets = ap sheets_of past;
+      edition = ap editions past;
       steps = (entry_is.Down server ∷ [], entries, refl);
     }
 
@@ -158,15 +164,15 @@ short_more before mid after lines line first part = record { before = lines; las
 
 module _ {tells : Type 0} {got0 got1 : List ℕ} (old : Scene) where
   -- the first line was said
-  pub opened_said : (tells → got1 ≡ got0 ++ answer_text (answer_is.Opened (length (journal_at old)))) → IsPassing tells got0 got1 old [] old
+  pub opened_said : (tells → got1 ≡ got0 ++ answer_text (answer_is.Opened (counted (past_in old)))) → IsPassing tells got0 got1 old [] old
   opened_said said = record {
     lines = [];
     downs = (refl, refl);
-    said = λ told. said told ∙ ap (λ l. got0 ++ l) (sym (append-nil (answer_text (answer_is.Opened (length (journal_at old))))));
+    said = λ told. said told ∙ ap (λ l. got0 ++ l) (sym (append-nil (answer_text (answer_is.Opened (counted (past_in old))))));
   }
 
   -- it wasn't said whole
-  pub not_opened : (commands : List Command) → (tells → IsPartOf got0 got1 (answer_text (answer_is.Opened (length (journal_at old))))) → IsAnswering tells got0 got1 (Err early_is.WriteFault) commands old [] old
+  pub not_opened : (commands : List Command) → (tells → IsPartOf got0 got1 (answer_text (answer_is.Opened (counted (past_in old))))) → IsAnswering tells got0 got1 (Err early_is.WriteFault) commands old [] old
   not_opened commands part = record {
     left = servers_of (past_in old);
     lines = [];
@@ -177,7 +183,7 @@ module _ {tells : Type 0} {got0 got1 : List ℕ} (old : Scene) where
     mid = old;
     turns = record { answered = []; parts = refl; transcript = (refl, refl, refl) };
     remains = (inr refl, refl);
-    said_are = λ told. short_more got0 got0 got1 [] (answer_is.Opened (length (journal_at old))) (sym (append-nil got0)) (part told);
+    said_are = λ told. short_more got0 got0 got1 [] (answer_is.Opened (counted (past_in old))) (sym (append-nil got0)) (part told);
   }
 
 -- The first servers were passed by.
@@ -376,6 +382,10 @@ answering_ends early_is.Memory rest mid new e = tt
 pub ok_so : {T E : Type 0} {P Q : T → Type 0} (r : Result T E) → ((t : T) → P t → Q t) → IfOk r P → IfOk r Q
 ok_so (Ok t) f p = f t p
 ok_so (Err e) f p = tt
+
+pub ok_both : {T E : Type 0} {P Q R : T → Type 0} (r : Result T E) → ((t : T) → P t → Q t → R t) → IfOk r P → IfOk r Q → IfOk r R
+ok_both (Ok t) f p q = f t p q
+ok_both (Err e) f p q = tt
 
 pub err_so : {T E : Type 0} {P Q : E → Type 0} (r : Result T E) → ((e : E) → P e → Q e) → IfErr r P → IfErr r Q
 err_so (Ok t) f p = tt

@@ -1,5 +1,5 @@
 -- How a run ends.
-use Rattle.std.proofs.Common.{◌≡◌, ◌≢◌, ◌+◌, ◌-◌, ◌*◌, ℕ, List, [], ◌++◌, length, take, Option, Some, None, Result, Ok, Err, refl, sym, ap, ◌∙◌, subst, inl, inr, append-nil, append_assoc, arith, ◌∷◌}
+use Rattle.std.proofs.Common.{◌≡◌, ◌≢◌, ◌+◌, ◌-◌, ◌*◌, ℕ, List, [], ◌++◌, length, Option, Some, None, Result, Ok, Err, refl, sym, ap, ◌∙◌, subst, inl, inr, append-nil, append_assoc, arith, ◌∷◌}
 use Rattle.hm_data.specs.declared.entry.Entry.{Entry}
 use Rattle.hm_data.specs.declared.entry.Entry.TheVariants as entry_is
 use Rattle.hm_data.specs.declared.sheet.Sheet.{Sheet}
@@ -10,11 +10,13 @@ use Rattle.hm_journal.specs.Stored.{AllStored, IsOnDisk, opened}
 use Rattle.hm_journal.specs.declared.limits.Limits.{Limits}
 use Rattle.hm_journal.specs.declared.why.JournalWhy.{JournalWhy}
 use Rattle.hm_journal.specs.declared.why.JournalWhy.TheVariants as why_is
+use Rattle.hm_model.specs.Base.{HasNoHalfBase, IsBegun}
 use Rattle.hm_model.specs.Journal.{Past, back}
-use Rattle.hm_model.specs.Plain.{ArePlain}
+use Rattle.hm_model.specs.Rebase.{up_to}
 use Rattle.hm_model.specs.Rules.{IsLegal}
 use Rattle.hm_model.proofs.Nonces.{nonces_once}
-use Rattle.hm_model.proofs.Prefixes.{legal_before, legal_cut}
+use Rattle.hm_model.proofs.Parted.{no_half}
+use Rattle.hm_model.proofs.Prefixes.{legal_before}
 use Rattle.hm_serial.proofs.Failing.{failure_leaves_all}
 use Rattle.hm_serial.proofs.Serial.{catalog_is, deeds_apply_is}
 use Rattle.hm_model.proofs.Taken.{legal_apart}
@@ -49,7 +51,7 @@ use Rattle.hm_top.specs.Status.{last_line}
 use Rattle.hm_top.specs.Answering.{IsAnswering, Remains}
 use Rattle.hm_top.specs.Opening.{IsEndOf, opening_lines}
 use Rattle.hm_top.specs.Transcript.{text_of}
-use Rattle.hm_top.proofs.Entire.{no_half, plain_cut}
+use Rattle.hm_top.proofs.Entire.{legal_up_to, whole_up_to}
 
 -- no line
 last_none : (rose : Type 0) (old new : List ℕ) → IsLast rose old new [] → new ≡ old
@@ -69,16 +71,17 @@ got_finished rose rose' old mid new WriteFault answers later e last = subst (λ 
 got_finished rose rose' old mid new Memory answers later e last = last_none rose mid new last ∙ e
 got_finished rose rose' old mid new status answers later e last = last_more rose rose' old mid new (text_of answers) (last_line status) later e last
 
--- what holds of a legal, plain journal
-faith_of : (J : Past) → IsLegal J → ArePlain J → KeepsFaith J
-faith_of J legal plain = record {
+-- what holds of a legal journal in which no base stands unfinished
+faith_of : (J : Past) → IsLegal J → HasNoHalfBase J → KeepsFaith J
+faith_of J legal whole = record {
   legal = legal;
+  begun = whole;
   catalog = record {
     serial_is = catalog_is J legal;
     deeds = λ newer older pid pick out is. deeds_apply_is pid pick out older (legal_before newer (entry_is.Step pid pick out ∷ older) (subst IsLegal is legal));
     failures = λ newer older entry is. failure_leaves_all entry older (legal_before newer (entry ∷ older) (subst IsLegal is legal));
   };
-  ranges = record { apart = never_overlap J legal; covered = live_cover J legal (no_half J plain); bare = missing_bare J legal (no_half J plain) };
+  ranges = record { apart = never_overlap J legal; covered = live_cover J legal whole; bare = missing_bare J legal whole };
   nonces = nonces_once J legal;
   locks = legal_apart J legal;
   single = single_over J legal;
@@ -206,16 +209,16 @@ module _ (takes : List Entry → Type 0) (commands : List Command) (limits : Lim
   spoken = record { takes = takes; given = λ read. read ≡ commands; said = before_line out; limits = limits; out = out; disk = disk; hands = hands; marks = marks }
 
   -- what was left of a journal that was opened
-  pub left_of : (old : List Entry) (new : Scene) → (disk.tells → IsOnDisk (sheets_used hands) disk.before old) → IsLegal (back (whole new)) → ArePlain (back (whole new)) → (disk.tells → AllStored disk.stops.after (kept_at new))
+  pub left_of : (old : List Entry) (new : Scene) → (disk.tells → IsOnDisk (sheets_used hands) disk.before old) → IsLegal (back (whole new)) → IsBegun (back (whole new)) → (disk.tells → AllStored disk.stops.after (kept_at new))
       → (disk.tells → StopsLeave disk hands old new) → CountsTo disk (1 + 2 * (length (whole new) - length old)) → (disk.tells → IsClean disk.before → disk.called (2 * (length (whole new) - length old)))
       → (halt_at new ≡ Some halt_is.LogFault → disk.failed) → Ran hands (opened (sheets_used hands) old) (journal_at new) → IsLeft disk hands old new
-  left_of old new held legal plain holds stops called clean cause ran =
+  left_of old new held legal is_begun holds stops called clean cause ran =
       let first = opened_grows (sheets_used hands) old in
       let steps : steps_in ran.0 ≡ steps_in (first.0 ++ ran.0) = let all = steps_more first.0 ran.0 in let none = first.2 in omega arith in
       record {
         added = first.0 ++ ran.0;
         longer = ran.1 ∙ ap (λ l. l ++ ran.0) first.1 ∙ append_assoc old first.0 ran.0;
-        faith = λ mark. faith_of (back (take mark (whole new))) (legal_cut mark (whole new) legal) (plain_cut mark (whole new) plain);
+        faith = λ mark. faith_of (up_to (back (whole new)) mark) (legal_up_to (back (whole new)) mark legal) (whole_up_to (back (whole new)) mark legal (no_half (back (whole new)) is_begun));
         held = held;
         holds = holds;
         stops = stops;

@@ -1,6 +1,5 @@
 -- How a run ends, from the ends of its commands.
 use Rattle.std.proofs.Common.{◌≡◌, ◌≢◌, ◌<◌, ◌≤◌, ◌+◌, ◌-◌, ◌*◌, ℕ, List, [], ◌++◌, ◌∷◌, length, append-nil, append_assoc, Option, Some, None, Result, Ok, Err, IfErr, IfOk, MatchResult, refl, sym, ap, ◌∙◌, subst, arith}
-use Rattle.std.proofs.lemmas.List.{length-map}
 use Rattle.hm_ports.specs.Faults.{Rose}
 use Rattle.hm_ports.specs.declared.sink.Sink as Sink
 use Rattle.hm_disk.specs.Called.{IsCalled}
@@ -10,6 +9,9 @@ use Rattle.hm_disk.proofs.Moments.{then_weaker, then_stays}
 use Rattle.hm_log.specs.Format.{IsClean, Reads}
 use Rattle.hm_log.specs.Opening.{IsInPlace, IsUsed}
 use Rattle.hm_log.proofs.Exact.{opens_once}
+use Rattle.hm_journal.proofs.Refusing.{same_entries}
+use Rattle.hm_model.specs.Image.{counted}
+use Rattle.hm_model.specs.Journal.{back}
 use Rattle.hm_data.specs.declared.entry.Entry.{Entry}
 use Rattle.hm_data.specs.declared.sheet.Sheet.{Sheet}
 use Rattle.hm_entry.specs.Spelling.{entry as spelling}
@@ -41,7 +43,7 @@ use Rattle.hm_top.specs.Ports.{SinkUse, disk_use, sink_use}
 use Rattle.hm_top.specs.Run.{Accepts, Ends, EndsRun, EndsUnfinished, IsRead, KeepsTo, Run, before_line, behind_line}
 use Rattle.hm_top.specs.Script.{IsScript}
 use Rattle.hm_top.specs.Session.{Outcome, WasOpened}
-use Rattle.hm_top.specs.Standing.{begun, fresh}
+use Rattle.hm_top.specs.Standing.{begun}
 use Rattle.hm_top.specs.Status.{last_line}
 use Rattle.hm_top.specs.Answering.{IsAnswering}
 use Rattle.hm_top.specs.View.{StoreView}
@@ -110,7 +112,7 @@ module _ {D Setting : Type 0} (d : Disk.Ghosts D Setting) (takes : List Entry �
       rose_late (d.faults disk) (d.faults was.opened.disk) (d.faults new) first_called.used.fault (leaves.since.failed halted_is) in
       let more = 2 * (length (whole at) - length old) in
       let called : IsCalled d more was.opened.disk new = subst (λ n. IsCalled d (2 * (length (whole at) - n)) was.opened.disk new) opens.3 leaves.since.called in
-      left_of takes commands limits out (disk_use d disk new) hands marks old at (λ told. (opens.4 told).0) leaves.legal leaves.plain leaves.stored (stops_leave d own limits disk was at new opens grown leaves.since.leaves)
+      left_of takes commands limits out (disk_use d disk new) hands marks old at (λ told. (opens.4 told).0) leaves.legal leaves.begun leaves.stored (stops_leave d own limits disk was at new opens grown leaves.since.leaves)
       (used_then d more disk was.opened.disk new first_called.used called, λ told place. called_on d 1 more (1 + more) disk was.opened.disk new (omega arith) (first_called.once told place) called)
       (λ told clean. called_on d 0 more more disk was.opened.disk new (omega arith) (first_called.clean told clean) called) rose (subst (λ journal. Ran hands journal (journal_at at)) begins ran)
 
@@ -172,21 +174,20 @@ failed_to_open d disk hands sheets listed (Err (new, cause)) why accepts fault s
       unjudged = λ told journal on. accepts told journal (subst (λ l. IsOnDisk l (d.seen disk) journal) listed on);
     }
 
--- a journal that has more entries than its first was so before it was opened
-pub opened_same : (sheets : List Sheet) (old : List Entry) → 1 < length (opened sheets old) → opened sheets old ≡ old
+-- a journal that isn't fresh was so before it was opened
+pub opened_same : (sheets : List Sheet) (old : List Entry) → 1 < counted (back (opened sheets old)) → opened sheets old ≡ old
 opened_same sheets [] more = absurd (omega (arith, more))
 opened_same sheets (entry ∷ journal) more = refl
 
--- and one that is fresh was fresh before
-pub opened_fresh : (sheets : List Sheet) (old : List Entry) → length (opened sheets old) ≤ 1 → length old ≤ 1
+-- one that is fresh was fresh before
+pub opened_fresh : (sheets : List Sheet) (old : List Entry) → counted (back (opened sheets old)) ≤ 1 → counted (back old) ≤ 1
 opened_fresh sheets [] few = omega arith
 opened_fresh sheets (entry ∷ journal) few = few
 
--- two journals on one disk are equally long
-pub equally_long : (sheets : List Sheet) (bytes : List ℕ) (journal other : List Entry) → IsOnDisk sheets bytes journal → IsOnDisk sheets bytes other → length other ≡ length journal
-equally_long sheets bytes journal other on also =
-    let same = opens_once bytes (frames_of journal) (frames_of other) on.opens also.opens in
-    sym (length-map other spelling) ∙ ap length same ∙ length-map journal spelling
+-- two journals on one disk are one
+pub one_journal : (sheets : List Sheet) (bytes : List ℕ) (journal other : List Entry) → IsOnDisk sheets bytes journal → IsOnDisk sheets bytes other → other ≡ journal
+one_journal sheets bytes journal other on also =
+    sym (same_entries journal other on.is.fits also.is.fits (sym (opens_once bytes (frames_of journal) (frames_of other) on.opens also.opens)))
 
 -- the end of a run whose script was read
 pub script_read : (run : Run) (commands : List Command) (status : RunStatus) → (run.script.tells → IsScript run.script.before commands) → (run.script.tells → run.script.after ≡ [])

@@ -1,12 +1,12 @@
 -- How answering goes on.
 use Rattle.std.proofs.Common.{◌≡◌, ℕ, List, [], ◌∷◌, ◌++◌, length, Some, Ok, Err, refl, sym, ap, ◌∙◌, append_assoc, append-nil, subst, arith}
 use Rattle.std.proofs.lemmas.Grind.{flat_map-append}
+use Rattle.hm_model.specs.Image.{counted}
 use Rattle.hm_script.specs.declared.command.Command.{Command}
 use Rattle.hm_world.specs.Scene.{Scene, past_in}
 use Rattle.hm_world_model.specs.Twice.{Twice}
 use Rattle.hm_commands.specs.Answer.{answer_text}
 use Rattle.hm_commands.specs.Commands.{Answers, IsUnanswered}
-use Rattle.hm_commands.specs.Scenes.{journal_at}
 use Rattle.hm_commands.specs.declared.answer.Answer.{Answer}
 use Rattle.hm_commands.proofs.Growth.{comes_grows}
 use Rattle.hm_top.specs.declared.status.EarlyEnd.TheVariants as early_is
@@ -17,7 +17,7 @@ use Rattle.hm_top.specs.Transcript.{Transcript, text_of}
 -- one more command at the end
 pub transcript_more : (commands : List Command) (command : Command) (answer : Answer) (old mid new : Scene) (marks : List ℕ) (answers : List Answer)
     → Transcript commands old marks answers mid → Answers command mid answer new → (Twice (past_in new) new.outside → ⊥)
-    → Transcript (commands ++ command ∷ []) old (marks ++ length (journal_at new) ∷ []) (answers ++ answer ∷ []) new
+    → Transcript (commands ++ command ∷ []) old (marks ++ counted (past_in new) ∷ []) (answers ++ answer ∷ []) new
 transcript_more [] command answer old mid new marks answers t fits once =
     let now = subst (λ (s : Scene). Answers command s answer new) t.2 fits in
     let grows = comes_grows old new command (Some answer) now in (
@@ -31,7 +31,7 @@ transcript_more [] command answer old mid new marks answers t fits once =
         may = grows.each;
         grown = grows.grown;
         once = once;
-        mark = ap (λ m. m ++ length (journal_at new) ∷ []) t.0;
+        mark = ap (λ m. m ++ counted (past_in new) ∷ []) t.0;
         said = ap (λ s. s ++ answer ∷ []) t.1;
       },
       (refl, refl, refl),
@@ -39,7 +39,7 @@ transcript_more [] command answer old mid new marks answers t fits once =
 transcript_more (begin ∷ commands) command answer old mid new marks answers t fits once =
     let first = t.3 in (
       t.0,
-      t.1 ++ length (journal_at new) ∷ [],
+      t.1 ++ counted (past_in new) ∷ [],
       t.2 ++ answer ∷ [],
       record {
         answer = first.answer;
@@ -48,7 +48,7 @@ transcript_more (begin ∷ commands) command answer old mid new marks answers t 
         may = first.may;
         grown = first.grown;
         once = first.once;
-        mark = ap (λ m. m ++ length (journal_at new) ∷ []) first.mark;
+        mark = ap (λ m. m ++ counted (past_in new) ∷ []) first.mark;
         said = ap (λ s. s ++ answer ∷ []) first.said;
       },
       transcript_more commands command answer t.0 mid new t.1 t.2 t.4 fits once,
@@ -101,7 +101,7 @@ module _ {tells : Type 0} {got0 got1 : List ℕ} {commands done : List Command} 
   }
 
   -- it was answered
-  module _ (answer : Answer) (new : Scene) {marks : List ℕ} (fits : Answers command mid answer new) (once : Twice (past_in new) new.outside → ⊥) (marked : marks ≡ before ++ length (journal_at new) ∷ []) where
+  module _ (answer : Answer) (new : Scene) {marks : List ℕ} (fits : Answers command mid answer new) (once : Twice (past_in new) new.outside → ⊥) (marked : marks ≡ before ++ counted (past_in new) ∷ []) where
     transcript : Transcript (done ++ command ∷ []) old marks (so_far.answers ++ answer ∷ []) new
     transcript =
         subst (λ m. Transcript (done ++ command ∷ []) old m (so_far.answers ++ answer ∷ []) new) (sym marked)

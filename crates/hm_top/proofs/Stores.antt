@@ -6,6 +6,7 @@ use Rattle.hm_hall.specs.Recording.{Recording}
 use Rattle.hm_hall.specs.declared.fault.Halt.{Halt}
 use Rattle.hm_journal.specs.Stored.{IsJournal, opened}
 use Rattle.hm_journal.specs.declared.limits.Limits.{Limits}
+use Rattle.hm_model.specs.Editions.{editions}
 use Rattle.hm_model.specs.Journal.{back}
 use Rattle.hm_model.specs.Sheets.{sheets_of}
 use Rattle.hm_top.specs.Standing.{fresh}
@@ -31,3 +32,11 @@ opened_sheets sheets old entries is are = ap (λ (es : List Entry). sheets_of (b
     by : (old : List Entry) → IsJournal sheets old → sheets_of (back (opened sheets old)) ≡ sheets
     by [] is = refl
     by (entry ∷ more) is = is.begins (λ none. cc)
+
+-- and adopted none
+pub opened_editions : (sheets : List Sheet) (old entries : List Entry) → IsJournal sheets old → entries ≡ opened sheets old → editions (back entries) ≡ 0
+opened_editions sheets old entries is are = ap (λ (es : List Entry). editions (back es)) are ∙ by old is
+  where
+    by : (old : List Entry) → IsJournal sheets old → editions (back (opened sheets old)) ≡ 0
+    by [] is = refl
+    by (entry ∷ more) is = is.keeps

@@ -1,8 +1,10 @@
 -- How `check` ends.
-use Rattle.std.specs.Prelude.{◌≡◌, ℕ, List, [], ◌++◌, length, codes, Some}
+use Rattle.std.specs.Prelude.{◌≡◌, ℕ, List, [], ◌++◌, codes, Some}
 use Rattle.std.specs.Fmt.{decimal}
 use Rattle.hm_data.specs.declared.entry.Entry.{Entry}
 use Rattle.hm_data.specs.declared.sheet.Sheet.{Sheet}
+use Rattle.hm_model.specs.Image.{counted}
+use Rattle.hm_model.specs.Journal.{back}
 use Rattle.hm_journal.specs.Stored.{IsOnDiskByKind}
 use Rattle.hm_journal.specs.Verdict.{Refuses}
 use Rattle.hm_journal.specs.declared.why.JournalWhy.{JournalWhy}
@@ -13,14 +15,14 @@ use Rattle.hm_top.specs.Ending.{log_why_of}
 use Rattle.hm_top.specs.Got.{SaysLine}
 use Rattle.hm_top.specs.Ports.{DiskUse, SinkUse}
 
--- what `check` says of a legal journal of this length
+-- what `check` says of a legal journal of so many entries
 abbrev pub legal_text : ℕ → List ℕ
 legal_text entries = codes "legal " ++ decimal entries ++ codes "\n"
 
 module _ (out : SinkUse) (disk : DiskUse) (sheets : List Sheet) (said : RunStatus → List Answer → Type 0) where
-  -- the disk holds a legal journal of this length, which has these sheets
+  -- the disk holds a legal journal of so many entries, with those that its base stands for, which has these sheets
   abbrev pub HasEntries : ℕ → Type 0
-  HasEntries entries = disk.tells → (journal : List Entry) × IsOnDiskByKind sheets disk.before journal × (entries ≡ length journal)
+  HasEntries entries = disk.tells → (journal : List Entry) × IsOnDiskByKind sheets disk.before journal × (entries ≡ counted (back journal))
 
   -- its line, under a status
   abbrev pub SaysLegal : RunStatus → Type 0

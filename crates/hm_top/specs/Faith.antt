@@ -11,6 +11,7 @@ use Rattle.hm_data.specs.declared.catalog.Edit.{Edit}
 use Rattle.hm_data.specs.declared.entry.Entry.{Entry}
 use Rattle.hm_data.specs.declared.entry.Entry.TheVariants as entry_is
 use Rattle.hm_data.specs.declared.step.StepOut.{StepOut}
+use Rattle.hm_model.specs.Base.{HasNoHalfBase}
 use Rattle.hm_model.specs.Catalog.{cat, keys_of, was}
 use Rattle.hm_model.specs.Journal.{Past}
 use Rattle.hm_model.specs.Holding.{NoneClash}
@@ -68,9 +69,10 @@ pub record KeepsRanges (before : Past) : Type 0 where
   pub covered : RegionsCover before
   pub bare : MissingAreBare before
 
--- what each journal keeps to, in which each entry may follow those before it
+-- what each journal keeps to, in which each entry may follow those before it, and which doesn't end within its base
 pub record KeepsFaith (before : Past) : Type 0 where
   pub legal : IsLegal before
+  pub begun : HasNoHalfBase before
   pub catalog : KeepsDeeds before
   pub ranges : KeepsRanges before
   -- a nonce acts once

@@ -1,14 +1,16 @@
 -- How `gen` ends.
-use Rattle.std.specs.Prelude.{◌≡◌, ◌⊎◌, ◌<◌, ◌≤◌, ℕ, List, [], ◌++◌, length, codes, Option, Some, None}
+use Rattle.std.specs.Prelude.{◌≡◌, ◌⊎◌, ◌<◌, ◌≤◌, ℕ, List, [], ◌++◌, codes, Option, Some, None}
 use Rattle.std.specs.Fmt.{decimal}
 use Rattle.hm_data.specs.declared.entry.Entry.{Entry}
 use Rattle.hm_hall.specs.declared.fault.Halt.{Halt}
 use Rattle.hm_journal.specs.declared.limits.Limits.{Limits}
+use Rattle.hm_model.specs.Image.{counted}
+use Rattle.hm_model.specs.Journal.{back}
 use Rattle.hm_gen.specs.Generated.{generated}
 use Rattle.hm_world.specs.Scene.{Scene, past_in}
 use Rattle.hm_commands.specs.Census.{census_of}
 use Rattle.hm_commands.specs.Hands.{HandsUse, sheets_used}
-use Rattle.hm_commands.specs.Scenes.{halt_at, journal_at}
+use Rattle.hm_commands.specs.Scenes.{halt_at}
 use Rattle.hm_commands.specs.declared.answer.Answer.{Answer}
 use Rattle.hm_commands.specs.declared.census.Census.{Census}
 use Rattle.hm_top.specs.declared.status.LogWhy.TheVariants as log_why_is
@@ -36,7 +38,7 @@ gen_text seed count entries census = made_text seed count entries ++ census_text
 
 -- the same, of where a run is
 abbrev pub text_at : (seed count : ℕ) → Scene → List ℕ
-text_at seed count at = gen_text seed count (length (journal_at at)) (census_of (past_in at))
+text_at seed count at = gen_text seed count (counted (past_in at)) (census_of (past_in at))
 
 -- what is said where a script was answered and left a run so: its line where nothing halted it
 abbrev pub TellsAs : SinkUse → (RunStatus → List Answer → Type 0) → (seed count : ℕ) → Option Halt → Scene → RunStatus → Type 0
@@ -50,9 +52,9 @@ TellsAs out said seed count (Some why) at status = (status ≡ halted_status (So
 abbrev pub TellsOf : SinkUse → (RunStatus → List Answer → Type 0) → (seed count : ℕ) → Scene → RunStatus → Type 0
 TellsOf out said seed count at status = TellsAs out said seed count (halt_at at) at status
 
--- the journal has no entry but its first
+-- the journal is at most one entry long, those counted for which its base stands
 abbrev pub IsFresh : List Entry → Type 0
-IsFresh journal = length journal ≤ 1
+IsFresh journal = counted (back journal) ≤ 1
 
 -- no sink
 abbrev pub nowhere : SinkUse
@@ -76,9 +78,9 @@ module _ (limits : Limits) (disk : DiskUse) (hands : HandsUse) (marks : List ℕ
   abbrev pub IsMade : Type 0
   IsMade = EndedBy made_session Done None
 
-  -- the disk held a journal of so many entries, which isn't fresh, and holds it
+  -- the disk held a journal that is so long, and not fresh, and holds it
   abbrev pub IsNotFresh : ℕ → Type 0
-  IsNotFresh entries = (old : List Entry) × IsLeft disk hands old (begun limits (sheets_used hands) old) × (entries ≡ length old) × (1 < entries) × (marks ≡ [])
+  IsNotFresh entries = (old : List Entry) × IsLeft disk hands old (begun limits (sheets_used hands) old) × (entries ≡ counted (back old)) × (1 < entries) × (marks ≡ [])
 
   -- a log is refused since its journal isn't fresh, or as by `run`
   abbrev pub IsRefused : RunStatus → Type 0

@@ -1,7 +1,8 @@
 -- What a run left of the disk that it was handed.
-use Rattle.std.specs.Prelude.{◌≡◌, ◌≢◌, ◌⊎◌, ◌+◌, ◌-◌, ◌*◌, ℕ, List, ◌++◌, length, take, Some}
+use Rattle.std.specs.Prelude.{◌≡◌, ◌≢◌, ◌⊎◌, ◌+◌, ◌-◌, ◌*◌, ℕ, List, ◌++◌, length, Some}
 use Rattle.hm_data.specs.declared.entry.Entry.{Entry}
 use Rattle.hm_model.specs.Journal.{back}
+use Rattle.hm_model.specs.Rebase.{up_to}
 use Rattle.hm_hall.specs.declared.fault.Halt.TheVariants as halt_is
 use Rattle.hm_log.specs.Format.{IsClean}
 use Rattle.hm_log.specs.Opening.{IsInPlace, IsMaking}
@@ -32,7 +33,7 @@ module _ (disk : DiskUse) (hands : HandsUse) where
   pub record IsLeft (old : List Entry) (new : Scene) : Type 0 where
     pub added : List Entry
     pub longer : journal_at new ≡ old ++ added
-    pub faith : (mark : ℕ) → KeepsFaith (back (take mark (whole new)))
+    pub faith : (mark : ℕ) → KeepsFaith (up_to (back (whole new)) mark)
     pub held : disk.tells → IsOnDisk (sheets_used hands) disk.before old
     pub holds : disk.tells → AllStored disk.stops.after (kept_at new)
     pub stops : disk.tells → StopsLeave old new

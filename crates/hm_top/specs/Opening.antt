@@ -1,9 +1,10 @@
 -- The servers that are live when a run begins: each is held to be dead, one after another.
-use Rattle.std.specs.Prelude.{◌≡◌, ◌⊎◌, ℕ, List, [], ◌∷◌, ◌++◌, length, Some, None, true, false}
+use Rattle.std.specs.Prelude.{◌≡◌, ◌⊎◌, ℕ, List, [], ◌∷◌, ◌++◌, Some, None, true, false}
 use Rattle.hm_names.specs.Server.{Server}
 use Rattle.hm_data.specs.declared.entry.Entry.{Entry}
 use Rattle.hm_hall.specs.declared.fault.Halt.{Halt}
 use Rattle.hm_model.specs.Fleet.{is_live}
+use Rattle.hm_model.specs.Image.{counted}
 use Rattle.hm_world.specs.Scene.{GoesOn, Scene, past_in}
 use Rattle.hm_world_model.specs.Twice.{Twice}
 use Rattle.hm_commands.specs.Commands.{Expires}
@@ -35,9 +36,9 @@ Downs [] old lines new = (lines ≡ []) × (new ≡ old)
 Downs (server ∷ more) old lines new =
     (mid : Scene) × (first rest : List Answer) × PassesBy server old first mid × (lines ≡ first ++ rest) × Downs more mid rest new
 
--- the lines of an opening: how long the journal is, and those of the servers that went down
+-- the lines of an opening: how many entries the journal has, and those of the servers that went down
 abbrev pub opening_lines : Scene → List Answer → List Answer
-opening_lines old downs = answer_is.Opened (length (journal_at old)) ∷ downs
+opening_lines old downs = answer_is.Opened (counted (past_in old)) ∷ downs
 
 -- the first of these servers is live, and that it is held to be dead halts the run so
 abbrev pub HaltsOpening : List Server → Scene → Halt → Scene → Type 0

@@ -1,7 +1,8 @@
 -- What is said to a list of commands.
-use Rattle.std.specs.Prelude.{◌≡◌, ℕ, List, [], ◌∷◌, ◌++◌, length, All}
+use Rattle.std.specs.Prelude.{◌≡◌, ℕ, List, [], ◌∷◌, ◌++◌, All}
 use Rattle.std.specs.List.{flat_map}
 use Rattle.hm_data.specs.declared.entry.Entry.{Entry}
+use Rattle.hm_model.specs.Image.{counted}
 use Rattle.hm_script.specs.declared.command.Command.{Command}
 use Rattle.hm_world.specs.Scene.{Scene, past_in}
 use Rattle.hm_world_model.specs.Twice.{Twice}
@@ -14,7 +15,7 @@ use Rattle.hm_commands.specs.declared.answer.Answer.{Answer}
 abbrev pub text_of : List Answer → List ℕ
 text_of answers = flat_map answer_text answers
 
--- one command answered, what was recorded for it, and the length of the journal then as its mark; and no region is held twice
+-- one command answered, what was recorded for it, and how many entries the journal has then as its mark; and no region is held twice
 pub record Exchange (command : Command) (old mid : Scene) (marks later : List ℕ) (answers rest : List Answer) : Type 0 where
   pub answer : Answer
   pub fits : Answers command old answer mid
@@ -22,7 +23,7 @@ pub record Exchange (command : Command) (old mid : Scene) (marks later : List �
   pub may : All (MayAdd command) added
   pub grown : journal_at mid ≡ journal_at old ++ added
   pub once : Twice (past_in mid) mid.outside → ⊥
-  pub mark : marks ≡ length (journal_at mid) ∷ later
+  pub mark : marks ≡ counted (past_in mid) ∷ later
   pub said : answers ≡ answer ∷ rest
 
 -- From old, these commands have these answers, one each, with these marks, and leave new.

@@ -18,7 +18,7 @@ use hm_script::Command;
 use hm_sheet::{Handler, Registry};
 use std::alloc::Global;
 
-/// Answers the commands in turn. A mark is the length of the journal, and stands before its answer is written; there is room
+/// Answers the commands in turn. A mark is how many entries the journal has, and stands before its answer is written; there is room
 /// for all marks. An early end gives the disk back.
 pub(crate) fn answer_all<D: Disk, K: Sink>(
     alloc: Global,
@@ -50,7 +50,7 @@ pub(crate) fn answer_all<D: Disk, K: Sink>(
         };
         cluster = next;
         cluster.keeps();
-        marks.push_reserved(cluster.entries());
+        marks.push_reserved(cluster.counted());
         let said = say(alloc, out, answer);
         if let Err(_) = said {
             return Err((cluster.into_disk(), EarlyEnd::WriteFault));

@@ -1,4 +1,4 @@
-//! Looks at a log, and says how long its journal is.
+//! Looks at a log, and says how many entries its journal has.
 ghost use Rattle.std.specs.Prelude.{◌≡◌, ◌≤◌, map, All, IfOk};
 ghost use Rattle.std.specs.List.{flat_map};
 ghost use Rattle.hm_sheet.specs.Registry.{IsRegistry, sheets_of};

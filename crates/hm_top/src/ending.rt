@@ -35,8 +35,8 @@ const LIMITS: Limits = Limits {
 
 const MAX_SCRIPT: usize = 1_048_576;
 
-/// What a run leaves: how it ended, the disk, for each command that was answered the length of the
-/// journal when its answer was written, and the registries.
+/// What a run leaves: how it ended, the disk, for each command that was answered how many entries the journal had when its answer was
+/// written, with those that its base stands for, and the registries.
 #[derive(Drop)]
 pub struct Ended<D: Disk> {
     pub status: RunStatus,

@@ -86,7 +86,7 @@ fn tell<D: Disk, K: Sink>(
     if let Some(why) = cluster.halted() {
         return status_of_halt(Some(why));
     }
-    let Ok(line) = line(alloc, seed, count, cluster.entries(), cluster.census()) else {
+    let Ok(line) = line(alloc, seed, count, cluster.counted(), cluster.census()) else {
         return RunStatus::Memory;
     };
     match say(alloc, out, line) {
@@ -95,7 +95,7 @@ fn tell<D: Disk, K: Sink>(
     }
 }
 
-/// Opens a log whose journal has no entry but its first, has the script answered that is made of the seed, and says what came of it.
+/// Opens a log whose journal is at most one entry long, has the script answered that is made of the seed, and says what came of it.
 pub(crate) fn generate_over<D: Disk, K: Sink>(
     alloc: Global,
     seed: u64,
@@ -125,7 +125,7 @@ pub(crate) fn generate_over<D: Disk, K: Sink>(
         Ok(store) => store,
         Err((disk, why)) => return (status_of(why), disk),
     };
-    let entries = store.entries();
+    let entries = store.counted();
     if entries > 1 {
         let status = RunStatus::LogRefused(LogWhy::NotEmpty(entries));
         return (status, store.into_disk());

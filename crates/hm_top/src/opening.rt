@@ -73,7 +73,7 @@ fn pass_by<D: Disk, K: Sink>(
     }
 }
 
-/// Says how long the journal is, and holds each server that it calls live to be dead, with a line each. An early end gives the
+/// Says how many entries the journal has, and holds each server that it calls live to be dead, with a line each. An early end gives the
 /// disk back.
 pub(crate) fn begin<D: Disk, K: Sink>(
     alloc: Global,
@@ -88,7 +88,7 @@ pub(crate) fn begin<D: Disk, K: Sink>(
     ensures later { K.faults out.old ≤ K.faults out.new }
     ensures fault { IfErr result (λ e. e.1 ≡ EarlyEnd.WriteFault → Rose (K.faults out.old) (K.faults out.new)) }
 {
-    if let Err(_) = say(alloc, out, Answer::Opened(cluster.entries())) {
+    if let Err(_) = say(alloc, out, Answer::Opened(cluster.counted())) {
         return Err((cluster.into_disk(), EarlyEnd::WriteFault));
     }
     let mut cluster = cluster;

@@ -21,7 +21,7 @@ pub enum LogWhy {
     Illegal { number: u64, rule: u8 },
     /// The journal has other sheets of this kind.
     SheetsDiffer(u8),
-    /// The journal has this many entries where it should have none but its first.
+    /// The journal has this many entries, with those that its base stands for, where it should have one at most.
     NotEmpty(u64),
 }
 

@@ -6,9 +6,11 @@ ghost use Rattle.hm_disk.specs.Disk.{LeavesOnly, LeavesThen};
 ghost use Rattle.hm_log.specs.Format.{IsClean, Reads};
 ghost use Rattle.hm_log.specs.Opening.{IsInPlace, IsMaking, IsUsed};
 ghost use Rattle.hm_data.specs.declared.entry.Entry.{Entry as EntryValue};
-ghost use Rattle.hm_model.specs.Journal.{back};
+ghost use Rattle.hm_hall.specs.Recording.{past_in};
+ghost use Rattle.hm_model.specs.Image.{counted as counted_in};
 ghost use Rattle.hm_model.specs.Base.{AreSheets};
-ghost use Rattle.hm_model.specs.Sheets.{sheets_of as begun_with};
+ghost use Rattle.hm_model.specs.Editions.{editions};
+ghost use Rattle.hm_model.specs.Sheets.{sheets_of as in_force};
 ghost use Rattle.hm_journal.specs.Stored.{IsJournal, frames_of, opened, IsOnDisk, Spares, SameFrames, IsOpening};
 ghost use Rattle.hm_journal.specs.Verdict.{Refuses, IsUnjudged};
 ghost use Rattle.hm_commands.specs.Scenes.{new_scene};
@@ -37,17 +39,17 @@ impl<D: Disk> Model for Store<D> {
 
     ghost view = { λ s. record { disk = s.journal.disk; opened = s.journal.opened; kept = s.journal.kept } };
 
-    ghost invariant = { λ s. IsStore s.state.entries s.journal.kept };
+    ghost invariant = { λ s. IsStore s.state.past s.journal.kept };
 }
 
 // Gives back the disk of a journal with which nothing was done.
 fn release<D: Disk>(state: State, journal: Journal<D>) -> D
-    requires same { journal.kept.entries ≡ state.entries }
+    requires same { past_in journal.kept ≡ state.past }
     requires going { journal.kept.halted ≡ None }
     requires tailless { journal.kept.tail ≡ None }
     ensures { IsLeftBy D.Disk journal.opened (new_scene journal.kept) result }
 {
-    let _legal = state.entries();
+    state.journal();
     drop(state);
     journal.into_disk()
 }
@@ -65,7 +67,8 @@ impl<D: Disk> Store<D> {
         ensures journal { IfOk result (λ store. (old : List EntryValue) × IsJournal sheets.now old × (store.kept ≡ fresh limits (opened sheets.now old))
             × (store.opened.count ≡ length old) × (D.tells → IsOnDisk sheets.now (D.seen disk) old
             × LeavesThen D.moment D.left_since disk store.opened.disk (λ c. D.image disk c ⊎ IsMaking (D.seen disk) c) (λ c. Reads c (frames_of old)))) }
-        ensures sheets { IfOk result (λ store. begun_with (back store.kept.entries) ≡ sheets.now) }
+        ensures sheets { IfOk result (λ store. in_force (past_in store.kept) ≡ sheets.now) }
+        ensures unadopted { IfOk result (λ store. editions (past_in store.kept) ≡ 0) }
         ensures why { D.tells → IfErr result (λ e. Refuses sheets.now (D.seen disk) e.1) }
         ensures accepts { D.tells → (journal : List EntryValue) → IsOnDisk sheets.now (D.seen disk) journal → IfErr result (λ e. IsUnjudged e.1) }
         ensures fault { IfErr result (λ e. e.1 ≡ JournalWhy.Fault → Rose (D.faults disk) (D.faults e.0)) }
@@ -90,11 +93,11 @@ impl<D: Disk> Store<D> {
         Cluster::new(alloc, state, journal)
     }
 
-    /// The length of the journal.
-    pub(crate) fn entries(&self) -> u64
-        ensures { result ≡ length self.now.kept.entries }
+    /// How many entries the journal has, with those that its base stands for.
+    pub(crate) fn counted(&self) -> u64
+        ensures { result ≡ counted_in (past_in self.now.kept) }
     {
-        self.state.entries()
+        self.state.counted()
     }
 
     /// Gives the disk back.

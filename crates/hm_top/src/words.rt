@@ -12,7 +12,7 @@ const MOST_REGIONS: u64 = 16_384;
 pub enum Form {
     /// The commands of a script.
     Run,
-    /// How long the journal is.
+    /// How many entries the journal has.
     Check,
     /// The commands of a script that is made of a number, for so many regions.
     Gen { seed: u64, count: u32 },

@@ -1,6 +1,6 @@
 //! `hmaster run LOG` runs a script of commands, from standard input, over the log in the file LOG. It
 //! writes the answers to standard output, and its exit status says how the run ended. `hmaster check LOG`
-//! says how long the journal in a log is, and `hmaster gen SEED N LOG` makes a cluster of N regions by a
+//! says how many entries the journal in a log has, and `hmaster gen SEED N LOG` makes a cluster of N regions by a
 //! script that it makes of a number.
 #![tactic(auto)]
 

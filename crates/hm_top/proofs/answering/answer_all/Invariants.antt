@@ -1,6 +1,7 @@
 use Rattle.std.proofs.Common.{◌≡◌, ◌≤◌, ◌+◌, ◌++◌, All, length, map, vec_len}
 use Rattle.std.specs.Vec.{vec_capacity}
 use Rattle.std.specs.Vec.Iter.{into_iter_items, into_iter_len}
+use Rattle.hm_model.specs.Editions.{editions}
 use Rattle.hm_model.specs.Journal.{back}
 use Rattle.hm_model.specs.Sheets.{sheets_of}
 use Rattle.hm_sheet.specs.Registry.{IsRegistryBy, sheets_by}
@@ -17,6 +18,7 @@ invariant-loop-command g l = record {
   counted : into_iter_len l.command-iterator ≡ length (into_iter_items l.command-iterator);
   room : vec_len l.marks + length (into_iter_items l.command-iterator) ≤ vec_capacity l.marks;
   begun : sheets_of (back (journal_at (scene_in l.cluster))) ≡ sheets_of (back (journal_at (scene_in l.fn.cluster)));
+  edition : editions (back (journal_at (scene_in l.cluster))) ≡ editions (back (journal_at (scene_in l.fn.cluster)));
   opened : l.cluster.recorder.opened ≡ l.fn.cluster.recorder.opened;
   ran : Ran (record {
     before = map (λ r. sheets_by (goal.Handler-dyn g) r) l.fn.hands.items;

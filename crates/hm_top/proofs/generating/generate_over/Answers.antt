@@ -1,9 +1,14 @@
-use Rattle.std.proofs.Common.{◌≤◌, length, refl, sym, ap, ◌∙◌, subst, arith}
-use Rattle.hm_hall.specs.Recording.{Recording}
+use Rattle.std.proofs.Common.{◌≤◌, refl, sym, ap, ◌∙◌, subst, arith}
+use Rattle.hm_hall.specs.Recording.{Recording, past_in}
+use Rattle.hm_model.specs.Image.{counted}
 use Rattle.hm_journal.specs.Opened.{Opened as OpenedAt}
+use Rattle.hm_commands.specs.Scenes.{halt_at}
 use Rattle.hm_commands.specs.View.{IsLeftBy, scene_in}
 use Rattle.hm_commands.proofs.Ran.{run_less, run_none}
+use Rattle.hm_top.specs.Generating.{TellsOf}
 use Rattle.hm_top.specs.Ports.{sink_use}
+use Rattle.hm_top.specs.Run.{before_line}
+use Rattle.hm_top.proofs.Generates.{line_tells}
 use Rattle.hm_top.proofs.Makes.{made_refused, made_stopped, made_told, made_unopened}
 use Rattle.hm_top.proofs.Offered.{made_offered}
 use Rattle.hm_top.proofs.Refusals.{stop_tells}
@@ -34,12 +39,12 @@ pub returns-then-entries-gt1-clause-ends : goal.returns-then-entries-gt1-clause-
 returns-then-entries-gt1-clause-ends g c =
     let open_for = c.in-Ok-open_for.ensures in
     made_refused g.D.Disk c.args.limits c.args.disk c.into_disk.result _ c.args.marks.now.items c.args.seed c.args.count (sink_use g.K.Sink c.args.out.now c.args.out.now) c.in-Ok.commands.items c.in-Ok.ensures.script
-    c.in-Ok-open_for.store open_for.opened open_for.called (λ told. refl) c.into_disk.ensures (run_none _ _) c.entries-entries.result c.entries-entries.ensures c.if-entries-gt1.true c.requires.fresh
+    c.in-Ok-open_for.store open_for.opened open_for.called (λ told. refl) c.into_disk.ensures (run_none _ _) c.counted-entries.result c.counted-entries.ensures c.if-entries-gt1.true c.requires.fresh
 
 pub returns-then-entries-gt1-clause-accepts : goal.returns-then-entries-gt1-clause-accepts
 returns-then-entries-gt1-clause-accepts g c told journal on fresh why is =
     let opens = c.in-Ok-open_for.ensures.opened in
-    not_refused _ (g.D.Disk.seen c.args.disk) opens.0 journal c.in-Ok-open_for.store.kept opens.2 (opens.4 told).0 on c.entries-entries.result c.entries-entries.ensures c.if-entries-gt1.true fresh
+    not_refused _ (g.D.Disk.seen c.args.disk) opens.0 journal c.in-Ok-open_for.store.kept opens.2 (opens.4 told).0 on c.counted-entries.result c.counted-entries.ensures c.if-entries-gt1.true fresh
 
 pub returns-in-Ok-answer_over-clause-ends : goal.returns-in-Ok-answer_over-clause-ends
 returns-in-Ok-answer_over-clause-ends g c =
@@ -48,9 +53,15 @@ returns-in-Ok-answer_over-clause-ends g c =
     let talked = c.in-Ok-answer_over.ensures in
     let at = scene_in c.in-Ok-answer_over.cluster in
     let new = c.into_disk-in-Ok-answer_over.result in
-    let few : length store.kept.entries ≤ 1 = let all = c.entries-entries.ensures in let no = c.if-entries-gt1.false in omega arith in
+    let few : counted (past_in store.kept) ≤ 1 = let all = c.counted-entries.ensures in let no = c.if-entries-gt1.false in omega arith in
     made_told g.D.Disk c.args.limits c.args.disk new _ c.answer_over.new.marks.items c.args.seed c.args.count (sink_use g.K.Sink c.args.out.now c.tell.new.out) c.in-Ok.commands.items c.in-Ok.ensures.script
     store open_for.opened open_for.called few at (subst (λ (opened : OpenedAt _). IsLeftBy g.D.Disk opened at new) talked.opened c.into_disk-in-Ok-answer_over.ensures.left) talked.ran talked.done c.tell.result c.tell.ensures.tells
+
+pub returns-in-Ok-answer_over-clause-accepts : goal.returns-in-Ok-answer_over-clause-accepts
+returns-in-Ok-answer_over-clause-accepts g c told journal on few why is =
+    let out = sink_use g.K.Sink c.args.out.now c.tell.new.out in
+    let at = scene_in c.in-Ok-answer_over.cluster in
+    line_tells out (before_line out) c.args.seed c.args.count (halt_at at) at why (subst (TellsOf out (before_line out) c.args.seed c.args.count at) is c.tell.ensures.tells)
 
 pub returns-in-Ok-answer_over-clause-run_by : goal.returns-in-Ok-answer_over-clause-run_by
 returns-in-Ok-answer_over-clause-run_by g c = run_less _ _ c.in-Ok-answer_over.ensures.ran.2
@@ -60,7 +71,7 @@ returns-in-Err-answer_over-clause-ends g c =
     let open_for = c.in-Ok-open_for.ensures in
     let store = c.in-Ok-open_for.store in
     let stopped = c.in-Err-answer_over.ensures.stopped in
-    let few : length store.kept.entries ≤ 1 = let all = c.entries-entries.ensures in let no = c.if-entries-gt1.false in omega arith in
+    let few : counted (past_in store.kept) ≤ 1 = let all = c.counted-entries.ensures in let no = c.if-entries-gt1.false in omega arith in
     made_stopped g.D.Disk c.args.limits c.args.disk c.in-Err-answer_over.disk _ c.answer_over.new.marks.items c.args.seed c.args.count (sink_use g.K.Sink c.args.out.now c.args.out.now) c.in-Ok.commands.items c.in-Ok.ensures.script
     store open_for.opened open_for.called few stopped.0 stopped.2 stopped.3 (λ told. refl) c.status.result c.in-Err-answer_over.stop c.status.ensures stopped.1
     (λ is. let rose = c.in-Err-answer_over.ensures.fault is in absurd (omega (arith, rose)))

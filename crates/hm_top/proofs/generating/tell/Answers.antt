@@ -1,10 +1,11 @@
-use Rattle.std.proofs.Common.{◌≡◌, length, ap, sym, ◌∙◌, subst}
+use Rattle.std.proofs.Common.{◌≡◌, ap, sym, ◌∙◌, subst}
 use Rattle.hm_top.specs.Generating.{TellsAs, gen_text, text_at}
 use Rattle.hm_top.specs.Ports.{sink_use}
 use Rattle.hm_top.specs.Run.{before_line}
 use Rattle.hm_top.specs.declared.status.RunStatus.TheVariants.{WriteFault}
 use Rattle.hm_commands.specs.Answer.{answer_text}
-use Rattle.hm_commands.specs.Scenes.{journal_at}
+use Rattle.hm_model.specs.Image.{counted}
+use Rattle.hm_world.specs.Scene.{past_in}
 use Rattle.hm_commands.specs.View.{scene_in}
 use Rattle.hm_top.proofs.Lines.{one_short}
 use Rattle.hm_top.proofs.generating.tell.Goals as goal
@@ -15,6 +16,6 @@ returns-in-Err-clause-tells g c =
     let at = scene_in c.args.cluster.now in
     let line = c.in-Ok.line in
     let text : answer_text line ≡ text_at c.args.seed c.args.count at =
-    c.in-Ok.ensures ∙ ap (λ n. gen_text c.args.seed c.args.count n c.census.result) c.entries.ensures.length ∙ ap (gen_text c.args.seed c.args.count (length (journal_at at))) c.census.ensures in
+    c.in-Ok.ensures ∙ ap (λ n. gen_text c.args.seed c.args.count n c.census.result) c.counted.ensures.count ∙ ap (gen_text c.args.seed c.args.count (counted (past_in at))) c.census.ensures in
     subst (λ h. TellsAs out (before_line out) c.args.seed c.args.count h at WriteFault) (sym (sym c.halted.ensures.halted ∙ c.in_default.is))
     (c.in-Err.ensures.cause.failed, (line, text, λ told. one_short out.before out.after line (c.in-Err.ensures.part told)))

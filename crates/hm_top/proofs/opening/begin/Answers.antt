@@ -13,13 +13,13 @@ use Rattle.hm_top.proofs.opening.begin.Goals as goal
 pub returns-in-Err-clause-early : goal.returns-in-Err-clause-early
 returns-in-Err-clause-early g c =
     let was = scene_in c.args.cluster in
-    (was, c.into_disk.ensures.left, ([], sym (append-nil (journal_at was)), refl), tt, λ commands. not_opened was commands (rw c.entries.ensures.length at c.in-Err.ensures.part))
+    (was, c.into_disk.ensures.left, ([], sym (append-nil (journal_at was)), refl), tt, λ commands. not_opened was commands (rw c.counted.ensures.count at c.in-Err.ensures.part))
 
 pub loop-place-init : goal.loop-place-init
 loop-place-init g c =
     let was = scene_in c.args.cluster in
     record {
-      passing = opened_said was (rw c.entries.ensures.length at c.in_default.ensures.all);
+      passing = opened_said was (rw c.counted.ensures.count at c.in_default.ensures.all);
       keeps = keeps_same was was refl c.requires.going;
       opened = refl;
       sink_later = c.say.ensures.cause.later;

@@ -3,7 +3,6 @@ use Rattle.hm_commands.specs.Answer.{answer_text}
 use Rattle.hm_commands.specs.Commands.{Expires}
 use Rattle.hm_commands.specs.View.{IsLeftBy, scene_in}
 use Rattle.hm_commands.specs.declared.answer.Answer.{Answer}
-use Rattle.hm_commands.specs.declared.answer.Answer.TheVariants as answer_is
 use Rattle.hm_journal.specs.Opened.{Opened as OpenedAt}
 use Rattle.hm_top.proofs.Openings.{answered_so, halted_is}
 use Rattle.hm_top.proofs.opening.put_down.Goals as goal

@@ -1,15 +1,14 @@
 use Rattle.std.proofs.Common.{Ok, Err, map, refl, sym, ap, ◌∙◌, subst}
 use Rattle.hm_sheet.specs.Registry.{sheets_by}
 use Rattle.hm_journal.specs.Opened.{Opened as OpenedAt}
+use Rattle.hm_model.specs.Editions.{editions}
 use Rattle.hm_model.specs.Journal.{back}
-use Rattle.hm_model.specs.Sheets.{sheets_of as begun_with}
+use Rattle.hm_model.specs.Sheets.{sheets_of as in_force}
 use Rattle.hm_commands.specs.Hands.{AgreeOn, first_sheets}
 use Rattle.hm_commands.specs.Scenes.{halt_at, journal_at, new_scene}
 use Rattle.hm_commands.specs.View.{IsLeftBy, scene_in}
 use Rattle.hm_commands.proofs.Ran.{ran_idle, ran_none, run_none}
 use Rattle.hm_world.specs.Scene.{Scene}
-use Rattle.hm_top.specs.declared.status.EarlyEnd.TheVariants as early_is
-use Rattle.hm_top.specs.declared.talking.Stop.TheVariants as stop_is
 use Rattle.hm_top.specs.Answering.{IsAnswering}
 use Rattle.hm_top.proofs.Openings.{answered_on, answering_ends, downs_keep, ran_behind}
 use Rattle.hm_top.proofs.Runs.{ran_from}
@@ -55,10 +54,13 @@ answer_all-requires-clause-hands g c =
     let at = scene_in c.in-Ok-begin.begun in
     let passing = c.in-Ok-begin.ensures.done in
     let going = ap halt_at c.in-Ok.ensures.at ∙ c.requires.going in
-    let opened = (downs_keep _ was passing.lines at going passing.downs).sheets ∙ ap (λ (s : Scene). begun_with (back (journal_at s))) c.in-Ok.ensures.at in
+    let keeps = downs_keep _ was passing.lines at going passing.downs in
+    let opened = keeps.sheets ∙ ap (λ (s : Scene). in_force (back (journal_at s))) c.in-Ok.ensures.at in
+    let edition = keeps.edition ∙ ap (λ (s : Scene). editions (back (journal_at s))) c.in-Ok.ensures.at in
     record {
       agree = c.requires.hands.agree;
       begins = subst (AgreeOn (first_sheets (map f c.args.hands.now.items))) (sym opened) c.requires.hands.begins;
+      unadopted = edition ∙ c.requires.hands.unadopted;
     }
 
 pub returns-in-Ok-answer_all-clause-done : goal.returns-in-Ok-answer_all-clause-done

@@ -6,8 +6,7 @@ use Rattle.hm_moves.specs.declared.moving.Move.{Move}
 use Rattle.hm_commands.specs.View.{scene_in}
 use Rattle.hm_commands.proofs.Moving.{all_moved, lacking, move_comes, moved_so, none_left, none_moved, tried_in}
 use Rattle.hm_world.specs.Scene.{WorldView, past_in}
-use Rattle.hm_data.specs.declared.entry.Entry.{Entry}
-use Rattle.hm_model.specs.Journal.{back}
+use Rattle.hm_model.specs.Journal.{Past}
 use Rattle.hm_commands.proofs.cluster.Cluster.balance.Goals as goal
 
 pub loop-one-init : goal.loop-one-init
@@ -19,7 +18,7 @@ loop-one-init g c =
       planned =
           subst (λ (l : List Move). ArePlanned (past_in was) c.in_ok-shifts.shifts l) (sym given)
           (subst (λ (w : WorldView _). ArePlanned (past_in (scene_in w)) c.in_ok-shifts.shifts c.in_ok-shifts.planned.items) c.self.view_is
-          (subst (λ (entries : List Entry). ArePlanned (back entries) c.in_ok-shifts.shifts c.in_ok-shifts.planned.items) (sym c.state.ensures) c.in_ok-shifts.ensures));
+          (subst (λ (J : Past). ArePlanned J c.in_ok-shifts.shifts c.in_ok-shifts.planned.items) (sym c.state.ensures) c.in_ok-shifts.ensures));
       counted = grind (arith, common_steps);
       opened = refl;
     }

@@ -12,5 +12,5 @@ returns-clause-left g c =
       stored = subst (λ (j : JournalView _). g.D.Disk.tells → AllStored (g.D.Disk.image c.into_disk.result) j.kept) same c.into_disk.ensures.stored;
       since = subst (λ (j : JournalView _). Since g.D.Disk j.opened c.into_disk.result j.kept.entries j.kept.tail j.kept.halted) same c.into_disk.ensures.since;
       legal = c.keeps.ensures.legal;
-      plain = c.keeps.ensures.plain;
+      begun = c.keeps.ensures.whole;
     }

@@ -6,7 +6,7 @@ use Rattle.hm_commands.specs.View.{scene_in}
 use Rattle.hm_commands.specs.declared.tasks.Worked.{Worked}
 use Rattle.hm_commands.proofs.Growth.{done_going}
 use Rattle.hm_commands.proofs.Ran.{ran_idle, ran_on, run_none}
-use Rattle.hm_commands.proofs.Serving.{serve_on, tasks_sheets}
+use Rattle.hm_commands.proofs.Serving.{serve_behind}
 use Rattle.hm_commands.proofs.Working.{tasks_more}
 use Rattle.hm_commands.proofs.cluster.Cluster.settle.Goals as goal
 
@@ -19,7 +19,7 @@ pub task-requires-clause-hands : goal.task-requires-clause-hands
 task-requires-clause-hands g c =
     let old = scene_in c.args.self.now in
     let was = scene_in c.loop-why.self in
-    serve_on _ _ (journal_at old) (journal_at was) c.requires.hands c.loop-why.invariant.ran.2.alike (tasks_sheets c.loop-why.invariant.tasks.0 old was c.loop-why.invariant.tasks.1)
+    serve_behind _ _ c.loop-why.invariant.tasks.0 old was c.requires.hands c.loop-why.invariant.ran.2.alike c.loop-why.invariant.tasks.1
 
 pub loop-why-preserved : goal.loop-why-preserved
 loop-why-preserved g c =

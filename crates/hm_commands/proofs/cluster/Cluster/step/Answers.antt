@@ -6,7 +6,7 @@ use Rattle.hm_commands.specs.View.{scene_in}
 use Rattle.hm_commands.specs.declared.tasks.Worked.{Worked}
 use Rattle.hm_commands.proofs.Growth.{done_going}
 use Rattle.hm_commands.proofs.Ran.{ran_idle, ran_on, run_none}
-use Rattle.hm_commands.proofs.Serving.{serve_on, tasks_sheets}
+use Rattle.hm_commands.proofs.Serving.{serve_behind}
 use Rattle.hm_commands.proofs.Working.{tasks_more}
 use Rattle.hm_commands.proofs.cluster.Cluster.step.Goals as goal
 
@@ -19,7 +19,7 @@ pub task-requires-clause-hands : goal.task-requires-clause-hands
 task-requires-clause-hands g c =
     let old = scene_in c.args.self.now in
     let was = scene_in c.loop-done.self in
-    serve_on _ _ (journal_at old) (journal_at was) c.requires.hands c.loop-done.invariant.ran.2.alike (tasks_sheets c.loop-done.done old was c.loop-done.invariant.tasks)
+    serve_behind _ _ c.loop-done.done old was c.requires.hands c.loop-done.invariant.ran.2.alike c.loop-done.invariant.tasks
 
 pub loop-done-preserved : goal.loop-done-preserved
 loop-done-preserved g c =
@@ -64,7 +64,7 @@ returns-in-Ok-Idle-clause-comes g c =
       subst (λ (s : Scene). Tasks c.loop-done.done old s) (sym idle.1) c.loop-done.invariant.tasks,
       omega (arith, below),
       λ less. subst IsDone (sym idle.1) idle.0,
-      c.entries.ensures.length,
+      c.counted.ensures.count,
     )
 
 pub returns-in-Ok-Idle-clause-ran : goal.returns-in-Ok-Idle-clause-ran
@@ -74,4 +74,5 @@ returns-in-Ok-Idle-clause-ran g c =
 pub returns-clause-comes : goal.returns-clause-comes
 returns-clause-comes g c =
     let over = c.loop-done-test.false in
-    (c.loop-done.invariant.tasks, c.loop-done.invariant.within, λ less. absurd (omega (arith, less, over)), c.entries-2.ensures.length)
+    let new = scene_in c.loop-done.self in
+    (c.loop-done.invariant.tasks, c.loop-done.invariant.within, λ less. absurd {A = IsDone new} (omega (arith, less, over)), c.counted-2.ensures.count)

@@ -12,7 +12,7 @@ use Rattle.hm_commands.specs.View.{scene_in}
 use Rattle.hm_commands.specs.declared.tasks.Worked.{Worked}
 use Rattle.hm_commands.specs.declared.tasks.Worked.TheVariants as worked_is
 use Rattle.hm_commands.proofs.Claims.{one_claimed}
-use Rattle.hm_commands.proofs.Clusters.{carry_can, carry_works, claim_lacks, idle_works, on_err_so, run_lacks, run_steps, run_works}
+use Rattle.hm_commands.proofs.Clusters.{carry_can, carry_lacks, carry_works, claim_lacks, idle_works, on_err_so, run_lacks, run_steps, run_works}
 use Rattle.hm_commands.proofs.Ran.{ran_idle, ran_none, run_none}
 use Rattle.hm_commands.proofs.Working.{step_less}
 use Rattle.hm_commands.proofs.cluster.Cluster.task.Goals as goal
@@ -68,6 +68,16 @@ returns-in-Ok-Carry-clause-works g c =
     let takes = subst (λ (t : Task). Takes old (Ok t) mid) c.in-Ok-Carry.field-0-is c.in-Ok-Carry.ensures.takes in
     subst (λ (w : WorldView _). IfOk c.carry.result (λ worked. Works (scene_in w) worked new)) c.self.view_is
     (carry_works old mid new takes c.carry.result c.carry.ensures.carried)
+
+pub returns-in-Ok-Carry-clause-err : goal.returns-in-Ok-Carry-clause-err
+returns-in-Ok-Carry-clause-err g c =
+    let old = scene_in c.self.inside.world in
+    let mid = scene_in c.take.new.world in
+    let new = scene_in c.carry.new.world in
+    let takes = subst (λ (t : Task). Takes old (Ok t) mid) c.in-Ok-Carry.field-0-is c.in-Ok-Carry.ensures.takes in
+    let going = ap (λ (w : WorldView _). w.recorder.kept.halted) c.self.view_is ∙ c.requires.going in
+    subst (λ (w : WorldView _). OnErr c.carry.result (LacksMemory (scene_in w) new)) c.self.view_is
+    (on_err_so c.carry.result (carry_lacks old mid new takes going) c.carry.ensures.err)
 
 pub returns-in-Ok-Carry-clause-ran : goal.returns-in-Ok-Carry-clause-ran
 returns-in-Ok-Carry-clause-ran g c =

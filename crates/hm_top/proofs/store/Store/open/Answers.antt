@@ -2,7 +2,7 @@ use Rattle.std.proofs.Common.{List}
 use Rattle.std.proofs.lemmas.Result.{err_from_is_err_and}
 use Rattle.hm_data.specs.declared.entry.Entry.{Entry}
 use Rattle.hm_journal.specs.Stored.{opened}
-use Rattle.hm_top.proofs.Stores.{opened_kept, opened_sheets}
+use Rattle.hm_top.proofs.Stores.{opened_editions, opened_kept, opened_sheets}
 use Rattle.hm_top.proofs.store.Store.open.Goals as goal
 
 pub returns-in_err-journal-clause-same : goal.returns-in_err-journal-clause-same
@@ -29,6 +29,11 @@ pub returns-clause-sheets : goal.returns-clause-sheets
 returns-clause-sheets g c =
     let found = c.in_ok-journal.ensures.journal in
     opened_sheets c.args.sheets.now found.0 c.in_ok-journal.journal.kept.entries found.1 found.2
+
+pub returns-clause-unadopted : goal.returns-clause-unadopted
+returns-clause-unadopted g c =
+    let found = c.in_ok-journal.ensures.journal in
+    opened_editions c.args.sheets.now found.0 c.in_ok-journal.journal.kept.entries found.1 found.2
 
 pub invariant_of-result : goal.invariant_of-result
 invariant_of-result g c = record { same = c.in_ok-journal.ensures.state; going = c.in_ok-journal.ensures.fresh.2; tailless = c.in_ok-journal.ensures.fresh.1 }
