@@ -1,7 +1,8 @@
 //! Journals that are opened and recorded in, over memory.
-ghost use Rattle.std.specs.Prelude.{IfOk, ◌≤◌};
+ghost use Rattle.std.specs.Prelude.{◌≡◌, IfOk, ◌≤◌, false};
 ghost use Rattle.hm_hall.specs.Recording.{CanBeRecorded};
 ghost use Rattle.hm_model.specs.Base.{AreSheets};
+ghost use Rattle.hm_model.specs.Laws.{is_part};
 
 use crate::runs::{boxes, disk};
 use hm_data::{Entry, Request, Sheet};
@@ -30,6 +31,7 @@ fn sheets(alloc: Global) -> Result<List<Sheet>, AllocError>
 // The entry that asks for a namespace `more`.
 fn submission(alloc: Global) -> Result<Entry, AllocError>
     ensures fits { IfOk result CanBeRecorded }
+    ensures other { IfOk result (λ entry. is_part entry ≡ false) }
 {
     let Ok(ns) = Ns::of(alloc, b"more") else {
         return Err(AllocError);

@@ -1,1 +1,2 @@
+mod Baseless
 mod Stays

@@ -1,10 +1,11 @@
 -- What a list of recorded entries keeps.
-use Rattle.std.specs.Prelude.{◌≡◌, ℕ, ◌<◌, List, [], ◌∷◌, Option, Some, None, All, IfSome}
+use Rattle.std.specs.Prelude.{◌≡◌, ℕ, ◌<◌, List, [], ◌∷◌, Option, Some, None, false, All, IfSome}
 use Rattle.hm_data.specs.declared.entry.Entry.{Entry}
 use Rattle.hm_data.specs.declared.entry.Entry.TheVariants as entry_is
 use Rattle.hm_data.specs.declared.sheet.Sheet.{Sheet}
 use Rattle.hm_entry.specs.Fits.{EntryFits}
-use Rattle.hm_hall.specs.Recording.{Accepts, Recording, bytes_of}
+use Rattle.hm_model.specs.Laws.{is_part}
+use Rattle.hm_hall.specs.Recording.{Accepts, Recording, behind, bytes_of}
 use Rattle.hm_hall.specs.declared.fault.Halt.{Halt}
 use Rattle.hm_hall.specs.declared.fault.Halt.TheVariants as halt_is
 
@@ -14,10 +15,11 @@ faults_in None = 0
 faults_in (Some halt_is.LogFault) = 1
 faults_in (Some (halt_is.JournalFull bytes)) = 0
 
--- a copy of the entry that is ready, which is accepted, and for which there is room
+-- a copy of the entry that is ready, which is accepted and no part of a base, and for which there is room
 pub record IsCopy (kept : Recording) (used room : ℕ) (copy : Entry) : Type 0 where
   pub next_is : (let k = kept in k.next ≡ Some copy)
   pub accepted : Accepts kept copy
+  pub other : is_part copy ≡ false
   pub fits : EntryFits copy
   pub has_room : used < room
 
@@ -25,9 +27,11 @@ pub record IsCopy (kept : Recording) (used room : ℕ) (copy : Entry) : Type 0 w
 abbrev pub IsRefused : Recording → Option Entry → Type 0
 IsRefused kept copy = copy ≡ None → (entry : Entry) → kept.next ≡ Some entry → Accepts kept entry → ⊥
 
--- each entry has a spelling, the bytes are those of a log of the entries, and the entry that is ready is copied or refused
+-- each entry has a spelling, no base stands before them, the bytes are those of a log of the entries, and the entry that is ready is
+-- copied or refused
 pub record IsWellKept (kept : Recording) (copy : Option Entry) (bytes used room : ℕ) : Type 0 where
   pub fits : (let k = kept in All EntryFits k.entries)
+  pub baseless : (let k = kept in behind k.entries ≡ k.entries)
   pub sized : (let k = kept in bytes ≡ bytes_of k.entries)
   pub copied : IfSome copy (IsCopy kept used room)
   pub refused : IsRefused kept copy

@@ -4,13 +4,14 @@ ghost use Rattle.hm_data.specs.declared.entry.Entry.TheVariants as entry_is;
 ghost use Rattle.hm_entry.specs.Fits.{EntryFits};
 ghost use Rattle.hm_hall.specs.Recording.{Accepts, CanBeRecorded, entries_of};
 ghost use Rattle.hm_model.specs.Base.{AreSheets};
+ghost use Rattle.hm_model.specs.Laws.{is_part};
 ghost use Rattle.hm_rows_exec.specs.Keeping.{IsBegun, IsKeptAlone};
 
 use hm_data::{Entry, Sheet};
 use hm_disk::Anchor;
 use hm_entry::{encode_into, length};
 use hm_frames::entries_fit_frames;
-use hm_hall::{Halt, RecordFault, Recorder};
+use hm_hall::{Halt, RecordFault, Recorder, parts_stand_first};
 use hm_names::{Copied, List};
 use std::alloc::{AllocError, Global};
 use std::marker::Model;
@@ -88,7 +89,8 @@ fn fits(bytes: u64, length: u64, hard: u64) -> bool
 impl Kept {
     // The list with this one entry.
     fn of(alloc: Global, entry: &Entry, bounds: Bounds) -> Result<Kept, AllocError>
-        requires { CanBeRecorded entry.now }
+        requires fits { CanBeRecorded entry.now }
+        requires other { is_part entry.now ≡ false }
         ensures { IfOk result (IsKeptAlone entry.now) }
     {
         let mut entries = Vec::new(alloc);
@@ -204,6 +206,7 @@ impl Recorder for Kept {
         self.left -= 1;
         self.bytes += length(&copy) + 5;
         self.entries.push_reserved(copy);
+        parts_stand_first();
         Ok(number)
     }
 

@@ -2,9 +2,9 @@
 ghost use Rattle.std.specs.Prelude.{◌≡◌, ◌<◌, ◌≤◌, length, IfOk, IfSome, IsTrue, None, Some};
 ghost use Rattle.hm_exec.specs.Claiming.{AnswersClaim, IsAnswer};
 ghost use Rattle.hm_exec.specs.Moment.{past_of};
+ghost use Rattle.hm_hall.specs.Recording.{past_in};
 ghost use Rattle.hm_model.specs.Editions.{editions, sheets_in};
 ghost use Rattle.hm_model.specs.Evaluation.{CanRun};
-ghost use Rattle.hm_model.specs.Journal.{back};
 ghost use Rattle.hm_model.specs.Locks.{IsIn};
 ghost use Rattle.hm_model.specs.Base.{AreSheets};
 ghost use Rattle.hm_rows_exec.specs.Keeping.{IsBegun};
@@ -62,7 +62,7 @@ fn sheets(alloc: Global) -> Result<List<Sheet>, AllocError>
 
 // The executor of a journal that was recorded.
 fn exec_of(alloc: Global, state: State, kept: Kept) -> Result<Exec<Kept>, AllocError>
-    requires same { kept.entries ≡ state.entries }
+    requires same { past_in kept ≡ state.past }
     requires going { kept.halted ≡ None }
 {
     match Exec::new(alloc, state, kept) {
@@ -105,10 +105,10 @@ fn next_claim<L: Ledger>(
 
 // What was claimed, with what its handler answers.
 fn answered(alloc: Global, state: &State, taken: Taken) -> Result<Out, AllocError>
-    requires edition { taken.was.edition ≤ editions (back state.now.entries) }
-    requires runs { CanRun (sheets_in (back state.now.entries) taken.was.edition) taken.was }
+    requires edition { taken.was.edition ≤ editions state.now.past }
+    requires runs { CanRun (sheets_in state.now.past taken.was.edition) taken.was }
     ensures pid { IfOk result (λ out. out.0 ≡ taken.pid) }
-    ensures answer { IfOk result (λ out. IsAnswer (back state.now.entries) out.1 out.2) }
+    ensures answer { IfOk result (λ out. IsAnswer state.now.past out.1 out.2) }
 {
     let Taken { pid, was } = taken;
     let out = answer(alloc, state.records().sheets_of(was.edition), &was)?;

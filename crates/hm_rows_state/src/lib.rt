@@ -2,6 +2,8 @@
 #![tactic(auto)]
 
 #[cfg(test)]
+mod based;
+#[cfg(test)]
 mod journal;
 #[cfg(test)]
 mod readers;

@@ -85,11 +85,11 @@ fn seen(rt: &(impl Abort + AllocGlobal), state: &State) -> Result<String, AllocE
         group: 1,
         number: 1,
     };
-    let entries = state.entries();
+    let counted = state.counted();
     let last = state.last_pid();
     let made = state.by_nonce(&nonce);
     let mut text = String::new(rt.alloc());
-    write!(text, "{entries} {last} {made:?}").expect(rt, "memory");
+    write!(text, "{counted} {last} {made:?}").expect(rt, "memory");
     put_input(rt.alloc(), state, &mut text).expect(rt, "memory");
     Ok(text)
 }
