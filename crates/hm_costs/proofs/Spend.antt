@@ -1,41 +1,31 @@
 -- What each act costs that calls nobody and places nothing, and what procedures it makes.
 use Rattle.std.proofs.Common.{◌≡◌, ℕ, zero, suc, ◌+◌, ◌*◌, ◌-◌, ◌/◌, ◌≤◌, List, [], ◌∷◌, Bool, true, false, Option, Some, None, cond, nat_le, length, take, drop, map, refl, ap, sym, ◌∙◌, subst, arith, inl, inr, length-drop}
-use Rattle.std.proofs.lemmas.Bool.{cases_Bool, false≢true}
+use Rattle.std.proofs.lemmas.Bool.{cases_Bool, true≢false}
 use Rattle.std.proofs.lemmas.List.{length-map}
 use Rattle.hm_names.specs.Region.{Region}
 use Rattle.hm_names.specs.declared.table.TableName.{TableName}
 use Rattle.hm_data.specs.declared.act.Act.{Act}
-use Rattle.hm_data.specs.declared.act.Act.TheVariants as act_is
-use Rattle.hm_data.specs.declared.answer.Cause.{Cause}
 use Rattle.hm_data.specs.declared.args.Args.{Args}
 use Rattle.hm_data.specs.declared.args.Args.TheVariants as args_are
 use Rattle.hm_data.specs.declared.args.Child.{Child}
 use Rattle.hm_data.specs.declared.args.Child.TheVariants as child_is
-use Rattle.hm_data.specs.declared.call.Told.TheVariants as told_is
-use Rattle.hm_data.specs.declared.catalog.CatKey.TheVariants as key_is
-use Rattle.hm_data.specs.declared.catalog.CatRow.TheVariants as row_is
-use Rattle.hm_data.specs.declared.catalog.TableState.TheVariants as state_is
 use Rattle.hm_data.specs.declared.place.Goal.{Goal}
 use Rattle.hm_data.specs.declared.place.Goal.TheVariants as goal_is
 use Rattle.hm_data.specs.declared.step.StepIn.{StepIn}
 use Rattle.hm_data.specs.declared.step.StepOut.{StepOut}
 use Rattle.hm_model.specs.Acts.{act_answer}
-use Rattle.hm_model.specs.Catalog.{row_at, set_to}
-use Rattle.hm_model.specs.Changes.{add_ranges, changed, remove_regions, split_edits}
-use Rattle.hm_model.specs.Checks.{can_split, namespace_empty, namespace_free, table_disabled, table_enabled, table_free}
 use Rattle.hm_model.specs.Costs.{by_64s}
-use Rattle.hm_model.specs.CrashActs.{reassign_all}
 use Rattle.hm_model.specs.Locks.{in_name_order, with_region, with_region_at}
-use Rattle.hm_model.specs.NamespaceActs.{has_table, version_of}
-use Rattle.hm_model.specs.Outs.{checked, edits_rows, ends_with, fails, given, gives, on_to, spawns}
-use Rattle.hm_model.specs.Pieces.{Batch, adding, batches, by_64, dropping, numbers_from, pieces_of, ranges_between, transits, with_batch}
-use Rattle.hm_model.specs.Kinds.{table_of_first}
-use Rattle.hm_model.specs.RegionActs.{cut_of, merge_cause, regions_for}
-use Rattle.hm_model.specs.RowsSaid.{Rows, all_among, in_state, in_version, live_among}
+use Rattle.hm_model.specs.Outs.{spawns}
+use Rattle.hm_model.specs.Pieces.{Batch, adding, batches, by_64, dropping, numbers_from, pieces_of, transits, with_batch}
+use Rattle.hm_model.specs.RegionActs.{regions_for}
+use Rattle.hm_model.specs.RowsSaid.{Rows, all_among, live_among}
 use Rattle.hm_model.specs.Tree.{args_in}
 use Rattle.hm_model.specs.Undoing.{closed_by}
-use Rattle.hm_model.specs.Views.{asked_of, bounds_of, first_id_of, namespace_of, region_of, regions_in, table_of}
-use Rattle.hm_model.specs.Wanted.{ids_of, server_of}
+use Rattle.hm_model.specs.Views.{bounds_of, first_id_of, regions_in, table_of}
+use Rattle.hm_model.specs.Wanted.{server_of}
+use Rattle.hm_model.specs.MadeOf.{AreMoved, IsMadeOf, IsSent, Makes, Making, Which, making}
+use Rattle.hm_model.proofs.MadeOf.{made_of}
 use Rattle.hm_model.proofs.PlainActs.{is_plain}
 use Rattle.hm_costs.proofs.Sums.{total}
 use Rattle.hm_model.specs.Keys.{same_table}
@@ -43,7 +33,6 @@ use Rattle.hm_names.specs.Order.{region_cmp}
 use Rattle.std.specs.declared.cmp.Ordering.{Ordering}
 use Rattle.std.specs.declared.cmp.Ordering.TheVariants.{Equal, Greater, Less}
 use Rattle.std.proofs.lemmas.Bool.{leb-false}
-use Rattle.hm_names.specs.Server.{Server}
 use Rattle.hm_costs.proofs.Each.{Each}
 
 -- what a transit costs, from its first row on
@@ -63,8 +52,7 @@ price args = 3
 
 -- transits are made to assign or to unassign
 abbrev pub IsChildGoal : Goal → Type 0
-IsChildGoal goal_is.Move = ⊥
-IsChildGoal goal = Unit {0}
+IsChildGoal goal = IsSent goal
 
 -- what procedures are made by acts that call nobody
 abbrev pub IsChild : Args → Args → Type 0
@@ -87,27 +75,39 @@ abbrev pub pieces_in : Option (List (List ℕ)) → ℕ
 pieces_in None = 0
 pieces_in (Some bounds) = by_64s (length bounds - 1)
 
+-- what so many transits cost
+abbrev pub transits_price : Goal → ℕ → ℕ
+transits_price goal_is.Assign n = 6 * n
+transits_price goal_is.Unassign n = 5 * n
+transits_price goal_is.Move n = 12 * n
+
+-- how many regions an act has opened or closed, where so many are counted
+abbrev pub many_of : Which → Args → ℕ → ℕ
+many_of Which.own args n = many (bounds_of args) n
+many_of Which.closed args n = length (closed_by args)
+many_of (Which.drawn count) args n = count
+many_of Which.lost args n = n
+
 -- what a step of an act costs with all that it makes, where so many regions are counted
+abbrev pub spend_by : Making → Args → ℕ → ℕ
+spend_by Making.nobody args n = 1
+spend_by Making.layout args n = 4
+spend_by Making.fencing args n = 4
+spend_by Making.adds args n = 1 + pieces_in (bounds_of args)
+spend_by Making.drops args n = 1 + by_64s n
+spend_by (Making.moves goal which) args n = 1 + transits_price goal (many_of which args n)
+
 abbrev pub spend : Act → Args → ℕ → ℕ
-spend act_is.Layout args n = 4
-spend act_is.AddRegions args n = 1 + pieces_in (bounds_of args)
-spend act_is.OpenRegions args n = 1 + 6 * many (bounds_of args) n
-spend act_is.DropRegions args n = 1 + by_64s n
-spend act_is.CloseRegions args n = 1 + 5 * many (bounds_of args) n
-spend act_is.CloseParent args n = 1 + 5 * length (closed_by args)
-spend act_is.OpenDaughters args n = 13
-spend act_is.CloseParents args n = 1 + 5 * length (closed_by args)
-spend act_is.OpenMerged args n = 7
-spend act_is.Fence args n = 4
-spend act_is.Reassign args n = 1 + 6 * n
-spend act args n = 1
+spend act args n = spend_by (making act) args n
 
 -- the regions that are counted in the rows that are read
+abbrev pub rows_by : Making → Option TableName → Rows → ℕ
+rows_by (Making.moves goal Which.own) (Some table) rows = length (live_among table rows)
+rows_by Making.drops (Some table) rows = length (all_among table rows)
+rows_by making table rows = 0
+
 abbrev pub rows_counted : Act → Option TableName → Rows → ℕ
-rows_counted act_is.OpenRegions (Some table) rows = length (live_among table rows)
-rows_counted act_is.CloseRegions (Some table) rows = length (live_among table rows)
-rows_counted act_is.DropRegions (Some table) rows = length (all_among table rows)
-rows_counted act table rows = 0
+rows_counted act table rows = rows_by (making act) table rows
 
 -- what is answered costs so much, and makes such procedures
 pub record IsSpent (up : Args) (amount : ℕ) (out : StepOut) : Type 0 where
@@ -134,12 +134,6 @@ length_with region (first ∷ more) = by (length_with region more) (region_cmp r
 pub length_ordered : (list : List Region) → length (in_name_order list) ≡ length list
 length_ordered [] = refl
 length_ordered (region ∷ more) = let on = length_ordered more in length_with region (in_name_order more) ∙ omega (arith, on)
-
--- what so many transits cost
-abbrev pub transits_price : Goal → ℕ → ℕ
-transits_price goal_is.Assign n = 6 * n
-transits_price goal_is.Unassign n = 5 * n
-transits_price goal_is.Move n = 12 * n
 
 one_more : (goal : Goal) (n a b : ℕ) → a ≡ transit_price goal + b → b ≡ transits_price goal n → a ≡ transits_price goal (suc n)
 one_more goal_is.Assign n a b sum before = omega (arith, sum, before)
@@ -208,27 +202,9 @@ module _ (up : Args) (amount : ℕ) (some : 1 ≤ amount) where
     children = subst (λ c. AreChildren up (args_in c)) (sym none) tt;
   }
 
-  check_spent : (next : ℕ) (cause : Option Cause) → IsSpent up amount (checked next cause)
-  check_spent next None = none_spent (checked next None) refl
-  check_spent next (Some cause) = none_spent (fails cause) refl
-
-  given_spent : {A : Type 0} (part : Option A) (next : ℕ) (act : A → StepOut) → ((x : A) → IsSpent up amount (act x)) → IsSpent up amount (given part next act)
-  given_spent None next act each = none_spent (gives (on_to next) []) refl
-  given_spent (Some part) next act each = each part
-
 pub spawns_spent : (up : Args) (amount : ℕ) (next : ℕ) (children : List Child) → 1 + total price (args_in children) ≤ amount → AreChildren up (args_in children) → IsSpent up amount (spawns next children)
 spawns_spent up amount next [] pays all = record { pays = pays; children = tt }
 spawns_spent up amount next (child ∷ more) pays all = record { pays = pays; children = all }
-
-add_spent : (up : Args) (bounds : Option (List (List ℕ))) (next : ℕ) (table : TableName) → table_of up ≡ Some table → IsSpent up (1 + pieces_in bounds) (given bounds next (λ bounds. spawns next (adding (length bounds) table (first_id_of up) bounds)))
-add_spent up None next table own = none_spent up 1 (omega arith) (gives (on_to next) []) refl
-add_spent up (Some bounds) next table own =
-    spawns_spent up (1 + by_64s (length bounds - 1)) next (adding (length bounds) table (first_id_of up) bounds)
-    (let low = adding_price (length bounds) table (first_id_of up) bounds in omega (arith, low)) (adding_children up (length bounds) table own (first_id_of up) bounds)
-
-adds_spent : (up : Args) (table : Option TableName) → table_of up ≡ table → (next : ℕ) → IsSpent up (1 + pieces_in (bounds_of up)) (given table next (λ table. given (bounds_of up) next (λ bounds. spawns next (adding (length bounds) table (first_id_of up) bounds))))
-adds_spent up None own next = none_spent up (1 + pieces_in (bounds_of up)) (omega arith) (gives (on_to next) []) refl
-adds_spent up (Some table) own next = add_spent up (bounds_of up) next table own
 
 length_numbers : (first count : ℕ) → length (numbers_from first count) ≡ count
 length_numbers first zero = refl
@@ -242,88 +218,56 @@ for_length : (table : TableName) (first : ℕ) (bounds : Option (List (List ℕ)
 for_length table first None rows = refl
 for_length table first (Some bounds) rows = length_regions table (numbers_from first (length bounds - 1)) ∙ length_numbers first (length bounds - 1)
 
-open_spent : (up : Args) (table : Option TableName) (next : ℕ) (rows : Rows) → IsSpent up (spend act_is.OpenRegions up (rows_counted act_is.OpenRegions table rows)) (given table next (λ table. spawns next (transits goal_is.Assign (regions_for table (first_id_of up) (bounds_of up) rows))))
-open_spent up None next rows = none_spent up (1 + 6 * many (bounds_of up) 0) (omega arith) (gives (on_to next) []) refl
-open_spent up (Some table) next rows =
-    let t = transits_spent up goal_is.Assign tt (regions_for table (first_id_of up) (bounds_of up) rows) in
-    let sum = t.0 in
-    let count = for_length table (first_id_of up) (bounds_of up) rows in
-    spawns_spent up (1 + 6 * many (bounds_of up) (length (live_among table rows))) next (transits goal_is.Assign (regions_for table (first_id_of up) (bounds_of up) rows)) (omega (arith, sum, count)) t.1
-
-close_spent : (up : Args) (table : Option TableName) (next : ℕ) (rows : Rows) → IsSpent up (spend act_is.CloseRegions up (rows_counted act_is.CloseRegions table rows)) (given table next (λ table. spawns next (transits goal_is.Unassign (regions_for table (first_id_of up) (bounds_of up) rows))))
-close_spent up None next rows = none_spent up (1 + 5 * many (bounds_of up) 0) (omega arith) (gives (on_to next) []) refl
-close_spent up (Some table) next rows =
-    let t = transits_spent up goal_is.Unassign tt (regions_for table (first_id_of up) (bounds_of up) rows) in
-    let sum = t.0 in
-    let count = for_length table (first_id_of up) (bounds_of up) rows in
-    spawns_spent up (1 + 5 * many (bounds_of up) (length (live_among table rows))) next (transits goal_is.Unassign (regions_for table (first_id_of up) (bounds_of up) rows)) (omega (arith, sum, count)) t.1
-
-drop_spent : (up : Args) (table : Option TableName) → table_of up ≡ table → (next : ℕ) (rows : Rows) → IsSpent up (spend act_is.DropRegions up (rows_counted act_is.DropRegions table rows)) (given table next (λ table. spawns next (dropping table (map (λ region. region.id) (all_among table rows)))))
-drop_spent up None own next rows = none_spent up (1 + by_64s 0) (omega arith) (gives (on_to next) []) refl
-drop_spent up (Some table) own next rows =
-    let sum = pieces_price table (by_64 (map (λ (region : Region). region.id) (all_among table rows))) in
-    let few = pieces_many (length (map (λ (region : Region). region.id) (all_among table rows))) (map (λ (region : Region). region.id) (all_among table rows)) in
-    let count = length-map (all_among table rows) (λ (region : Region). region.id) in
-    spawns_spent up (1 + by_64s (length (all_among table rows))) next (dropping table (map (λ region. region.id) (all_among table rows))) (omega (arith, sum, few, count)) (pieces_children up table own (by_64 (map (λ region. region.id) (all_among table rows))))
-
-parents_spent : (up : Args) (next : ℕ) → IsSpent up (1 + 5 * length (closed_by up)) (spawns next (transits goal_is.Unassign (closed_by up)))
-parents_spent up next =
-    let t = transits_spent up goal_is.Unassign tt (closed_by up) in
-    let sum = t.0 in
-    spawns_spent up (1 + 5 * length (closed_by up)) next (transits goal_is.Unassign (closed_by up)) (omega (arith, sum)) t.1
-
-new_spent : (up : Args) (count next : ℕ) → IsSpent up (1 + 6 * count) (given (table_of up) next (λ table. spawns next (transits goal_is.Assign (regions_in table (numbers_from (first_id_of up) count)))))
-new_spent up count next = given_spent up (1 + 6 * count) (omega arith) (table_of up) next (λ table. spawns next (transits goal_is.Assign (regions_in table (numbers_from (first_id_of up) count)))) (λ table.
-    let t = transits_spent up goal_is.Assign tt (regions_in table (numbers_from (first_id_of up) count)) in
-    let sum = t.0 in
-    let ids = length_regions table (numbers_from (first_id_of up) count) in
-    let numbers = length_numbers (first_id_of up) count in
-    spawns_spent up (1 + 6 * count) next (transits goal_is.Assign (regions_in table (numbers_from (first_id_of up) count))) (omega (arith, sum, ids, numbers)) t.1)
-
-fence_spent : (up : Args) (server : Option Server) → server_of up ≡ server → (next : ℕ) → IsSpent up 4 (given server next (λ server. spawns next (child_is.One (args_are.FenceCall server) ∷ [])))
-fence_spent up None e next = none_spent up 4 (omega arith) (gives (on_to next) []) refl
-fence_spent up (Some server) e next = record { pays = omega arith; children = (e, tt) }
-
-reassign_spent : (up : Args) (next : ℕ) (children : List Child) (n : ℕ) → total price (args_in children) ≡ 6 * n → AreChildren up (args_in children) → IsSpent up (1 + 6 * n) (reassign_all next children)
-reassign_spent up next [] n sum all = none_spent up (1 + 6 * n) (omega arith) (ends_with told_is.Nothing) refl
-reassign_spent up next (child ∷ more) n sum all = record { pays = omega (arith, sum); children = all }
-
 -- the number that an act counts as it runs
+abbrev pub seen_by : Making → StepIn → ℕ
+seen_by (Making.moves goal Which.lost) at = length at.on_server
+seen_by making at = rows_by making (table_of at.args) at.rows
+
 abbrev pub counted_at : Act → StepIn → ℕ
-counted_at act_is.Reassign at = length at.on_server
-counted_at act at = rows_counted act (table_of at.args) at.rows
+counted_at act at = seen_by (making act) at
+
+-- so many regions are opened or closed
+moved_many : (at : StepIn) (goal : Goal) (which : Which) → {regions : List Region} → AreMoved at which regions → length regions ≡ many_of which at.args (seen_by (Making.moves goal which) at)
+moved_many at goal which (AreMoved.of_table table own) = for_length table (first_id_of at.args) (bounds_of at.args) at.rows ∙ ap (λ o. many (bounds_of at.args) (rows_by (Making.moves goal Which.own) o at.rows)) (sym own)
+moved_many at goal which AreMoved.of_closed = refl
+moved_many at goal which (AreMoved.of_drawn count table own) = length_regions table (numbers_from (first_id_of at.args) count) ∙ length_numbers (first_id_of at.args) count
+moved_many at goal which AreMoved.of_lost = refl
+
+-- a step costs its entry at least
+spend_some : (making : Making) (args : Args) (n : ℕ) → 1 ≤ spend_by making args n
+spend_some Making.nobody args n = omega arith
+spend_some making args n = omega arith
+
+abbrev IsSpentBy : StepIn → StepOut → Making → Type 0
+IsSpentBy at out making = IsSpent at.args (spend_by making at.args (seen_by making at)) out
+
+spent_makes : (act : Act) (next : ℕ) (at : StepIn) → is_plain act ≡ true → {children : List Child} → Makes act at children → IsSpentBy at (spawns next children) (making act)
+spent_makes act next at h (Makes.lays only) = subst (IsSpentBy at (spawns next (child_is.One (args_are.LayoutCall at.root) ∷ []))) (sym only) (record { pays = omega arith; children = (tt, tt) })
+spent_makes act next at h (Makes.fences only server is) = subst (IsSpentBy at (spawns next (child_is.One (args_are.FenceCall server) ∷ []))) (sym only) (record { pays = omega arith; children = (is, tt) })
+spent_makes act next at h (Makes.adds_all only table is bounds are) =
+    let children = adding (length bounds) table (first_id_of at.args) bounds in
+    let low = adding_price (length bounds) table (first_id_of at.args) bounds in
+    subst (IsSpentBy at (spawns next children)) (sym only) (subst (λ o. IsSpent at.args (1 + pieces_in o) (spawns next children)) (sym are)
+    (spawns_spent at.args (1 + by_64s (length bounds - 1)) next children (omega (arith, low)) (adding_children at.args (length bounds) table is (first_id_of at.args) bounds)))
+spent_makes act next at h (Makes.drops_all only table is) =
+    let ids = map (λ (region : Region). region.id) (all_among table at.rows) in
+    let sum = pieces_price table (by_64 ids) in
+    let few = pieces_many (length ids) ids in
+    let count = length-map (all_among table at.rows) (λ (region : Region). region.id) in
+    subst (IsSpentBy at (spawns next (dropping table ids))) (sym only) (subst (λ o. IsSpent at.args (1 + by_64s (rows_by Making.drops o at.rows)) (spawns next (dropping table ids))) (sym is)
+    (spawns_spent at.args (1 + by_64s (length (all_among table at.rows))) next (dropping table ids) (omega (arith, sum, few, count)) (pieces_children at.args table is (by_64 ids))))
+spent_makes act next at h (Makes.sends goal sent which only regions are) =
+    let t = transits_spent at.args goal sent regions in
+    let sum = t.0 in
+    let count = ap (transits_price goal) (moved_many at goal which are) in
+    subst (IsSpentBy at (spawns next (transits goal regions))) (sym only)
+    (spawns_spent at.args (1 + transits_price goal (many_of which at.args (seen_by (Making.moves goal which) at))) next (transits goal regions) (omega (arith, sum, count)) t.1)
+spent_makes act next at h (Makes.opens off region is server there) = absurd (true≢false (sym h ∙ off))
+
+spent_made : (act : Act) (next : ℕ) (at : StepIn) → is_plain act ≡ true → {out : StepOut} → IsMadeOf act next at out → IsSpentBy at out (making act)
+spent_made act next at h (IsMadeOf.made children makes) = spent_makes act next at h makes
+spent_made act next at h (IsMadeOf.shut off region is server there) = absurd (true≢false (sym h ∙ off))
+spent_made act next at h other = none_spent at.args (spend act at.args (counted_at act at)) (spend_some (making act) at.args (counted_at act at)) _ refl
 
 pub act_spent : (act : Act) → is_plain act ≡ true → (next : ℕ) (at : StepIn) → IsSpent at.args (spend act at.args (counted_at act at)) (act_answer act next at)
-act_spent act_is.CheckNamespaceFree h next at = given_spent at.args 1 (omega arith) (namespace_of at.args) next (λ ns. checked next (namespace_free (row_at at.rows (key_is.Ns ns)))) (λ ns. check_spent at.args 1 (omega arith) next (namespace_free (row_at at.rows (key_is.Ns ns))))
-act_spent act_is.AddNamespace h next at = given_spent at.args 1 (omega arith) (namespace_of at.args) next (λ ns. edits_rows next (set_to (row_at at.rows) (key_is.Ns ns) (Some row_is.Ns) ∷ [])) (λ ns. none_spent at.args 1 (omega arith) _ refl)
-act_spent act_is.CheckNamespaceEmpty h next at = given_spent at.args 1 (omega arith) (namespace_of at.args) next (λ ns. checked next (namespace_empty (row_at at.rows (key_is.Ns ns)) (has_table ns at.rows))) (λ ns. check_spent at.args 1 (omega arith) next (namespace_empty (row_at at.rows (key_is.Ns ns)) (has_table ns at.rows)))
-act_spent act_is.DropNamespace h next at = given_spent at.args 1 (omega arith) (namespace_of at.args) next (λ ns. edits_rows next (set_to (row_at at.rows) (key_is.Ns ns) None ∷ [])) (λ ns. none_spent at.args 1 (omega arith) _ refl)
-act_spent act_is.CheckTableFree h next at = given_spent at.args 1 (omega arith) (table_of at.args) next (λ table. checked next (table_free (row_at at.rows (key_is.Ns table.ns)) (row_at at.rows (key_is.Table table)))) (λ table. check_spent at.args 1 (omega arith) next (table_free (row_at at.rows (key_is.Ns table.ns)) (row_at at.rows (key_is.Table table))))
-act_spent act_is.AddTable h next at = given_spent at.args 1 (omega arith) (table_of at.args) next (λ table. edits_rows next (set_to (row_at at.rows) (key_is.Table table) (Some (row_is.Table state_is.Disabled 1)) ∷ [])) (λ table. none_spent at.args 1 (omega arith) _ refl)
-act_spent act_is.Layout h next at = record { pays = omega arith; children = (tt, tt) }
-act_spent act_is.AddRegions h next at = adds_spent at.args (table_of at.args) refl next
-act_spent act_is.SetEnabling h next at = given_spent at.args 1 (omega arith) (table_of at.args) next (λ table. edits_rows next (changed (row_at at.rows) (key_is.Table table) (in_state state_is.Enabling) ∷ [])) (λ table. none_spent at.args 1 (omega arith) _ refl)
-act_spent act_is.OpenRegions h next at = open_spent at.args (table_of at.args) next at.rows
-act_spent act_is.SetEnabled h next at = given_spent at.args 1 (omega arith) (table_of at.args) next (λ table. edits_rows next (changed (row_at at.rows) (key_is.Table table) (in_state state_is.Enabled) ∷ [])) (λ table. none_spent at.args 1 (omega arith) _ refl)
-act_spent act_is.CheckTableDisabled h next at = given_spent at.args 1 (omega arith) (table_of at.args) next (λ table. checked next (table_disabled (row_at at.rows (key_is.Table table)))) (λ table. check_spent at.args 1 (omega arith) next (table_disabled (row_at at.rows (key_is.Table table))))
-act_spent act_is.DropRegions h next at = drop_spent at.args (table_of at.args) refl next at.rows
-act_spent act_is.DropTable h next at = given_spent at.args 1 (omega arith) (table_of at.args) next (λ table. edits_rows next (set_to (row_at at.rows) (key_is.Table table) None ∷ [])) (λ table. none_spent at.args 1 (omega arith) _ refl)
-act_spent act_is.CheckTableEnabled h next at = given_spent at.args 1 (omega arith) (table_of at.args) next (λ table. checked next (table_enabled (row_at at.rows (key_is.Table table)))) (λ table. check_spent at.args 1 (omega arith) next (table_enabled (row_at at.rows (key_is.Table table))))
-act_spent act_is.SetDisabling h next at = given_spent at.args 1 (omega arith) (table_of at.args) next (λ table. edits_rows next (changed (row_at at.rows) (key_is.Table table) (in_state state_is.Disabling) ∷ [])) (λ table. none_spent at.args 1 (omega arith) _ refl)
-act_spent act_is.CloseRegions h next at = close_spent at.args (table_of at.args) next at.rows
-act_spent act_is.SetDisabled h next at = given_spent at.args 1 (omega arith) (table_of at.args) next (λ table. edits_rows next (changed (row_at at.rows) (key_is.Table table) (in_state state_is.Disabled) ∷ [])) (λ table. none_spent at.args 1 (omega arith) _ refl)
-act_spent act_is.SetVersion h next at = given_spent at.args 1 (omega arith) (table_of at.args) next (λ table. given (version_of (asked_of at.args)) next (λ version. edits_rows next (changed (row_at at.rows) (key_is.Table table) (in_version version) ∷ []))) (λ table. given_spent at.args 1 (omega arith) (version_of (asked_of at.args)) next (λ version. edits_rows next (changed (row_at at.rows) (key_is.Table table) (in_version version) ∷ [])) (λ version. none_spent at.args 1 (omega arith) _ refl))
-act_spent act_is.CheckSplit h next at = given_spent at.args 1 (omega arith) (region_of at.args) next (λ region. given (cut_of (asked_of at.args)) next (λ key. checked next (can_split (row_at at.rows (key_is.Table region.table)) (row_at at.rows (key_is.Region region)) key))) (λ region. given_spent at.args 1 (omega arith) (cut_of (asked_of at.args)) next (λ key. checked next (can_split (row_at at.rows (key_is.Table region.table)) (row_at at.rows (key_is.Region region)) key)) (λ key. check_spent at.args 1 (omega arith) next (can_split (row_at at.rows (key_is.Table region.table)) (row_at at.rows (key_is.Region region)) key)))
-act_spent act_is.CloseParent h next at = parents_spent at.args next
-act_spent act_is.UpdateSplitMeta h next at = given_spent at.args 1 (omega arith) (region_of at.args) next (λ region. given (cut_of (asked_of at.args)) next (λ key. edits_rows next (split_edits (row_at at.rows) region key (first_id_of at.args)))) (λ region. given_spent at.args 1 (omega arith) (cut_of (asked_of at.args)) next (λ key. edits_rows next (split_edits (row_at at.rows) region key (first_id_of at.args))) (λ key. none_spent at.args 1 (omega arith) _ refl))
-act_spent act_is.OpenDaughters h next at = new_spent at.args 2 next
-act_spent act_is.Finish h next at = none_spent at.args 1 (omega arith) _ refl
-act_spent act_is.CheckMerge h next at = check_spent at.args 1 (omega arith) next (merge_cause (table_of_first (closed_by at.args)) at.rows (closed_by at.args))
-act_spent act_is.CloseParents h next at = parents_spent at.args next
-act_spent act_is.UpdateMergeMeta h next at = none_spent at.args 1 (omega arith) _ refl
-act_spent act_is.OpenMerged h next at = new_spent at.args 1 next
-act_spent act_is.AddRegionRows h next at = given_spent at.args 1 (omega arith) (table_of at.args) next (λ table. given (bounds_of at.args) next (λ bounds. edits_rows next (add_ranges (row_at at.rows) table (first_id_of at.args) (ranges_between bounds)))) (λ table. given_spent at.args 1 (omega arith) (bounds_of at.args) next (λ bounds. edits_rows next (add_ranges (row_at at.rows) table (first_id_of at.args) (ranges_between bounds))) (λ bounds. none_spent at.args 1 (omega arith) _ refl))
-act_spent act_is.DropRegionRows h next at = given_spent at.args 1 (omega arith) (table_of at.args) next (λ table. edits_rows next (remove_regions (row_at at.rows) (regions_in table (ids_of at.args)))) (λ table. none_spent at.args 1 (omega arith) _ refl)
-act_spent act_is.Fence h next at = fence_spent at.args (server_of at.args) refl next
-act_spent act_is.Reassign h next at = let t = transits_spent at.args goal_is.Assign tt at.on_server in reassign_spent at.args next (transits goal_is.Assign at.on_server) (length at.on_server) t.0 t.1
-act_spent act h next at = absurd (false≢true h)
+act_spent act h next at = spent_made act next at h (made_of act next at)

@@ -1,6 +1,5 @@
 -- The regions that acts add have ids that were drawn.
 use Rattle.hm_data.specs.declared.act.Act.{Act}
-use Rattle.hm_data.specs.declared.act.Act.TheVariants as act_is
 use Rattle.hm_data.specs.declared.act.Back.{Back}
 use Rattle.hm_data.specs.declared.answer.Answer.{Answer}
 use Rattle.hm_data.specs.declared.answer.Answer.TheVariants as answer_is
@@ -11,40 +10,29 @@ use Rattle.hm_data.specs.declared.args.Args.TheVariants as args_are
 use Rattle.hm_data.specs.declared.args.Child.{Child}
 use Rattle.hm_data.specs.declared.args.Child.TheVariants as child_is
 use Rattle.hm_data.specs.declared.call.Told.{Told}
-use Rattle.hm_data.specs.declared.call.Told.TheVariants as told_is
 use Rattle.hm_data.specs.declared.call.Verb.{Verb}
-use Rattle.hm_data.specs.declared.call.Verb.TheVariants as verb_is
 use Rattle.hm_data.specs.declared.catalog.CatKey.TheVariants as key_is
-use Rattle.hm_data.specs.declared.catalog.CatRow.TheVariants as row_is
 use Rattle.hm_data.specs.declared.catalog.Edit.{Edit}
-use Rattle.hm_data.specs.declared.catalog.TableState.{TableState}
-use Rattle.hm_data.specs.declared.catalog.TableState.TheVariants as state_is
 use Rattle.hm_data.specs.declared.place.Goal.{Goal}
 use Rattle.hm_data.specs.declared.place.Goal.TheVariants as goal_is
 use Rattle.hm_data.specs.declared.place.Place.{Place}
-use Rattle.hm_data.specs.declared.place.RegionState.TheVariants as place_is
 use Rattle.hm_data.specs.declared.sheet.Row.{Row}
 use Rattle.hm_data.specs.declared.step.StepIn.{StepIn}
 use Rattle.hm_data.specs.declared.step.StepOut.{StepOut}
 use Rattle.hm_model.specs.Acts.{act_answer}
-use Rattle.hm_model.specs.CallActs.{call_assign, call_close, call_fence, call_layout, call_sweep, ends_as_told, layout_told, settle_call, settle_layout, unless_gone}
-use Rattle.hm_model.specs.Catalog.{row_at, set_to, Catalog}
+use Rattle.hm_model.specs.Catalog.{row_at, Catalog}
 use Rattle.hm_model.specs.Changes.{add_ranges, changed, merge_edits, remove_regions, split_edits, add_merged, mark_merged, merged_of, region_key, split_range}
-use Rattle.hm_model.specs.Checks.{can_split, namespace_empty, namespace_free, region_ready, table_disabled, table_enabled, table_free, by_start, parts_of}
-use Rattle.hm_model.specs.CrashActs.{fence, reassign, reassign_all}
+use Rattle.hm_model.specs.Checks.{by_start, parts_of}
 use Rattle.hm_model.specs.Evaluation.{is_cut_off, row_answer, turn_answer}
 use Rattle.hm_model.specs.Kinds.{table_of_first, table_of_request}
-use Rattle.hm_model.specs.NamespaceActs.{has_table, version_of, add_namespace, add_table, check_free_namespace, check_namespace_empty, check_table_disabled, check_table_enabled, check_table_free, drop_namespace, drop_table, lay_out, set_state, set_version}
-use Rattle.hm_model.specs.Outs.{calls, checked, edits_rows, ends_with, fails, given, gives, on_to, places, spawns}
-use Rattle.hm_model.specs.Pieces.{Batch, adding, batches, by_64, dropping, numbers_from, ranges_between, transits, ranges_from}
-use Rattle.hm_model.specs.RegionActs.{cut_of, merge_cause, regions_for, add_region_rows, add_regions, check_merge, check_split, close_parents, close_regions, drop_region_rows, drop_regions, open_new, open_regions, update_merge_meta, update_split_meta}
-use Rattle.hm_model.specs.RowsSaid.{Rows, all_among, in_state, in_version, in_status, range_in}
+use Rattle.hm_model.specs.Outs.{ends_with, fails, gives, on_to, spawns}
+use Rattle.hm_model.specs.Pieces.{Batch, adding, batches, by_64, ranges_between, transits, ranges_from}
+use Rattle.hm_model.specs.RegionActs.{cut_of}
+use Rattle.hm_model.specs.RowsSaid.{Rows, all_among, in_status, range_in}
 use Rattle.hm_model.specs.Undoing.{closed_by, turned, turned_round, undo_out}
-use Rattle.hm_model.specs.TransitActs.{closed_or_lost, is_placed, is_state, is_told, lost_if, may_open_in, nowhere, told_place, behind_close, candidate, check_move, close_at, close_or_go, close_there, confirm_opened, get_assign_candidate, is_open, open_there, opened_or_not}
-use Rattle.hm_model.specs.Views.{asked_of, bounds_of, first_id_of, namespace_of, region_of, regions_in, table_of}
-use Rattle.hm_model.specs.Wanted.{goal_in, ids_of, layout_of, server_of}
+use Rattle.hm_model.specs.Views.{asked_of, bounds_of, first_id_of, region_of, regions_in, table_of}
+use Rattle.hm_model.specs.Wanted.{ids_of}
 use Rattle.hm_names.specs.Region.{Region}
-use Rattle.hm_names.specs.Server.{Server}
 use Rattle.hm_names.specs.declared.pid.Pid.{Pid}
 use Rattle.hm_data.specs.declared.act.Back.TheVariants as back_is
 use Rattle.hm_names.specs.declared.table.TableName.{TableName}
@@ -65,6 +53,8 @@ use Rattle.hm_names.specs.declared.range.KeyRange.{KeyRange}
 use Rattle.hm_model.specs.declared.merged.Merged.{Merged}
 use Rattle.hm_model.specs.Tree.{new_ids}
 use Rattle.hm_frames.proofs.ShortForms.{Each}
+use Rattle.hm_model.specs.MadeOf.{Edits, IsMadeOf, IsOwnKey, Makes}
+use Rattle.hm_model.proofs.MadeOf.{made_of}
 
 -- the id of a region was drawn, where so many were for its table
 abbrev pub IsLow : (TableName → ℕ) → CatKey → Type 0
@@ -288,75 +278,15 @@ module _ (d : TableName → ℕ) where
   edited : (answer : Answer) (edits : List Edit) → Each (IsLowEdit d) edits → IsLowOut d (gives answer edits)
   edited answer edits are = record { edits = are; children = tt; followers = tt }
 
-  one_edit : (next : ℕ) (edit : Edit) → IsLowEdit d edit → IsLowOut d (edits_rows next (edit ∷ []))
-  one_edit next edit is = edited (on_to next) (edit ∷ []) (is, tt)
-
-  onwards : (next : ℕ) → IsLowOut d (gives (on_to next) [])
-  onwards next = edited (on_to next) [] tt
-
   ended : (next : ℕ) (told : Told) → IsLowOut d (ends_with told)
   ended next told = edited (answer_is.Done told) [] tt
 
   failed : (next : ℕ) (cause : Cause) → IsLowOut d (fails cause)
   failed next cause = edited (answer_is.Fail cause) [] tt
 
-  checks : (next : ℕ) (cause : Option Cause) → IsLowOut d (checked next cause)
-  checks next None = edited (answer_is.More next) [] tt
-  checks next (Some cause) = failed next cause
-
   spawned : (next : ℕ) (children : List Child) → Each (IsLowChild d) children → IsLowOut d (spawns next children)
   spawned next [] are = edited (answer_is.More next) [] tt
   spawned next (child ∷ more) are = record { edits = tt; children = are; followers = tt }
-
-  called : (next : ℕ) (verb : Verb) → IsLowOut d (calls next verb)
-  called next verb = plainly (answer_is.Await next) (Some verb) None
-
-  with_part : {A : Type 0} (part : Option A) (next : ℕ) (act : A → StepOut) → ((a : A) → part ≡ Some a → IsLowOut d (act a)) → IsLowOut d (given part next act)
-  with_part None next act each = onwards next
-  with_part (Some a) next act each = each a refl
-
-  gone_or : (next : ℕ) (gone : Bool) (out : StepOut) → IsLowOut d out → IsLowOut d (unless_gone gone out)
-  gone_or next true out is = ended next told_is.Gone
-  gone_or next false out is = is
-
-  as_told : (next : ℕ) (report : Option Told) → IsLowOut d (ends_as_told report)
-  as_told next None = ended next told_is.Nothing
-  as_told next (Some told) = ended next told
-
-  by_layout : (next : ℕ) (told : Told) → IsLowOut d (layout_told told)
-  by_layout next told_is.Nothing = ended next told_is.Nothing
-  by_layout next told_is.Opened = ended next told_is.Opened
-  by_layout next told_is.FailedOpen = ended next told_is.FailedOpen
-  by_layout next told_is.Closed = ended next told_is.Closed
-  by_layout next told_is.Gone = ended next told_is.Gone
-  by_layout next told_is.Fenced = ended next told_is.Fenced
-  by_layout next told_is.LaidOut = ended next told_is.LaidOut
-  by_layout next told_is.Refused = failed next cause_is.LayoutRefused
-  by_layout next told_is.Swept = ended next told_is.Swept
-
-  settled_layout : (next : ℕ) (report : Option Told) → IsLowOut d (settle_layout report)
-  settled_layout next None = ended next told_is.Nothing
-  settled_layout next (Some told) = by_layout next told
-
-  reassigned : (next : ℕ) (children : List Child) → Each (IsLowChild d) children → IsLowOut d (reassign_all next children)
-  reassigned next [] are = ended next told_is.Nothing
-  reassigned next (child ∷ more) are = spawned next (child ∷ more) are
-
-  placed_at : (next : ℕ) (may : Bool) (place : Place) (fenced : Bool) (pick : Option Server) → IsLowOut d (candidate next may place fenced pick)
-  placed_at next false place fenced pick = plainly (answer_is.Done told_is.Nothing) None (lost_if (is_placed place && fenced))
-  placed_at next true place fenced pick = by (is_open place fenced)
-    where
-      by : (b : Bool) → IsLowOut d (if b then ends_with told_is.Nothing else places (answer_is.More next) (Some (record { state = place_is.Opening; server = pick })))
-      by true = ended next told_is.Nothing
-      by false = plainly (answer_is.More next) None _
-
-  opened : (next : ℕ) (server : Option Server) (is : Bool) → IsLowOut d (opened_or_not next server is)
-  opened next server true = plainly (answer_is.Done told_is.Opened) None _
-  opened next server false = plainly (answer_is.More next) None _
-
-  closed : (next : ℕ) (goal : Goal) (region : Region) (place : Place) (is : Bool) → IsLowOut d (close_or_go next goal region place is)
-  closed next goal region place true = with_part place.server next (close_at next region) (λ server e. record { edits = tt; children = (tt, tt); followers = tt })
-  closed next goal region place false = plainly (behind_close goal told_is.Nothing) None (lost_if (is_state place_is.Opened place))
 
   batches_low : (goal : Goal) (list : List Batch) → Each (IsLowChild d) (map (λ batch. child_is.Transits batch.table batch.ids goal) list)
   batches_low goal [] = tt
@@ -369,172 +299,36 @@ module _ (d : TableName → ℕ) where
   pieces_low table [] = tt
   pieces_low table (piece ∷ more) = (tt, pieces_low table more)
 
-  -- each act
-  check_free_namespace-low : (next : ℕ) (args : Args) (rows : Rows) → IsLowOut d (check_free_namespace next args rows)
-  check_free_namespace-low next args rows = with_part (namespace_of args) next (λ ns. checked next (namespace_free (row_at rows (key_is.Ns ns)))) (λ ns e. checks next (namespace_free (row_at rows (key_is.Ns ns))))
+  own_low : (args : Args) → {key : CatKey} → IsOwnKey args key → (row : Option CatRow) → IfLow d key row
+  own_low args (IsOwnKey.of_namespace ns is) row = ns_low d ns row
+  own_low args (IsOwnKey.of_name table is) row = table_low d table row
 
-  add_namespace-low : (next : ℕ) (args : Args) (rows : Rows) → IsLowOut d (add_namespace next args rows)
-  add_namespace-low next args rows = with_part (namespace_of args) next (λ ns. edits_rows next (set_to (row_at rows) (key_is.Ns ns) (Some row_is.Ns) ∷ [])) (λ ns e. one_edit next _ (ns_low d ns (row_at rows (key_is.Ns ns)), tt))
+  edits_low : (act : Act) (at : StepIn) → SeesLow d at → {edits : List Edit} → Edits act at edits → Each (IsLowEdit d) edits
+  edits_low act at sees (Edits.one_row key own kinds after becomes) = ((own_low at.args own (row_at at.rows key), own_low at.args own after), tt)
+  edits_low act at sees (Edits.adds_rows only table is bounds are) =
+      let own = bounds_low d at.args sees.args table is bounds are in
+      between_low d (row_at at.rows) sees.rows table (first_id_of at.args) bounds own.0 own.1
+  edits_low act at sees (Edits.removes_rows only table is) = removed_low d (row_at at.rows) sees.rows (regions_in table (ids_of at.args))
+  edits_low act at sees (Edits.splits only region is key cut) =
+      let own = split_ids d at.args sees.args region is key cut in
+      split_low d (row_at at.rows) sees.rows region key (first_id_of at.args) own.0 own.1
+  edits_low act at sees (Edits.merges only) = merge_low d (row_at at.rows) sees.rows (closed_by at.args) (first_id_of at.args) (λ r more e. merged_ids d at.args sees.args r more e)
 
-  check_namespace_empty-low : (next : ℕ) (args : Args) (rows : Rows) → IsLowOut d (check_namespace_empty next args rows)
-  check_namespace_empty-low next args rows = with_part (namespace_of args) next (λ ns. checked next (namespace_empty (row_at rows (key_is.Ns ns)) (has_table ns rows))) (λ ns e. checks next (namespace_empty (row_at rows (key_is.Ns ns)) (has_table ns rows)))
+  makes_low : (act : Act) (at : StepIn) → SeesLow d at → {children : List Child} → Makes act at children → Each (IsLowChild d) children
+  makes_low act at sees (Makes.lays only) = (tt, tt)
+  makes_low act at sees (Makes.fences only server is) = (tt, tt)
+  makes_low act at sees (Makes.adds_all only table is bounds are) =
+      let own = bounds_low d at.args sees.args table is bounds are in
+      adding_low d (length bounds) table (first_id_of at.args) bounds own.0 own.1
+  makes_low act at sees (Makes.drops_all only table is) = pieces_low table (by_64 (map (λ (region : Region). region.id) (all_among table at.rows)))
+  makes_low act at sees (Makes.sends goal sent which only regions are) = transits_low goal regions
+  makes_low act at sees (Makes.opens off region is server there) = (tt, tt)
 
-  drop_namespace-low : (next : ℕ) (args : Args) (rows : Rows) → IsLowOut d (drop_namespace next args rows)
-  drop_namespace-low next args rows = with_part (namespace_of args) next (λ ns. edits_rows next (set_to (row_at rows) (key_is.Ns ns) None ∷ [])) (λ ns e. one_edit next _ (ns_low d ns (row_at rows (key_is.Ns ns)), tt))
-
-  check_table_free-low : (next : ℕ) (args : Args) (rows : Rows) → IsLowOut d (check_table_free next args rows)
-  check_table_free-low next args rows = with_part (table_of args) next (λ table. checked next (table_free (row_at rows (key_is.Ns table.ns)) (row_at rows (key_is.Table table)))) (λ table e. checks next (table_free (row_at rows (key_is.Ns table.ns)) (row_at rows (key_is.Table table))))
-
-  add_table-low : (next : ℕ) (args : Args) (rows : Rows) → IsLowOut d (add_table next args rows)
-  add_table-low next args rows = with_part (table_of args) next (λ table. edits_rows next (set_to (row_at rows) (key_is.Table table) (Some (row_is.Table state_is.Disabled 1)) ∷ [])) (λ table e. one_edit next _ (table_low d table (row_at rows (key_is.Table table)), tt))
-
-  lay_out-low : (next : ℕ) (root : Pid) → IsLowOut d (lay_out next root)
-  lay_out-low next root = spawned next (child_is.One (args_are.LayoutCall root) ∷ []) (tt, tt)
-
-  set_state-low : (state : TableState) (next : ℕ) (args : Args) (rows : Rows) → IsLowOut d (set_state state next args rows)
-  set_state-low state next args rows = with_part (table_of args) next (λ table. edits_rows next (changed (row_at rows) (key_is.Table table) (in_state state) ∷ [])) (λ table e. one_edit next _ (table_low d table (row_at rows (key_is.Table table)), table_low d table _))
-
-  check_table_disabled-low : (next : ℕ) (args : Args) (rows : Rows) → IsLowOut d (check_table_disabled next args rows)
-  check_table_disabled-low next args rows = with_part (table_of args) next (λ table. checked next (table_disabled (row_at rows (key_is.Table table)))) (λ table e. checks next (table_disabled (row_at rows (key_is.Table table))))
-
-  drop_table-low : (next : ℕ) (args : Args) (rows : Rows) → IsLowOut d (drop_table next args rows)
-  drop_table-low next args rows = with_part (table_of args) next (λ table. edits_rows next (set_to (row_at rows) (key_is.Table table) None ∷ [])) (λ table e. one_edit next _ (table_low d table (row_at rows (key_is.Table table)), tt))
-
-  check_table_enabled-low : (next : ℕ) (args : Args) (rows : Rows) → IsLowOut d (check_table_enabled next args rows)
-  check_table_enabled-low next args rows = with_part (table_of args) next (λ table. checked next (table_enabled (row_at rows (key_is.Table table)))) (λ table e. checks next (table_enabled (row_at rows (key_is.Table table))))
-
-  set_version-low : (next : ℕ) (args : Args) (rows : Rows) → IsLowOut d (set_version next args rows)
-  set_version-low next args rows = with_part (table_of args) next (λ table. given (version_of (asked_of args)) next (λ version. edits_rows next (changed (row_at rows) (key_is.Table table) (in_version version) ∷ []))) (λ table e. with_part (version_of (asked_of args)) next (λ version. edits_rows next (changed (row_at rows) (key_is.Table table) (in_version version) ∷ [])) (λ version e'. one_edit next _ (table_low d table (row_at rows (key_is.Table table)), table_low d table _)))
-
-  add_regions-low : (next : ℕ) (args : Args) → IsLowArgs d args → IsLowOut d (add_regions next args)
-  add_regions-low next args is = with_part (table_of args) next (λ table. given (bounds_of args) next (λ bounds. spawns next (adding (length bounds) table (first_id_of args) bounds))) (λ table e. with_part (bounds_of args) next (λ bounds. spawns next (adding (length bounds) table (first_id_of args) bounds)) (λ bounds e'.
-      let own = bounds_low d args is table e bounds e' in
-      spawned next (adding (length bounds) table (first_id_of args) bounds) (adding_low d (length bounds) table (first_id_of args) bounds own.0 own.1)))
-
-  open_regions-low : (next : ℕ) (args : Args) (rows : Rows) → IsLowOut d (open_regions next args rows)
-  open_regions-low next args rows = with_part (table_of args) next (λ table. spawns next (transits goal_is.Assign (regions_for table (first_id_of args) (bounds_of args) rows))) (λ table e. spawned next (transits goal_is.Assign (regions_for table (first_id_of args) (bounds_of args) rows)) (transits_low goal_is.Assign (regions_for table (first_id_of args) (bounds_of args) rows)))
-
-  drop_regions-low : (next : ℕ) (args : Args) (rows : Rows) → IsLowOut d (drop_regions next args rows)
-  drop_regions-low next args rows = with_part (table_of args) next (λ table. spawns next (dropping table (map (λ region. region.id) (all_among table rows)))) (λ table e. spawned next (dropping table (map (λ region. region.id) (all_among table rows))) (pieces_low table (by_64 (map (λ region. region.id) (all_among table rows)))))
-
-  close_regions-low : (next : ℕ) (args : Args) (rows : Rows) → IsLowOut d (close_regions next args rows)
-  close_regions-low next args rows = with_part (table_of args) next (λ table. spawns next (transits goal_is.Unassign (regions_for table (first_id_of args) (bounds_of args) rows))) (λ table e. spawned next (transits goal_is.Unassign (regions_for table (first_id_of args) (bounds_of args) rows)) (transits_low goal_is.Unassign (regions_for table (first_id_of args) (bounds_of args) rows)))
-
-  check_split-low : (next : ℕ) (args : Args) (rows : Rows) → IsLowOut d (check_split next args rows)
-  check_split-low next args rows = with_part (region_of args) next (λ region. given (cut_of (asked_of args)) next (λ key. checked next (can_split (row_at rows (key_is.Table region.table)) (row_at rows (key_is.Region region)) key))) (λ region e. with_part (cut_of (asked_of args)) next (λ key. checked next (can_split (row_at rows (key_is.Table region.table)) (row_at rows (key_is.Region region)) key)) (λ key e. checks next (can_split (row_at rows (key_is.Table region.table)) (row_at rows (key_is.Region region)) key)))
-
-  close_parents-low : (next : ℕ) (args : Args) → IsLowOut d (close_parents next args)
-  close_parents-low next args = spawned next (transits goal_is.Unassign (closed_by args)) (transits_low goal_is.Unassign (closed_by args))
-
-  update_split_meta-low : (next : ℕ) (args : Args) (rows : Rows) → IsLowArgs d args → RowsLow rows → IsLowOut d (update_split_meta next args rows)
-  update_split_meta-low next args rows is low = with_part (region_of args) next (λ region. given (cut_of (asked_of args)) next (λ key. edits_rows next (split_edits (row_at rows) region key (first_id_of args)))) (λ region e. with_part (cut_of (asked_of args)) next (λ key. edits_rows next (split_edits (row_at rows) region key (first_id_of args))) (λ key e'.
-      let own = split_ids d args is region e key e' in
-      edited (on_to next) (split_edits (row_at rows) region key (first_id_of args)) (split_low d (row_at rows) low region key (first_id_of args) own.0 own.1)))
-
-  open_new-low : (count : ℕ) (next : ℕ) (args : Args) → IsLowOut d (open_new count next args)
-  open_new-low count next args = with_part (table_of args) next (λ table. spawns next (transits goal_is.Assign (regions_in table (numbers_from (first_id_of args) count)))) (λ table e. spawned next (transits goal_is.Assign (regions_in table (numbers_from (first_id_of args) count))) (transits_low goal_is.Assign (regions_in table (numbers_from (first_id_of args) count))))
-
-  check_merge-low : (next : ℕ) (args : Args) (rows : Rows) → IsLowOut d (check_merge next args rows)
-  check_merge-low next args rows = checks next (merge_cause (table_of_first (closed_by args)) rows (closed_by args))
-
-  update_merge_meta-low : (next : ℕ) (args : Args) (rows : Rows) → IsLowArgs d args → RowsLow rows → IsLowOut d (update_merge_meta next args rows)
-  update_merge_meta-low next args rows is low =
-      edited (on_to next) (merge_edits (row_at rows) (closed_by args) (first_id_of args)) (merge_low d (row_at rows) low (closed_by args) (first_id_of args) (λ r more e. merged_ids d args is r more e))
-
-  add_region_rows-low : (next : ℕ) (args : Args) (rows : Rows) → IsLowArgs d args → RowsLow rows → IsLowOut d (add_region_rows next args rows)
-  add_region_rows-low next args rows is low = with_part (table_of args) next (λ table. given (bounds_of args) next (λ bounds. edits_rows next (add_ranges (row_at rows) table (first_id_of args) (ranges_between bounds)))) (λ table e. with_part (bounds_of args) next (λ bounds. edits_rows next (add_ranges (row_at rows) table (first_id_of args) (ranges_between bounds))) (λ bounds e'.
-      let own = bounds_low d args is table e bounds e' in
-      edited (on_to next) (add_ranges (row_at rows) table (first_id_of args) (ranges_between bounds)) (between_low d (row_at rows) low table (first_id_of args) bounds own.0 own.1)))
-
-  drop_region_rows-low : (next : ℕ) (args : Args) (rows : Rows) → RowsLow rows → IsLowOut d (drop_region_rows next args rows)
-  drop_region_rows-low next args rows low = with_part (table_of args) next (λ table. edits_rows next (remove_regions (row_at rows) (regions_in table (ids_of args)))) (λ table e.
-      edited (on_to next) (remove_regions (row_at rows) (regions_in table (ids_of args))) (removed_low d (row_at rows) low (regions_in table (ids_of args))))
-
-  get_assign_candidate-low : (next : ℕ) (args : Args) (rows : Rows) (place : Option Place) (fenced : Bool) (pick : Option Server) → IsLowOut d (get_assign_candidate next args rows place fenced pick)
-  get_assign_candidate-low next args rows place fenced pick = with_part (region_of args) next (λ region. candidate next (may_open_in rows region) (told_place place) fenced pick) (λ region e. placed_at next (may_open_in rows region) (told_place place) fenced pick)
-
-  open_there-low : (next : ℕ) (args : Args) (place : Option Place) → IsLowOut d (open_there next args place)
-  open_there-low next args place = with_part (region_of args) next (λ region. given ((told_place place).server) next (λ server. spawns next (child_is.One (args_are.AssignCall region server) ∷ []))) (λ region e. with_part ((told_place place).server) next (λ server. spawns next (child_is.One (args_are.AssignCall region server) ∷ [])) (λ server e'. spawned next (child_is.One (args_are.AssignCall region server) ∷ []) (tt, tt)))
-
-  confirm_opened-low : (next : ℕ) (ends : List (Pid × Told)) (place : Option Place) → IsLowOut d (confirm_opened next ends place)
-  confirm_opened-low next ends place = opened next (told_place place).server (is_told told_is.Opened ends)
-
-  close_there-low : (next : ℕ) (args : Args) (place : Option Place) (fenced : Bool) → IsLowOut d (close_there next args place fenced)
-  close_there-low next args place fenced = with_part (region_of args) next (λ region. close_or_go next (goal_in args) region (told_place place) (is_open (told_place place) fenced)) (λ region e. closed next (goal_in args) region (told_place place) (is_open (told_place place) fenced))
-
-  check_move-low : (next : ℕ) (args : Args) (rows : Rows) → IsLowOut d (check_move next args rows)
-  check_move-low next args rows = with_part (region_of args) next (λ region. checked next (region_ready (row_at rows (key_is.Table region.table)) (row_at rows (key_is.Region region)))) (λ region e. checks next (region_ready (row_at rows (key_is.Table region.table)) (row_at rows (key_is.Region region))))
-
-  fence-low : (next : ℕ) (args : Args) → IsLowOut d (fence next args)
-  fence-low next args = with_part (server_of args) next (λ server. spawns next (child_is.One (args_are.FenceCall server) ∷ [])) (λ server e. spawned next (child_is.One (args_are.FenceCall server) ∷ []) (tt, tt))
-
-  reassign-low : (next : ℕ) (regions : List Region) → IsLowOut d (reassign next regions)
-  reassign-low next regions = reassigned next (transits goal_is.Assign regions) (transits_low goal_is.Assign regions)
-
-  call_assign-low : (next : ℕ) (args : Args) (fenced : Bool) → IsLowOut d (call_assign next args fenced)
-  call_assign-low next args fenced = gone_or next fenced (given (region_of args) next (λ region. calls next (verb_is.AssignRegion region))) (with_part (region_of args) next (λ region. calls next (verb_is.AssignRegion region)) (λ region e. called next (verb_is.AssignRegion region)))
-
-  call_close-low : (next : ℕ) (args : Args) (fenced : Bool) → IsLowOut d (call_close next args fenced)
-  call_close-low next args fenced = gone_or next fenced (given (region_of args) next (λ region. calls next (verb_is.CloseRegion region))) (with_part (region_of args) next (λ region. calls next (verb_is.CloseRegion region)) (λ region e. called next (verb_is.CloseRegion region)))
-
-  settle_call-low : (next : ℕ) (fenced : Bool) (report : Option Told) → IsLowOut d (settle_call fenced report)
-  settle_call-low next fenced report = gone_or next fenced (ends_as_told report) (as_told next report)
-
-  call_fence-low : (next : ℕ) (args : Args) → IsLowOut d (call_fence next args)
-  call_fence-low next args = with_part (server_of args) next (λ server. calls next (verb_is.Fence server)) (λ server e. called next (verb_is.Fence server))
-
-  call_layout-low : (next : ℕ) (args : Args) → IsLowOut d (call_layout next args)
-  call_layout-low next args = with_part (layout_of args) next (λ root. calls next (verb_is.Layout root)) (λ root e. called next (verb_is.Layout root))
-
-  call_sweep-low : (next : ℕ) (args : Args) → IsLowOut d (call_sweep next args)
-  call_sweep-low next args = with_part (layout_of args) next (λ root. calls next (verb_is.Sweep root)) (λ root e. called next (verb_is.Sweep root))
-
-  act_low : (act : Act) (next : ℕ) (at : StepIn) → SeesLow d at → IsLowOut d (act_answer act next at)
-  act_low act_is.CheckNamespaceFree next at sees = check_free_namespace-low next at.args at.rows
-  act_low act_is.AddNamespace next at sees = add_namespace-low next at.args at.rows
-  act_low act_is.CheckNamespaceEmpty next at sees = check_namespace_empty-low next at.args at.rows
-  act_low act_is.DropNamespace next at sees = drop_namespace-low next at.args at.rows
-  act_low act_is.CheckTableFree next at sees = check_table_free-low next at.args at.rows
-  act_low act_is.AddTable next at sees = add_table-low next at.args at.rows
-  act_low act_is.Layout next at sees = lay_out-low next at.root
-  act_low act_is.AddRegions next at sees = add_regions-low next at.args sees.args
-  act_low act_is.SetEnabling next at sees = set_state-low state_is.Enabling next at.args at.rows
-  act_low act_is.OpenRegions next at sees = open_regions-low next at.args at.rows
-  act_low act_is.SetEnabled next at sees = set_state-low state_is.Enabled next at.args at.rows
-  act_low act_is.CheckTableDisabled next at sees = check_table_disabled-low next at.args at.rows
-  act_low act_is.DropRegions next at sees = drop_regions-low next at.args at.rows
-  act_low act_is.DropTable next at sees = drop_table-low next at.args at.rows
-  act_low act_is.CheckTableEnabled next at sees = check_table_enabled-low next at.args at.rows
-  act_low act_is.SetDisabling next at sees = set_state-low state_is.Disabling next at.args at.rows
-  act_low act_is.CloseRegions next at sees = close_regions-low next at.args at.rows
-  act_low act_is.SetDisabled next at sees = set_state-low state_is.Disabled next at.args at.rows
-  act_low act_is.SetVersion next at sees = set_version-low next at.args at.rows
-  act_low act_is.CheckSplit next at sees = check_split-low next at.args at.rows
-  act_low act_is.CloseParent next at sees = close_parents-low next at.args
-  act_low act_is.UpdateSplitMeta next at sees = update_split_meta-low next at.args at.rows sees.args sees.rows
-  act_low act_is.OpenDaughters next at sees = open_new-low 2 next at.args
-  act_low act_is.Finish next at sees = ended next told_is.Nothing
-  act_low act_is.CheckMerge next at sees = check_merge-low next at.args at.rows
-  act_low act_is.CloseParents next at sees = close_parents-low next at.args
-  act_low act_is.UpdateMergeMeta next at sees = update_merge_meta-low next at.args at.rows sees.args sees.rows
-  act_low act_is.OpenMerged next at sees = open_new-low 1 next at.args
-  act_low act_is.AddRegionRows next at sees = add_region_rows-low next at.args at.rows sees.args sees.rows
-  act_low act_is.DropRegionRows next at sees = drop_region_rows-low next at.args at.rows sees.rows
-  act_low act_is.GetAssignCandidate next at sees = get_assign_candidate-low next at.args at.rows at.place at.fenced at.pick
-  act_low act_is.Open next at sees = open_there-low next at.args at.place
-  act_low act_is.ConfirmOpened next at sees = confirm_opened-low next at.ends at.place
-  act_low act_is.Close next at sees = close_there-low next at.args at.place at.fenced
-  act_low act_is.ConfirmClosed next at sees = plainly (behind_close (goal_in at.args) told_is.Closed) None (Some (nowhere (closed_or_lost (is_told told_is.Closed at.ends))))
-  act_low act_is.CheckMove next at sees = check_move-low next at.args at.rows
-  act_low act_is.Fence next at sees = fence-low next at.args
-  act_low act_is.Reassign next at sees = reassign-low next at.on_server
-  act_low act_is.CallAssign next at sees = call_assign-low next at.args at.fenced
-  act_low act_is.CallClose next at sees = call_close-low next at.args at.fenced
-  act_low act_is.Settle next at sees = settle_call-low next at.fenced at.report
-  act_low act_is.CallFence next at sees = call_fence-low next at.args
-  act_low act_is.CallLayout next at sees = call_layout-low next at.args
-  act_low act_is.SettleLayout next at sees = settled_layout next at.report
-  act_low act_is.CallSweep next at sees = call_sweep-low next at.args
+  made_low : (act : Act) (next : ℕ) (at : StepIn) → SeesLow d at → {out : StepOut} → IsMadeOf act next at out → IsLowOut d out
+  made_low act next at sees (IsMadeOf.edited e edits are) = edited (on_to next) edits (edits_low act at sees are)
+  made_low act next at sees (IsMadeOf.made children makes) = spawned next children (makes_low act at sees makes)
+  made_low act next at sees (IsMadeOf.shut off region is server there) = record { edits = tt; children = (tt, tt); followers = tt }
+  made_low act next at sees other = record { edits = tt; children = tt; followers = tt }
 
   -- a row answers so
   row_low : (row : Row) (at : StepIn) → SeesLow d at → IsLowOut d (row_answer row at)
@@ -542,7 +336,7 @@ module _ (d : TableName → ℕ) where
     where
       by : (b : Bool) → IsLowOut d (if b then fails cause_is.Aborted else act_answer row.act row.next at)
       by true = failed row.next cause_is.Aborted
-      by false = act_low row.act row.next at sees
+      by false = made_low row.act row.next at sees (made_of row.act row.next at)
 
   undo_low : (undo : Back) (args : Args) (root : Pid) (edits : List Edit) → Each (IsLowEdit d) edits → IsLowOut d (undo_out undo args root edits)
   undo_low back_is.Nothing args root edits are = record { edits = tt; children = tt; followers = tt }

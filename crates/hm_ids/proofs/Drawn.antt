@@ -1,7 +1,6 @@
 -- The ids of regions whose rows a step edits, and of those that the procedures it makes will edit, are drawn. No journal.
-use Rattle.std.proofs.Common.{◌≡◌, ◌≢◌, ℕ, zero, suc, ◌+◌, ◌≤◌, ◌<◌, Bool, true, false, cond, nat_le, List, [], ◌∷◌, ◌++◌, length, length-append, length-drop, take, drop, map, Option, Some, None, refl, sym, ap, subst, inl, inr, arith}
+use Rattle.std.proofs.Common.{◌≡◌, ◌≢◌, ℕ, zero, suc, ◌+◌, ◌≤◌, ◌<◌, Bool, true, false, cond, nat_le, List, [], ◌∷◌, ◌++◌, length, length-append, length-drop, take, drop, map, Option, Some, None, refl, sym, ap, subst, arith}
 use Rattle.std.specs.Option.{option_map}
-use Rattle.std.proofs.lemmas.Bool.{false≢true}
 use Rattle.std.proofs.lemmas.List.{length-take}
 use Rattle.std.proofs.lemmas.Option.{none-some, same_Some}
 use Rattle.hm_names.specs.Region.{Region}
@@ -9,23 +8,17 @@ use Rattle.hm_names.specs.declared.pid.Pid.{Pid}
 use Rattle.hm_names.specs.declared.range.KeyRange.{KeyRange}
 use Rattle.hm_names.specs.declared.table.TableName.{TableName}
 use Rattle.hm_data.specs.declared.act.Act.{Act}
-use Rattle.hm_data.specs.declared.act.Act.TheVariants as act_is
 use Rattle.hm_data.specs.declared.answer.Answer.{Answer}
 use Rattle.hm_data.specs.declared.answer.Cause.{Cause}
 use Rattle.hm_data.specs.declared.args.Args.{Args}
 use Rattle.hm_data.specs.declared.args.Args.TheVariants as args_are
 use Rattle.hm_data.specs.declared.args.Child.{Child}
 use Rattle.hm_data.specs.declared.args.Child.TheVariants as child_is
-use Rattle.hm_data.specs.declared.call.Told.{Told}
-use Rattle.hm_data.specs.declared.call.Told.TheVariants as told_is
-use Rattle.hm_data.specs.declared.call.Verb.TheVariants as verb_is
 use Rattle.hm_data.specs.declared.catalog.CatKey.{CatKey}
 use Rattle.hm_data.specs.declared.catalog.CatKey.TheVariants as key_is
 use Rattle.hm_data.specs.declared.catalog.CatRow.{CatRow}
-use Rattle.hm_data.specs.declared.catalog.CatRow.TheVariants as row_is
 use Rattle.hm_data.specs.declared.catalog.Edit.{Edit}
 use Rattle.hm_data.specs.declared.catalog.Status.TheVariants as status_is
-use Rattle.hm_data.specs.declared.catalog.TableState.TheVariants as state_is
 use Rattle.hm_data.specs.declared.place.Goal.{Goal}
 use Rattle.hm_data.specs.declared.place.Goal.TheVariants as goal_is
 use Rattle.hm_data.specs.declared.request.Request.{Request}
@@ -34,26 +27,23 @@ use Rattle.hm_data.specs.declared.act.Back.{Back}
 use Rattle.hm_data.specs.declared.act.Back.TheVariants as back_is
 use Rattle.hm_data.specs.declared.step.StepIn.{StepIn}
 use Rattle.hm_data.specs.declared.step.StepOut.{StepOut}
-use Rattle.hm_model.proofs.PlainActs.{is_caller}
-use Rattle.hm_model.proofs.StepDoes.{IsMoveOut, move_act}
+use Rattle.hm_model.proofs.MadeOf.{made_of}
+use Rattle.hm_model.specs.MadeOf.{Edits, IsMadeOf, IsOwnKey, Makes}
 use Rattle.hm_model.specs.Acts.{act_answer}
-use Rattle.hm_model.specs.CallActs.{ends_as_told, layout_told, settle_layout, unless_gone}
-use Rattle.hm_model.specs.Catalog.{Catalog, row_at, set_to}
-use Rattle.hm_model.specs.Changes.{add_merged, add_ranges, changed, mark_merged, merge_edits, merged_of, region_key, remove_regions, split_edits, split_range}
-use Rattle.hm_model.specs.Checks.{by_start, can_split, namespace_empty, namespace_free, parts_of, table_disabled, table_enabled, table_free}
-use Rattle.hm_model.specs.CrashActs.{reassign_all}
+use Rattle.hm_model.specs.Catalog.{Catalog, row_at}
+use Rattle.hm_model.specs.Changes.{add_merged, add_ranges, mark_merged, merge_edits, merged_of, region_key, remove_regions, split_edits, split_range}
+use Rattle.hm_model.specs.Checks.{by_start, parts_of}
 use Rattle.hm_model.specs.Evaluation.{row_answer, is_cut_off}
 use Rattle.hm_model.specs.Kinds.{table_of_first, table_of_request}
 use Rattle.hm_model.specs.Locks.{in_name_order}
-use Rattle.hm_model.specs.NamespaceActs.{has_table, version_of}
-use Rattle.hm_model.specs.Outs.{calls, checked, edits_rows, fails, given, spawns}
-use Rattle.hm_model.specs.Pieces.{Batch, adding, batches, by_64, dropping, numbers_from, ranges_between, ranges_from, transits}
-use Rattle.hm_model.specs.RegionActs.{cut_of, merge_cause, regions_for}
-use Rattle.hm_model.specs.RowsSaid.{all_among, in_state, in_status, in_version, range_in}
+use Rattle.hm_model.specs.Outs.{edits_rows, fails, spawns}
+use Rattle.hm_model.specs.Pieces.{Batch, adding, batches, by_64, ranges_between, ranges_from, transits}
+use Rattle.hm_model.specs.RegionActs.{cut_of}
+use Rattle.hm_model.specs.RowsSaid.{all_among, in_status, range_in}
 use Rattle.hm_model.specs.Tree.{new_ids}
 use Rattle.hm_model.specs.Undoing.{closed_by, turned, turned_round, undo_edits, undo_followers}
-use Rattle.hm_model.specs.Views.{asked_of, bounds_of, first_id_of, namespace_of, region_of, regions_in, table_of}
-use Rattle.hm_model.specs.Wanted.{ids_of, layout_of, server_of}
+use Rattle.hm_model.specs.Views.{asked_of, bounds_of, first_id_of, region_of, regions_in, table_of}
+use Rattle.hm_model.specs.Wanted.{ids_of}
 use Rattle.hm_model.specs.declared.merged.Merged.{Merged}
 use Rattle.hm_kinds.proofs.Kids.{AllMade}
 
@@ -227,10 +217,6 @@ module _ (d : TableName → ℕ → Type 0) where
   nothing_done : {answer : Answer} {call : Option Rattle.hm_data.specs.declared.call.Verb.Verb} {place : Option Rattle.hm_data.specs.declared.place.Place.Place} → IsFine d (record { answer = answer; edits = []; children = []; call = call; place = place; followers = [] })
   nothing_done = record { edits = tt; kids = tt }
 
-  fine_checked : (next : ℕ) (cause : Option Cause) → IsFine d (checked next cause)
-  fine_checked next None = nothing_done
-  fine_checked next (Some cause) = nothing_done
-
   fine_edits : (next : ℕ) (edits : List Edit) → AllDrawn d edits → IsFine d (edits_rows next edits)
   fine_edits next edits all = record { edits = all; kids = tt }
 
@@ -238,86 +224,34 @@ module _ (d : TableName → ℕ → Type 0) where
   fine_spawns next [] all = nothing_done
   fine_spawns next (child ∷ more) all = record { edits = tt; kids = all }
 
-  reassign_fine : (next : ℕ) (children : List Child) → AllMade (ArgsDrawn d) children → IsFine d (reassign_all next children)
-  reassign_fine next [] all = nothing_done
-  reassign_fine next (child ∷ more) all = record { edits = tt; kids = all }
+  own_drawn : (args : Args) → {key : CatKey} → IsOwnKey args key → (o : Option CatRow) → IsDrawnAt d key o
+  own_drawn args (IsOwnKey.of_namespace ns is) o = tt
+  own_drawn args (IsOwnKey.of_name table is) o = tt
 
-  fine_given : {A : Type 0} (part : Option A) (next : ℕ) (does : A → StepOut) → ((x : A) → part ≡ Some x → IsFine d (does x)) → IsFine d (given part next does)
-  fine_given None next does each = nothing_done
-  fine_given (Some part) next does each = each part refl
+  edits_fine : (act : Act) (at : StepIn) → ArgsDrawn d at.args → SeenDrawn d (row_at at.rows) → {edits : List Edit} → Edits act at edits → AllDrawn d edits
+  edits_fine act at args seen (Edits.one_row key own kinds after becomes) = (own_drawn at.args own (row_at at.rows key), own_drawn at.args own after, tt)
+  edits_fine act at args seen (Edits.adds_rows only table is bounds bound) = between_fine (row_at at.rows) seen table (first_id_of at.args) bounds (bounds_fit at.args table bounds args is bound)
+  edits_fine act at args seen (Edits.removes_rows only table is) = remove_fine (row_at at.rows) seen (regions_in table (ids_of at.args))
+  edits_fine act at args seen (Edits.splits only region is key cut) = split_fine (row_at at.rows) seen region key (first_id_of at.args) (cut_fit at.args region key args is cut)
+  edits_fine act at args seen (Edits.merges only) = merge_fine (row_at at.rows) seen (closed_by at.args) (first_id_of at.args) (closed_fit at.args args)
 
-  unless_fine : (gone : Bool) (out : StepOut) → IsFine d out → IsFine d (unless_gone gone out)
-  unless_fine true out fine = nothing_done
-  unless_fine false out fine = fine
+  makes_fine : (act : Act) (at : StepIn) → ArgsDrawn d at.args → {children : List Child} → Makes act at children → AllMade (ArgsDrawn d) children
+  makes_fine act at args (Makes.lays only) = (tt, tt)
+  makes_fine act at args (Makes.fences only server is) = (tt, tt)
+  makes_fine act at args (Makes.adds_all only table is bounds bound) = adds_fine (length bounds) table (first_id_of at.args) bounds (bounds_fit at.args table bounds args is bound)
+  makes_fine act at args (Makes.drops_all only table is) = drops_fine table (by_64 (map (λ (region : Region). region.id) (all_among table at.rows)))
+  makes_fine act at args (Makes.sends goal sent which only regions are) = transits_fine goal regions
+  makes_fine act at args (Makes.opens off region is server there) = (tt, tt)
 
-  ends_fine : (told : Option Told) → IsFine d (ends_as_told told)
-  ends_fine None = nothing_done
-  ends_fine (Some told) = nothing_done
-
-  told_fine : (told : Told) → IsFine d (layout_told told)
-  told_fine told_is.Nothing = nothing_done
-  told_fine told = nothing_done
-
-  layout_fine : (told : Option Told) → IsFine d (settle_layout told)
-  layout_fine None = nothing_done
-  layout_fine (Some told) = told_fine told
-
-  caller_fine : (args : Args) → is_caller args ≡ true → ArgsDrawn d args
-  caller_fine (args_are.AssignCall region server) h = tt
-  caller_fine (args_are.CloseCall region server) h = tt
-  caller_fine args h = absurd (false≢true h)
-
-  moves_fine : {next : ℕ} (out : StepOut) → IsMoveOut next out → IsFine d out
-  moves_fine out moves = record {
-    edits = subst (AllDrawn d) (sym moves.editless) tt;
-    kids = elim moves.childs [
-      | inl none ↦ subst (AllMade (ArgsDrawn d)) (sym none) tt
-      | inr one ↦ subst (AllMade (ArgsDrawn d)) (sym one.1) (caller_fine one.0 one.2, tt)
-    ];
-  }
+  made_fine : (act : Act) (next : ℕ) (at : StepIn) → ArgsDrawn d at.args → SeenDrawn d (row_at at.rows) → {out : StepOut} → IsMadeOf act next at out → IsFine d out
+  made_fine act next at args seen (IsMadeOf.edited e edits are) = fine_edits next edits (edits_fine act at args seen are)
+  made_fine act next at args seen (IsMadeOf.made children makes) = fine_spawns next children (makes_fine act at args makes)
+  made_fine act next at args seen (IsMadeOf.shut off region is server there) = record { edits = tt; kids = (tt, tt) }
+  made_fine act next at args seen other = nothing_done
 
   -- what each act edits and makes
   pub fine_act : (act : Act) (next : ℕ) (at : StepIn) → ArgsDrawn d at.args → SeenDrawn d (row_at at.rows) → IsFine d (act_answer act next at)
-  fine_act act_is.CheckNamespaceFree next at args seen = fine_given (namespace_of at.args) next (λ ns. checked next (namespace_free (row_at at.rows (key_is.Ns ns)))) (λ ns is. fine_checked next (namespace_free (row_at at.rows (key_is.Ns ns))))
-  fine_act act_is.AddNamespace next at args seen = fine_given (namespace_of at.args) next (λ ns. edits_rows next (set_to (row_at at.rows) (key_is.Ns ns) (Some row_is.Ns) ∷ [])) (λ ns is. fine_edits next (set_to (row_at at.rows) (key_is.Ns ns) (Some row_is.Ns) ∷ []) (tt, tt, tt))
-  fine_act act_is.CheckNamespaceEmpty next at args seen = fine_given (namespace_of at.args) next (λ ns. checked next (namespace_empty (row_at at.rows (key_is.Ns ns)) (has_table ns at.rows))) (λ ns is. fine_checked next (namespace_empty (row_at at.rows (key_is.Ns ns)) (has_table ns at.rows)))
-  fine_act act_is.DropNamespace next at args seen = fine_given (namespace_of at.args) next (λ ns. edits_rows next (set_to (row_at at.rows) (key_is.Ns ns) None ∷ [])) (λ ns is. fine_edits next (set_to (row_at at.rows) (key_is.Ns ns) None ∷ []) (tt, tt, tt))
-  fine_act act_is.CheckTableFree next at args seen = fine_given (table_of at.args) next (λ table. checked next (table_free (row_at at.rows (key_is.Ns table.ns)) (row_at at.rows (key_is.Table table)))) (λ table is. fine_checked next (table_free (row_at at.rows (key_is.Ns table.ns)) (row_at at.rows (key_is.Table table))))
-  fine_act act_is.AddTable next at args seen = fine_given (table_of at.args) next (λ table. edits_rows next (set_to (row_at at.rows) (key_is.Table table) (Some (row_is.Table state_is.Disabled 1)) ∷ [])) (λ table is. fine_edits next (set_to (row_at at.rows) (key_is.Table table) (Some (row_is.Table state_is.Disabled 1)) ∷ []) (tt, tt, tt))
-  fine_act act_is.SetEnabling next at args seen = fine_given (table_of at.args) next (λ table. edits_rows next (changed (row_at at.rows) (key_is.Table table) (in_state state_is.Enabling) ∷ [])) (λ table is. fine_edits next (changed (row_at at.rows) (key_is.Table table) (in_state state_is.Enabling) ∷ []) (tt, tt, tt))
-  fine_act act_is.SetEnabled next at args seen = fine_given (table_of at.args) next (λ table. edits_rows next (changed (row_at at.rows) (key_is.Table table) (in_state state_is.Enabled) ∷ [])) (λ table is. fine_edits next (changed (row_at at.rows) (key_is.Table table) (in_state state_is.Enabled) ∷ []) (tt, tt, tt))
-  fine_act act_is.SetDisabling next at args seen = fine_given (table_of at.args) next (λ table. edits_rows next (changed (row_at at.rows) (key_is.Table table) (in_state state_is.Disabling) ∷ [])) (λ table is. fine_edits next (changed (row_at at.rows) (key_is.Table table) (in_state state_is.Disabling) ∷ []) (tt, tt, tt))
-  fine_act act_is.SetDisabled next at args seen = fine_given (table_of at.args) next (λ table. edits_rows next (changed (row_at at.rows) (key_is.Table table) (in_state state_is.Disabled) ∷ [])) (λ table is. fine_edits next (changed (row_at at.rows) (key_is.Table table) (in_state state_is.Disabled) ∷ []) (tt, tt, tt))
-  fine_act act_is.DropTable next at args seen = fine_given (table_of at.args) next (λ table. edits_rows next (set_to (row_at at.rows) (key_is.Table table) None ∷ [])) (λ table is. fine_edits next (set_to (row_at at.rows) (key_is.Table table) None ∷ []) (tt, tt, tt))
-  fine_act act_is.CheckTableDisabled next at args seen = fine_given (table_of at.args) next (λ table. checked next (table_disabled (row_at at.rows (key_is.Table table)))) (λ table is. fine_checked next (table_disabled (row_at at.rows (key_is.Table table))))
-  fine_act act_is.CheckTableEnabled next at args seen = fine_given (table_of at.args) next (λ table. checked next (table_enabled (row_at at.rows (key_is.Table table)))) (λ table is. fine_checked next (table_enabled (row_at at.rows (key_is.Table table))))
-  fine_act act_is.Layout next at args seen = fine_spawns next (child_is.One (args_are.LayoutCall at.root) ∷ []) (tt, tt)
-  fine_act act_is.AddRegions next at args seen = fine_given (table_of at.args) next (λ table. given (bounds_of at.args) next (λ bounds. spawns next (adding (length bounds) table (first_id_of at.args) bounds))) (λ table is. fine_given (bounds_of at.args) next (λ bounds. spawns next (adding (length bounds) table (first_id_of at.args) bounds)) (λ bounds bound. fine_spawns next (adding (length bounds) table (first_id_of at.args) bounds) (adds_fine (length bounds) table (first_id_of at.args) bounds (bounds_fit at.args table bounds args is bound))))
-  fine_act act_is.OpenRegions next at args seen = fine_given (table_of at.args) next (λ table. spawns next (transits goal_is.Assign (regions_for table (first_id_of at.args) (bounds_of at.args) at.rows))) (λ table is. fine_spawns next (transits goal_is.Assign (regions_for table (first_id_of at.args) (bounds_of at.args) at.rows)) (transits_fine goal_is.Assign (regions_for table (first_id_of at.args) (bounds_of at.args) at.rows)))
-  fine_act act_is.CloseRegions next at args seen = fine_given (table_of at.args) next (λ table. spawns next (transits goal_is.Unassign (regions_for table (first_id_of at.args) (bounds_of at.args) at.rows))) (λ table is. fine_spawns next (transits goal_is.Unassign (regions_for table (first_id_of at.args) (bounds_of at.args) at.rows)) (transits_fine goal_is.Unassign (regions_for table (first_id_of at.args) (bounds_of at.args) at.rows)))
-  fine_act act_is.DropRegions next at args seen = fine_given (table_of at.args) next (λ table. spawns next (dropping table (map (λ region. region.id) (all_among table at.rows)))) (λ table is. fine_spawns next (dropping table (map (λ region. region.id) (all_among table at.rows))) (drops_fine table (by_64 (map (λ region. region.id) (all_among table at.rows)))))
-  fine_act act_is.SetVersion next at args seen = fine_given (table_of at.args) next (λ table. given (version_of (asked_of at.args)) next (λ version. edits_rows next (changed (row_at at.rows) (key_is.Table table) (in_version version) ∷ []))) (λ table is. fine_given (version_of (asked_of at.args)) next (λ version. edits_rows next (changed (row_at at.rows) (key_is.Table table) (in_version version) ∷ [])) (λ version which. fine_edits next (changed (row_at at.rows) (key_is.Table table) (in_version version) ∷ []) (tt, tt, tt)))
-  fine_act act_is.CheckSplit next at args seen = fine_given (region_of at.args) next (λ region. given (cut_of (asked_of at.args)) next (λ key. checked next (can_split (row_at at.rows (key_is.Table region.table)) (row_at at.rows (key_is.Region region)) key))) (λ region is. fine_given (cut_of (asked_of at.args)) next (λ key. checked next (can_split (row_at at.rows (key_is.Table region.table)) (row_at at.rows (key_is.Region region)) key)) (λ key cut. fine_checked next (can_split (row_at at.rows (key_is.Table region.table)) (row_at at.rows (key_is.Region region)) key)))
-  fine_act act_is.CloseParent next at args seen = fine_spawns next (transits goal_is.Unassign (closed_by at.args)) (transits_fine goal_is.Unassign (closed_by at.args))
-  fine_act act_is.CloseParents next at args seen = fine_spawns next (transits goal_is.Unassign (closed_by at.args)) (transits_fine goal_is.Unassign (closed_by at.args))
-  fine_act act_is.UpdateSplitMeta next at args seen = fine_given (region_of at.args) next (λ region. given (cut_of (asked_of at.args)) next (λ key. edits_rows next (split_edits (row_at at.rows) region key (first_id_of at.args)))) (λ region is. fine_given (cut_of (asked_of at.args)) next (λ key. edits_rows next (split_edits (row_at at.rows) region key (first_id_of at.args))) (λ key cut. fine_edits next (split_edits (row_at at.rows) region key (first_id_of at.args)) (split_fine (row_at at.rows) seen region key (first_id_of at.args) (cut_fit at.args region key args is cut))))
-  fine_act act_is.OpenDaughters next at args seen = fine_given (table_of at.args) next (λ table. spawns next (transits goal_is.Assign (regions_in table (numbers_from (first_id_of at.args) 2)))) (λ table is. fine_spawns next (transits goal_is.Assign (regions_in table (numbers_from (first_id_of at.args) 2))) (transits_fine goal_is.Assign (regions_in table (numbers_from (first_id_of at.args) 2))))
-  fine_act act_is.OpenMerged next at args seen = fine_given (table_of at.args) next (λ table. spawns next (transits goal_is.Assign (regions_in table (numbers_from (first_id_of at.args) 1)))) (λ table is. fine_spawns next (transits goal_is.Assign (regions_in table (numbers_from (first_id_of at.args) 1))) (transits_fine goal_is.Assign (regions_in table (numbers_from (first_id_of at.args) 1))))
-  fine_act act_is.Finish next at args seen = nothing_done
-  fine_act act_is.CheckMerge next at args seen = fine_checked next (merge_cause (table_of_first (closed_by at.args)) at.rows (closed_by at.args))
-  fine_act act_is.UpdateMergeMeta next at args seen = fine_edits next (merge_edits (row_at at.rows) (closed_by at.args) (first_id_of at.args)) (merge_fine (row_at at.rows) seen (closed_by at.args) (first_id_of at.args) (closed_fit at.args args))
-  fine_act act_is.AddRegionRows next at args seen = fine_given (table_of at.args) next (λ table. given (bounds_of at.args) next (λ bounds. edits_rows next (add_ranges (row_at at.rows) table (first_id_of at.args) (ranges_between bounds)))) (λ table is. fine_given (bounds_of at.args) next (λ bounds. edits_rows next (add_ranges (row_at at.rows) table (first_id_of at.args) (ranges_between bounds))) (λ bounds bound. fine_edits next (add_ranges (row_at at.rows) table (first_id_of at.args) (ranges_between bounds)) (between_fine (row_at at.rows) seen table (first_id_of at.args) bounds (bounds_fit at.args table bounds args is bound))))
-  fine_act act_is.DropRegionRows next at args seen = fine_given (table_of at.args) next (λ table. edits_rows next (remove_regions (row_at at.rows) (regions_in table (ids_of at.args)))) (λ table is. fine_edits next (remove_regions (row_at at.rows) (regions_in table (ids_of at.args))) (remove_fine (row_at at.rows) seen (regions_in table (ids_of at.args))))
-  fine_act act_is.Fence next at args seen = fine_given (server_of at.args) next (λ server. spawns next (child_is.One (args_are.FenceCall server) ∷ [])) (λ server is. fine_spawns next (child_is.One (args_are.FenceCall server) ∷ []) (tt, tt))
-  fine_act act_is.Reassign next at args seen = reassign_fine next (transits goal_is.Assign at.on_server) (transits_fine goal_is.Assign at.on_server)
-  fine_act act_is.CallAssign next at args seen = unless_fine at.fenced (given (region_of at.args) next (λ region. calls next (verb_is.AssignRegion region))) (fine_given (region_of at.args) next (λ region. calls next (verb_is.AssignRegion region)) (λ region is. nothing_done))
-  fine_act act_is.CallClose next at args seen = unless_fine at.fenced (given (region_of at.args) next (λ region. calls next (verb_is.CloseRegion region))) (fine_given (region_of at.args) next (λ region. calls next (verb_is.CloseRegion region)) (λ region is. nothing_done))
-  fine_act act_is.Settle next at args seen = unless_fine at.fenced (ends_as_told at.report) (ends_fine at.report)
-  fine_act act_is.CallFence next at args seen = fine_given (server_of at.args) next (λ server. calls next (verb_is.Fence server)) (λ server is. nothing_done)
-  fine_act act_is.CallLayout next at args seen = fine_given (layout_of at.args) next (λ root. calls next (verb_is.Layout root)) (λ root is. nothing_done)
-  fine_act act_is.SettleLayout next at args seen = layout_fine at.report
-  fine_act act_is.CallSweep next at args seen = fine_given (layout_of at.args) next (λ root. calls next (verb_is.Sweep root)) (λ root is. nothing_done)
-  fine_act act next at args seen = moves_fine (act_answer act next at) (move_act act refl next at)
+  fine_act act next at args seen = made_fine act next at args seen (made_of act next at)
 
   -- a row's answer: cut off, or that of its act
   pub fine_row : (row : Rattle.hm_data.specs.declared.sheet.Row.Row) (at : StepIn) → ArgsDrawn d at.args → SeenDrawn d (row_at at.rows) → IsFine d (row_answer row at)

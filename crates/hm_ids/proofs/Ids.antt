@@ -1,5 +1,5 @@
 -- The ids of regions that acts name are numbers from 1 on. No journal.
-use Rattle.std.proofs.Common.{◌≡◌, ◌≢◌, ℕ, zero, suc, ◌+◌, ◌-◌, ◌≤◌, ◌<◌, ◌^◌, Bool, true, false, cond, nat_le, List, [], ◌∷◌, ◌++◌, length, length-drop, take, drop, map, Option, Some, None, refl, sym, subst, ◌∙◌, ◌&&◌, ◌==◌, arith, slice_get}
+use Rattle.std.proofs.Common.{ap, ◌≡◌, ◌≢◌, ℕ, zero, suc, ◌+◌, ◌-◌, ◌≤◌, ◌<◌, ◌^◌, Bool, true, false, cond, nat_le, List, [], ◌∷◌, ◌++◌, length, length-drop, take, drop, map, Option, Some, None, refl, sym, subst, ◌∙◌, ◌&&◌, ◌==◌, arith, slice_get}
 use Rattle.std.specs.List.{AllByRecursion, filter, list_any}
 use Rattle.std.specs.declared.cmp.Ordering.{Ordering}
 use Rattle.std.specs.declared.cmp.Ordering.TheVariants.{Less, Equal, Greater}
@@ -7,58 +7,40 @@ use Rattle.std.proofs.lemmas.Bool.{leb-false, ne_eqb, or_from}
 use Rattle.std.proofs.lemmas.Option.{none-some, same_Some}
 use Rattle.hm_names.specs.Order.{region_cmp}
 use Rattle.hm_names.specs.Region.{Region}
-use Rattle.hm_names.specs.Server.{Server}
 use Rattle.hm_names.specs.declared.pid.Pid.{Pid}
 use Rattle.hm_names.specs.declared.table.TableName.{TableName}
 use Rattle.hm_data.specs.declared.act.Act.{Act}
-use Rattle.hm_data.specs.declared.act.Act.TheVariants as act_is
 use Rattle.hm_data.specs.declared.act.Back.{Back}
 use Rattle.hm_data.specs.declared.act.Back.TheVariants as back_is
-use Rattle.hm_data.specs.declared.answer.Answer.TheVariants as answer_is
-use Rattle.hm_data.specs.declared.answer.Cause.{Cause}
 use Rattle.hm_data.specs.declared.args.Args.{Args}
 use Rattle.hm_data.specs.declared.args.Args.TheVariants as args_are
 use Rattle.hm_data.specs.declared.args.Child.{Child}
 use Rattle.hm_data.specs.declared.args.Child.TheVariants as child_is
-use Rattle.hm_data.specs.declared.call.Told.{Told}
-use Rattle.hm_data.specs.declared.call.Told.TheVariants as told_is
-use Rattle.hm_data.specs.declared.call.Verb.TheVariants as verb_is
 use Rattle.hm_data.specs.declared.catalog.CatKey.{CatKey}
 use Rattle.hm_data.specs.declared.catalog.CatKey.TheVariants as key_is
 use Rattle.hm_data.specs.declared.catalog.CatRow.{CatRow}
-use Rattle.hm_data.specs.declared.catalog.CatRow.TheVariants as row_is
-use Rattle.hm_data.specs.declared.catalog.TableState.TheVariants as state_is
 use Rattle.hm_data.specs.declared.place.Goal.{Goal}
 use Rattle.hm_data.specs.declared.place.Goal.TheVariants as goal_is
-use Rattle.hm_data.specs.declared.place.Place.{Place}
-use Rattle.hm_data.specs.declared.place.RegionState.TheVariants as place_is
 use Rattle.hm_data.specs.declared.request.Request.{Request}
 use Rattle.hm_data.specs.declared.request.Request.TheVariants as request_is
 use Rattle.hm_data.specs.declared.sheet.Row.{Row}
 use Rattle.hm_data.specs.declared.step.StepIn.{StepIn}
 use Rattle.hm_data.specs.declared.step.StepOut.{StepOut}
+use Rattle.hm_model.proofs.MadeOf.{made_of}
 use Rattle.hm_model.proofs.StepDoes.{row_by}
-use Rattle.hm_model.specs.Acts.{act_answer}
-use Rattle.hm_model.specs.CallActs.{ends_as_told, layout_told, settle_layout, unless_gone}
-use Rattle.hm_model.specs.Catalog.{Catalog, keep, row_at, rows_at, set_to}
-use Rattle.hm_model.specs.Changes.{add_ranges, changed, remove_regions, split_edits}
-use Rattle.hm_model.specs.Checks.{can_split, namespace_empty, namespace_free, region_ready, table_disabled, table_enabled, table_free}
-use Rattle.hm_model.specs.CrashActs.{reassign_all}
+use Rattle.hm_model.specs.MadeOf.{AreMoved, IsMadeOf, Makes, Making, Which, making}
+use Rattle.hm_model.specs.Catalog.{Catalog, keep, rows_at}
 use Rattle.hm_model.specs.Evaluation.{ids_in, row_answer}
 use Rattle.hm_model.specs.Keys.{same_table}
-use Rattle.hm_model.specs.Kinds.{table_of_first}
 use Rattle.hm_model.specs.Locks.{in_name_order, with_region, with_region_at}
-use Rattle.hm_model.specs.NamespaceActs.{has_table, version_of}
-use Rattle.hm_model.specs.Outs.{calls, checked, edits_rows, ends_with, given, places, spawns}
-use Rattle.hm_model.specs.Pieces.{Batch, adding, batches, dropping, numbers_from, pieces_of, ranges_between, transits, with_batch}
+use Rattle.hm_model.specs.Outs.{spawns}
+use Rattle.hm_model.specs.Pieces.{Batch, adding, batches, dropping, numbers_from, pieces_of, transits, with_batch}
 use Rattle.hm_model.specs.Places.{joined_at, joined_by}
-use Rattle.hm_model.specs.RegionActs.{cut_of, merge_cause, regions_for}
-use Rattle.hm_model.specs.RowsSaid.{Rows, all_among, in_state, in_version, is_live_status, keep_region, regions_among, status_in}
-use Rattle.hm_model.specs.TransitActs.{candidate, close_at, close_or_go, is_open, is_told, may_open_in, opened_or_not, told_place}
+use Rattle.hm_model.specs.RegionActs.{regions_for}
+use Rattle.hm_model.specs.RowsSaid.{Rows, all_among, is_live_status, keep_region, regions_among, status_in}
 use Rattle.hm_model.specs.Tree.{args_in}
 use Rattle.hm_model.specs.Undoing.{closed_by, closed_by_request, undo_followers}
-use Rattle.hm_model.specs.Views.{asked_of, bounds_of, first_id_of, namespace_of, region_of, region_of_request, regions_in, table_of}
-use Rattle.hm_model.specs.Wanted.{goal_in, ids_of, layout_of, server_of}
+use Rattle.hm_model.specs.Views.{bounds_of, first_id_of, region_of, region_of_request, regions_in}
 use Rattle.hm_ids.proofs.Drawn.{ArgsDrawn, bounds_fit}
 use Rattle.hm_model.specs.RegionIds.{AreIds, NamesIds, is_zero_transit}
 
@@ -271,59 +253,17 @@ followers_name undo args root names = tt
 abbrev pub NamesAll : StepOut → Type 0
 NamesAll out = ChildrenNameIds out.children
 
-names_checked : (next : ℕ) (cause : Option Cause) → NamesAll (checked next cause)
-names_checked next None = tt
-names_checked next (Some cause) = tt
-
 names_spawns : (next : ℕ) (children : List Child) → ChildrenNameIds children → NamesAll (spawns next children)
 names_spawns next [] all = tt
 names_spawns next (child ∷ more) all = all
 
-names_reassign : (next : ℕ) (children : List Child) → ChildrenNameIds children → NamesAll (reassign_all next children)
-names_reassign next [] all = tt
-names_reassign next (child ∷ more) all = all
-
-names_given : {A : Type 0} (part : Option A) (next : ℕ) (does : A → StepOut) → ((x : A) → part ≡ Some x → NamesAll (does x)) → NamesAll (given part next does)
-names_given None next does each = tt
-names_given (Some part) next does each = each part refl
-
-names_unless : (gone : Bool) (out : StepOut) → NamesAll out → NamesAll (unless_gone gone out)
-names_unless true out all = tt
-names_unless false out all = all
-
-names_ends : (told : Option Told) → NamesAll (ends_as_told told)
-names_ends None = tt
-names_ends (Some told) = tt
-
-names_told : (told : Told) → NamesAll (layout_told told)
-names_told told_is.Nothing = tt
-names_told told = tt
-
-names_layout : (told : Option Told) → NamesAll (settle_layout told)
-names_layout None = tt
-names_layout (Some told) = names_told told
-
-names_candidate : (next : ℕ) (may : Bool) (place : Place) (fenced : Bool) (pick : Option Server) → NamesAll (candidate next may place fenced pick)
-names_candidate next false place fenced pick = tt
-names_candidate next true place fenced pick = by (is_open place fenced)
-  where
-    by : (b : Bool) → NamesAll (cond b (ends_with told_is.Nothing) (places (answer_is.More next) (Some (record { state = place_is.Opening; server = pick }))))
-    by true = tt
-    by false = tt
-
-names_opened : (next : ℕ) (server : Option Server) (b : Bool) → NamesAll (opened_or_not next server b)
-names_opened next server true = tt
-names_opened next server false = tt
-
-names_close : (next : ℕ) (goal : Goal) (region : Region) (place : Place) (b : Bool) → 1 ≤ region.id → NamesAll (close_or_go next goal region place b)
-names_close next goal region place true one = names_given place.server next (close_at next region) (λ server is. (((one, tt), omega arith), tt))
-names_close next goal region place false one = tt
-
 -- the acts that open the regions that a request drew
+abbrev is_new_made : Making → Bool
+is_new_made (Making.moves goal (Which.drawn count)) = true
+is_new_made making = false
+
 abbrev pub opens_new : Act → Bool
-opens_new act_is.OpenDaughters = true
-opens_new act_is.OpenMerged = true
-opens_new act = false
+opens_new act = is_new_made (making act)
 
 -- what a step sees: ids alone
 pub record SeesIds (act : Act) (at : StepIn) : Type 0 where
@@ -333,52 +273,28 @@ pub record SeesIds (act : Act) (at : StepIn) : Type 0 where
   pub rows : RowsHaveIds at.rows
   pub on_server : AreRegions at.on_server
 
+names_moved : (act : Act) (at : StepIn) → SeesIds act at → (goal : Goal) (which : Which) → making act ≡ Making.moves goal which → {regions : List Region} → AreMoved at which regions → AreRegions regions
+names_moved act at sees goal which only (AreMoved.of_table table own) = regions_named table at.args at.rows sees.names sees.rows (bounds_of at.args) refl
+names_moved act at sees goal which only AreMoved.of_closed = closed_named at.args sees.names
+names_moved act at sees goal which only (AreMoved.of_drawn count table own) = numbered table (first_id_of at.args) count (sees.first (ap is_new_made only))
+names_moved act at sees goal which only AreMoved.of_lost = sees.on_server
+
+names_makes : (act : Act) (at : StepIn) → SeesIds act at → {children : List Child} → Makes act at children → ChildrenNameIds children
+names_makes act at sees (Makes.lays only) = ((tt, omega arith), tt)
+names_makes act at sees (Makes.fences only server is) = ((tt, omega arith), tt)
+names_makes act at sees (Makes.adds_all only table is bounds are) = adds_name (length bounds) table (first_id_of at.args) bounds (bounds_fit Small at.args table bounds sees.drawn is are)
+names_makes act at sees (Makes.drops_all only table is) =
+    let ids = ids_of_regions (all_among table at.rows) (among table (λ row. true) at.rows sees.rows) in
+    drops_name table (map (λ (region : Region). region.id) (all_among table at.rows)) ids
+names_makes act at sees (Makes.sends goal sent which only regions are) = transits_name goal regions (names_moved act at sees goal which only are)
+names_makes act at sees (Makes.opens off region is server there) = (((region_named at.args region sees.names is, tt), omega arith), tt)
+
 -- what each act makes
-names_act : (act : Act) (next : ℕ) (at : StepIn) → SeesIds act at → NamesAll (act_answer act next at)
-names_act act_is.CheckNamespaceFree next at sees = names_given (namespace_of at.args) next (λ ns. checked next (namespace_free (row_at at.rows (key_is.Ns ns)))) (λ ns ns_is. names_checked next (namespace_free (row_at at.rows (key_is.Ns ns))))
-names_act act_is.AddNamespace next at sees = names_given (namespace_of at.args) next (λ ns. edits_rows next (set_to (row_at at.rows) (key_is.Ns ns) (Some row_is.Ns) ∷ [])) (λ ns ns_is. tt)
-names_act act_is.CheckNamespaceEmpty next at sees = names_given (namespace_of at.args) next (λ ns. checked next (namespace_empty (row_at at.rows (key_is.Ns ns)) (has_table ns at.rows))) (λ ns ns_is. names_checked next (namespace_empty (row_at at.rows (key_is.Ns ns)) (has_table ns at.rows)))
-names_act act_is.DropNamespace next at sees = names_given (namespace_of at.args) next (λ ns. edits_rows next (set_to (row_at at.rows) (key_is.Ns ns) None ∷ [])) (λ ns ns_is. tt)
-names_act act_is.CheckTableFree next at sees = names_given (table_of at.args) next (λ table. checked next (table_free (row_at at.rows (key_is.Ns table.ns)) (row_at at.rows (key_is.Table table)))) (λ table table_is. names_checked next (table_free (row_at at.rows (key_is.Ns table.ns)) (row_at at.rows (key_is.Table table))))
-names_act act_is.AddTable next at sees = names_given (table_of at.args) next (λ table. edits_rows next (set_to (row_at at.rows) (key_is.Table table) (Some (row_is.Table state_is.Disabled 1)) ∷ [])) (λ table table_is. tt)
-names_act act_is.Layout next at sees = names_spawns next (child_is.One (args_are.LayoutCall at.root) ∷ []) ((tt, omega arith), tt)
-names_act act_is.AddRegions next at sees = names_given (table_of at.args) next (λ table. given (bounds_of at.args) next (λ bounds. spawns next (adding (length bounds) table (first_id_of at.args) bounds))) (λ table table_is. names_given (bounds_of at.args) next (λ bounds. spawns next (adding (length bounds) table (first_id_of at.args) bounds)) (λ bounds bounds_is. names_spawns next (adding (length bounds) table (first_id_of at.args) bounds) (adds_name (length bounds) table (first_id_of at.args) bounds (bounds_fit Small at.args table bounds sees.drawn table_is bounds_is))))
-names_act act_is.SetEnabling next at sees = names_given (table_of at.args) next (λ table. edits_rows next (changed (row_at at.rows) (key_is.Table table) (in_state state_is.Enabling) ∷ [])) (λ table table_is. tt)
-names_act act_is.OpenRegions next at sees = names_given (table_of at.args) next (λ table. spawns next (transits goal_is.Assign (regions_for table (first_id_of at.args) (bounds_of at.args) at.rows))) (λ table table_is. names_spawns next (transits goal_is.Assign (regions_for table (first_id_of at.args) (bounds_of at.args) at.rows)) (transits_name goal_is.Assign (regions_for table (first_id_of at.args) (bounds_of at.args) at.rows) (regions_named table at.args at.rows sees.names sees.rows (bounds_of at.args) refl)))
-names_act act_is.SetEnabled next at sees = names_given (table_of at.args) next (λ table. edits_rows next (changed (row_at at.rows) (key_is.Table table) (in_state state_is.Enabled) ∷ [])) (λ table table_is. tt)
-names_act act_is.CheckTableDisabled next at sees = names_given (table_of at.args) next (λ table. checked next (table_disabled (row_at at.rows (key_is.Table table)))) (λ table table_is. names_checked next (table_disabled (row_at at.rows (key_is.Table table))))
-names_act act_is.DropRegions next at sees = names_given (table_of at.args) next (λ table. spawns next (dropping table (map (λ region. region.id) (all_among table at.rows)))) (λ table table_is. names_spawns next (dropping table (map (λ region. region.id) (all_among table at.rows))) (drops_name table (map (λ region. region.id) (all_among table at.rows)) (ids_of_regions (all_among table at.rows) (among table (λ row. true) at.rows sees.rows))))
-names_act act_is.DropTable next at sees = names_given (table_of at.args) next (λ table. edits_rows next (set_to (row_at at.rows) (key_is.Table table) None ∷ [])) (λ table table_is. tt)
-names_act act_is.CheckTableEnabled next at sees = names_given (table_of at.args) next (λ table. checked next (table_enabled (row_at at.rows (key_is.Table table)))) (λ table table_is. names_checked next (table_enabled (row_at at.rows (key_is.Table table))))
-names_act act_is.SetDisabling next at sees = names_given (table_of at.args) next (λ table. edits_rows next (changed (row_at at.rows) (key_is.Table table) (in_state state_is.Disabling) ∷ [])) (λ table table_is. tt)
-names_act act_is.CloseRegions next at sees = names_given (table_of at.args) next (λ table. spawns next (transits goal_is.Unassign (regions_for table (first_id_of at.args) (bounds_of at.args) at.rows))) (λ table table_is. names_spawns next (transits goal_is.Unassign (regions_for table (first_id_of at.args) (bounds_of at.args) at.rows)) (transits_name goal_is.Unassign (regions_for table (first_id_of at.args) (bounds_of at.args) at.rows) (regions_named table at.args at.rows sees.names sees.rows (bounds_of at.args) refl)))
-names_act act_is.SetDisabled next at sees = names_given (table_of at.args) next (λ table. edits_rows next (changed (row_at at.rows) (key_is.Table table) (in_state state_is.Disabled) ∷ [])) (λ table table_is. tt)
-names_act act_is.SetVersion next at sees = names_given (table_of at.args) next (λ table. given (version_of (asked_of at.args)) next (λ version. edits_rows next (changed (row_at at.rows) (key_is.Table table) (in_version version) ∷ []))) (λ table table_is. names_given (version_of (asked_of at.args)) next (λ version. edits_rows next (changed (row_at at.rows) (key_is.Table table) (in_version version) ∷ [])) (λ version version_is. tt))
-names_act act_is.CheckSplit next at sees = names_given (region_of at.args) next (λ region. given (cut_of (asked_of at.args)) next (λ key. checked next (can_split (row_at at.rows (key_is.Table region.table)) (row_at at.rows (key_is.Region region)) key))) (λ region region_is. names_given (cut_of (asked_of at.args)) next (λ key. checked next (can_split (row_at at.rows (key_is.Table region.table)) (row_at at.rows (key_is.Region region)) key)) (λ key cut_is. names_checked next (can_split (row_at at.rows (key_is.Table region.table)) (row_at at.rows (key_is.Region region)) key)))
-names_act act_is.CloseParent next at sees = names_spawns next (transits goal_is.Unassign (closed_by at.args)) (transits_name goal_is.Unassign (closed_by at.args) (closed_named at.args sees.names))
-names_act act_is.UpdateSplitMeta next at sees = names_given (region_of at.args) next (λ region. given (cut_of (asked_of at.args)) next (λ key. edits_rows next (split_edits (row_at at.rows) region key (first_id_of at.args)))) (λ region region_is. names_given (cut_of (asked_of at.args)) next (λ key. edits_rows next (split_edits (row_at at.rows) region key (first_id_of at.args))) (λ key cut_is. tt))
-names_act act_is.OpenDaughters next at sees = names_given (table_of at.args) next (λ table. spawns next (transits goal_is.Assign (regions_in table (numbers_from (first_id_of at.args) 2)))) (λ table table_is. names_spawns next (transits goal_is.Assign (regions_in table (numbers_from (first_id_of at.args) 2))) (transits_name goal_is.Assign (regions_in table (numbers_from (first_id_of at.args) 2)) (numbered table (first_id_of at.args) 2 (sees.first refl))))
-names_act act_is.CheckMerge next at sees = names_checked next (merge_cause (table_of_first (closed_by at.args)) at.rows (closed_by at.args))
-names_act act_is.CloseParents next at sees = names_spawns next (transits goal_is.Unassign (closed_by at.args)) (transits_name goal_is.Unassign (closed_by at.args) (closed_named at.args sees.names))
-names_act act_is.OpenMerged next at sees = names_given (table_of at.args) next (λ table. spawns next (transits goal_is.Assign (regions_in table (numbers_from (first_id_of at.args) 1)))) (λ table table_is. names_spawns next (transits goal_is.Assign (regions_in table (numbers_from (first_id_of at.args) 1))) (transits_name goal_is.Assign (regions_in table (numbers_from (first_id_of at.args) 1)) (numbered table (first_id_of at.args) 1 (sees.first refl))))
-names_act act_is.AddRegionRows next at sees = names_given (table_of at.args) next (λ table. given (bounds_of at.args) next (λ bounds. edits_rows next (add_ranges (row_at at.rows) table (first_id_of at.args) (ranges_between bounds)))) (λ table table_is. names_given (bounds_of at.args) next (λ bounds. edits_rows next (add_ranges (row_at at.rows) table (first_id_of at.args) (ranges_between bounds))) (λ bounds bounds_is. tt))
-names_act act_is.DropRegionRows next at sees = names_given (table_of at.args) next (λ table. edits_rows next (remove_regions (row_at at.rows) (regions_in table (ids_of at.args)))) (λ table table_is. tt)
-names_act act_is.Fence next at sees = names_given (server_of at.args) next (λ server. spawns next (child_is.One (args_are.FenceCall server) ∷ [])) (λ server server_is. names_spawns next (child_is.One (args_are.FenceCall server) ∷ []) ((tt, omega arith), tt))
-names_act act_is.Reassign next at sees = names_reassign next (transits goal_is.Assign at.on_server) (transits_name goal_is.Assign at.on_server sees.on_server)
-names_act act_is.CallAssign next at sees = names_unless at.fenced (given (region_of at.args) next (λ region. calls next (verb_is.AssignRegion region))) (names_given (region_of at.args) next (λ region. calls next (verb_is.AssignRegion region)) (λ region is. tt))
-names_act act_is.CallClose next at sees = names_unless at.fenced (given (region_of at.args) next (λ region. calls next (verb_is.CloseRegion region))) (names_given (region_of at.args) next (λ region. calls next (verb_is.CloseRegion region)) (λ region is. tt))
-names_act act_is.Settle next at sees = names_unless at.fenced (ends_as_told at.report) (names_ends at.report)
-names_act act_is.CallFence next at sees = names_given (server_of at.args) next (λ server. calls next (verb_is.Fence server)) (λ server is. tt)
-names_act act_is.CallLayout next at sees = names_given (layout_of at.args) next (λ root. calls next (verb_is.Layout root)) (λ root is. tt)
-names_act act_is.SettleLayout next at sees = names_layout at.report
-names_act act_is.CallSweep next at sees = names_given (layout_of at.args) next (λ root. calls next (verb_is.Sweep root)) (λ root is. tt)
-names_act act_is.GetAssignCandidate next at sees = names_given (region_of at.args) next (λ region. candidate next (may_open_in at.rows region) (told_place at.place) at.fenced at.pick) (λ region is. names_candidate next (may_open_in at.rows region) (told_place at.place) at.fenced at.pick)
-names_act act_is.Open next at sees = names_given (region_of at.args) next (λ region. given ((told_place at.place).server) next (λ server. spawns next (child_is.One (args_are.AssignCall region server) ∷ []))) (λ region is. names_given ((told_place at.place).server) next (λ server. spawns next (child_is.One (args_are.AssignCall region server) ∷ [])) (λ server there. (((region_named at.args region sees.names is, tt), omega arith), tt)))
-names_act act_is.ConfirmOpened next at sees = names_opened next (told_place at.place).server (is_told told_is.Opened at.ends)
-names_act act_is.Close next at sees = names_given (region_of at.args) next (λ region. close_or_go next (goal_in at.args) region (told_place at.place) (is_open (told_place at.place) at.fenced)) (λ region is. names_close next (goal_in at.args) region (told_place at.place) (is_open (told_place at.place) at.fenced) (region_named at.args region sees.names is))
-names_act act_is.CheckMove next at sees = names_given (region_of at.args) next (λ region. checked next (region_ready (row_at at.rows (key_is.Table region.table)) (row_at at.rows (key_is.Region region)))) (λ region is. names_checked next (region_ready (row_at at.rows (key_is.Table region.table)) (row_at at.rows (key_is.Region region))))
-names_act act next at sees = tt
+names_made : (act : Act) (next : ℕ) (at : StepIn) → SeesIds act at → {out : StepOut} → IsMadeOf act next at out → NamesAll out
+names_made act next at sees (IsMadeOf.made children makes) = names_spawns next children (names_makes act at sees makes)
+names_made act next at sees (IsMadeOf.shut off region is server there) = (((region_named at.args region sees.names is, tt), omega arith), tt)
+names_made act next at sees other = tt
 
 -- and so a row
 pub row_names : (row : Row) (at : StepIn) → SeesIds row.act at → NamesAll (row_answer row at)
-row_names row at sees = row_by NamesAll row at (λ cause. tt) (names_act row.act row.next at sees)
+row_names row at sees = row_by NamesAll row at (λ cause. tt) (names_made row.act row.next at sees (made_of row.act row.next at))

@@ -1,7 +1,7 @@
 -- Of the procedures that a step makes at most one moves a region.
 use Rattle.std.proofs.Common.{◌≡◌, ℕ, zero, suc, ◌+◌, ◌-◌, ◌≤◌, List, [], ◌∷◌, length, map, nat_le, take, drop, Bool, true, false, ◌&&◌, cond, Option, Some, None, refl, ap, sym, ◌∙◌, subst, arith, inl, inr, ◌⊎◌, slice_get}
 use Rattle.std.specs.List.{list_all}
-use Rattle.std.proofs.lemmas.Bool.{and_parts, false≢true}
+use Rattle.std.proofs.lemmas.Bool.{and_parts}
 use Rattle.std.proofs.lemmas.Option.{none-some, same_Some}
 use Rattle.std.specs.declared.cmp.Ordering.{Ordering}
 use Rattle.std.specs.declared.cmp.Ordering.TheVariants.{Equal, Greater, Less}
@@ -9,8 +9,6 @@ use Rattle.hm_names.specs.Order.{region_cmp}
 use Rattle.hm_names.specs.Region.{Region}
 use Rattle.hm_names.specs.declared.table.TableName.{TableName}
 use Rattle.hm_data.specs.declared.act.Act.{Act}
-use Rattle.hm_data.specs.declared.act.Act.TheVariants as act_is
-use Rattle.hm_data.specs.declared.answer.Cause.{Cause}
 use Rattle.hm_data.specs.declared.args.Args.{Args}
 use Rattle.hm_data.specs.declared.args.Args.TheVariants as args_are
 use Rattle.hm_data.specs.declared.args.Child.{Child}
@@ -18,34 +16,27 @@ use Rattle.hm_data.specs.declared.args.Child.TheVariants as child_is
 use Rattle.hm_data.specs.declared.catalog.CatKey.{CatKey}
 use Rattle.hm_data.specs.declared.catalog.CatKey.TheVariants as key_is
 use Rattle.hm_data.specs.declared.catalog.CatRow.{CatRow}
-use Rattle.hm_data.specs.declared.catalog.CatRow.TheVariants as row_is
-use Rattle.hm_data.specs.declared.catalog.TableState.TheVariants as state_is
 use Rattle.hm_data.specs.declared.place.Goal.{Goal}
-use Rattle.hm_data.specs.declared.place.Goal.TheVariants as goal_is
 use Rattle.hm_data.specs.declared.request.Request.{Request}
 use Rattle.hm_data.specs.declared.request.Request.TheVariants as request_is
 use Rattle.hm_data.specs.declared.step.StepIn.{StepIn}
 use Rattle.hm_data.specs.declared.step.StepOut.{StepOut}
 use Rattle.hm_model.specs.Acts.{act_answer}
-use Rattle.hm_model.specs.Catalog.{Catalog, keep, row_at, rows_at, set_to}
-use Rattle.hm_model.specs.Changes.{add_ranges, changed, remove_regions, split_edits}
-use Rattle.hm_model.specs.Checks.{can_split, namespace_empty, namespace_free, table_disabled, table_enabled, table_free}
-use Rattle.hm_model.specs.CrashActs.{reassign_all}
+use Rattle.hm_model.specs.Catalog.{Catalog, keep, rows_at}
 use Rattle.hm_model.specs.Keys.{same_table}
-use Rattle.hm_model.specs.Kinds.{table_of_first}
 use Rattle.hm_model.specs.Locks.{IsIn, in_name_order, with_region, with_region_at}
-use Rattle.hm_model.specs.NamespaceActs.{has_table, version_of}
-use Rattle.hm_model.specs.Outs.{checked, edits_rows, given, spawns}
-use Rattle.hm_model.specs.Pieces.{Batch, adding, batches, by_64, dropping, numbers_from, ranges_between, transits, with_batch}
-use Rattle.hm_model.specs.RegionActs.{cut_of, merge_cause, regions_for}
+use Rattle.hm_model.specs.Outs.{spawns}
+use Rattle.hm_model.specs.Pieces.{Batch, adding, batches, by_64, dropping, numbers_from, transits, with_batch}
+use Rattle.hm_model.specs.RegionActs.{regions_for}
 use Rattle.hm_model.specs.Requests.{are_apart, are_siblings, wrong_in}
 use Rattle.hm_model.specs.RowLaws.{AreInOrder}
-use Rattle.hm_model.specs.RowsSaid.{all_among, in_state, in_version, keep_region, live_among, regions_among}
+use Rattle.hm_model.specs.RowsSaid.{all_among, keep_region, live_among, regions_among}
 use Rattle.hm_model.specs.Tree.{args_in}
 use Rattle.hm_model.specs.Undoing.{closed_by}
-use Rattle.hm_model.specs.Views.{asked_of, bounds_of, first_id_of, namespace_of, region_of, regions_in, table_of}
-use Rattle.hm_model.specs.Wanted.{ids_of, server_of}
+use Rattle.hm_model.specs.Views.{bounds_of, first_id_of, regions_in}
 use Rattle.hm_model.specs.Whereabouts.{moved_by}
+use Rattle.hm_model.specs.MadeOf.{AreMoved, IsMadeOf, Makes, Which}
+use Rattle.hm_model.proofs.MadeOf.{made_of}
 use Rattle.hm_model.proofs.KeyTests.{same_table-is}
 use Rattle.hm_model.proofs.PlainActs.{is_plain}
 use Rattle.hm_model.proofs.Siblings.{merge_is, not_among}
@@ -199,24 +190,9 @@ batches_args goal (region ∷ more) = batch_args goal region (batches more) ∙ 
 moves_one : (goal : Goal) (regions : List Region) → AreDistinct regions → OnePerRegion (args_in (transits goal regions))
 moves_one goal regions each = subst OnePerRegion (sym (batches_args goal (in_name_order regions))) (transits_one goal (in_name_order regions) (distinct_ordered regions each))
 
-none_one : (list : List Args) → list ≡ [] → OnePerRegion list
-none_one list none = subst OnePerRegion (sym none) (still_one [] tt)
-
-given_one : {A : Type 0} (part : Option A) (next : ℕ) (act : A → StepOut) → ((x : A) → OnePerRegion (args_in (act x).children)) → OnePerRegion (args_in (given part next act).children)
-given_one None next act each = still_one [] tt
-given_one (Some part) next act each = each part
-
-checked_one : (next : ℕ) (cause : Option Cause) → OnePerRegion (args_in (checked next cause).children)
-checked_one next None = still_one [] tt
-checked_one next (Some cause) = still_one [] tt
-
 spawned_one : (next : ℕ) (children : List Child) → OnePerRegion (args_in children) → OnePerRegion (args_in (spawns next children).children)
 spawned_one next [] one = one
 spawned_one next (child ∷ more) one = one
-
-reassigned_one : (next : ℕ) (children : List Child) → OnePerRegion (args_in children) → OnePerRegion (args_in (reassign_all next children).children)
-reassigned_one next [] one = one
-reassigned_one next (child ∷ more) one = one
 
 adding_still : (most : ℕ) (table : TableName) (first : ℕ) (bounds : List (List ℕ)) → AreStill (args_in (adding most table first bounds))
 adding_still zero table first bounds = tt
@@ -240,37 +216,26 @@ distinct_for : (at : StepIn) → SeesEachOnce at → (table : TableName) (first 
 distinct_for at sees table first None = sees.rows table
 distinct_for at sees table first (Some bounds) = distinct_numbered table first (length bounds - 1)
 
+distinct_moved : (at : StepIn) → SeesEachOnce at → {which : Which} {regions : List Region} → AreMoved at which regions → AreDistinct regions
+distinct_moved at sees (AreMoved.of_table table own) = distinct_for at sees table (first_id_of at.args) (bounds_of at.args)
+distinct_moved at sees AreMoved.of_closed = sees.closed
+distinct_moved at sees (AreMoved.of_drawn count table own) = distinct_numbered table (first_id_of at.args) count
+distinct_moved at sees AreMoved.of_lost = sees.lost
+
+one_makes : (act : Act) (at : StepIn) → SeesEachOnce at → {children : List Child} → Makes act at children → OnePerRegion (args_in children)
+one_makes act at sees (Makes.lays is) = still_one (args_are.LayoutCall at.root ∷ []) (refl, tt)
+one_makes act at sees (Makes.fences is server own) = still_one (args_are.FenceCall server ∷ []) (refl, tt)
+one_makes act at sees (Makes.adds_all is table own bounds are) = still_one (args_in (adding (length bounds) table (first_id_of at.args) bounds)) (adding_still (length bounds) table (first_id_of at.args) bounds)
+one_makes act at sees (Makes.drops_all is table own) =
+    let ids = map (λ (region : Region). region.id) (all_among table at.rows) in
+    still_one (args_in (dropping table ids)) (dropping_still table (by_64 ids))
+one_makes act at sees (Makes.sends goal sent which is regions are) = moves_one goal regions (distinct_moved at sees are)
+one_makes act at sees (Makes.opens off region own server there) = still_one (args_are.AssignCall region server ∷ []) (refl, tt)
+
+one_made : (act : Act) (next : ℕ) (at : StepIn) → SeesEachOnce at → {out : StepOut} → IsMadeOf act next at out → OnePerRegion (args_in out.children)
+one_made act next at sees (IsMadeOf.made children makes) = spawned_one next children (one_makes act at sees makes)
+one_made act next at sees (IsMadeOf.shut off region own server there) = still_one (args_are.CloseCall region server ∷ []) (refl, tt)
+one_made act next at sees other = still_one [] tt
+
 pub act_one : (act : Act) → is_plain act ≡ true → (next : ℕ) (at : StepIn) → SeesEachOnce at → OnePerRegion (args_in (act_answer act next at).children)
-act_one act_is.CheckNamespaceFree h next at sees = given_one (namespace_of at.args) next (λ ns. checked next (namespace_free (row_at at.rows (key_is.Ns ns)))) (λ ns. checked_one next (namespace_free (row_at at.rows (key_is.Ns ns))))
-act_one act_is.AddNamespace h next at sees = given_one (namespace_of at.args) next (λ ns. edits_rows next (set_to (row_at at.rows) (key_is.Ns ns) (Some row_is.Ns) ∷ [])) (λ ns. still_one [] tt)
-act_one act_is.CheckNamespaceEmpty h next at sees = given_one (namespace_of at.args) next (λ ns. checked next (namespace_empty (row_at at.rows (key_is.Ns ns)) (has_table ns at.rows))) (λ ns. checked_one next (namespace_empty (row_at at.rows (key_is.Ns ns)) (has_table ns at.rows)))
-act_one act_is.DropNamespace h next at sees = given_one (namespace_of at.args) next (λ ns. edits_rows next (set_to (row_at at.rows) (key_is.Ns ns) None ∷ [])) (λ ns. still_one [] tt)
-act_one act_is.CheckTableFree h next at sees = given_one (table_of at.args) next (λ table. checked next (table_free (row_at at.rows (key_is.Ns table.ns)) (row_at at.rows (key_is.Table table)))) (λ table. checked_one next (table_free (row_at at.rows (key_is.Ns table.ns)) (row_at at.rows (key_is.Table table))))
-act_one act_is.AddTable h next at sees = given_one (table_of at.args) next (λ table. edits_rows next (set_to (row_at at.rows) (key_is.Table table) (Some (row_is.Table state_is.Disabled 1)) ∷ [])) (λ table. still_one [] tt)
-act_one act_is.Layout h next at sees = still_one (args_are.LayoutCall at.root ∷ []) (refl, tt)
-act_one act_is.AddRegions h next at sees = given_one (table_of at.args) next (λ table. given (bounds_of at.args) next (λ bounds. spawns next (adding (length bounds) table (first_id_of at.args) bounds))) (λ table. given_one (bounds_of at.args) next (λ bounds. spawns next (adding (length bounds) table (first_id_of at.args) bounds)) (λ bounds. spawned_one next (adding (length bounds) table (first_id_of at.args) bounds) (still_one (args_in (adding (length bounds) table (first_id_of at.args) bounds)) (adding_still (length bounds) table (first_id_of at.args) bounds))))
-act_one act_is.SetEnabling h next at sees = given_one (table_of at.args) next (λ table. edits_rows next (changed (row_at at.rows) (key_is.Table table) (in_state state_is.Enabling) ∷ [])) (λ table. still_one [] tt)
-act_one act_is.OpenRegions h next at sees = given_one (table_of at.args) next (λ table. spawns next (transits goal_is.Assign (regions_for table (first_id_of at.args) (bounds_of at.args) at.rows))) (λ table. spawned_one next (transits goal_is.Assign (regions_for table (first_id_of at.args) (bounds_of at.args) at.rows)) (moves_one goal_is.Assign (regions_for table (first_id_of at.args) (bounds_of at.args) at.rows) (distinct_for at sees table (first_id_of at.args) (bounds_of at.args))))
-act_one act_is.SetEnabled h next at sees = given_one (table_of at.args) next (λ table. edits_rows next (changed (row_at at.rows) (key_is.Table table) (in_state state_is.Enabled) ∷ [])) (λ table. still_one [] tt)
-act_one act_is.CheckTableDisabled h next at sees = given_one (table_of at.args) next (λ table. checked next (table_disabled (row_at at.rows (key_is.Table table)))) (λ table. checked_one next (table_disabled (row_at at.rows (key_is.Table table))))
-act_one act_is.DropRegions h next at sees = given_one (table_of at.args) next (λ table. spawns next (dropping table (map (λ region. region.id) (all_among table at.rows)))) (λ table. spawned_one next (dropping table (map (λ region. region.id) (all_among table at.rows))) (still_one (args_in (dropping table (map (λ region. region.id) (all_among table at.rows)))) (dropping_still table (by_64 (map (λ (region : Region). region.id) (all_among table at.rows))))))
-act_one act_is.DropTable h next at sees = given_one (table_of at.args) next (λ table. edits_rows next (set_to (row_at at.rows) (key_is.Table table) None ∷ [])) (λ table. still_one [] tt)
-act_one act_is.CheckTableEnabled h next at sees = given_one (table_of at.args) next (λ table. checked next (table_enabled (row_at at.rows (key_is.Table table)))) (λ table. checked_one next (table_enabled (row_at at.rows (key_is.Table table))))
-act_one act_is.SetDisabling h next at sees = given_one (table_of at.args) next (λ table. edits_rows next (changed (row_at at.rows) (key_is.Table table) (in_state state_is.Disabling) ∷ [])) (λ table. still_one [] tt)
-act_one act_is.CloseRegions h next at sees = given_one (table_of at.args) next (λ table. spawns next (transits goal_is.Unassign (regions_for table (first_id_of at.args) (bounds_of at.args) at.rows))) (λ table. spawned_one next (transits goal_is.Unassign (regions_for table (first_id_of at.args) (bounds_of at.args) at.rows)) (moves_one goal_is.Unassign (regions_for table (first_id_of at.args) (bounds_of at.args) at.rows) (distinct_for at sees table (first_id_of at.args) (bounds_of at.args))))
-act_one act_is.SetDisabled h next at sees = given_one (table_of at.args) next (λ table. edits_rows next (changed (row_at at.rows) (key_is.Table table) (in_state state_is.Disabled) ∷ [])) (λ table. still_one [] tt)
-act_one act_is.SetVersion h next at sees = given_one (table_of at.args) next (λ table. given (version_of (asked_of at.args)) next (λ version. edits_rows next (changed (row_at at.rows) (key_is.Table table) (in_version version) ∷ []))) (λ table. given_one (version_of (asked_of at.args)) next (λ version. edits_rows next (changed (row_at at.rows) (key_is.Table table) (in_version version) ∷ [])) (λ version. still_one [] tt))
-act_one act_is.CheckSplit h next at sees = given_one (region_of at.args) next (λ region. given (cut_of (asked_of at.args)) next (λ key. checked next (can_split (row_at at.rows (key_is.Table region.table)) (row_at at.rows (key_is.Region region)) key))) (λ region. given_one (cut_of (asked_of at.args)) next (λ key. checked next (can_split (row_at at.rows (key_is.Table region.table)) (row_at at.rows (key_is.Region region)) key)) (λ key. checked_one next (can_split (row_at at.rows (key_is.Table region.table)) (row_at at.rows (key_is.Region region)) key)))
-act_one act_is.CloseParent h next at sees = spawned_one next (transits goal_is.Unassign (closed_by at.args)) (moves_one goal_is.Unassign (closed_by at.args) sees.closed)
-act_one act_is.UpdateSplitMeta h next at sees = given_one (region_of at.args) next (λ region. given (cut_of (asked_of at.args)) next (λ key. edits_rows next (split_edits (row_at at.rows) region key (first_id_of at.args)))) (λ region. given_one (cut_of (asked_of at.args)) next (λ key. edits_rows next (split_edits (row_at at.rows) region key (first_id_of at.args))) (λ key. still_one [] tt))
-act_one act_is.OpenDaughters h next at sees = given_one (table_of at.args) next (λ table. spawns next (transits goal_is.Assign (regions_in table (numbers_from (first_id_of at.args) 2)))) (λ table. spawned_one next (transits goal_is.Assign (regions_in table (numbers_from (first_id_of at.args) 2))) (moves_one goal_is.Assign (regions_in table (numbers_from (first_id_of at.args) 2)) (distinct_numbered table (first_id_of at.args) 2)))
-act_one act_is.Finish h next at sees = still_one [] tt
-act_one act_is.CheckMerge h next at sees = checked_one next (merge_cause (table_of_first (closed_by at.args)) at.rows (closed_by at.args))
-act_one act_is.CloseParents h next at sees = spawned_one next (transits goal_is.Unassign (closed_by at.args)) (moves_one goal_is.Unassign (closed_by at.args) sees.closed)
-act_one act_is.UpdateMergeMeta h next at sees = still_one [] tt
-act_one act_is.OpenMerged h next at sees = given_one (table_of at.args) next (λ table. spawns next (transits goal_is.Assign (regions_in table (numbers_from (first_id_of at.args) 1)))) (λ table. spawned_one next (transits goal_is.Assign (regions_in table (numbers_from (first_id_of at.args) 1))) (moves_one goal_is.Assign (regions_in table (numbers_from (first_id_of at.args) 1)) (distinct_numbered table (first_id_of at.args) 1)))
-act_one act_is.AddRegionRows h next at sees = given_one (table_of at.args) next (λ table. given (bounds_of at.args) next (λ bounds. edits_rows next (add_ranges (row_at at.rows) table (first_id_of at.args) (ranges_between bounds)))) (λ table. given_one (bounds_of at.args) next (λ bounds. edits_rows next (add_ranges (row_at at.rows) table (first_id_of at.args) (ranges_between bounds))) (λ bounds. still_one [] tt))
-act_one act_is.DropRegionRows h next at sees = given_one (table_of at.args) next (λ table. edits_rows next (remove_regions (row_at at.rows) (regions_in table (ids_of at.args)))) (λ table. still_one [] tt)
-act_one act_is.Fence h next at sees = given_one (server_of at.args) next (λ server. spawns next (child_is.One (args_are.FenceCall server) ∷ [])) (λ server. still_one (args_are.FenceCall server ∷ []) (refl, tt))
-act_one act_is.Reassign h next at sees = reassigned_one next (transits goal_is.Assign at.on_server) (moves_one goal_is.Assign at.on_server sees.lost)
-act_one act h next at sees = absurd (false≢true h)
+act_one act h next at sees = one_made act next at sees (made_of act next at)

@@ -4,7 +4,7 @@ use Rattle.hm_data.specs.declared.part.Part.{Part}
 use Rattle.hm_data.specs.declared.part.Part.TheVariants as part_is
 use Rattle.std.proofs.Common.{◌≡◌, ℕ, zero, suc, ◌+◌, List, [], ◌∷◌, Bool, true, false, ◌&&◌, ◌==◌, nat_lt, Option, Some, None, cond, refl, ap, sym, ◌∙◌, subst, inl, inr, slice_get, not, ◌||◌}
 use Rattle.std.specs.List.{list_all, list_any}
-use Rattle.std.proofs.lemmas.Bool.{and_parts, cases_Bool, cond-false, cond-true, eqb-true}
+use Rattle.std.proofs.lemmas.Bool.{and_parts, cases_Bool, cond-false, cond-true, eqb-true, false≢true, or_cases}
 use Rattle.std.proofs.lemmas.Option.{none-some, same_Some}
 use Rattle.hm_data.specs.Numbers.{act_number, back_number}
 use Rattle.hm_data.specs.declared.act.Act.{Act}
@@ -103,6 +103,19 @@ all_plain (line ∷ lines) = is_plain line.act && all_plain lines
 -- the act is listed for the kind
 abbrev pub is_listed : ℕ → Act → Bool
 is_listed kind act = list_any (λ line. act_number line.act == act_number act) (lines_of kind)
+
+of_lines : (test : Act → Bool) (lines : List Line) (act : Act) → list_all (λ line. test line.act) lines ≡ true → list_any (λ line. act_number line.act == act_number act) lines ≡ true → test act ≡ true
+of_lines test [] act all any = absurd (false≢true any)
+of_lines test (line ∷ lines) act all any =
+    let both = and_parts (test line.act) (list_all (λ own. test own.act) lines) all in
+    elim (or_cases (act_number line.act == act_number act) (list_any (λ own. act_number own.act == act_number act) lines) any) [
+      | inl here ↦ subst (λ a. test a ≡ true) (same_act line.act act (eqb-true (act_number line.act) (act_number act) here)) both.0
+      | inr later ↦ of_lines test lines act both.1 later
+    ]
+
+-- what holds of each line of a kind holds of the acts that it lists
+pub of_listed : (test : Act → Bool) (kind : ℕ) (act : Act) → list_all (λ line. test line.act) (lines_of kind) ≡ true → is_listed kind act ≡ true → test act ≡ true
+of_listed test kind act all listed = of_lines test (lines_of kind) act all listed
 
 abbrev pub all_listed : ℕ → List Line → Bool
 all_listed kind [] = true

@@ -22,6 +22,7 @@ pub mod ByHand
 pub mod AllSheets
 pub mod Freed
 pub mod Played
+pub mod MadeOf
 pub mod PlainActs
 pub mod ExactRows
 pub mod CallSteps
@@ -32,7 +33,6 @@ pub mod FineMoves
 pub mod RootSheets
 pub mod Trees
 pub mod Editions
-pub mod Plain
 pub mod UndoMakes
 mod Crashed
 mod Named

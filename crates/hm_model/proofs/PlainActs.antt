@@ -1,5 +1,5 @@
 -- What the acts answer that call nobody and place nothing.
-use Rattle.std.proofs.Common.{◌≡◌, ℕ, zero, suc, ◌+◌, List, [], ◌∷◌, Bool, true, false, not, ◌&&◌, ◌||◌, ◌==◌, Option, Some, None, cond, nat_le, length, take, drop, map, refl, ap, sym, ◌∙◌, slice_get, ◌++◌}
+use Rattle.std.proofs.Common.{◌≡◌, ℕ, zero, suc, ◌+◌, List, [], ◌∷◌, Bool, true, false, not, ◌&&◌, ◌||◌, ◌==◌, Some, None, cond, nat_le, length, take, drop, map, refl, ap, sym, ◌∙◌, slice_get, ◌++◌}
 use Rattle.std.proofs.lemmas.Bool.{and_parts, false≢true, true≢false}
 use Rattle.std.proofs.lemmas.Option.{none-some, same_Some}
 use Rattle.hm_names.specs.Region.{Region}
@@ -19,29 +19,19 @@ use Rattle.hm_data.specs.declared.place.Goal.{Goal}
 use Rattle.hm_data.specs.declared.step.StepIn.{StepIn}
 use Rattle.hm_data.specs.declared.step.StepOut.{StepOut}
 use Rattle.hm_data.specs.declared.call.Told.TheVariants as told_is
-use Rattle.hm_data.specs.declared.catalog.CatKey.TheVariants as key_is
-use Rattle.hm_data.specs.declared.catalog.CatRow.TheVariants as row_is
-use Rattle.hm_data.specs.declared.catalog.TableState.TheVariants as state_is
-use Rattle.hm_data.specs.declared.place.Goal.TheVariants as goal_is
 use Rattle.hm_model.specs.Acts.{act_answer}
-use Rattle.hm_model.specs.Catalog.{row_at, set_to}
-use Rattle.hm_model.specs.Changes.{add_ranges, changed, merge_edits, remove_regions, split_edits}
-use Rattle.hm_model.specs.Kinds.{table_of_first}
-use Rattle.hm_model.specs.NamespaceActs.{has_table, version_of}
-use Rattle.hm_model.specs.RegionActs.{cut_of, merge_cause, regions_for}
-use Rattle.hm_model.specs.RowsSaid.{all_among, in_state, in_version}
+use Rattle.hm_model.specs.RowsSaid.{all_among}
 use Rattle.hm_model.specs.ActSorts.{is_check}
-use Rattle.hm_model.specs.Views.{asked_of, bounds_of, first_id_of, region_of, regions_in, table_of, namespace_of}
-use Rattle.hm_model.specs.Wanted.{ids_of, server_of}
+pub use Rattle.hm_model.specs.ActSorts.{is_plain}
+use Rattle.hm_model.specs.Views.{first_id_of}
 use Rattle.hm_model.specs.Answers.{failing, no_row}
-use Rattle.hm_model.specs.Checks.{can_split, namespace_empty, namespace_free, table_disabled, table_enabled, table_free}
-use Rattle.hm_model.specs.CrashActs.{reassign_all}
-use Rattle.hm_model.specs.Outs.{checked, edits_rows, ends_with, given, spawns, fails, gives, on_to}
-use Rattle.hm_model.specs.Pieces.{Batch, adding, batches, by_64, dropping, numbers_from, ranges_between, transits}
+use Rattle.hm_model.specs.Outs.{ends_with, spawns, fails, gives, on_to}
+use Rattle.hm_model.specs.Pieces.{Batch, adding, batches, by_64, dropping, transits}
 use Rattle.hm_model.specs.Locks.{in_name_order}
-use Rattle.hm_model.specs.Undoing.{closed_by}
 use Rattle.hm_model.specs.Tree.{args_in}
+use Rattle.hm_model.specs.MadeOf.{IsMadeOf, LeadsNear, Makes, can_fail}
 use Rattle.hm_model.proofs.Answered.{done_or_on}
+use Rattle.hm_model.proofs.MadeOf.{made_of}
 
 -- a procedure calls a region server
 abbrev pub is_caller : Args → Bool
@@ -84,23 +74,6 @@ pub record IsPlainOut (next : ℕ) (out : StepOut) : Type 0 where
   pub goes : GoesTo next out.answer
   pub waits : ChildrenWait out.answer out.children
 
--- the acts of tables, namespaces and regions' rows, and those of a crash
-abbrev pub is_plain : Act → Bool
-is_plain act_is.GetAssignCandidate = false
-is_plain act_is.Open = false
-is_plain act_is.ConfirmOpened = false
-is_plain act_is.Close = false
-is_plain act_is.ConfirmClosed = false
-is_plain act_is.CheckMove = false
-is_plain act_is.CallAssign = false
-is_plain act_is.CallClose = false
-is_plain act_is.Settle = false
-is_plain act_is.CallFence = false
-is_plain act_is.CallLayout = false
-is_plain act_is.SettleLayout = false
-is_plain act_is.CallSweep = false
-is_plain act = true
-
 pub plain_fails : (next : ℕ) (cause : Cause) → IsPlainOut next (fails cause)
 plain_fails next cause = record { silent = refl; unplaced = refl; quiet = refl; goes = tt; waits = refl }
 
@@ -111,20 +84,12 @@ plain_on next edits = by (next == no_row)
     by true = record { silent = refl; unplaced = refl; quiet = refl; goes = tt; waits = refl }
     by false = record { silent = refl; unplaced = refl; quiet = refl; goes = refl; waits = refl }
 
-plain_checked : (next : ℕ) (cause : Option Cause) → IsPlainOut next (checked next cause)
-plain_checked next None = record { silent = refl; unplaced = refl; quiet = refl; goes = refl; waits = refl }
-plain_checked next (Some cause) = plain_fails next cause
-
 plain_spawns : (next : ℕ) (children : List Child) → all_quiet children ≡ true → IsPlainOut next (spawns next children)
 plain_spawns next [] quiet = record { silent = refl; unplaced = refl; quiet = refl; goes = refl; waits = refl }
 plain_spawns next (child ∷ more) quiet = record { silent = refl; unplaced = refl; quiet = quiet; goes = refl; waits = tt }
 
 plain_ends : (next : ℕ) (told : Told) → IsPlainOut next (ends_with told)
 plain_ends next told = record { silent = refl; unplaced = refl; quiet = refl; goes = tt; waits = refl }
-
-plain_given : {A : Type 0} (part : Option A) (next : ℕ) (act : A → StepOut) → ((x : A) → IsPlainOut next (act x)) → IsPlainOut next (given part next act)
-plain_given None next act each = plain_on next []
-plain_given (Some part) next act each = each part
 
 quiet_batches : (goal : Goal) (list : List Batch) → all_quiet (map (λ batch. child_is.Transits batch.table batch.ids goal) list) ≡ true
 quiet_batches goal [] = refl
@@ -148,45 +113,28 @@ quiet_adding : (most : ℕ) (table : TableName) (first : ℕ) (bounds : List (Li
 quiet_adding zero table first bounds = refl
 quiet_adding (suc most) table first bounds = quiet_if (nat_le (length bounds) 1) (child_is.One (args_are.AddRegions table first (take 65 bounds)) ∷ adding most table (first + 64) (drop 64 bounds)) (quiet_adding most table (first + 64) (drop 64 bounds))
 
-plain_reassign : (next : ℕ) (children : List Child) → all_quiet children ≡ true → IsPlainOut next (reassign_all next children)
-plain_reassign next [] quiet = plain_ends next told_is.Nothing
-plain_reassign next (child ∷ more) quiet = plain_spawns next (child ∷ more) quiet
+-- such an act makes only quiet ones
+quiet_made : (act : Act) (at : StepIn) → is_plain act ≡ true → {children : List Child} → Makes act at children → all_quiet children ≡ true
+quiet_made act at h (Makes.lays is) = refl
+quiet_made act at h (Makes.fences is server own) = refl
+quiet_made act at h (Makes.adds_all is table own bounds are) = quiet_adding (length bounds) table (first_id_of at.args) bounds
+quiet_made act at h (Makes.drops_all is table own) = quiet_dropping table (map (λ (region : Region). region.id) (all_among table at.rows))
+quiet_made act at h (Makes.sends goal sent which is regions are) = quiet_transits goal regions
+quiet_made act at h (Makes.opens off region own server there) = absurd (true≢false (sym h ∙ off))
+
+plain_made : (act : Act) (next : ℕ) (at : StepIn) → is_plain act ≡ true → {out : StepOut} → IsMadeOf act next at out → IsPlainOut next out
+plain_made act next at h (IsMadeOf.failed may cause) = plain_fails next cause
+plain_made act next at h IsMadeOf.went_on = record { silent = refl; unplaced = refl; quiet = refl; goes = refl; waits = refl }
+plain_made act next at h (IsMadeOf.ended told) = plain_ends next told
+plain_made act next at h (IsMadeOf.edited e edits are) = plain_on next edits
+plain_made act next at h (IsMadeOf.made children makes) = plain_spawns next children (quiet_made act at h makes)
+plain_made act next at h (IsMadeOf.called off verb asks) = absurd (true≢false (sym h ∙ off))
+plain_made act next at h (IsMadeOf.placed off answer near place gives) = absurd (true≢false (sym h ∙ off))
+plain_made act next at h (IsMadeOf.shut off region own server there) = absurd (true≢false (sym h ∙ off))
 
 -- what such an act answers
 pub plain_act : (act : Act) → is_plain act ≡ true → (next : ℕ) (at : StepIn) → IsPlainOut next (act_answer act next at)
-plain_act act_is.CheckNamespaceFree h next at = plain_given (namespace_of at.args) next (λ ns. checked next (namespace_free (row_at at.rows (key_is.Ns ns)))) (λ ns. plain_checked next (namespace_free (row_at at.rows (key_is.Ns ns))))
-plain_act act_is.AddNamespace h next at = plain_given (namespace_of at.args) next (λ ns. edits_rows next (set_to (row_at at.rows) (key_is.Ns ns) (Some row_is.Ns) ∷ [])) (λ ns. plain_on next (set_to (row_at at.rows) (key_is.Ns ns) (Some row_is.Ns) ∷ []))
-plain_act act_is.CheckNamespaceEmpty h next at = plain_given (namespace_of at.args) next (λ ns. checked next (namespace_empty (row_at at.rows (key_is.Ns ns)) (has_table ns at.rows))) (λ ns. plain_checked next (namespace_empty (row_at at.rows (key_is.Ns ns)) (has_table ns at.rows)))
-plain_act act_is.DropNamespace h next at = plain_given (namespace_of at.args) next (λ ns. edits_rows next (set_to (row_at at.rows) (key_is.Ns ns) None ∷ [])) (λ ns. plain_on next (set_to (row_at at.rows) (key_is.Ns ns) None ∷ []))
-plain_act act_is.CheckTableFree h next at = plain_given (table_of at.args) next (λ table. checked next (table_free (row_at at.rows (key_is.Ns table.ns)) (row_at at.rows (key_is.Table table)))) (λ table. plain_checked next (table_free (row_at at.rows (key_is.Ns table.ns)) (row_at at.rows (key_is.Table table))))
-plain_act act_is.AddTable h next at = plain_given (table_of at.args) next (λ table. edits_rows next (set_to (row_at at.rows) (key_is.Table table) (Some (row_is.Table state_is.Disabled 1)) ∷ [])) (λ table. plain_on next (set_to (row_at at.rows) (key_is.Table table) (Some (row_is.Table state_is.Disabled 1)) ∷ []))
-plain_act act_is.Layout h next at = plain_spawns next (child_is.One (args_are.LayoutCall at.root) ∷ []) refl
-plain_act act_is.AddRegions h next at = plain_given (table_of at.args) next (λ table. given (bounds_of at.args) next (λ bounds. spawns next (adding (length bounds) table (first_id_of at.args) bounds))) (λ table. plain_given (bounds_of at.args) next (λ bounds. spawns next (adding (length bounds) table (first_id_of at.args) bounds)) (λ bounds. plain_spawns next (adding (length bounds) table (first_id_of at.args) bounds) (quiet_adding (length bounds) table (first_id_of at.args) bounds)))
-plain_act act_is.SetEnabling h next at = plain_given (table_of at.args) next (λ table. edits_rows next (changed (row_at at.rows) (key_is.Table table) (in_state state_is.Enabling) ∷ [])) (λ table. plain_on next (changed (row_at at.rows) (key_is.Table table) (in_state state_is.Enabling) ∷ []))
-plain_act act_is.OpenRegions h next at = plain_given (table_of at.args) next (λ table. spawns next (transits goal_is.Assign (regions_for table (first_id_of at.args) (bounds_of at.args) at.rows))) (λ table. plain_spawns next (transits goal_is.Assign (regions_for table (first_id_of at.args) (bounds_of at.args) at.rows)) (quiet_transits goal_is.Assign (regions_for table (first_id_of at.args) (bounds_of at.args) at.rows)))
-plain_act act_is.SetEnabled h next at = plain_given (table_of at.args) next (λ table. edits_rows next (changed (row_at at.rows) (key_is.Table table) (in_state state_is.Enabled) ∷ [])) (λ table. plain_on next (changed (row_at at.rows) (key_is.Table table) (in_state state_is.Enabled) ∷ []))
-plain_act act_is.CheckTableDisabled h next at = plain_given (table_of at.args) next (λ table. checked next (table_disabled (row_at at.rows (key_is.Table table)))) (λ table. plain_checked next (table_disabled (row_at at.rows (key_is.Table table))))
-plain_act act_is.DropRegions h next at = plain_given (table_of at.args) next (λ table. spawns next (dropping table (map (λ region. region.id) (all_among table at.rows)))) (λ table. plain_spawns next (dropping table (map (λ region. region.id) (all_among table at.rows))) (quiet_dropping table (map (λ region. region.id) (all_among table at.rows))))
-plain_act act_is.DropTable h next at = plain_given (table_of at.args) next (λ table. edits_rows next (set_to (row_at at.rows) (key_is.Table table) None ∷ [])) (λ table. plain_on next (set_to (row_at at.rows) (key_is.Table table) None ∷ []))
-plain_act act_is.CheckTableEnabled h next at = plain_given (table_of at.args) next (λ table. checked next (table_enabled (row_at at.rows (key_is.Table table)))) (λ table. plain_checked next (table_enabled (row_at at.rows (key_is.Table table))))
-plain_act act_is.SetDisabling h next at = plain_given (table_of at.args) next (λ table. edits_rows next (changed (row_at at.rows) (key_is.Table table) (in_state state_is.Disabling) ∷ [])) (λ table. plain_on next (changed (row_at at.rows) (key_is.Table table) (in_state state_is.Disabling) ∷ []))
-plain_act act_is.CloseRegions h next at = plain_given (table_of at.args) next (λ table. spawns next (transits goal_is.Unassign (regions_for table (first_id_of at.args) (bounds_of at.args) at.rows))) (λ table. plain_spawns next (transits goal_is.Unassign (regions_for table (first_id_of at.args) (bounds_of at.args) at.rows)) (quiet_transits goal_is.Unassign (regions_for table (first_id_of at.args) (bounds_of at.args) at.rows)))
-plain_act act_is.SetDisabled h next at = plain_given (table_of at.args) next (λ table. edits_rows next (changed (row_at at.rows) (key_is.Table table) (in_state state_is.Disabled) ∷ [])) (λ table. plain_on next (changed (row_at at.rows) (key_is.Table table) (in_state state_is.Disabled) ∷ []))
-plain_act act_is.SetVersion h next at = plain_given (table_of at.args) next (λ table. given (version_of (asked_of at.args)) next (λ version. edits_rows next (changed (row_at at.rows) (key_is.Table table) (in_version version) ∷ []))) (λ table. plain_given (version_of (asked_of at.args)) next (λ version. edits_rows next (changed (row_at at.rows) (key_is.Table table) (in_version version) ∷ [])) (λ version. plain_on next (changed (row_at at.rows) (key_is.Table table) (in_version version) ∷ [])))
-plain_act act_is.CheckSplit h next at = plain_given (region_of at.args) next (λ region. given (cut_of (asked_of at.args)) next (λ key. checked next (can_split (row_at at.rows (key_is.Table region.table)) (row_at at.rows (key_is.Region region)) key))) (λ region. plain_given (cut_of (asked_of at.args)) next (λ key. checked next (can_split (row_at at.rows (key_is.Table region.table)) (row_at at.rows (key_is.Region region)) key)) (λ key. plain_checked next (can_split (row_at at.rows (key_is.Table region.table)) (row_at at.rows (key_is.Region region)) key)))
-plain_act act_is.CloseParent h next at = plain_spawns next (transits goal_is.Unassign (closed_by at.args)) (quiet_transits goal_is.Unassign (closed_by at.args))
-plain_act act_is.UpdateSplitMeta h next at = plain_given (region_of at.args) next (λ region. given (cut_of (asked_of at.args)) next (λ key. edits_rows next (split_edits (row_at at.rows) region key (first_id_of at.args)))) (λ region. plain_given (cut_of (asked_of at.args)) next (λ key. edits_rows next (split_edits (row_at at.rows) region key (first_id_of at.args))) (λ key. plain_on next (split_edits (row_at at.rows) region key (first_id_of at.args))))
-plain_act act_is.OpenDaughters h next at = plain_given (table_of at.args) next (λ table. spawns next (transits goal_is.Assign (regions_in table (numbers_from (first_id_of at.args) 2)))) (λ table. plain_spawns next (transits goal_is.Assign (regions_in table (numbers_from (first_id_of at.args) 2))) (quiet_transits goal_is.Assign (regions_in table (numbers_from (first_id_of at.args) 2))))
-plain_act act_is.Finish h next at = plain_ends next told_is.Nothing
-plain_act act_is.CheckMerge h next at = plain_checked next (merge_cause (table_of_first (closed_by at.args)) at.rows (closed_by at.args))
-plain_act act_is.CloseParents h next at = plain_spawns next (transits goal_is.Unassign (closed_by at.args)) (quiet_transits goal_is.Unassign (closed_by at.args))
-plain_act act_is.UpdateMergeMeta h next at = plain_on next (merge_edits (row_at at.rows) (closed_by at.args) (first_id_of at.args))
-plain_act act_is.OpenMerged h next at = plain_given (table_of at.args) next (λ table. spawns next (transits goal_is.Assign (regions_in table (numbers_from (first_id_of at.args) 1)))) (λ table. plain_spawns next (transits goal_is.Assign (regions_in table (numbers_from (first_id_of at.args) 1))) (quiet_transits goal_is.Assign (regions_in table (numbers_from (first_id_of at.args) 1))))
-plain_act act_is.AddRegionRows h next at = plain_given (table_of at.args) next (λ table. given (bounds_of at.args) next (λ bounds. edits_rows next (add_ranges (row_at at.rows) table (first_id_of at.args) (ranges_between bounds)))) (λ table. plain_given (bounds_of at.args) next (λ bounds. edits_rows next (add_ranges (row_at at.rows) table (first_id_of at.args) (ranges_between bounds))) (λ bounds. plain_on next (add_ranges (row_at at.rows) table (first_id_of at.args) (ranges_between bounds))))
-plain_act act_is.DropRegionRows h next at = plain_given (table_of at.args) next (λ table. edits_rows next (remove_regions (row_at at.rows) (regions_in table (ids_of at.args)))) (λ table. plain_on next (remove_regions (row_at at.rows) (regions_in table (ids_of at.args))))
-plain_act act_is.Fence h next at = plain_given (server_of at.args) next (λ server. spawns next (child_is.One (args_are.FenceCall server) ∷ [])) (λ server. plain_spawns next (child_is.One (args_are.FenceCall server) ∷ []) refl)
-plain_act act_is.Reassign h next at = plain_reassign next (transits goal_is.Assign at.on_server) (quiet_transits goal_is.Assign at.on_server)
-plain_act act h next at = absurd (false≢true h)
+plain_act act h next at = plain_made act next at h (made_of act next at)
 
 -- an answer that is no failure
 abbrev pub IsFine : StepOut → Type 0
@@ -199,49 +147,30 @@ fine_spawns : (next : ℕ) (children : List Child) → IsFine (spawns next child
 fine_spawns next [] = refl
 fine_spawns next (child ∷ more) = refl
 
-pub fine_given : {A : Type 0} (part : Option A) (next : ℕ) (act : A → StepOut) → ((x : A) → IsFine (act x)) → IsFine (given part next act)
-fine_given None next act each = fine_on next []
-fine_given (Some part) next act each = each part
+near_fine : (next : ℕ) (answer : Answer) → LeadsNear next answer → failing answer ≡ None
+near_fine next (answer_is.More n) near = refl
+near_fine next (answer_is.Done told) near = refl
+near_fine next answer near = absurd near
 
-fine_reassign : (next : ℕ) (children : List Child) → IsFine (reassign_all next children)
-fine_reassign next [] = refl
-fine_reassign next (child ∷ more) = refl
+fine_made : (act : Act) (next : ℕ) (at : StepIn) → can_fail act ≡ false → {out : StepOut} → IsMadeOf act next at out → IsFine out
+fine_made act next at c (IsMadeOf.failed may cause) = absurd (true≢false (sym may ∙ c))
+fine_made act next at c (IsMadeOf.edited e edits are) = fine_on next edits
+fine_made act next at c (IsMadeOf.made children makes) = fine_spawns next children
+fine_made act next at c (IsMadeOf.placed off answer near place gives) = near_fine next answer near
+fine_made act next at c other = refl
+
+-- who can't fail answers no failure
+pub fine_able : (act : Act) → can_fail act ≡ false → (next : ℕ) (at : StepIn) → IsFine (act_answer act next at)
+fine_able act c next at = fine_made act next at c (made_of act next at)
+
+-- a plain act fails itself only where it is a check
+fails_checked : (act : Act) → is_plain act ≡ true → can_fail act ≡ is_check act
+fails_checked act_is.SettleLayout h = absurd (false≢true h)
+fails_checked act h = refl
 
 -- such an act fails only where it is a check
 pub fine_act : (act : Act) → is_plain act ≡ true → is_check act ≡ false → (next : ℕ) (at : StepIn) → IsFine (act_answer act next at)
-fine_act act_is.CheckNamespaceFree h c next at = absurd (true≢false c)
-fine_act act_is.AddNamespace h c next at = fine_given (namespace_of at.args) next (λ ns. edits_rows next (set_to (row_at at.rows) (key_is.Ns ns) (Some row_is.Ns) ∷ [])) (λ ns. fine_on next (set_to (row_at at.rows) (key_is.Ns ns) (Some row_is.Ns) ∷ []))
-fine_act act_is.CheckNamespaceEmpty h c next at = absurd (true≢false c)
-fine_act act_is.DropNamespace h c next at = fine_given (namespace_of at.args) next (λ ns. edits_rows next (set_to (row_at at.rows) (key_is.Ns ns) None ∷ [])) (λ ns. fine_on next (set_to (row_at at.rows) (key_is.Ns ns) None ∷ []))
-fine_act act_is.CheckTableFree h c next at = absurd (true≢false c)
-fine_act act_is.AddTable h c next at = fine_given (table_of at.args) next (λ table. edits_rows next (set_to (row_at at.rows) (key_is.Table table) (Some (row_is.Table state_is.Disabled 1)) ∷ [])) (λ table. fine_on next (set_to (row_at at.rows) (key_is.Table table) (Some (row_is.Table state_is.Disabled 1)) ∷ []))
-fine_act act_is.Layout h c next at = fine_spawns next (child_is.One (args_are.LayoutCall at.root) ∷ [])
-fine_act act_is.AddRegions h c next at = fine_given (table_of at.args) next (λ table. given (bounds_of at.args) next (λ bounds. spawns next (adding (length bounds) table (first_id_of at.args) bounds))) (λ table. fine_given (bounds_of at.args) next (λ bounds. spawns next (adding (length bounds) table (first_id_of at.args) bounds)) (λ bounds. fine_spawns next (adding (length bounds) table (first_id_of at.args) bounds)))
-fine_act act_is.SetEnabling h c next at = fine_given (table_of at.args) next (λ table. edits_rows next (changed (row_at at.rows) (key_is.Table table) (in_state state_is.Enabling) ∷ [])) (λ table. fine_on next (changed (row_at at.rows) (key_is.Table table) (in_state state_is.Enabling) ∷ []))
-fine_act act_is.OpenRegions h c next at = fine_given (table_of at.args) next (λ table. spawns next (transits goal_is.Assign (regions_for table (first_id_of at.args) (bounds_of at.args) at.rows))) (λ table. fine_spawns next (transits goal_is.Assign (regions_for table (first_id_of at.args) (bounds_of at.args) at.rows)))
-fine_act act_is.SetEnabled h c next at = fine_given (table_of at.args) next (λ table. edits_rows next (changed (row_at at.rows) (key_is.Table table) (in_state state_is.Enabled) ∷ [])) (λ table. fine_on next (changed (row_at at.rows) (key_is.Table table) (in_state state_is.Enabled) ∷ []))
-fine_act act_is.CheckTableDisabled h c next at = absurd (true≢false c)
-fine_act act_is.DropRegions h c next at = fine_given (table_of at.args) next (λ table. spawns next (dropping table (map (λ region. region.id) (all_among table at.rows)))) (λ table. fine_spawns next (dropping table (map (λ region. region.id) (all_among table at.rows))))
-fine_act act_is.DropTable h c next at = fine_given (table_of at.args) next (λ table. edits_rows next (set_to (row_at at.rows) (key_is.Table table) None ∷ [])) (λ table. fine_on next (set_to (row_at at.rows) (key_is.Table table) None ∷ []))
-fine_act act_is.CheckTableEnabled h c next at = absurd (true≢false c)
-fine_act act_is.SetDisabling h c next at = fine_given (table_of at.args) next (λ table. edits_rows next (changed (row_at at.rows) (key_is.Table table) (in_state state_is.Disabling) ∷ [])) (λ table. fine_on next (changed (row_at at.rows) (key_is.Table table) (in_state state_is.Disabling) ∷ []))
-fine_act act_is.CloseRegions h c next at = fine_given (table_of at.args) next (λ table. spawns next (transits goal_is.Unassign (regions_for table (first_id_of at.args) (bounds_of at.args) at.rows))) (λ table. fine_spawns next (transits goal_is.Unassign (regions_for table (first_id_of at.args) (bounds_of at.args) at.rows)))
-fine_act act_is.SetDisabled h c next at = fine_given (table_of at.args) next (λ table. edits_rows next (changed (row_at at.rows) (key_is.Table table) (in_state state_is.Disabled) ∷ [])) (λ table. fine_on next (changed (row_at at.rows) (key_is.Table table) (in_state state_is.Disabled) ∷ []))
-fine_act act_is.SetVersion h c next at = fine_given (table_of at.args) next (λ table. given (version_of (asked_of at.args)) next (λ version. edits_rows next (changed (row_at at.rows) (key_is.Table table) (in_version version) ∷ []))) (λ table. fine_given (version_of (asked_of at.args)) next (λ version. edits_rows next (changed (row_at at.rows) (key_is.Table table) (in_version version) ∷ [])) (λ version. fine_on next (changed (row_at at.rows) (key_is.Table table) (in_version version) ∷ [])))
-fine_act act_is.CheckSplit h c next at = absurd (true≢false c)
-fine_act act_is.CloseParent h c next at = fine_spawns next (transits goal_is.Unassign (closed_by at.args))
-fine_act act_is.UpdateSplitMeta h c next at = fine_given (region_of at.args) next (λ region. given (cut_of (asked_of at.args)) next (λ key. edits_rows next (split_edits (row_at at.rows) region key (first_id_of at.args)))) (λ region. fine_given (cut_of (asked_of at.args)) next (λ key. edits_rows next (split_edits (row_at at.rows) region key (first_id_of at.args))) (λ key. fine_on next (split_edits (row_at at.rows) region key (first_id_of at.args))))
-fine_act act_is.OpenDaughters h c next at = fine_given (table_of at.args) next (λ table. spawns next (transits goal_is.Assign (regions_in table (numbers_from (first_id_of at.args) 2)))) (λ table. fine_spawns next (transits goal_is.Assign (regions_in table (numbers_from (first_id_of at.args) 2))))
-fine_act act_is.Finish h c next at = refl
-fine_act act_is.CheckMerge h c next at = absurd (true≢false c)
-fine_act act_is.CloseParents h c next at = fine_spawns next (transits goal_is.Unassign (closed_by at.args))
-fine_act act_is.UpdateMergeMeta h c next at = fine_on next (merge_edits (row_at at.rows) (closed_by at.args) (first_id_of at.args))
-fine_act act_is.OpenMerged h c next at = fine_given (table_of at.args) next (λ table. spawns next (transits goal_is.Assign (regions_in table (numbers_from (first_id_of at.args) 1)))) (λ table. fine_spawns next (transits goal_is.Assign (regions_in table (numbers_from (first_id_of at.args) 1))))
-fine_act act_is.AddRegionRows h c next at = fine_given (table_of at.args) next (λ table. given (bounds_of at.args) next (λ bounds. edits_rows next (add_ranges (row_at at.rows) table (first_id_of at.args) (ranges_between bounds)))) (λ table. fine_given (bounds_of at.args) next (λ bounds. edits_rows next (add_ranges (row_at at.rows) table (first_id_of at.args) (ranges_between bounds))) (λ bounds. fine_on next (add_ranges (row_at at.rows) table (first_id_of at.args) (ranges_between bounds))))
-fine_act act_is.DropRegionRows h c next at = fine_given (table_of at.args) next (λ table. edits_rows next (remove_regions (row_at at.rows) (regions_in table (ids_of at.args)))) (λ table. fine_on next (remove_regions (row_at at.rows) (regions_in table (ids_of at.args))))
-fine_act act_is.Fence h c next at = fine_given (server_of at.args) next (λ server. spawns next (child_is.One (args_are.FenceCall server) ∷ [])) (λ server. fine_spawns next (child_is.One (args_are.FenceCall server) ∷ []))
-fine_act act_is.Reassign h c next at = fine_reassign next (transits goal_is.Assign at.on_server)
-fine_act act h c next at = absurd (false≢true h)
+fine_act act h c next at = fine_able act (fails_checked act h ∙ c) next at
 
 neither : (a b : Bool) → not (a || b) ≡ true → (a ≡ false) × (b ≡ false)
 neither false false h = (refl, refl)

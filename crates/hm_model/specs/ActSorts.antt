@@ -1,4 +1,4 @@
--- What sorts of acts there are: those that test, that ask for a layout, that edit.
+-- What sorts of acts there are: those that test, that ask for a layout, that edit; those of transits and calls.
 use Rattle.std.specs.Prelude.{ℕ, List, [], ◌∷◌, length, Bool, true, false, nat_lt}
 use Rattle.hm_data.specs.declared.act.Act.{Act}
 use Rattle.hm_data.specs.declared.act.Act.TheVariants as act_is
@@ -40,3 +40,20 @@ editing_kinds act = []
 -- acts that edit the catalog
 abbrev pub is_edit : Act → Bool
 is_edit act = nat_lt 0 (length (editing_kinds act))
+
+-- the acts of tables, namespaces and regions' rows, and those of a crash
+abbrev pub is_plain : Act → Bool
+is_plain act_is.GetAssignCandidate = false
+is_plain act_is.Open = false
+is_plain act_is.ConfirmOpened = false
+is_plain act_is.Close = false
+is_plain act_is.ConfirmClosed = false
+is_plain act_is.CheckMove = false
+is_plain act_is.CallAssign = false
+is_plain act_is.CallClose = false
+is_plain act_is.Settle = false
+is_plain act_is.CallFence = false
+is_plain act_is.CallLayout = false
+is_plain act_is.SettleLayout = false
+is_plain act_is.CallSweep = false
+is_plain act = true

@@ -14,13 +14,13 @@ pub mod Locks
 pub mod Reads
 pub mod Lists
 pub mod ActSorts
+pub mod MadeOf
 pub mod Validity
 pub mod Inputs
 pub mod Nonces
 pub mod Serial
 pub mod TreeEdits
 pub mod Rules
-pub mod Plain
 pub mod GoingBack
 pub mod Rest
 pub mod Counts

@@ -61,7 +61,7 @@ use Rattle.hm_rebase.proofs.Telling.{base_tells, catalog_none, layouts_none, old
 use Rattle.hm_rebase.proofs.Still.{none_left, place_stands, still}
 
 -- numbers that rise
-abbrev last_of : ℕ → List ℕ → ℕ
+abbrev pub last_of : ℕ → List ℕ → ℕ
 last_of low [] = low
 last_of low (n ∷ more) = last_of n more
 
@@ -99,7 +99,7 @@ rising_filter test low high (n ∷ xs) up =
     by false here there = there
 
 -- the numbers of a journal rise from its base on
-first_rising : (J : Past) (n high : ℕ) → offset J + n ≤ high → AreRising (offset J) high (first_made J n) × (last_of (offset J) (first_made J n) ≤ offset J + n)
+pub first_rising : (J : Past) (n high : ℕ) → offset J + n ≤ high → AreRising (offset J) high (first_made J n) × (last_of (offset J) (first_made J n) ≤ offset J + n)
 first_rising J zero high le = (tt, omega arith)
 first_rising J (suc n) high le =
     let h = first_rising J n high (omega (arith, le)) in

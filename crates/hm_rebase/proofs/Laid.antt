@@ -139,7 +139,7 @@ laid_known (entry_is.Base part ∷ J) legal root h = inl (base_tells (entry_is.B
 laid_known (entry ∷ J) legal root h = laid_known J legal.0 root h
 
 -- each number behind the base is among the first so many
-first_has : (J : Past) (n q : ℕ) → offset J < q → q ≤ offset J + n → IsIn q (first_made J n)
+pub first_has : (J : Past) (n q : ℕ) → offset J < q → q ≤ offset J + n → IsIn q (first_made J n)
 first_has J zero q low high = absurd (omega (arith, low, high))
 first_has J (suc n) q low high = elim (cases_eq q (number_at J n)) [
   | inl same ↦ in_right q (first_made J n) (number_at J n ∷ []) (inl same)

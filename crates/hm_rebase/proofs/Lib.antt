@@ -1,7 +1,7 @@
 pub mod Bounds
 mod Seen
 mod Readings
-mod Orders
+pub mod Orders
 mod Servers
 mod Inputs
 mod Allowing
@@ -14,18 +14,18 @@ mod Spaces
 mod Fencing
 mod Downed
 mod Places
-mod Still
-mod Named
+pub mod Still
+pub mod Named
 mod Putting
 mod Keyed
 mod Latest
 mod Served
 mod Cores
 mod Rooting
-mod Rooted
-mod Laid
+pub mod Rooted
+pub mod Laid
 mod Fixed
 mod Untold
-mod Imaged
+pub mod Imaged
 pub mod Rebased
 pub mod Shown

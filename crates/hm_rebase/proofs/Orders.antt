@@ -10,7 +10,7 @@ use Rattle.std.proofs.lemmas.Cmp.{tied_itself}
 use Rattle.hm_model.specs.Locks.{IsIn}
 
 -- what is in a list and passes a test is in what the test keeps of it
-in_kept : {A : Type 0} (test : A → Bool) (y : A) (list : List A) → IsIn y list → test y ≡ true → IsIn y (filter test list)
+pub in_kept : {A : Type 0} (test : A → Bool) (y : A) (list : List A) → IsIn y list → test y ≡ true → IsIn y (filter test list)
 in_kept test y [] h on = elim h [ ]
 in_kept test y (first ∷ more) h on = by (λ later. in_kept test y more later on) (test first) refl h
   where
@@ -21,7 +21,7 @@ in_kept test y (first ∷ more) h on = by (λ later. in_kept test y more later o
     by rest false e (inr later) = rest later
 
 -- what it keeps passes
-from_kept : {A : Type 0} (test : A → Bool) (y : A) (list : List A) → IsIn y (filter test list) → test y ≡ true
+pub from_kept : {A : Type 0} (test : A → Bool) (y : A) (list : List A) → IsIn y (filter test list) → test y ≡ true
 from_kept test y [] h = elim h [ ]
 from_kept test y (first ∷ more) h = by (from_kept test y more) (test first) refl h
   where
@@ -73,7 +73,7 @@ module _ {A : Type 0} (cmp : A → A → Ordering) where
       by true on = (all.0, on)
       by false on = on
 
-  order_kept : (test : A → Bool) (list : List A) → InOrder list → InOrder (filter test list)
+  pub order_kept : (test : A → Bool) (list : List A) → InOrder list → InOrder (filter test list)
   order_kept test [] order = tt
   order_kept test (x ∷ more) order = by (test x) (order_kept test more order.1)
     where

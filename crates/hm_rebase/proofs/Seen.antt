@@ -13,7 +13,6 @@ use Rattle.hm_data.specs.declared.args.Args.TheVariants as args_are
 use Rattle.hm_data.specs.declared.args.Child.TheVariants as child_is
 use Rattle.hm_data.specs.declared.call.Told.{Told}
 use Rattle.hm_data.specs.declared.call.Told.TheVariants as told_is
-use Rattle.hm_data.specs.declared.catalog.TableState.TheVariants as state_is
 use Rattle.hm_data.specs.declared.place.Goal.{Goal}
 use Rattle.hm_data.specs.declared.place.Place.{Place}
 use Rattle.hm_data.specs.declared.place.RegionState.TheVariants as place_is
@@ -33,11 +32,7 @@ use Rattle.hm_model.specs.Undoing.{undo_out}
 use Rattle.hm_model.specs.Views.{region_of}
 use Rattle.hm_model.specs.Wanted.{goal_in}
 use Rattle.hm_rebase.specs.Alike.{Alike, IsIdle}
-use Rattle.hm_model.specs.CallActs.{call_assign, call_close, call_fence, call_layout, call_sweep, settle_call, settle_layout}
-use Rattle.hm_model.specs.CrashActs.{fence, reassign}
-use Rattle.hm_model.specs.NamespaceActs.{add_namespace, add_table, check_free_namespace, check_namespace_empty, check_table_disabled, check_table_enabled, check_table_free, drop_namespace, drop_table, lay_out, set_state, set_version}
-use Rattle.hm_model.specs.RegionActs.{add_region_rows, add_regions, check_merge, check_split, close_parents, close_regions, drop_region_rows, drop_regions, open_new, open_regions, update_merge_meta, update_split_meta}
-use Rattle.hm_model.specs.TransitActs.{behind_close, candidate, close_at, close_or_go, is_open, is_placed, is_state, is_told, lost_if, may_open_in, opened_or_not, told_place, check_move, close_there, confirm_closed, confirm_opened, get_assign_candidate, open_there}
+use Rattle.hm_model.specs.TransitActs.{behind_close, candidate, close_at, close_or_go, is_open, is_placed, is_state, is_told, lost_if, may_open_in, opened_or_not, told_place, close_there, confirm_opened, get_assign_candidate, open_there}
 
 -- one place, or both idle
 abbrev pub AreOnePlace : Place → Place → Type 0
@@ -123,51 +118,47 @@ close_same next args one other fenced h = by (region_of args)
     by None = refl
     by (Some region) = ap (close_or_go next (goal_in args) region (told_place one)) (open_one (told_place one) (told_place other) fenced h) ∙ go_one next (goal_in args) region (told_place one) (told_place other) (is_open (told_place other) fenced) h
 
+-- an input with these parts, and a place, from another
+abbrev seen_at : Pid → Args → Rows → List (Pid × Told) → Option Told → Bool → List Region → Option Server → StepIn → StepIn
+seen_at root args rows ends report fenced on_server pick at = record {
+  pid = at.pid;
+  root = root;
+  kind = at.kind;
+  edition = at.edition;
+  row = at.row;
+  args = args;
+  tries = at.tries;
+  rows = rows;
+  ends = ends;
+  report = report;
+  place = at.place;
+  fenced = fenced;
+  on_server = on_server;
+  pick = pick;
+  aborted = at.aborted;
+  turn = at.turn;
+}
+
+-- of what is left of two inputs an act reads the place alone
+act_place : (act : Act) (next : ℕ) (root : Pid) (args : Args) (rows : Rows) (ends : List (Pid × Told)) (report : Option Told) (fenced : Bool) (on_server : List Region) (pick : Option Server) (at to : StepIn) → AreOnePlace (told_place at.place) (told_place to.place)
+    → act_answer act next (seen_at root args rows ends report fenced on_server pick at) ≡ act_answer act next (seen_at root args rows ends report fenced on_server pick to)
+act_place act_is.GetAssignCandidate next root args rows ends report fenced on_server pick at to h = candidate_same next args rows at.place to.place fenced pick h
+act_place act_is.Open next root args rows ends report fenced on_server pick at to h = open_same next args at.place to.place h
+act_place act_is.ConfirmOpened next root args rows ends report fenced on_server pick at to h = confirm_same next ends at.place to.place h
+act_place act_is.Close next root args rows ends report fenced on_server pick at to h = close_same next args at.place to.place fenced h
+act_place act next root args rows ends report fenced on_server pick at to h = refl
+
 act_same : (act : Act) (next : ℕ) (at to : StepIn) → Sees at to → act_answer act next at ≡ act_answer act next to
-act_same act_is.CheckNamespaceFree next at to s = ap (λ x. check_free_namespace next x at.rows) s.args ∙ ap (λ x. check_free_namespace next to.args x) s.rows
-act_same act_is.AddNamespace next at to s = ap (λ x. add_namespace next x at.rows) s.args ∙ ap (λ x. add_namespace next to.args x) s.rows
-act_same act_is.CheckNamespaceEmpty next at to s = ap (λ x. check_namespace_empty next x at.rows) s.args ∙ ap (λ x. check_namespace_empty next to.args x) s.rows
-act_same act_is.DropNamespace next at to s = ap (λ x. drop_namespace next x at.rows) s.args ∙ ap (λ x. drop_namespace next to.args x) s.rows
-act_same act_is.CheckTableFree next at to s = ap (λ x. check_table_free next x at.rows) s.args ∙ ap (λ x. check_table_free next to.args x) s.rows
-act_same act_is.AddTable next at to s = ap (λ x. add_table next x at.rows) s.args ∙ ap (λ x. add_table next to.args x) s.rows
-act_same act_is.Layout next at to s = ap (λ x. lay_out next x) s.root
-act_same act_is.AddRegions next at to s = ap (λ x. add_regions next x) s.args
-act_same act_is.SetEnabling next at to s = ap (λ x. set_state state_is.Enabling next x at.rows) s.args ∙ ap (λ x. set_state state_is.Enabling next to.args x) s.rows
-act_same act_is.OpenRegions next at to s = ap (λ x. open_regions next x at.rows) s.args ∙ ap (λ x. open_regions next to.args x) s.rows
-act_same act_is.SetEnabled next at to s = ap (λ x. set_state state_is.Enabled next x at.rows) s.args ∙ ap (λ x. set_state state_is.Enabled next to.args x) s.rows
-act_same act_is.CheckTableDisabled next at to s = ap (λ x. check_table_disabled next x at.rows) s.args ∙ ap (λ x. check_table_disabled next to.args x) s.rows
-act_same act_is.DropRegions next at to s = ap (λ x. drop_regions next x at.rows) s.args ∙ ap (λ x. drop_regions next to.args x) s.rows
-act_same act_is.DropTable next at to s = ap (λ x. drop_table next x at.rows) s.args ∙ ap (λ x. drop_table next to.args x) s.rows
-act_same act_is.CheckTableEnabled next at to s = ap (λ x. check_table_enabled next x at.rows) s.args ∙ ap (λ x. check_table_enabled next to.args x) s.rows
-act_same act_is.SetDisabling next at to s = ap (λ x. set_state state_is.Disabling next x at.rows) s.args ∙ ap (λ x. set_state state_is.Disabling next to.args x) s.rows
-act_same act_is.CloseRegions next at to s = ap (λ x. close_regions next x at.rows) s.args ∙ ap (λ x. close_regions next to.args x) s.rows
-act_same act_is.SetDisabled next at to s = ap (λ x. set_state state_is.Disabled next x at.rows) s.args ∙ ap (λ x. set_state state_is.Disabled next to.args x) s.rows
-act_same act_is.SetVersion next at to s = ap (λ x. set_version next x at.rows) s.args ∙ ap (λ x. set_version next to.args x) s.rows
-act_same act_is.CheckSplit next at to s = ap (λ x. check_split next x at.rows) s.args ∙ ap (λ x. check_split next to.args x) s.rows
-act_same act_is.UpdateSplitMeta next at to s = ap (λ x. update_split_meta next x at.rows) s.args ∙ ap (λ x. update_split_meta next to.args x) s.rows
-act_same act_is.OpenDaughters next at to s = ap (λ x. open_new 2 next x) s.args
-act_same act_is.Finish next at to s = refl
-act_same act_is.CheckMerge next at to s = ap (λ x. check_merge next x at.rows) s.args ∙ ap (λ x. check_merge next to.args x) s.rows
-act_same act_is.UpdateMergeMeta next at to s = ap (λ x. update_merge_meta next x at.rows) s.args ∙ ap (λ x. update_merge_meta next to.args x) s.rows
-act_same act_is.OpenMerged next at to s = ap (λ x. open_new 1 next x) s.args
-act_same act_is.AddRegionRows next at to s = ap (λ x. add_region_rows next x at.rows) s.args ∙ ap (λ x. add_region_rows next to.args x) s.rows
-act_same act_is.DropRegionRows next at to s = ap (λ x. drop_region_rows next x at.rows) s.args ∙ ap (λ x. drop_region_rows next to.args x) s.rows
-act_same act_is.GetAssignCandidate next at to s = ap (λ x. get_assign_candidate next x at.rows at.place at.fenced at.pick) s.args ∙ ap (λ x. get_assign_candidate next to.args x at.place at.fenced at.pick) s.rows ∙ ap (λ x. get_assign_candidate next to.args to.rows at.place x at.pick) s.fenced ∙ ap (λ x. get_assign_candidate next to.args to.rows at.place to.fenced x) s.pick ∙ candidate_same next to.args to.rows at.place to.place to.fenced to.pick s.place
-act_same act_is.Open next at to s = ap (λ x. open_there next x at.place) s.args ∙ open_same next to.args at.place to.place s.place
-act_same act_is.ConfirmOpened next at to s = ap (λ x. confirm_opened next x at.place) s.ends ∙ confirm_same next to.ends at.place to.place s.place
-act_same act_is.Close next at to s = ap (λ x. close_there next x at.place at.fenced) s.args ∙ ap (λ x. close_there next to.args at.place x) s.fenced ∙ close_same next to.args at.place to.place to.fenced s.place
-act_same act_is.ConfirmClosed next at to s = ap (λ x. confirm_closed x at.ends) s.args ∙ ap (λ x. confirm_closed to.args x) s.ends
-act_same act_is.CheckMove next at to s = ap (λ x. check_move next x at.rows) s.args ∙ ap (λ x. check_move next to.args x) s.rows
-act_same act_is.Fence next at to s = ap (λ x. fence next x) s.args
-act_same act_is.Reassign next at to s = ap (λ x. reassign next x) s.on_server
-act_same act_is.CallAssign next at to s = ap (λ x. call_assign next x at.fenced) s.args ∙ ap (λ x. call_assign next to.args x) s.fenced
-act_same act_is.CallClose next at to s = ap (λ x. call_close next x at.fenced) s.args ∙ ap (λ x. call_close next to.args x) s.fenced
-act_same act_is.Settle next at to s = ap (λ x. settle_call x at.report) s.fenced ∙ ap (λ x. settle_call to.fenced x) s.report
-act_same act_is.CallFence next at to s = ap (λ x. call_fence next x) s.args
-act_same act_is.CallLayout next at to s = ap (λ x. call_layout next x) s.args
-act_same act_is.SettleLayout next at to s = ap (λ x. settle_layout x) s.report
-act_same act_is.CallSweep next at to s = ap (λ x. call_sweep next x) s.args
-act_same act next at to s = ap (λ x. close_parents next x) s.args
+act_same act next at to s =
+    ap (λ x. act_answer act next (seen_at x at.args at.rows at.ends at.report at.fenced at.on_server at.pick at)) s.root
+    ∙ ap (λ x. act_answer act next (seen_at to.root x at.rows at.ends at.report at.fenced at.on_server at.pick at)) s.args
+    ∙ ap (λ x. act_answer act next (seen_at to.root to.args x at.ends at.report at.fenced at.on_server at.pick at)) s.rows
+    ∙ ap (λ x. act_answer act next (seen_at to.root to.args to.rows x at.report at.fenced at.on_server at.pick at)) s.ends
+    ∙ ap (λ x. act_answer act next (seen_at to.root to.args to.rows to.ends x at.fenced at.on_server at.pick at)) s.report
+    ∙ ap (λ x. act_answer act next (seen_at to.root to.args to.rows to.ends to.report x at.on_server at.pick at)) s.fenced
+    ∙ ap (λ x. act_answer act next (seen_at to.root to.args to.rows to.ends to.report to.fenced x at.pick at)) s.on_server
+    ∙ ap (λ x. act_answer act next (seen_at to.root to.args to.rows to.ends to.report to.fenced to.on_server x at)) s.pick
+    ∙ act_place act next to.root to.args to.rows to.ends to.report to.fenced to.on_server to.pick at to s.place
 
 cut_same : (row : Row) (at to : StepIn) → Sees at to → is_cut_off row at ≡ is_cut_off row to
 cut_same row at to s = ap (λ b. b && not row.after) s.aborted

@@ -38,11 +38,11 @@ use Rattle.hm_rebase.proofs.Rebased.{alike_places, alike_under_way}
 use Rattle.hm_rebase.proofs.Rooted.{AreRising}
 
 -- what each of a list gives, by those alone that give something
-abbrev is_some_of : {B : Type 0} → List B → Bool
+abbrev pub is_some_of : {B : Type 0} → List B → Bool
 is_some_of [] = false
 is_some_of (x ∷ more) = true
 
-flat_map_kept : {A B : Type 0} (f : A → List B) (list : List A) → flat_map f list ≡ flat_map f (filter (λ x. is_some_of (f x)) list)
+pub flat_map_kept : {A B : Type 0} (f : A → List B) (list : List A) → flat_map f list ≡ flat_map f (filter (λ x. is_some_of (f x)) list)
 flat_map_kept f [] = refl
 flat_map_kept {A} {B} f (x ∷ more) = by (f x) refl (filter (λ y. is_some_of (f y)) more) (flat_map_kept f more)
   where
@@ -51,7 +51,7 @@ flat_map_kept {A} {B} f (x ∷ more) = by (f x) refl (filter (λ y. is_some_of (
     by (first ∷ others) is kept rest = ap (λ l. l ++ flat_map f more) (sym is) ∙ ap (λ l. f x ++ l) rest
 
 -- the parts of a key by its row
-abbrev told : Past → CatKey → List Part
+abbrev pub told : Past → CatKey → List Part
 told J key = key_parts J key (cat J key)
 
 rowless_listed : (J : Past) (key : CatKey) → is_some_of (key_parts J key None) ≡ true → IsIn key (named_keys J)
@@ -60,7 +60,7 @@ rowless_listed J (key_is.Table table) some = named_drawn J table (λ none. false
 rowless_listed J (key_is.Region region) some = absurd (false≢true some)
 
 -- a key that has parts is among the keys of an image
-told_listed : (J : Past) (key : CatKey) → is_some_of (told J key) ≡ true → IsIn key (named_keys J)
+pub told_listed : (J : Past) (key : CatKey) → is_some_of (told J key) ≡ true → IsIn key (named_keys J)
 told_listed J key some = by (cat J key) refl
   where
     by : (o : Option CatRow) → cat J key ≡ o → IsIn key (named_keys J)
@@ -74,7 +74,7 @@ later_rising n low high (m ∷ more) le up =
     let above = up.0 in
     (sym (nat_cmp_is n m Less (omega (arith, le, above))), later_rising n m high more (omega (arith, le, above)) up.2)
 
-order_rising : (low high : ℕ) (list : List ℕ) → AreRising low high list → InOrder nat_cmp list
+pub order_rising : (low high : ℕ) (list : List ℕ) → AreRising low high list → InOrder nat_cmp list
 order_rising low high [] up = tt
 order_rising low high (n ∷ more) up = (later_rising n n high more (omega arith) up.2, order_rising n high more up.2)
 

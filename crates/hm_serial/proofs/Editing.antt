@@ -1,8 +1,8 @@
 -- What the acts edit: rows that the root's exclusive asks cover, told as they are where they may be undone. Kinds are named
 -- here, and a journal: which rows an act edits is decided kind by kind, and that it tells them rests on the rows that the
 -- journal lets it read.
-use Rattle.std.proofs.Common.{◌≡◌, ℕ, ◌+◌, ◌<◌, ◌≤◌, List, [], ◌∷◌, Bool, true, false, ◌==◌, cond, length, Option, Some, None, refl, sym, ◌∙◌, subst, inl, inr, ◌⊎◌, arith}
-use Rattle.std.proofs.lemmas.Bool.{and_right, cond-false, false≢true, ne_eqb, or_right}
+use Rattle.std.proofs.Common.{◌≡◌, ℕ, ◌+◌, ◌<◌, ◌≤◌, List, [], ◌∷◌, Bool, true, false, ◌==◌, cond, length, Option, Some, None, not, refl, ap, sym, ◌∙◌, subst, inl, inr, ◌⊎◌, arith}
+use Rattle.std.proofs.lemmas.Bool.{and_right, cond-false, false≢true, ne_eqb, not-true, or_right, true≢false}
 use Rattle.hm_names.specs.declared.range.KeyRange.{KeyRange}
 use Rattle.hm_names.specs.declared.table.TableName.{TableName}
 use Rattle.hm_data.specs.Numbers.{act_number}
@@ -25,18 +25,16 @@ use Rattle.hm_model.specs.Kinds.{kind_of}
 use Rattle.hm_model.specs.Locks.{IsIn, asks, exclusive}
 use Rattle.hm_model.specs.Reads.{covers, is_over, reads}
 use Rattle.hm_model.specs.Pieces.{ranges_between}
-use Rattle.hm_model.specs.ActSorts.{is_edit}
+use Rattle.hm_model.specs.ActSorts.{editing_kinds, is_edit}
 use Rattle.hm_model.specs.Validity.{is_among}
 use Rattle.hm_model.specs.declared.lock.Resource.TheVariants as resource_is
 use Rattle.hm_names.specs.Server.{Server}
-use Rattle.hm_data.specs.declared.catalog.CatRow.TheVariants as row_is
-use Rattle.hm_data.specs.declared.catalog.TableState.TheVariants as state_is
 use Rattle.hm_model.specs.Inputs.{rows_read, step_input}
 use Rattle.hm_model.specs.Journal.{Past}
 use Rattle.hm_model.proofs.CallSteps.{node_at}
 use Rattle.hm_model.proofs.PlainActs.{is_plain}
 use Rattle.hm_model.proofs.Rows.{row_read}
-use Rattle.hm_model.proofs.ExactRows.{is_listed}
+use Rattle.hm_model.proofs.ExactRows.{is_listed, of_listed}
 use Rattle.hm_model.proofs.KeyTests.{same_key-Decides, same_table-refl}
 use Rattle.hm_serial.proofs.Local.{Within}
 use Rattle.hm_kinds.proofs.Editless.{no_adds, no_drops, none_act}
@@ -44,6 +42,17 @@ use Rattle.hm_kinds.proofs.Covering.{in_reads, merge_within, split_within}
 pub use Rattle.hm_kinds.proofs.Covering.{covers_from, table_region, add_within, remove_within}
 pub use Rattle.hm_kinds.proofs.Covering.{rows_table}
 use Rattle.hm_model.specs.GoingBack.{Tells}
+use Rattle.std.specs.List.{list_all}
+use Rattle.std.proofs.lemmas.Option.{same_Some}
+use Rattle.hm_data.specs.declared.args.Child.{Child}
+use Rattle.hm_data.specs.declared.request.Request.{Request}
+use Rattle.hm_model.specs.Kinds.{request_kind}
+use Rattle.hm_model.specs.Lists.{lines_of}
+use Rattle.hm_model.specs.MadeOf.{Edits, IsMadeOf, IsOwnKey, key_kinds}
+use Rattle.hm_model.specs.Outs.{spawns}
+use Rattle.hm_model.specs.Reads.{is_ns}
+use Rattle.hm_model.specs.Views.{namespace_of, table_of}
+use Rattle.hm_model.proofs.MadeOf.{made_of}
 
 -- regions that are added tell what stands there
 add_tells : (rows : Catalog) (table : TableName) (ranges : List KeyRange) (n : ℕ) (now : Catalog) → ((m : ℕ) → n ≤ m → m < n + length ranges → rows (region_key table m) ≡ now (region_key table m)) → Tells (add_ranges rows table n ranges) now
@@ -79,6 +88,55 @@ ns_itself ns = (same_key-Decides (key_is.Ns ns) (key_is.Ns ns)).1 refl
 from_own : (root args : Args) (act : Act) (at : StepIn) (edits : List Edit) → root ≡ args → IsEdit args args act at edits → IsEdit root args act at edits
 from_own root args act at edits same h = subst (λ x. IsEdit x args act at edits) (sym same) h
 
+-- a list begins with the number
+abbrev begins_with : ℕ → List ℕ → Bool
+begins_with n [] = false
+begins_with n (first ∷ more) = first == n
+
+-- no line of the kind edits such rows
+unlisted : (n kind : ℕ) (act : Act) → list_all (λ line. not (begins_with n (editing_kinds line.act))) (lines_of kind) ≡ true → is_listed kind act ≡ true → begins_with n (editing_kinds act) ≡ true → ⊥
+unlisted n kind act all h begins = true≢false (sym begins ∙ not-true (begins_with n (editing_kinds act)) (of_listed (λ a. not (begins_with n (editing_kinds a))) kind act all h))
+
+-- a row of its own that a procedure may edit is covered and read by it, which adds and removes no regions' rows
+record IsCovered (args : Args) (key : CatKey) : Type 0 where
+  covered : covers args key ≡ true
+  reading : reads args key ≡ true
+  rootless : rows_table args ≡ None
+
+ns_covered : (args : Args) (act : Act) → is_listed (kind_of args) act ≡ true → begins_with 1 (editing_kinds act) ≡ true → (ns : List ℕ) → namespace_of args ≡ Some ns → IsCovered args (key_is.Ns ns)
+ns_covered (args_are.Root (request_is.CreateNamespace own) f) act h begins ns is = subst (λ n. IsCovered (args_are.Root (request_is.CreateNamespace own) f) (key_is.Ns n)) (same_Some own ns is)
+    (record { covered = covers_from (args_are.Root (request_is.CreateNamespace own) f) (resource_is.Ns own) (key_is.Ns own) (inl refl) (ns_itself own); reading = ns_itself own; rootless = refl })
+ns_covered (args_are.Root (request_is.DropNamespace own) f) act h begins ns is = subst (λ n. IsCovered (args_are.Root (request_is.DropNamespace own) f) (key_is.Ns n)) (same_Some own ns is)
+    (record { covered = covers_from (args_are.Root (request_is.DropNamespace own) f) (resource_is.Ns own) (key_is.Ns own) (inl refl) (ns_itself own); reading = ns_itself own; rootless = refl })
+ns_covered (args_are.Root request f) act h begins ns is = absurd (unlisted 1 (request_kind request) act refl h begins)
+ns_covered args act h begins ns is = absurd (unlisted 1 (kind_of args) act refl h begins)
+
+-- who covers its table's row
+table_covered : (request : Request) (f : ℕ) (own : TableName) → IsIn (exclusive (resource_is.Table own)) (asks (args_are.Root request f)) → reads (args_are.Root request f) (key_is.Table own) ≡ true → (table : TableName) → Some own ≡ Some table → IsCovered (args_are.Root request f) (key_is.Table table)
+table_covered request f own among reading table is = subst (λ t. IsCovered (args_are.Root request f) (key_is.Table t)) (same_Some own table is)
+    (record { covered = covers_from (args_are.Root request f) (resource_is.Table own) (key_is.Table own) among (same_table-refl own); reading = reading; rootless = refl })
+
+name_covered : (args : Args) (act : Act) → is_listed (kind_of args) act ≡ true → begins_with 3 (editing_kinds act) ≡ true → (table : TableName) → table_of args ≡ Some table → IsCovered args (key_is.Table table)
+name_covered (args_are.Root (request_is.CreateTable own keys) f) act h begins table is = table_covered (request_is.CreateTable own keys) f own (inr (inl refl)) (or_right (is_ns own.ns (key_is.Table own)) _ (same_table-refl own)) table is
+name_covered (args_are.Root (request_is.DeleteTable own) f) act h begins table is = table_covered (request_is.DeleteTable own) f own (inr (inl refl)) (same_table-refl own) table is
+name_covered (args_are.Root (request_is.EnableTable own) f) act h begins table is = table_covered (request_is.EnableTable own) f own (inr (inl refl)) (same_table-refl own) table is
+name_covered (args_are.Root (request_is.DisableTable own) f) act h begins table is = table_covered (request_is.DisableTable own) f own (inr (inl refl)) (same_table-refl own) table is
+name_covered (args_are.Root (request_is.ModifyTable own version) f) act h begins table is = table_covered (request_is.ModifyTable own version) f own (inr (inl refl)) (same_table-refl own) table is
+name_covered (args_are.Root request f) act h begins table is = absurd (unlisted 3 (request_kind request) act refl h begins)
+name_covered args act h begins table is = absurd (unlisted 3 (kind_of args) act refl h begins)
+
+own_covered : (args : Args) (act : Act) → is_listed (kind_of args) act ≡ true → {key : CatKey} → IsOwnKey args key → editing_kinds act ≡ key_kinds key → IsCovered args key
+own_covered args act h (IsOwnKey.of_namespace ns is) kinds = ns_covered args act h (ap (begins_with 1) kinds) ns is
+own_covered args act h (IsOwnKey.of_name table is) kinds = name_covered args act h (ap (begins_with 3) kinds) table is
+
+-- acts that edit rows of regions
+abbrev edits_regions : Act → Bool
+edits_regions act_is.UpdateSplitMeta = true
+edits_regions act_is.UpdateMergeMeta = true
+edits_regions act_is.AddRegionRows = true
+edits_regions act_is.DropRegionRows = true
+edits_regions act = false
+
 module _ (J : Past) (p : ℕ) (pick : Option Server) (above : List ℕ) (top first : ℕ) (root : Args) where
   abbrev at_input : Args → StepIn
   at_input args = step_input J p (node_at above top args first) pick
@@ -86,28 +144,26 @@ module _ (J : Past) (p : ℕ) (pick : Option Server) (above : List ℕ) (top fir
   told_rows : (args : Args) (key : CatKey) → reads args key ≡ true → row_at (rows_read J args) key ≡ cat J key
   told_rows args key reading = row_read J args key reading
 
+  one_made : (act : Act) (args : Args) → is_edit act ≡ true → edits_regions act ≡ false → is_listed (kind_of args) act ≡ true → (rows_table args ≡ None → root ≡ args) → {edits : List Edit} → Edits act (at_input args) edits → IsEdit root args act (at_input args) edits
+  one_made act args e off h own (Edits.one_row key of kinds after becomes) =
+      let covered = own_covered args act h of kinds in
+      from_own root args act (at_input args) _ (own covered.rootless) (one_edit args args act (at_input args) key (row_at (rows_read J args) key) after covered.covered e refl (λ t. covered.reading))
+  one_made act args e off h own (Edits.adds_rows only table is bounds are) = absurd (true≢false (sym (ap edits_regions only) ∙ off))
+  one_made act args e off h own (Edits.removes_rows only table is) = absurd (true≢false (sym (ap edits_regions only) ∙ off))
+  one_made act args e off h own (Edits.splits only region is key cut) = absurd (true≢false (sym (ap edits_regions only) ∙ off))
+  one_made act args e off h own (Edits.merges only) = absurd (true≢false (sym (ap edits_regions only) ∙ off))
+
+  spawned_made : (act : Act) (args : Args) (next : ℕ) (children : List Child) → IsEdit root args act (at_input args) (spawns next children).edits
+  spawned_made act args next [] = no_edit root args act (at_input args)
+  spawned_made act args next (child ∷ more) = no_edit root args act (at_input args)
+
+  edit_made : (act : Act) (args : Args) → is_edit act ≡ true → edits_regions act ≡ false → is_listed (kind_of args) act ≡ true → (rows_table args ≡ None → root ≡ args) → (next : ℕ) → {out : StepOut} → IsMadeOf act next (at_input args) out → IsEdit root args act (at_input args) out.edits
+  edit_made act args e off h own next (IsMadeOf.edited editing edits are) = one_made act args e off h own are
+  edit_made act args e off h own next (IsMadeOf.made children makes) = spawned_made act args next children
+  edit_made act args e off h own next other = no_edit root args act (at_input args)
+
   edit_act : (act : Act) (args : Args) → is_listed (kind_of args) act ≡ true → is_edit act ≡ true → (rows_table args ≡ None → root ≡ args) → ((t : TableName) → rows_table args ≡ Some t → IsIn (exclusive (resource_is.Table t)) (asks root)) → (next : ℕ)
       → IsEdit root args act (step_input J p (node_at above top args first) pick) (act_answer act next (step_input J p (node_at above top args first) pick)).edits
-  edit_act act_is.AddNamespace (args_are.Root (request_is.CreateNamespace ns) f) h e own belongs next = from_own root (args_are.Root (request_is.CreateNamespace ns) f) act_is.AddNamespace (step_input J p (node_at above top (args_are.Root (request_is.CreateNamespace ns) f) first) pick) _ (own refl) (one_edit (args_are.Root (request_is.CreateNamespace ns) f) (args_are.Root (request_is.CreateNamespace ns) f) act_is.AddNamespace (step_input J p (node_at above top (args_are.Root (request_is.CreateNamespace ns) f) first) pick) (key_is.Ns ns) (row_at (rows_read J (args_are.Root (request_is.CreateNamespace ns) f)) (key_is.Ns ns)) (Some row_is.Ns) (covers_from (args_are.Root (request_is.CreateNamespace ns) f) (resource_is.Ns ns) (key_is.Ns ns) (inl refl) (ns_itself ns)) refl refl (λ t. absurd (false≢true t)))
-  edit_act act_is.AddNamespace args h e own belongs next = absurd (false≢true h)
-  edit_act act_is.DropNamespace (args_are.Root (request_is.DropNamespace ns) f) h e own belongs next = from_own root (args_are.Root (request_is.DropNamespace ns) f) act_is.DropNamespace (step_input J p (node_at above top (args_are.Root (request_is.DropNamespace ns) f) first) pick) _ (own refl) (one_edit (args_are.Root (request_is.DropNamespace ns) f) (args_are.Root (request_is.DropNamespace ns) f) act_is.DropNamespace (step_input J p (node_at above top (args_are.Root (request_is.DropNamespace ns) f) first) pick) (key_is.Ns ns) (row_at (rows_read J (args_are.Root (request_is.DropNamespace ns) f)) (key_is.Ns ns)) (None) (covers_from (args_are.Root (request_is.DropNamespace ns) f) (resource_is.Ns ns) (key_is.Ns ns) (inl refl) (ns_itself ns)) refl refl (λ t. absurd (false≢true t)))
-  edit_act act_is.DropNamespace args h e own belongs next = absurd (false≢true h)
-  edit_act act_is.AddTable (args_are.Root (request_is.CreateTable table keys) f) h e own belongs next = from_own root (args_are.Root (request_is.CreateTable table keys) f) act_is.AddTable (step_input J p (node_at above top (args_are.Root (request_is.CreateTable table keys) f) first) pick) _ (own refl) (one_edit (args_are.Root (request_is.CreateTable table keys) f) (args_are.Root (request_is.CreateTable table keys) f) act_is.AddTable (step_input J p (node_at above top (args_are.Root (request_is.CreateTable table keys) f) first) pick) (key_is.Table table) (row_at (rows_read J (args_are.Root (request_is.CreateTable table keys) f)) (key_is.Table table)) (Some (row_is.Table state_is.Disabled 1)) (covers_from (args_are.Root (request_is.CreateTable table keys) f) (resource_is.Table table) (key_is.Table table) (inr (inl refl)) (same_table-refl table)) refl refl (λ t. or_right (Rattle.hm_model.specs.Reads.is_ns table.ns (key_is.Table table)) _ (same_table-refl table)))
-  edit_act act_is.AddTable args h e own belongs next = absurd (false≢true h)
-  edit_act act_is.SetEnabling (args_are.Root (request_is.CreateTable table keys) f) h e own belongs next = from_own root (args_are.Root (request_is.CreateTable table keys) f) act_is.SetEnabling (step_input J p (node_at above top (args_are.Root (request_is.CreateTable table keys) f) first) pick) _ (own refl) (one_edit (args_are.Root (request_is.CreateTable table keys) f) (args_are.Root (request_is.CreateTable table keys) f) act_is.SetEnabling (step_input J p (node_at above top (args_are.Root (request_is.CreateTable table keys) f) first) pick) (key_is.Table table) (row_at (rows_read J (args_are.Root (request_is.CreateTable table keys) f)) (key_is.Table table)) (Rattle.std.specs.Option.option_map (Rattle.hm_model.specs.RowsSaid.in_state state_is.Enabling) (row_at (rows_read J (args_are.Root (request_is.CreateTable table keys) f)) (key_is.Table table))) (covers_from (args_are.Root (request_is.CreateTable table keys) f) (resource_is.Table table) (key_is.Table table) (inr (inl refl)) (same_table-refl table)) refl refl (λ t. or_right (Rattle.hm_model.specs.Reads.is_ns table.ns (key_is.Table table)) _ (same_table-refl table)))
-  edit_act act_is.SetEnabling (args_are.Root (request_is.EnableTable table) f) h e own belongs next = from_own root (args_are.Root (request_is.EnableTable table) f) act_is.SetEnabling (step_input J p (node_at above top (args_are.Root (request_is.EnableTable table) f) first) pick) _ (own refl) (one_edit (args_are.Root (request_is.EnableTable table) f) (args_are.Root (request_is.EnableTable table) f) act_is.SetEnabling (step_input J p (node_at above top (args_are.Root (request_is.EnableTable table) f) first) pick) (key_is.Table table) (row_at (rows_read J (args_are.Root (request_is.EnableTable table) f)) (key_is.Table table)) (Rattle.std.specs.Option.option_map (Rattle.hm_model.specs.RowsSaid.in_state state_is.Enabling) (row_at (rows_read J (args_are.Root (request_is.EnableTable table) f)) (key_is.Table table))) (covers_from (args_are.Root (request_is.EnableTable table) f) (resource_is.Table table) (key_is.Table table) (inr (inl refl)) (same_table-refl table)) refl refl (λ t. same_table-refl table))
-  edit_act act_is.SetEnabling args h e own belongs next = absurd (false≢true h)
-  edit_act act_is.SetEnabled (args_are.Root (request_is.CreateTable table keys) f) h e own belongs next = from_own root (args_are.Root (request_is.CreateTable table keys) f) act_is.SetEnabled (step_input J p (node_at above top (args_are.Root (request_is.CreateTable table keys) f) first) pick) _ (own refl) (one_edit (args_are.Root (request_is.CreateTable table keys) f) (args_are.Root (request_is.CreateTable table keys) f) act_is.SetEnabled (step_input J p (node_at above top (args_are.Root (request_is.CreateTable table keys) f) first) pick) (key_is.Table table) (row_at (rows_read J (args_are.Root (request_is.CreateTable table keys) f)) (key_is.Table table)) (Rattle.std.specs.Option.option_map (Rattle.hm_model.specs.RowsSaid.in_state state_is.Enabled) (row_at (rows_read J (args_are.Root (request_is.CreateTable table keys) f)) (key_is.Table table))) (covers_from (args_are.Root (request_is.CreateTable table keys) f) (resource_is.Table table) (key_is.Table table) (inr (inl refl)) (same_table-refl table)) refl refl (λ t. absurd (false≢true t)))
-  edit_act act_is.SetEnabled (args_are.Root (request_is.EnableTable table) f) h e own belongs next = from_own root (args_are.Root (request_is.EnableTable table) f) act_is.SetEnabled (step_input J p (node_at above top (args_are.Root (request_is.EnableTable table) f) first) pick) _ (own refl) (one_edit (args_are.Root (request_is.EnableTable table) f) (args_are.Root (request_is.EnableTable table) f) act_is.SetEnabled (step_input J p (node_at above top (args_are.Root (request_is.EnableTable table) f) first) pick) (key_is.Table table) (row_at (rows_read J (args_are.Root (request_is.EnableTable table) f)) (key_is.Table table)) (Rattle.std.specs.Option.option_map (Rattle.hm_model.specs.RowsSaid.in_state state_is.Enabled) (row_at (rows_read J (args_are.Root (request_is.EnableTable table) f)) (key_is.Table table))) (covers_from (args_are.Root (request_is.EnableTable table) f) (resource_is.Table table) (key_is.Table table) (inr (inl refl)) (same_table-refl table)) refl refl (λ t. absurd (false≢true t)))
-  edit_act act_is.SetEnabled args h e own belongs next = absurd (false≢true h)
-  edit_act act_is.DropTable (args_are.Root (request_is.DeleteTable table) f) h e own belongs next = from_own root (args_are.Root (request_is.DeleteTable table) f) act_is.DropTable (step_input J p (node_at above top (args_are.Root (request_is.DeleteTable table) f) first) pick) _ (own refl) (one_edit (args_are.Root (request_is.DeleteTable table) f) (args_are.Root (request_is.DeleteTable table) f) act_is.DropTable (step_input J p (node_at above top (args_are.Root (request_is.DeleteTable table) f) first) pick) (key_is.Table table) (row_at (rows_read J (args_are.Root (request_is.DeleteTable table) f)) (key_is.Table table)) (None) (covers_from (args_are.Root (request_is.DeleteTable table) f) (resource_is.Table table) (key_is.Table table) (inr (inl refl)) (same_table-refl table)) refl refl (λ t. absurd (false≢true t)))
-  edit_act act_is.DropTable args h e own belongs next = absurd (false≢true h)
-  edit_act act_is.SetDisabling (args_are.Root (request_is.DisableTable table) f) h e own belongs next = from_own root (args_are.Root (request_is.DisableTable table) f) act_is.SetDisabling (step_input J p (node_at above top (args_are.Root (request_is.DisableTable table) f) first) pick) _ (own refl) (one_edit (args_are.Root (request_is.DisableTable table) f) (args_are.Root (request_is.DisableTable table) f) act_is.SetDisabling (step_input J p (node_at above top (args_are.Root (request_is.DisableTable table) f) first) pick) (key_is.Table table) (row_at (rows_read J (args_are.Root (request_is.DisableTable table) f)) (key_is.Table table)) (Rattle.std.specs.Option.option_map (Rattle.hm_model.specs.RowsSaid.in_state state_is.Disabling) (row_at (rows_read J (args_are.Root (request_is.DisableTable table) f)) (key_is.Table table))) (covers_from (args_are.Root (request_is.DisableTable table) f) (resource_is.Table table) (key_is.Table table) (inr (inl refl)) (same_table-refl table)) refl refl (λ t. same_table-refl table))
-  edit_act act_is.SetDisabling args h e own belongs next = absurd (false≢true h)
-  edit_act act_is.SetDisabled (args_are.Root (request_is.DisableTable table) f) h e own belongs next = from_own root (args_are.Root (request_is.DisableTable table) f) act_is.SetDisabled (step_input J p (node_at above top (args_are.Root (request_is.DisableTable table) f) first) pick) _ (own refl) (one_edit (args_are.Root (request_is.DisableTable table) f) (args_are.Root (request_is.DisableTable table) f) act_is.SetDisabled (step_input J p (node_at above top (args_are.Root (request_is.DisableTable table) f) first) pick) (key_is.Table table) (row_at (rows_read J (args_are.Root (request_is.DisableTable table) f)) (key_is.Table table)) (Rattle.std.specs.Option.option_map (Rattle.hm_model.specs.RowsSaid.in_state state_is.Disabled) (row_at (rows_read J (args_are.Root (request_is.DisableTable table) f)) (key_is.Table table))) (covers_from (args_are.Root (request_is.DisableTable table) f) (resource_is.Table table) (key_is.Table table) (inr (inl refl)) (same_table-refl table)) refl refl (λ t. absurd (false≢true t)))
-  edit_act act_is.SetDisabled args h e own belongs next = absurd (false≢true h)
-  edit_act act_is.SetVersion (args_are.Root (request_is.ModifyTable table version) f) h e own belongs next = from_own root (args_are.Root (request_is.ModifyTable table version) f) act_is.SetVersion (step_input J p (node_at above top (args_are.Root (request_is.ModifyTable table version) f) first) pick) _ (own refl) (one_edit (args_are.Root (request_is.ModifyTable table version) f) (args_are.Root (request_is.ModifyTable table version) f) act_is.SetVersion (step_input J p (node_at above top (args_are.Root (request_is.ModifyTable table version) f) first) pick) (key_is.Table table) (row_at (rows_read J (args_are.Root (request_is.ModifyTable table version) f)) (key_is.Table table)) (Rattle.std.specs.Option.option_map (Rattle.hm_model.specs.RowsSaid.in_version version) (row_at (rows_read J (args_are.Root (request_is.ModifyTable table version) f)) (key_is.Table table))) (covers_from (args_are.Root (request_is.ModifyTable table version) f) (resource_is.Table table) (key_is.Table table) (inr (inl refl)) (same_table-refl table)) refl refl (λ t. absurd (false≢true t)))
-  edit_act act_is.SetVersion args h e own belongs next = absurd (false≢true h)
   edit_act act_is.UpdateSplitMeta (args_are.Root (request_is.SplitRegion region key) f) h e own belongs next = from_own root (args_are.Root (request_is.SplitRegion region key) f) act_is.UpdateSplitMeta (step_input J p (node_at above top (args_are.Root (request_is.SplitRegion region key) f) first) pick) _ (own refl) (record { within = split_within (row_at (rows_read J (args_are.Root (request_is.SplitRegion region key) f))) region key f; tells = λ t. absurd (false≢true t); some = inr refl })
   edit_act act_is.UpdateSplitMeta args h e own belongs next = absurd (false≢true h)
   edit_act act_is.UpdateMergeMeta (args_are.Root (request_is.MergeRegions regions) f) h e own belongs next = from_own root (args_are.Root (request_is.MergeRegions regions) f) act_is.UpdateMergeMeta (step_input J p (node_at above top (args_are.Root (request_is.MergeRegions regions) f) first) pick) _ (own refl) (record { within = merge_within (row_at (rows_read J (args_are.Root (request_is.MergeRegions regions) f))) regions f f; tells = λ t. absurd (false≢true t); some = inr refl })
@@ -118,7 +174,7 @@ module _ (J : Past) (p : ℕ) (pick : Option Server) (above : List ℕ) (top fir
   edit_act act_is.DropRegionRows (args_are.DropRegions table ids) h e own belongs next = record { within = remove_within root table (belongs table refl) (row_at (rows_read J (args_are.DropRegions table ids))) ids; tells = λ t. absurd (false≢true t); some = inr refl }
   edit_act act_is.DropRegionRows (args_are.Root request f) h e own belongs next = absurd (no_drops request h)
   edit_act act_is.DropRegionRows args h e own belongs next = absurd (false≢true h)
-  edit_act act args h e own belongs next = absurd (false≢true e)
+  edit_act act args h e own belongs next = edit_made act args e refl h own next (made_of act next (at_input args))
 
   -- what a step's act edits
   pub edit_step : (act : Act) (args : Args) → is_plain act ≡ true → is_listed (kind_of args) act ≡ true → (rows_table args ≡ None → root ≡ args) → ((t : TableName) → rows_table args ≡ Some t → IsIn (exclusive (resource_is.Table t)) (asks root)) → (next : ℕ)

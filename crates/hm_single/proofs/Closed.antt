@@ -1,13 +1,12 @@
 -- What the trees of disablings, splits and merges move: regions that they close, by Unassigns, and those that they make.
-use Rattle.std.proofs.Common.{◌≡◌, ℕ, zero, suc, ◌+◌, ◌-◌, ◌<◌, ◌≤◌, List, [], ◌∷◌, map, cond, ◌&&◌, Bool, true, false, Option, Some, None, refl, ap, sym, ◌∙◌, subst, inl, inr, ◌⊎◌, slice_get, arith}
-use Rattle.std.proofs.lemmas.Bool.{and_parts, false≢true}
+use Rattle.std.proofs.Common.{◌≡◌, ℕ, zero, suc, ◌+◌, ◌-◌, ◌<◌, ◌≤◌, List, [], ◌∷◌, map, cond, ◌&&◌, ◌==◌, Bool, true, false, Option, Some, None, refl, ap, sym, ◌∙◌, subst, inl, inr, ◌⊎◌, slice_get, arith}
+use Rattle.std.proofs.lemmas.Bool.{and_parts, eqb-true, false≢true, true≢false}
 use Rattle.std.proofs.lemmas.Option.{none-some, same_Some}
 use Rattle.hm_names.specs.Region.{Region}
 use Rattle.hm_names.specs.Server.{Server}
 use Rattle.hm_names.specs.declared.pid.Pid.{Pid}
 use Rattle.hm_names.specs.declared.table.TableName.{TableName}
 use Rattle.hm_data.specs.declared.act.Act.{Act}
-use Rattle.hm_data.specs.declared.act.Act.TheVariants as act_is
 use Rattle.hm_data.specs.declared.args.Args.{Args}
 use Rattle.hm_data.specs.declared.args.Args.TheVariants as args_are
 use Rattle.hm_data.specs.declared.args.Child.{Child}
@@ -28,20 +27,23 @@ use Rattle.hm_model.specs.Answers.{last_answer, row_of}
 use Rattle.hm_model.specs.Inputs.{step_input}
 use Rattle.hm_model.specs.Journal.{Past}
 use Rattle.hm_model.specs.Keys.{same_table}
-use Rattle.hm_model.specs.Kinds.{kind_of, request_kind, table_of_first}
-use Rattle.hm_model.specs.Lists.{exact_rows}
+use Rattle.hm_model.specs.Kinds.{kind_of, request_kind}
+use Rattle.hm_model.specs.Lists.{exact_rows, lines_of}
 use Rattle.hm_model.specs.Locks.{IsIn, in_name_order}
-use Rattle.hm_model.specs.Outs.{given, spawns}
+use Rattle.hm_model.specs.Outs.{spawns}
 use Rattle.hm_model.specs.Pieces.{Batch, batches, numbers_from, transits, with_batch}
 use Rattle.hm_model.specs.Reads.{covers}
-use Rattle.hm_model.specs.RegionActs.{close_regions}
-use Rattle.hm_model.specs.RowsSaid.{Rows, keep_region, live_among, regions_among}
+use Rattle.hm_model.specs.MadeOf.{AreMoved, IsMadeOf, Makes, Making, Which, making}
+use Rattle.hm_model.specs.RegionActs.{regions_for}
+use Rattle.hm_model.proofs.MadeOf.{made_of}
+use Rattle.std.specs.List.{list_all}
+use Rattle.hm_model.specs.RowsSaid.{Rows, keep_region, regions_among}
 use Rattle.hm_model.specs.Rules.{IsLegal}
-use Rattle.hm_model.specs.Tree.{Node, args_in, made, node_of}
+use Rattle.hm_model.specs.Tree.{Node, args_in, made, new_ids, node_of}
 use Rattle.hm_model.specs.Undoing.{closed_by, closed_by_request}
-use Rattle.hm_model.specs.Views.{first_id_of, regions_in, table_of}
+use Rattle.hm_model.specs.Views.{bounds_of, first_id_of, regions_in, table_of}
 use Rattle.hm_model.specs.Whereabouts.{moved_by}
-use Rattle.hm_model.proofs.ExactRows.{is_listed, led_row}
+use Rattle.hm_model.proofs.ExactRows.{is_listed, led_row, of_listed}
 use Rattle.hm_model.proofs.Highs.{own_all}
 use Rattle.hm_model.proofs.KeyTests.{same_table-is, same_table-refl}
 use Rattle.hm_model.proofs.Kin.{makes_one}
@@ -58,8 +60,8 @@ use Rattle.hm_serial.proofs.Apart.{step_top}
 use Rattle.hm_serial.proofs.Fallen.{root_of_node}
 use Rattle.hm_single.specs.Calls.{MovesIn, closes_first}
 use Rattle.hm_single.specs.Theorem.{ClosedAreUnplaced}
-use Rattle.hm_single.proofs.Makes.{GoalIs, kids_goal}
-use Rattle.hm_single.proofs.New.{IsNewOf, closed_covered, closes_old, closing_lined, is_closing}
+use Rattle.hm_single.proofs.Makes.{GoalIs, goal_made, kids_goal, makes}
+use Rattle.hm_single.proofs.New.{IsNewOf, closed_covered, closes_made, closes_old, closing_lined, is_closing}
 use Rattle.hm_single.proofs.Tidy.{moved_goal}
 use Rattle.hm_single.proofs.Vacated.{unassigned}
 
@@ -126,49 +128,70 @@ Says request first region it =
 abbrev ClosesOld : Request → ℕ → Act → Type 0
 ClosesOld request first act = is_closing act ≡ true → (region : Region) → IsIn region (closed_by_request request) → IsNewOf request first region → ⊥
 
+abbrev is_disabling : Request → Bool
+is_disabling (request_is.DisableTable table) = true
+is_disabling request = false
+
+-- what transits a root that closes regions makes: of those that it closes, of its table's, or of those that it drew
+abbrev fits_close : Request → Making → Bool
+fits_close request (Making.moves goal_is.Unassign Which.closed) = true
+fits_close request (Making.moves goal_is.Unassign Which.own) = is_disabling request
+fits_close request (Making.moves goal_is.Assign (Which.drawn count)) = count == new_ids request
+fits_close request (Making.moves goal which) = false
+fits_close request making = true
+
+all_fit : (request : Request) → closes_first request ≡ true → list_all (λ line. fits_close request (making line.act)) (lines_of (request_kind request)) ≡ true
+all_fit (request_is.DisableTable t) h = refl
+all_fit (request_is.SplitRegion own key) h = refl
+all_fit (request_is.MergeRegions regions) h = refl
+all_fit request h = absurd (false≢true h)
+
+says_table : (request : Request) (first : ℕ) → is_disabling request ≡ true → (table : TableName) → table_of (args_are.Root request first) ≡ Some table → (rows : Rows) (region : Region) → IsIn region (regions_for table first (bounds_of (args_are.Root request first)) rows)
+    → (it : Args) → it ≡ args_are.Transit region goal_is.Unassign None → Says request first region it
+says_table (request_is.DisableTable t) first d table own rows region among it sent =
+    let its : region.table ≡ t = among_table table _ rows region among ∙ sym (same_Some t table own) in
+    inl (None, sent, covers_from (args_are.Root (request_is.DisableTable t) first) (resource_is.Table t) (key_is.Region region) (inr (inl refl)) (ap (same_table t) its ∙ same_table-refl t), λ new. let low = new.0 in let high : region.id < first + 0 = new.1 in omega (arith, low, high))
+says_table request first d table own rows region among it sent = absurd (false≢true d)
+
+says_moved : (request : Request) (first : ℕ) → closes_first request ≡ true → (act : Act) → ClosesOld request first act → (at : StepIn) → at.args ≡ args_are.Root request first → (goal : Goal) (which : Which) → making act ≡ Making.moves goal which → fits_close request (Making.moves goal which) ≡ true
+    → {regions : List Region} → AreMoved at which regions → (region : Region) → IsIn region regions → (it : Args) → it ≡ args_are.Transit region goal None → Says request first region it
+says_moved request first h act old at e goal_is.Unassign which only fits (AreMoved.of_table table own) region among it sent =
+    says_table request first fits table (ap table_of (sym e) ∙ own) at.rows region (subst (λ a. IsIn region (regions_for table (first_id_of a) (bounds_of a) at.rows)) e among) it sent
+says_moved request first h act old at e goal_is.Unassign which only fits AreMoved.of_closed region among it sent =
+    let own = subst (λ a. IsIn region (closed_by a)) e among in
+    inl (None, sent, closed_covered request first h region own, old (ap closes_made only) region own)
+says_moved request first h act old at e goal_is.Assign which only fits (AreMoved.of_drawn count table own) region among it sent =
+    let new = in_numbers table region (first_id_of at.args) count among in
+    let start : first_id_of at.args ≡ first = ap first_id_of e in
+    let many = eqb-true count (new_ids request) fits in
+    let low = new.0 in
+    let high = new.1 in
+    inr ((omega (arith, low, start), omega (arith, high, start, many)), None, sent)
+says_moved request first h act old at e goal which only fits are region among it sent = absurd (false≢true fits)
+
+says_makes : (request : Request) (first : ℕ) → closes_first request ≡ true → (act : Act) → is_plain act ≡ true → ClosesOld request first act → fits_close request (making act) ≡ true → (to : Goal) → makes act ≡ Some to → (next : ℕ) (at : StepIn) → at.args ≡ args_are.Root request first
+    → {children : List Child} → Makes act at children → (i : ℕ) (it : Args) → slice_get (args_in (spawns next children).children) i ≡ Some it → (region : Region) → moved_by it ≡ Some region → Says request first region it
+says_makes request first h act p old fits to moves next at e (Makes.sends goal sent which only regions are) i it is region m =
+    let s = sent_for goal next regions i it is region m in
+    says_moved request first h act old at e goal which only (subst (λ x. fits_close request x ≡ true) only fits) are region s.1 it s.0
+says_makes request first h act p old fits to moves next at e (Makes.lays only) i it is region m = absurd (none-some to (sym (ap goal_made only) ∙ moves))
+says_makes request first h act p old fits to moves next at e (Makes.fences only server own) i it is region m = absurd (none-some to (sym (ap goal_made only) ∙ moves))
+says_makes request first h act p old fits to moves next at e (Makes.adds_all only table own bounds are) i it is region m = absurd (none-some to (sym (ap goal_made only) ∙ moves))
+says_makes request first h act p old fits to moves next at e (Makes.drops_all only table own) i it is region m = absurd (none-some to (sym (ap goal_made only) ∙ moves))
+says_makes request first h act p old fits to moves next at e (Makes.opens off own_region own server there) i it is region m = absurd (true≢false (sym p ∙ off))
+
+says_made : (request : Request) (first : ℕ) → closes_first request ≡ true → (act : Act) → is_plain act ≡ true → ClosesOld request first act → fits_close request (making act) ≡ true → (to : Goal) → makes act ≡ Some to → (next : ℕ) (at : StepIn) → at.args ≡ args_are.Root request first
+    → {out : StepOut} → IsMadeOf act next at out → (i : ℕ) (it : Args) → slice_get (args_in out.children) i ≡ Some it → (region : Region) → moved_by it ≡ Some region → Says request first region it
+says_made request first h act p old fits to moves next at e (IsMadeOf.made children kids) i it is region m = says_makes request first h act p old fits to moves next at e kids i it is region m
+says_made request first h act p old fits to moves next at e (IsMadeOf.shut off own_region own server there) i it is region m = absurd (true≢false (sym p ∙ off))
+says_made request first h act p old fits to moves next at e other i it is region m = absurd (none-some it is)
+
 act_says : (request : Request) (first : ℕ) (act : Act) → closes_first request ≡ true → is_listed (request_kind request) act ≡ true → is_plain act ≡ true → ClosesOld request first act → (next : ℕ) (at : StepIn) → at.args ≡ args_are.Root request first
     → (i : ℕ) (it : Args) → slice_get (args_in (act_answer act next at).children) i ≡ Some it → (region : Region) → moved_by it ≡ Some region → Says request first region it
-act_says (request_is.DisableTable t) first act_is.CloseRegions h l p old next at e i it is region m =
-    let s = sent_for goal_is.Unassign next (live_among t at.rows) i it (ap (λ a. slice_get (args_in (close_regions next a at.rows).children) i) (sym e) ∙ is) region m in
-    inl (None, s.0, covers_from (args_are.Root (request_is.DisableTable t) first) (resource_is.Table t) (key_is.Region region) (inr (inl refl)) (ap (same_table t) (among_table t _ at.rows region s.1) ∙ same_table-refl t), λ new. let low = new.0 in let high : region.id < first + 0 = new.1 in omega (arith, low, high))
-act_says (request_is.DisableTable t) first act_is.OpenRegions h l p old next at e i it is region m = absurd (false≢true l)
-act_says (request_is.DisableTable t) first act_is.CloseParent h l p old next at e i it is region m = absurd (false≢true l)
-act_says (request_is.DisableTable t) first act_is.CloseParents h l p old next at e i it is region m = absurd (false≢true l)
-act_says (request_is.DisableTable t) first act_is.OpenDaughters h l p old next at e i it is region m = absurd (false≢true l)
-act_says (request_is.DisableTable t) first act_is.OpenMerged h l p old next at e i it is region m = absurd (false≢true l)
-act_says (request_is.DisableTable t) first act_is.Reassign h l p old next at e i it is region m = absurd (false≢true l)
-act_says (request_is.DisableTable t) first act h l p old next at e i it is region m = (let g = moved_goal act it region (made_at (GoalIs act) (act_answer act next at).children (kids_goal act p next at) i it is) m in absurd (none-some g.0 g.3))
-act_says (request_is.SplitRegion own key) first act_is.CloseParent h l p old next at e i it is region m =
-    let s = sent_for goal_is.Unassign next (closed_by at.args) i it is region m in
-    let among = subst (λ a. IsIn region (closed_by a)) e s.1 in
-    inl (None, s.0, closed_covered (request_is.SplitRegion own key) first refl region among, old refl region among)
-act_says (request_is.SplitRegion own key) first act_is.OpenDaughters h l p old next at e i it is region m =
-    let s = sent_for goal_is.Assign next (regions_in own.table (numbers_from first 2)) i it
-    (ap (λ a. slice_get (args_in (given (table_of a) next (λ table. spawns next (transits goal_is.Assign (regions_in table (numbers_from (first_id_of a) 2))))).children) i) (sym e) ∙ is) region m in
-    inr (in_numbers own.table region first 2 s.1, None, s.0)
-act_says (request_is.SplitRegion own key) first act_is.OpenRegions h l p old next at e i it is region m = absurd (false≢true l)
-act_says (request_is.SplitRegion own key) first act_is.CloseRegions h l p old next at e i it is region m = absurd (false≢true l)
-act_says (request_is.SplitRegion own key) first act_is.CloseParents h l p old next at e i it is region m = absurd (false≢true l)
-act_says (request_is.SplitRegion own key) first act_is.OpenMerged h l p old next at e i it is region m = absurd (false≢true l)
-act_says (request_is.SplitRegion own key) first act_is.Reassign h l p old next at e i it is region m = absurd (false≢true l)
-act_says (request_is.SplitRegion own key) first act h l p old next at e i it is region m = (let g = moved_goal act it region (made_at (GoalIs act) (act_answer act next at).children (kids_goal act p next at) i it is) m in absurd (none-some g.0 g.3))
-act_says (request_is.MergeRegions regions) first act_is.CloseParents h l p old next at e i it is region m =
-    let s = sent_for goal_is.Unassign next (closed_by at.args) i it is region m in
-    let among = subst (λ a. IsIn region (closed_by a)) e s.1 in
-    inl (None, s.0, closed_covered (request_is.MergeRegions regions) first refl region among, old refl region among)
-act_says (request_is.MergeRegions regions) first act_is.OpenMerged h l p old next at e i it is region m =
-    by (table_of_first regions) (ap (λ a. slice_get (args_in (given (table_of a) next (λ table. spawns next (transits goal_is.Assign (regions_in table (numbers_from (first_id_of a) 1))))).children) i) (sym e) ∙ is)
-  where
-    by : (o : Option TableName) → slice_get (args_in (given o next (λ table. spawns next (transits goal_is.Assign (regions_in table (numbers_from first 1))))).children) i ≡ Some it → Says (request_is.MergeRegions regions) first region it
-    by None k = absurd (none-some it k)
-    by (Some table) k = (let s = sent_for goal_is.Assign next (regions_in table (numbers_from first 1)) i it k region m in inr (in_numbers table region first 1 s.1, None, s.0))
-act_says (request_is.MergeRegions regions) first act_is.OpenRegions h l p old next at e i it is region m = absurd (false≢true l)
-act_says (request_is.MergeRegions regions) first act_is.CloseRegions h l p old next at e i it is region m = absurd (false≢true l)
-act_says (request_is.MergeRegions regions) first act_is.CloseParent h l p old next at e i it is region m = absurd (false≢true l)
-act_says (request_is.MergeRegions regions) first act_is.OpenDaughters h l p old next at e i it is region m = absurd (false≢true l)
-act_says (request_is.MergeRegions regions) first act_is.Reassign h l p old next at e i it is region m = absurd (false≢true l)
-act_says (request_is.MergeRegions regions) first act h l p old next at e i it is region m = (let g = moved_goal act it region (made_at (GoalIs act) (act_answer act next at).children (kids_goal act p next at) i it is) m in absurd (none-some g.0 g.3))
-act_says request first act h l p old next at e i it is region m = absurd (false≢true h)
+act_says request first act h l p old next at e i it is region m =
+    let goal = moved_goal act it region (made_at (GoalIs act) (act_answer act next at).children (kids_goal act p next at) i it is) m in
+    let fits = of_listed (λ a. fits_close request (making a)) (request_kind request) act (all_fit request h) l in
+    says_made request first h act p old fits goal.0 goal.3 next at e (made_of act next at) i it is region m
 
 abbrev AllSaid : Past → Type 0
 AllSaid J =

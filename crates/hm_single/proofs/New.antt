@@ -7,7 +7,6 @@ use Rattle.hm_names.specs.Region.{Region}
 use Rattle.hm_names.specs.Server.{Server}
 use Rattle.hm_names.specs.declared.pid.Pid.{Pid}
 use Rattle.hm_data.specs.declared.act.Act.{Act}
-use Rattle.hm_data.specs.declared.act.Act.TheVariants as act_is
 use Rattle.hm_data.specs.declared.answer.Cause.TheVariants as cause_is
 use Rattle.hm_data.specs.declared.args.Args.TheVariants as args_are
 use Rattle.hm_data.specs.declared.catalog.CatKey.TheVariants as key_is
@@ -56,6 +55,8 @@ use Rattle.hm_cover.proofs.SerialWhole.{whole_all}
 use Rattle.hm_cover.proofs.Whole.{key_of_id}
 use Rattle.hm_single.specs.Calls.{closes_first}
 use Rattle.hm_single.proofs.Own.{Own, does, own, root_is, step}
+use Rattle.hm_model.specs.MadeOf.{Making, Which, making}
+use Rattle.hm_data.specs.declared.place.Goal.TheVariants as goal_is
 
 -- a region has an id that a request drew
 abbrev pub IsNewOf : Request → ℕ → Region → Type 0
@@ -69,10 +70,12 @@ closing_lined (request_is.MergeRegions regions) first h = (refl, refl)
 closing_lined request first h = absurd (false≢true h)
 
 -- the acts that close the regions that a request names
+abbrev pub closes_made : Making → Bool
+closes_made (Making.moves goal_is.Unassign Which.closed) = true
+closes_made making = false
+
 abbrev pub is_closing : Act → Bool
-is_closing act_is.CloseParent = true
-is_closing act_is.CloseParents = true
-is_closing act = false
+is_closing act = closes_made (making act)
 
 -- no first act of a request does
 first_checks : (request : Request) → closes_first request ≡ true → (act : Act) → Some act ≡ first_act (lines_of (request_kind request)) → is_closing act ≡ false

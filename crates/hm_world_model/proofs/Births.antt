@@ -1,51 +1,41 @@
 -- What procedures bear: no root and no crash; a transit only where they ask for all that it asks for, or are crashes.
-use Rattle.std.proofs.Common.{◌≡◌, ℕ, zero, suc, ◌+◌, ◌-◌, List, [], ◌∷◌, length, map, take, drop, ◌&&◌, nat_le, Bool, true, false, cond, Option, Some, None, refl, sym, subst, inl, inr, ◌⊎◌}
+use Rattle.std.proofs.Common.{◌≡◌, ℕ, zero, suc, ◌+◌, ◌-◌, List, [], ◌∷◌, length, map, take, drop, ◌&&◌, nat_le, Bool, true, false, cond, Option, Some, None, refl, ap, sym, ◌∙◌, subst, inl, inr, ◌⊎◌}
 use Rattle.std.specs.declared.cmp.Ordering.{Ordering}
 use Rattle.std.specs.declared.cmp.Ordering.TheVariants.{Less, Equal, Greater}
-use Rattle.std.proofs.lemmas.Bool.{and_parts, false≢true}
+use Rattle.std.proofs.lemmas.Bool.{and_parts, false≢true, true≢false}
 use Rattle.hm_names.specs.Order.{region_cmp}
 use Rattle.hm_names.specs.Region.{Region}
 use Rattle.hm_names.specs.declared.table.TableName.{TableName}
 use Rattle.hm_data.specs.declared.act.Act.{Act}
 use Rattle.hm_data.specs.declared.act.Act.TheVariants as act_is
-use Rattle.hm_data.specs.declared.answer.Cause.{Cause}
 use Rattle.hm_data.specs.declared.args.Args.{Args}
 use Rattle.hm_data.specs.declared.args.Args.TheVariants as args_are
 use Rattle.hm_data.specs.declared.args.Child.{Child}
 use Rattle.hm_data.specs.declared.args.Child.TheVariants as child_is
-use Rattle.hm_data.specs.declared.call.Told.{Told}
-use Rattle.hm_data.specs.declared.call.Told.TheVariants as told_is
 use Rattle.hm_data.specs.declared.catalog.CatKey.TheVariants as key_is
 use Rattle.hm_data.specs.declared.catalog.CatRow.{CatRow}
-use Rattle.hm_data.specs.declared.catalog.CatRow.TheVariants as row_is
-use Rattle.hm_data.specs.declared.catalog.Edit.{Edit}
-use Rattle.hm_data.specs.declared.catalog.TableState.TheVariants as state_is
 use Rattle.hm_data.specs.declared.place.Goal.{Goal}
 use Rattle.hm_data.specs.declared.place.Goal.TheVariants as goal_is
 use Rattle.hm_data.specs.declared.request.Request.TheVariants as request_is
 use Rattle.hm_data.specs.declared.step.StepIn.{StepIn}
 use Rattle.hm_data.specs.declared.step.StepOut.{StepOut}
 use Rattle.hm_model.specs.Acts.{act_answer}
-use Rattle.hm_model.specs.Catalog.{row_at, set_to}
-use Rattle.hm_model.specs.Changes.{add_ranges, changed, merge_edits, remove_regions, split_edits}
-use Rattle.hm_model.specs.Checks.{can_split, namespace_empty, namespace_free, table_disabled, table_enabled, table_free}
 use Rattle.hm_model.specs.Keys.{same_table}
-use Rattle.hm_model.specs.Kinds.{kind_of, table_of_first}
+use Rattle.hm_model.specs.Kinds.{kind_of}
 use Rattle.hm_model.specs.Locks.{IsIn, exclusive, in_name_order, merge_asks, request_asks, shared, table_alone, with_region, with_region_at}
-use Rattle.hm_model.specs.NamespaceActs.{has_table, version_of}
-use Rattle.hm_model.specs.Outs.{checked, edits_rows, ends_with, given, spawns}
-use Rattle.hm_model.specs.Pieces.{Batch, adding, batches, by_64, dropping, numbers_from, ranges_between, transits, with_batch}
-use Rattle.hm_model.specs.RegionActs.{close_parents, close_regions, cut_of, merge_cause, open_new, open_regions, regions_for}
-use Rattle.hm_model.specs.RowsSaid.{Rows, all_among, in_state, in_version, regions_among}
+use Rattle.hm_model.specs.Outs.{spawns}
+use Rattle.hm_model.specs.Pieces.{Batch, adding, batches, by_64, numbers_from, transits, with_batch}
+use Rattle.hm_model.specs.RegionActs.{close_parents, close_regions, open_new, open_regions, regions_for}
+use Rattle.hm_model.specs.RowsSaid.{Rows, all_among, regions_among}
 use Rattle.hm_model.specs.Tree.{args_in}
-use Rattle.hm_model.specs.Undoing.{closed_by}
-use Rattle.hm_model.specs.Views.{asked_of, bounds_of, first_id_of, namespace_of, region_of, regions_in, table_of}
-use Rattle.hm_model.specs.Wanted.{ids_of}
+use Rattle.hm_model.specs.Views.{bounds_of, first_id_of, regions_in}
 use Rattle.hm_model.specs.declared.lock.Ask.{Ask}
 use Rattle.hm_model.specs.declared.lock.Resource.TheVariants as resource_is
 use Rattle.hm_model.proofs.ExactRows.{is_listed}
 use Rattle.hm_model.proofs.KeyTests.{same_table-is}
 use Rattle.hm_model.proofs.Siblings.{merge_is, one_table}
+use Rattle.hm_model.specs.MadeOf.{IsMadeOf, Makes, Making, making}
+use Rattle.hm_model.proofs.MadeOf.{made_of}
 use Rattle.hm_model.proofs.PlainActs.{is_plain}
 use Rattle.hm_model.proofs.Small.{in_left, in_map, in_right}
 use Rattle.hm_model.proofs.Listed.{in_ordered}
@@ -138,20 +128,6 @@ moved_all P goal list all made h = moved_batches P goal (batches (in_name_order 
 
 -- what is answered bears what may be born
 module _ (up : Args) where
-  bears_on : (next : ℕ) (edits : List Edit) → Bears up (edits_rows next edits)
-  bears_on next edits made h = absurd h
-
-  bears_checked : (next : ℕ) (cause : Option Cause) → Bears up (checked next cause)
-  bears_checked next None made h = absurd h
-  bears_checked next (Some cause) made h = absurd h
-
-  bears_ends : (next : ℕ) (told : Told) → Bears up (ends_with told)
-  bears_ends next told made h = absurd h
-
-  bears_given : {A : Type 0} (part : Option A) (next : ℕ) (act : A → StepOut) → ((x : A) → Bears up (act x)) → Bears up (given part next act)
-  bears_given None next act each = λ made h. absurd h
-  bears_given (Some part) next act each = each part
-
   bears_spawns : (next : ℕ) (children : List Child) → AllBorn up children → Bears up (spawns next children)
   bears_spawns next [] all = all
   bears_spawns next (child ∷ more) all = all
@@ -258,46 +234,35 @@ merged_bears (args_are.Root (request_is.MergeRegions (one ∷ more)) first) h ne
     (merge_over one more first (record { table = one.table; id = first }) refl (merge_new one more first), tt)
 merged_bears args h next = absurd (false≢true h)
 
-fence_unlisted : (args : Args) → is_listed (kind_of args) act_is.Fence ≡ true → ⊥
-fence_unlisted (args_are.Root (request_is.CreateNamespace ns) first) h = absurd (false≢true h)
-fence_unlisted args h = absurd (false≢true h)
-
 reassign_unlisted : (args : Args) → is_listed (kind_of args) act_is.Reassign ≡ true → ⊥
 reassign_unlisted (args_are.Root (request_is.CreateNamespace ns) first) h = absurd (false≢true h)
 reassign_unlisted args h = absurd (false≢true h)
 
+-- an act has regions opened or closed
+abbrev is_sending : Making → Bool
+is_sending (Making.moves goal which) = true
+is_sending making = false
+
+bears_makes : (act : Act) (at : StepIn) → is_plain act ≡ true → is_sending (making act) ≡ false → {children : List Child} → Makes act at children → AllBorn at.args children
+bears_makes act at h off (Makes.lays only) = bears_one at.args (args_are.LayoutCall at.root) tt
+bears_makes act at h off (Makes.fences only server is) = bears_one at.args (args_are.FenceCall server) tt
+bears_makes act at h off (Makes.adds_all only table is bounds are) = bears_adding at.args (length bounds) table (first_id_of at.args) bounds
+bears_makes act at h off (Makes.drops_all only table is) = bears_pieces at.args table (by_64 (map (λ (region : Region). region.id) (all_among table at.rows)))
+bears_makes act at h off (Makes.sends goal sent which only regions are) = absurd (true≢false (sym (ap is_sending only) ∙ off))
+bears_makes act at h off (Makes.opens away region is server there) = absurd (true≢false (sym h ∙ away))
+
+bears_made : (act : Act) (next : ℕ) (at : StepIn) → is_plain act ≡ true → is_sending (making act) ≡ false → {out : StepOut} → IsMadeOf act next at out → Bears at.args out
+bears_made act next at h off (IsMadeOf.made children makes) = bears_spawns at.args next children (bears_makes act at h off makes)
+bears_made act next at h off (IsMadeOf.shut away region is server there) = absurd (true≢false (sym h ∙ away))
+bears_made act next at h off other = λ made k. absurd k
+
 -- what a procedure bears at an act that is listed for its kind
 pub act_bears : (act : Act) → is_plain act ≡ true → (at : StepIn) → is_listed (kind_of at.args) act ≡ true → IsRight at.args → (next : ℕ) → Bears at.args (act_answer act next at)
-act_bears act_is.CheckNamespaceFree h at l sound next = bears_given at.args (namespace_of at.args) next (λ ns. checked next (namespace_free (row_at at.rows (key_is.Ns ns)))) (λ ns. bears_checked at.args next (namespace_free (row_at at.rows (key_is.Ns ns))))
-act_bears act_is.AddNamespace h at l sound next = bears_given at.args (namespace_of at.args) next (λ ns. edits_rows next (set_to (row_at at.rows) (key_is.Ns ns) (Some row_is.Ns) ∷ [])) (λ ns. bears_on at.args next (set_to (row_at at.rows) (key_is.Ns ns) (Some row_is.Ns) ∷ []))
-act_bears act_is.CheckNamespaceEmpty h at l sound next = bears_given at.args (namespace_of at.args) next (λ ns. checked next (namespace_empty (row_at at.rows (key_is.Ns ns)) (has_table ns at.rows))) (λ ns. bears_checked at.args next (namespace_empty (row_at at.rows (key_is.Ns ns)) (has_table ns at.rows)))
-act_bears act_is.DropNamespace h at l sound next = bears_given at.args (namespace_of at.args) next (λ ns. edits_rows next (set_to (row_at at.rows) (key_is.Ns ns) None ∷ [])) (λ ns. bears_on at.args next (set_to (row_at at.rows) (key_is.Ns ns) None ∷ []))
-act_bears act_is.CheckTableFree h at l sound next = bears_given at.args (table_of at.args) next (λ table. checked next (table_free (row_at at.rows (key_is.Ns table.ns)) (row_at at.rows (key_is.Table table)))) (λ table. bears_checked at.args next (table_free (row_at at.rows (key_is.Ns table.ns)) (row_at at.rows (key_is.Table table))))
-act_bears act_is.AddTable h at l sound next = bears_given at.args (table_of at.args) next (λ table. edits_rows next (set_to (row_at at.rows) (key_is.Table table) (Some (row_is.Table state_is.Disabled 1)) ∷ [])) (λ table. bears_on at.args next (set_to (row_at at.rows) (key_is.Table table) (Some (row_is.Table state_is.Disabled 1)) ∷ []))
-act_bears act_is.Layout h at l sound next = bears_spawns at.args next (child_is.One (args_are.LayoutCall at.root) ∷ []) (bears_one at.args (args_are.LayoutCall at.root) tt)
-act_bears act_is.AddRegions h at l sound next = bears_given at.args (table_of at.args) next _ (λ table. bears_given at.args (bounds_of at.args) next _ (λ bounds. bears_spawns at.args next (adding (length bounds) table (first_id_of at.args) bounds) (bears_adding at.args (length bounds) table (first_id_of at.args) bounds)))
-act_bears act_is.SetEnabling h at l sound next = bears_given at.args (table_of at.args) next (λ table. edits_rows next (changed (row_at at.rows) (key_is.Table table) (in_state state_is.Enabling) ∷ [])) (λ table. bears_on at.args next (changed (row_at at.rows) (key_is.Table table) (in_state state_is.Enabling) ∷ []))
 act_bears act_is.OpenRegions h at l sound next = open_bears at.args l next at.rows
-act_bears act_is.SetEnabled h at l sound next = bears_given at.args (table_of at.args) next (λ table. edits_rows next (changed (row_at at.rows) (key_is.Table table) (in_state state_is.Enabled) ∷ [])) (λ table. bears_on at.args next (changed (row_at at.rows) (key_is.Table table) (in_state state_is.Enabled) ∷ []))
-act_bears act_is.CheckTableDisabled h at l sound next = bears_given at.args (table_of at.args) next (λ table. checked next (table_disabled (row_at at.rows (key_is.Table table)))) (λ table. bears_checked at.args next (table_disabled (row_at at.rows (key_is.Table table))))
-act_bears act_is.DropRegions h at l sound next = bears_given at.args (table_of at.args) next _ (λ table. bears_spawns at.args next (dropping table (map (λ region. region.id) (all_among table at.rows))) (bears_pieces at.args table (by_64 (map (λ region. region.id) (all_among table at.rows)))))
-act_bears act_is.DropTable h at l sound next = bears_given at.args (table_of at.args) next (λ table. edits_rows next (set_to (row_at at.rows) (key_is.Table table) None ∷ [])) (λ table. bears_on at.args next (set_to (row_at at.rows) (key_is.Table table) None ∷ []))
-act_bears act_is.CheckTableEnabled h at l sound next = bears_given at.args (table_of at.args) next (λ table. checked next (table_enabled (row_at at.rows (key_is.Table table)))) (λ table. bears_checked at.args next (table_enabled (row_at at.rows (key_is.Table table))))
-act_bears act_is.SetDisabling h at l sound next = bears_given at.args (table_of at.args) next (λ table. edits_rows next (changed (row_at at.rows) (key_is.Table table) (in_state state_is.Disabling) ∷ [])) (λ table. bears_on at.args next (changed (row_at at.rows) (key_is.Table table) (in_state state_is.Disabling) ∷ []))
 act_bears act_is.CloseRegions h at l sound next = close_bears at.args l next at.rows
-act_bears act_is.SetDisabled h at l sound next = bears_given at.args (table_of at.args) next (λ table. edits_rows next (changed (row_at at.rows) (key_is.Table table) (in_state state_is.Disabled) ∷ [])) (λ table. bears_on at.args next (changed (row_at at.rows) (key_is.Table table) (in_state state_is.Disabled) ∷ []))
-act_bears act_is.SetVersion h at l sound next = bears_given at.args (table_of at.args) next (λ table. given (version_of (asked_of at.args)) next (λ version. edits_rows next (changed (row_at at.rows) (key_is.Table table) (in_version version) ∷ []))) (λ table. bears_given at.args (version_of (asked_of at.args)) next (λ version. edits_rows next (changed (row_at at.rows) (key_is.Table table) (in_version version) ∷ [])) (λ version. bears_on at.args next (changed (row_at at.rows) (key_is.Table table) (in_version version) ∷ [])))
-act_bears act_is.CheckSplit h at l sound next = bears_given at.args (region_of at.args) next (λ region. given (cut_of (asked_of at.args)) next (λ key. checked next (can_split (row_at at.rows (key_is.Table region.table)) (row_at at.rows (key_is.Region region)) key))) (λ region. bears_given at.args (cut_of (asked_of at.args)) next (λ key. checked next (can_split (row_at at.rows (key_is.Table region.table)) (row_at at.rows (key_is.Region region)) key)) (λ key. bears_checked at.args next (can_split (row_at at.rows (key_is.Table region.table)) (row_at at.rows (key_is.Region region)) key)))
 act_bears act_is.CloseParent h at l sound next = parent_bears at.args l next
-act_bears act_is.UpdateSplitMeta h at l sound next = bears_given at.args (region_of at.args) next (λ region. given (cut_of (asked_of at.args)) next (λ key. edits_rows next (split_edits (row_at at.rows) region key (first_id_of at.args)))) (λ region. bears_given at.args (cut_of (asked_of at.args)) next (λ key. edits_rows next (split_edits (row_at at.rows) region key (first_id_of at.args))) (λ key. bears_on at.args next (split_edits (row_at at.rows) region key (first_id_of at.args))))
 act_bears act_is.OpenDaughters h at l sound next = daughters_bears at.args l next
-act_bears act_is.Finish h at l sound next = bears_ends at.args next told_is.Nothing
-act_bears act_is.CheckMerge h at l sound next = bears_checked at.args next (merge_cause (table_of_first (closed_by at.args)) at.rows (closed_by at.args))
 act_bears act_is.CloseParents h at l sound next = parents_bears at.args sound l next
-act_bears act_is.UpdateMergeMeta h at l sound next = bears_on at.args next (merge_edits (row_at at.rows) (closed_by at.args) (first_id_of at.args))
 act_bears act_is.OpenMerged h at l sound next = merged_bears at.args l next
-act_bears act_is.AddRegionRows h at l sound next = bears_given at.args (table_of at.args) next (λ table. given (bounds_of at.args) next (λ bounds. edits_rows next (add_ranges (row_at at.rows) table (first_id_of at.args) (ranges_between bounds)))) (λ table. bears_given at.args (bounds_of at.args) next (λ bounds. edits_rows next (add_ranges (row_at at.rows) table (first_id_of at.args) (ranges_between bounds))) (λ bounds. bears_on at.args next (add_ranges (row_at at.rows) table (first_id_of at.args) (ranges_between bounds))))
-act_bears act_is.DropRegionRows h at l sound next = bears_given at.args (table_of at.args) next (λ table. edits_rows next (remove_regions (row_at at.rows) (regions_in table (ids_of at.args)))) (λ table. bears_on at.args next (remove_regions (row_at at.rows) (regions_in table (ids_of at.args))))
-act_bears act_is.Fence h at l sound next = absurd (fence_unlisted at.args l)
 act_bears act_is.Reassign h at l sound next = absurd (reassign_unlisted at.args l)
-act_bears act h at l sound next = absurd (false≢true h)
+act_bears act h at l sound next = bears_made act next at h refl (made_of act next at)

@@ -67,7 +67,7 @@ rebased_by (Some r) past = rebase past r
 abbrev pub own : World → Past
 own w = rebased_by w.rolled w.past
 
--- the storage with the fences and layouts that the reports of a journal show
+-- the storage with the fences and layouts that the reports of a journal, and a base at its beginning, show
 abbrev pub shown_storage : Past → Storage
 shown_storage past = record { answer = λ id. None; fenced = is_fenced past; laid = λ root. is_laid past root.0; refusals = 0 }
 
