@@ -1,11 +1,9 @@
 mod Fresh
 mod Fitting
 mod Among
-mod Lists
 mod Each
 mod Covered
 mod OpenServed
-mod ValidSheets
 mod Reading
 mod Judging
 mod Kept

@@ -15,7 +15,7 @@ use Rattle.hm_base.specs.Fits.{Suits}
 use Rattle.hm_base.specs.Live.{AreLiveBy, PartAmong, TakesPart, are_siblings}
 use Rattle.hm_base.proofs.Among.{live_after, turned}
 use Rattle.hm_base.proofs.Fitting.{fits_by}
-use Rattle.hm_base.proofs.Lists.{take_item}
+use Rattle.hm_sheet.proofs.ValidSheets.{take_item}
 
 abbrev as_entry : Part → Entry
 as_entry part = entry_is.Base part

@@ -11,7 +11,6 @@ mod RowsThere
 mod Asking
 mod Judging
 mod Living
-mod Valid
 mod OwnSteps
 mod Fresh
 mod Choosing

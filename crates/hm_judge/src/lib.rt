@@ -21,8 +21,8 @@ mod undos;
 mod why;
 
 pub use aborts::is_before_point;
-pub use adopts::are_sheets;
 pub use choice::candidate;
+pub use hm_sheet::are_sheets;
 pub use inputs::step_in;
 pub use judge::{allowed, unrefused};
 pub use picks::{has_pick, picks_right};

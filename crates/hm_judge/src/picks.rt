@@ -1,5 +1,5 @@
 //! Which server may be picked for a step.
-ghost use Rattle.std.specs.Prelude.{◌≡◌, ◌≤◌, ◌↔◌, ◌&&◌, ◌||◌, not, option_copied, IsTrue, Some};
+ghost use Rattle.std.specs.Prelude.{◌≡◌, ◌≤◌, ◌↔◌, ◌&&◌, not, option_copied, IsTrue, Some};
 ghost use Rattle.hm_catalog.specs.Kept.{key_of};
 ghost use Rattle.hm_model.specs.Catalog.{cat};
 ghost use Rattle.hm_model.specs.Choice.{place_told};
@@ -8,7 +8,6 @@ ghost use Rattle.hm_model.specs.Evaluation.{is_picking};
 ghost use Rattle.hm_model.specs.Picks.{has_pick as pick_there, is_another as another, is_as_wanted as as_wanted, needs_server as needs, PicksRight};
 ghost use Rattle.hm_model.specs.Places.{is_the_server as the_server};
 ghost use Rattle.hm_model.specs.Records.{record_at};
-ghost use Rattle.hm_model.specs.RowsSaid.{is_in_state, is_live_status, status_in, table_state_in};
 ghost use Rattle.hm_model.specs.TransitActs.{is_open as opened};
 ghost use Rattle.hm_model.specs.Tree.{Node, node_of};
 ghost use Rattle.hm_model.specs.Inputs.{sees_fenced as fenced_seen};
@@ -19,9 +18,11 @@ use crate::seen::{find, moved_by, next_row, place_seen, sees_fenced};
 use crate::servers::{has_live, has_other_live, is_live, is_one};
 use hm_catalog::Name;
 use hm_catalog::laws::rows_tell;
-use hm_data::{Act, Args, CatRow, Record, RegionState, Request, Row, Status, TableState};
+use hm_data::{Act, Args, CatRow, Record, RegionState, Request, Row, TableState};
 use hm_names::{Pid, RegionName, ServerName};
 use hm_records::Records;
+use hm_views::checks::{is_in_state, is_live as is_live_status, status_in, table_state_in};
+use hm_views::places::is_open as is_open_there;
 
 // The region of a procedure whose steps read the region's row and its table's.
 fn read_by(args: &Args) -> Option<&RegionName>
@@ -44,39 +45,13 @@ fn row<'a>(records: &'a Records, name: &Name) -> Option<&'a CatRow>
     records.catalog().get(name)
 }
 
-// Whether the row is that of a live region.
-fn is_live_region(row: Option<&CatRow>) -> bool
-    ensures { result ≡ is_live_status (status_in (option_copied row.entry)) }
-{
-    matches!(
-        row,
-        Some(CatRow::Region {
-            range: _,
-            status: Status::Live,
-            parents: _
-        })
-    )
-}
-
-// Whether the row is that of a table that is enabled or being enabled.
-fn is_enabled(row: Option<&CatRow>) -> bool
-    ensures { result ≡ (is_in_state TableState.Enabled (table_state_in (option_copied row.entry)) || is_in_state TableState.Enabling (table_state_in (option_copied row.entry))) }
-{
-    matches!(
-        row,
-        Some(CatRow::Table {
-            state: TableState::Enabled | TableState::Enabling,
-            version: _
-        })
-    )
-}
-
 // Whether a region may be opened: it is live, and its table is enabled or being enabled.
 fn may_open(records: &Records, region: &RegionName) -> bool
     ensures { result ≡ can_open records.now.past region.now }
 {
-    is_live_region(row(records, &Name::Region(region)))
-        && is_enabled(row(records, &Name::Table(&region.table)))
+    let state = table_state_in(row(records, &Name::Table(&region.table)));
+    is_live_status(status_in(row(records, &Name::Region(region))))
+        && (is_in_state(TableState::Enabled, state) || is_in_state(TableState::Enabling, state))
 }
 
 // Whether the region that a procedure moves is open, at a server that isn't fenced.
@@ -84,7 +59,7 @@ fn is_open(records: &Records, args: &Args) -> bool
     ensures { result ≡ opened (place_told records.now.past args.now) (fenced_seen records.now.past args.now) }
 {
     match place_seen(records, args) {
-        Some(place) => place.state == RegionState::Opened && !sees_fenced(records, args),
+        Some(place) => is_open_there(place, sees_fenced(records, args)),
         None => false,
     }
 }

@@ -1,3 +1,5 @@
+//! Why an entry is refused.
+
 use thiserror::Error;
 
 /// Why an entry isn't allowed.

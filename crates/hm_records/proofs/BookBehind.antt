@@ -20,7 +20,6 @@ use Rattle.hm_model.specs.Journal.{Past}
 use Rattle.hm_model.specs.Kinds.{table_of_request}
 use Rattle.hm_model.specs.Locks.{asks}
 use Rattle.hm_model.specs.Phase.{ended}
-use Rattle.hm_model.specs.Plain.{IsPlain}
 use Rattle.hm_model.specs.Rules.{IsLegal}
 use Rattle.hm_model.specs.Tree.{Node, args_in, child_of, children_of, first_of, made, node_of, pid_of, root_node}
 use Rattle.hm_model.proofs.Grown.{down_new, down_old, grown_all, ids_within, step_new, submit_new, submit_old, undo_new}
@@ -29,7 +28,7 @@ use Rattle.hm_model.proofs.PlainActs.{is_high, quiet_low}
 use Rattle.hm_model.proofs.Trees.{grown_all as trees_all, node_new, step_of}
 use Rattle.hm_model.proofs.UndoMakes.{undo_quiet}
 use Rattle.hm_procedures.specs.Kept.{args_made}
-use Rattle.hm_records.specs.Book.{AreRows, AreRowsWith, draft_of, drafts_of, has_first, or_drafted, or_taken, row_at, book_row, stepper_of, unless_ended}
+use Rattle.hm_records.specs.Book.{AreRows, AreRowsWith, draft_of, drafts_of, enlisted, has_first, or_drafted, or_taken, row_at, book_row, stepper_of, unless_ended}
 use Rattle.hm_records.proofs.Enlisted.{ends_by, row_still, row_was_over, unstepped_open}
 use Rattle.hm_records.proofs.Trees.{none_answers, stepper_open, stepper_there}
 
@@ -68,17 +67,16 @@ child_low pid pick out J legal i args is =
       | inl on ↦ absurd (cons_nil pid.0 step.node.above ((own_all (entry_is.Step pid pick out ∷ J) legal (made J + 1 + i) (child_of pid.0 step.node args) there).high on))
     ]
 
--- so can those of all that a plain entry makes
-pub made_fits : (entry : Entry) (J : Past) → IsLegal (entry ∷ J) → IsPlain entry → (k : ℕ) (args : Args) → slice_get (args_made J entry) k ≡ Some args → has_first args ≡ true
-made_fits (entry_is.Submit nonce request) J legal plain zero args is = ap has_first (sym (same_Some (args_are.Root request (first_of J (table_of_request request))) args is)) ∙ first_fits J legal.0 (table_of_request request)
-made_fits (entry_is.Submit nonce request) J legal plain (suc k) args is = absurd (none-some args is)
-made_fits (entry_is.Step pid pick out) J legal plain k args is =
+-- so can those of all procedures that an entry makes
+pub made_fits : (entry : Entry) (J : Past) → IsLegal (entry ∷ J) → (k : ℕ) (args : Args) → slice_get (enlisted entry (args_made J entry)) k ≡ Some args → has_first args ≡ true
+made_fits (entry_is.Submit nonce request) J legal zero args is = ap has_first (sym (same_Some (args_are.Root request (first_of J (table_of_request request))) args is)) ∙ first_fits J legal.0 (table_of_request request)
+made_fits (entry_is.Submit nonce request) J legal (suc k) args is = absurd (none-some args is)
+made_fits (entry_is.Step pid pick out) J legal k args is =
     low_fits args (child_low pid pick out J legal k args is)
-made_fits (entry_is.Undo pid row out) J legal plain k args is = low_fits args (quiet_low out.followers (undo_quiet pid row out J legal) k args is)
-made_fits (entry_is.Down server) J legal plain zero args is = ap has_first (sym (same_Some (args_are.Crash server) args is))
-made_fits (entry_is.Down server) J legal plain (suc k) args is = absurd (none-some args is)
-made_fits (entry_is.Base part) J legal plain k args is = absurd plain
-made_fits entry J legal plain k args is = absurd (none-some args is)
+made_fits (entry_is.Undo pid row out) J legal k args is = low_fits args (quiet_low out.followers (undo_quiet pid row out J legal) k args is)
+made_fits (entry_is.Down server) J legal zero args is = ap has_first (sym (same_Some (args_are.Crash server) args is))
+made_fits (entry_is.Down server) J legal (suc k) args is = absurd (none-some args is)
+made_fits entry J legal k args is = absurd (none-some args is)
 
 -- a node that is new has the row of its draft
 drafts_row : (p : ℕ) (above : List ℕ) (args : Args) (root first : ℕ) → has_first args ≡ true
@@ -127,10 +125,10 @@ fresh_row (entry_is.Step pid pick out) J legal p behind =
     let me = stepper_there pid pick out J legal in
     let entry = entry_is.Step pid pick out in
     ap (book_row false false p) (step_new pid pick out J p behind ∙ ap (λ up. children_of pid.0 up (slice_get (args_in out.children) (p - made J - 1))) me.1)
-    ∙ many_rows p (pid.0 ∷ me.0.above) me.0.root me.0.first (args_in out.children) (p - made J - 1) (made_fits entry J legal tt (p - made J - 1))
+    ∙ many_rows p (pid.0 ∷ me.0.above) me.0.root me.0.first (args_in out.children) (p - made J - 1) (made_fits entry J legal (p - made J - 1))
     ∙ sym (ap (λ (l : List ℕ). option_map (drafted p) (slice_get (map (draft_of (pid.0 ∷ l)) (args_in out.children)) (p - made J - 1))) (above_is J pid.0 me.0 me.1 (stepper_open pid pick out J legal)))
 fresh_row (entry_is.Undo pid row out) J legal p behind =
-    ap (book_row false false p) (undo_new pid row out J p behind) ∙ many_rows p [] p 1 (args_in out.followers) (p - made J - 1) (made_fits (entry_is.Undo pid row out) J legal tt (p - made J - 1))
+    ap (book_row false false p) (undo_new pid row out J p behind) ∙ many_rows p [] p 1 (args_in out.followers) (p - made J - 1) (made_fits (entry_is.Undo pid row out) J legal (p - made J - 1))
 fresh_row (entry_is.Down server) J legal p behind =
     one_row J p behind (args_are.Crash server) 1 refl (node_of (entry_is.Down server ∷ J) p) (down_new server J p) (λ e. down_old server J p e ∙ (grown_all J legal.0).numbered p behind)
 fresh_row (entry_is.Base part) J legal p behind = refl

@@ -1,5 +1,5 @@
 -- The sheets of each edition, and the layouts of the base, after an entry.
-use Rattle.std.proofs.Common.{◌≡◌, ◌≢◌, ℕ, zero, suc, ◌+◌, ◌<◌, ◌≤◌, ◌==◌, List, [], ◌∷◌, ◌++◌, length, if◌then◌else◌, Some, None, get_or, slice_get, refl, ap, sym, subst, ◌∙◌, inl, inr, arith, length-append}
+use Rattle.std.proofs.Common.{◌≡◌, ◌≢◌, ℕ, zero, suc, ◌+◌, ◌<◌, ◌≤◌, ◌==◌, List, [], ◌∷◌, ◌++◌, length, if◌then◌else◌, Some, None, slice_get, refl, ap, sym, subst, ◌∙◌, inl, inr, arith, length-append}
 use Rattle.std.proofs.lemmas.Bool.{cases_eq, eq-eqb, ne_eqb}
 use Rattle.std.proofs.lemmas.List.{map-append}
 use Rattle.std.proofs.lemmas.Option.{none-some, same_Some}
@@ -17,7 +17,6 @@ use Rattle.hm_model.specs.Parts.{part_sheets}
 use Rattle.hm_model.specs.Rules.{IsLegal}
 use Rattle.hm_model.specs.Sheets.{sheets_of}
 use Rattle.hm_model.specs.Tree.{pid_of}
-use Rattle.hm_model.specs.Validity.{AllValid, IsValid}
 use Rattle.hm_model.proofs.Editions.{last_in_force}
 use Rattle.hm_model.proofs.Parted.{by_parts}
 use Rattle.hm_records.specs.Lists.{AreEditions, laid_in_base, layout_told}
@@ -125,12 +124,6 @@ layouts_more entry J pid is = absurd (none-some pid is)
 -- the base's head has none
 pub no_layouts : (entry : Entry) → IsLegal (entry ∷ []) → laid_in_base (entry ∷ []) ≡ []
 no_layouts = by_first (λ e. laid_in_base (e ∷ []) ≡ []) (λ sheets. refl) (λ entries last parts sheets. refl)
-
--- each of valid sheets is valid
-pub each_valid : (sheets : List Sheet) (i : ℕ) (other : Sheet) → AllValid sheets → i < length sheets → IsValid (get_or sheets i other)
-each_valid [] i other all within = absurd (omega (arith, within))
-each_valid (sheet ∷ sheets) zero other all within = all.0
-each_valid (sheet ∷ sheets) (suc i) other all within = each_valid sheets i other all.1 (omega (arith, within))
 
 -- an entry that may follow adopts valid sheets
 pub adopts_valid : (entry : Entry) (J : Past) → IsLegal (entry ∷ J) → AdoptsInvalid entry → ⊥

@@ -1,9 +1,8 @@
 //! The region ids that were drawn for tables.
 ghost use Rattle.std.specs.Prelude.{◌≡◌, ◌+◌, ◌≤◌, ◌∷◌, IfOk, Some};
-ghost use Rattle.std.specs.Option.{option_copied};
 ghost use Rattle.hm_names.specs.Order.{table_cmp};
 ghost use Rattle.hm_index.specs.Index.{find};
-ghost use Rattle.hm_model.specs.Kinds.{table_of_first as first_table, table_of_request as requested_table};
+ghost use Rattle.hm_model.specs.Kinds.{table_of_request as requested_table};
 ghost use Rattle.hm_model.specs.Rules.{IsLegal};
 ghost use Rattle.hm_model.specs.Tree.{first_of as first_id, new_ids as ids_of};
 ghost use Rattle.hm_records.specs.Parts.{counted_for, ids_drawn as drawn_by, part_ids as told_by};
@@ -12,36 +11,10 @@ ghost use Rattle.hm_records.specs.Records.{AreDrawn, beside_ids, count_if};
 use crate::records::Records;
 use hm_data::{Entry, Part, Request};
 use hm_index::Index;
-use hm_names::{Copied, RegionName, TableName};
+use hm_names::{Copied, TableName};
 use hm_procedures::Procedures;
+use hm_views::views::table_of_request;
 use std::alloc::{AllocError, Global};
-
-// The table of the first of some regions.
-fn table_of_first(regions: &[RegionName]) -> Option<&TableName>
-    ensures { option_copied result ≡ first_table regions.now }
-{
-    match regions {
-        [] => None,
-        [first, ..] => Some(&first.table),
-    }
-}
-
-/// The table of a request: its own, or that of the first region that it names.
-pub fn table_of_request(request: &Request) -> Option<&TableName>
-    ensures { option_copied result ≡ requested_table request.now }
-{
-    match request {
-        Request::CreateNamespace { ns: _ } | Request::DropNamespace { ns: _ } => None,
-        Request::CreateTable { table, keys: _ } => Some(table),
-        Request::DeleteTable { table } => Some(table),
-        Request::EnableTable { table } => Some(table),
-        Request::DisableTable { table } => Some(table),
-        Request::ModifyTable { table, version: _ } => Some(table),
-        Request::SplitRegion { region, key: _ } => Some(&region.table),
-        Request::MergeRegions { regions } => table_of_first(regions.as_slice()),
-        Request::Move { region, to: _ } => Some(&region.table),
-    }
-}
 
 /// How many region ids a request draws: one for each region that it makes.
 pub fn new_ids(request: &Request) -> u64

@@ -19,6 +19,7 @@ mod rows;
 mod steps;
 
 pub use book::stepper_of;
-pub use ids::{new_ids, table_of_request};
+pub use hm_views::views::table_of_request;
+pub use ids::new_ids;
 pub use parts::Parts;
 pub use records::Records;

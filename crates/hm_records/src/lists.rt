@@ -3,44 +3,16 @@ ghost use Rattle.std.specs.Prelude.{◌≡◌, ◌≢◌, ◌+◌, ◌-◌, ◌<
 ghost use Rattle.hm_model.specs.Editions.{editions as editions_in};
 ghost use Rattle.hm_model.specs.Rules.{IsLegal};
 ghost use Rattle.hm_model.specs.Sheets.{sheets_of as sheets_in_force};
-ghost use Rattle.hm_model.specs.Validity.{AllValid, IsValid};
 ghost use Rattle.hm_procedures.specs.Kept.{args_made};
 ghost use Rattle.hm_records.specs.Lists.{AreEditions, laid_in_base, layout_told as told_by, nonce_made as made_under, part_layout as laid_by, part_nonce_made as made_in_base, repeated, root_nonces as nonces_of_roots, so_often};
 ghost use Rattle.hm_records.specs.Parts.{AdoptsInvalid, adopted as adopted_by};
 
-use hm_data::{Entry, Part, Sheet};
-use hm_names::{Copied, List, Nonce, Pid};
+use hm_data::{Entry, Part};
+use hm_names::{List, Nonce, Pid};
 use hm_procedures::Procedures;
-use hm_sheet::Valid;
+use hm_sheet::{Valid, valid_copies};
 use std::alloc::{AllocError, Global};
 use std::marker::Model;
-
-// The sheet, if it is valid.
-fn if_valid(sheet: Sheet) -> Option<Valid>
-    ensures { MatchOption result (IsValid sheet → ⊥) (λ valid. valid ≡ sheet) }
-{
-    match Valid::new(sheet) {
-        Ok(valid) => Some(valid),
-        Err(fault) => {
-            drop(fault);
-            None
-        }
-    }
-}
-
-// Copies of sheets, where all of them are valid.
-fn checked(alloc: Global, sheets: &[Sheet]) -> Result<Option<List<Valid>>, AllocError>
-    ensures { IfOk result (λ copies. MatchOption copies (AllValid sheets.now → ⊥) (λ list. list ≡ sheets.now)) }
-{
-    let mut copies = Vec::new(alloc);
-    for sheet in sheets {
-        let Some(valid) = if_valid(sheet.copy(alloc)?) else {
-            return Ok(None);
-        };
-        copies.push(valid)?;
-    }
-    Ok(Some(List::of(copies)))
-}
 
 // The sheets that an entry adopts, if it adopts any.
 type Adopted = Option<List<Valid>>;
@@ -52,8 +24,8 @@ pub(crate) fn adopted(alloc: Global, entry: &Entry) -> Result<Option<Adopted>, A
     let Entry::Adopt { sheets } = entry else {
         return Ok(Some(None));
     };
-    match checked(alloc, sheets.as_slice())? {
-        Some(list) => Ok(Some(Some(list))),
+    match valid_copies(alloc, sheets.as_slice())? {
+        Some(copies) => Ok(Some(Some(List::of(copies)))),
         None => Ok(None),
     }
 }

@@ -1,8 +1,9 @@
 //! The records of a journal.
 ghost use Rattle.std.specs.Prelude.{◌≡◌, ◌≢◌, ◌+◌, ◌≤◌, [], ◌∷◌, ℕ, IfOk, IfSome, MatchOption, OnOk, Some, ◌⊎◌};
-ghost use Rattle.std.specs.Option.{option_map};
+ghost use Rattle.std.specs.Option.{option_copied, option_map};
 ghost use Rattle.hm_model.specs.Editions.{editions as editions_in, sheets_in};
 ghost use Rattle.hm_model.specs.Nonces.{by_nonce};
+ghost use Rattle.hm_model.specs.OldRoots.{shown_of};
 ghost use Rattle.hm_model.specs.RegionIds.{AsksForZero, NamesIds};
 ghost use Rattle.hm_model.specs.Rules.{IsLegal};
 ghost use Rattle.hm_model.specs.Sheets.{sheets_of as sheets_in_force};
@@ -15,7 +16,7 @@ ghost use Rattle.hm_locks.specs.Laws.{IsBookOf};
 ghost use Rattle.hm_records.specs.Book.{AreRows, ListOpen};
 ghost use Rattle.hm_records.specs.Lists.{laid_in_base, root_nonces as nonces_of_roots};
 ghost use Rattle.hm_records.specs.Parts.{AdoptsInvalid, AreParts, size_of};
-ghost use Rattle.hm_records.specs.Records.{AreForgotten, is_open};
+ghost use Rattle.hm_records.specs.Records.{AreDrawn, AreForgotten, is_open};
 
 use crate::blank::Blank;
 use crate::book::{enlist_made, release_ended};
@@ -29,9 +30,9 @@ use crate::regions::set_place;
 use crate::rows::set_rows;
 use crate::steps::{enter_tree, tree_of};
 use hm_catalog::Catalog;
-use hm_data::Entry;
+use hm_data::{Entry, Record};
 use hm_ids::ids_are_named;
-use hm_index::Index;
+use hm_index::{Index, View};
 use hm_locks::LockBook;
 use hm_names::{List, Nonce, Pid, TableName};
 use hm_places::{Places, Servers};
@@ -109,6 +110,16 @@ impl Records {
     {
         let _last = self.procedures.last_pid();
         &self.procedures
+    }
+
+    /// Who is shown by a number: a procedure that was made behind the base, or else a root of the base.
+    pub fn shown(&self, pid: Pid) -> Option<&Record>
+        ensures { option_copied result ≡ shown_of self.now.past pid.0 }
+    {
+        match self.procedures.find(pid) {
+            Some(found) => Some(found),
+            None => self.procedures.find_old(pid),
+        }
     }
 
     /// Each procedure names regions by ids from 1 on, and the first id that it draws or adds is below 2^32: a law that does
@@ -215,6 +226,13 @@ impl Records {
         ensures { result ≡ drawn self.now.past table.now }
     {
         drawn_in(&self.drawn, table)
+    }
+
+    /// The tables for which region ids were drawn, in name order, with how many.
+    pub fn drawn_tables(&self) -> View<'_, TableName, u64>
+        ensures { AreDrawn self.now.past result }
+    {
+        self.drawn.view()
     }
 
     /// The lock book: each procedure that hasn't ended is enlisted, and holds from its first step on.

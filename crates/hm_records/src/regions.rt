@@ -3,45 +3,17 @@ ghost use Rattle.std.specs.Prelude.{◌≡◌, ◌+◌, ◌≤◌, ◌∷◌, If
 ghost use Rattle.std.specs.Option.{option_copied};
 ghost use Rattle.hm_model.specs.Places.{region_if};
 ghost use Rattle.hm_model.specs.Tree.{node_of};
-ghost use Rattle.hm_model.specs.Views.{region_of as region_in, region_of_request as requested_region};
 ghost use Rattle.hm_model.specs.Loads.{places_of};
 ghost use Rattle.hm_places.specs.Laws.{part_places as places_by, placed_now as placed_by};
 
-use hm_data::{Args, Entry, Part, Place, Request};
+use hm_data::{Entry, Part, Place};
 use hm_names::{Copied, Pid, RegionName};
 use hm_places::{Places, places_follow};
 use hm_procedures::Procedures;
+use hm_views::views::region_of;
 use std::alloc::{AllocError, Global};
 
-// The region that a request is about.
-fn region_of_request(request: &Request) -> Option<&RegionName>
-    ensures { option_copied result ≡ requested_region request.now }
-{
-    match request {
-        Request::SplitRegion { region, key: _ } => Some(region),
-        Request::Move { region, to: _ } => Some(region),
-        _ => None,
-    }
-}
-
-// The one region that a procedure works on.
-fn region_of(args: &Args) -> Option<&RegionName>
-    ensures { option_copied result ≡ region_in args.now }
-{
-    match args {
-        Args::Root { request, first: _ } => region_of_request(request),
-        Args::Transit {
-            region,
-            goal: _,
-            to: _,
-        } => Some(region),
-        Args::AssignCall { region, server: _ } => Some(region),
-        Args::CloseCall { region, server: _ } => Some(region),
-        _ => None,
-    }
-}
-
-// The same of a procedure by its number.
+// The one region that a procedure works on, by its number.
 fn region_at(past: &Procedures, pid: Pid) -> Option<&RegionName>
     ensures { option_copied result ≡ region_if (node_of past.now.past pid.0) }
 {

@@ -5,7 +5,6 @@ ghost use Rattle.hm_model.specs.Base.{IsBegun};
 ghost use Rattle.hm_model.specs.Rules.{Allowed};
 ghost use Rattle.hm_refusals.specs.Aborts.{IsAborted, IsAgainst, is_finished};
 
-use crate::shown::find;
 use hm_data::Phase;
 use hm_hall::HallFault;
 use hm_judge::is_before_point;
@@ -51,7 +50,8 @@ pub fn judge_abort(records: &Records, pid: Pid) -> Result<bool, AbortRefused>
     ensures may { IfOk result (IsAborted records.now.past pid.0) }
     ensures allowed { IfOk result (λ before. before ≡ false → Allowed records.now.past (entry_is.Abort pid)) }
 {
-    let Some(found) = find(records, pid) else {
+    let _legal = records.procedures();
+    let Some(found) = records.shown(pid) else {
         return Err(AbortRefused::Unknown);
     };
     if found.parent.is_some() {

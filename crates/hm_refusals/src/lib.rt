@@ -4,7 +4,6 @@
 
 mod aborts;
 mod reports;
-mod shown;
 mod submissions;
 
 pub use aborts::{AbortRefused, judge_abort};

@@ -7,7 +7,6 @@ ghost use Rattle.hm_model.specs.Rules.{Allowed};
 ghost use Rattle.hm_model.specs.Tree.{drawn as ids_drawn};
 ghost use Rattle.hm_refusals.specs.Submissions.{DrewTooMany, IsAgainst, IsMadeFor, IsNew, IsRepeated};
 
-use crate::shown::find;
 use hm_catalog::wrong_in;
 use hm_data::{Args, Request};
 use hm_hall::Halt;
@@ -61,7 +60,7 @@ fn check_request(request: &Request) -> Result<(), Refused>
 fn is_made_for(records: &Records, pid: Pid, request: &Request) -> bool
     ensures { IsTrue result ↔ IsMadeFor records.now.past pid.0 request.now }
 {
-    let Some(found) = find(records, pid) else {
+    let Some(found) = records.shown(pid) else {
         return false;
     };
     match &found.args {

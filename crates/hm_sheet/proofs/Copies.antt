@@ -21,7 +21,8 @@ kind_of_found [] kind sheet is = absurd (cc)
 kind_of_found (first ∷ all) kind sheet is =
     found_by (first.kind == kind) first sheet (sheet_for all kind) kind (λ own. grind (arith, nat_tests)) (kind_of_found all kind sheet) is
 
-all_valid-push : (sheets : List Sheet) (sheet : Sheet) → AllValid sheets → IsValid sheet → AllValid (sheets ++ sheet ∷ [])
+-- valid sheets, with one more
+pub all_valid-push : (sheets : List Sheet) (sheet : Sheet) → AllValid sheets → IsValid sheet → AllValid (sheets ++ sheet ∷ [])
 all_valid-push [] sheet valid one = (one, tt)
 all_valid-push (first ∷ sheets) sheet valid one = (valid.0, all_valid-push sheets sheet valid.1 one)
 

@@ -4,4 +4,5 @@ pub mod Editions
 pub mod OwnValid
 pub mod Places
 pub mod Sheets
+pub mod ValidSheets
 pub mod Walks

@@ -14,6 +14,7 @@ mod registry;
 mod rules;
 mod valid;
 mod walk;
+mod whole;
 
 pub use among::{answer, listed, sheet_for};
 pub use check::check_sheet;
@@ -24,3 +25,4 @@ pub use own::{Hands, Kinds, own_sheet};
 pub use plain::{needs_pick, plain_step};
 pub use registry::Registry;
 pub use valid::Valid;
+pub use whole::{are_sheets, valid_copies};

@@ -39,7 +39,8 @@ fn table_of_first(regions: &[RegionName]) -> Option<&TableName>
     }
 }
 
-fn table_of_request(request: &Request) -> Option<&TableName>
+/// The table of a request: its own, or that of the first region that it names.
+pub fn table_of_request(request: &Request) -> Option<&TableName>
     ensures { option_copied result ≡ requested_table request.now }
 {
     match request {

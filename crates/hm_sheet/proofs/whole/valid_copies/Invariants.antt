@@ -1,6 +1,6 @@
 use Rattle.std.proofs.Common.{◌≡◌, take}
 use Rattle.hm_model.specs.Validity.{AllValid}
-use Rattle.hm_base.proofs.sheets.valid_copies.Given as goal
+use Rattle.hm_sheet.proofs.whole.valid_copies.Given as goal
 
 abbrev pub invariant-loop-sheet : goal.invariant-loop-sheet
 invariant-loop-sheet l = record {

@@ -2,9 +2,8 @@ use Rattle.std.proofs.Common.{List, [], ◌∷◌, ◌++◌, ap, length, refl, s
 use Rattle.std.proofs.lemmas.Option.{slice_get_read}
 use Rattle.hm_data.specs.declared.sheet.Sheet.{Sheet}
 use Rattle.hm_model.specs.Validity.{IsValid}
-use Rattle.hm_base.proofs.Lists.{take_item}
-use Rattle.hm_base.proofs.ValidSheets.{valid_at, valid_more}
-use Rattle.hm_base.proofs.sheets.valid_copies.Goals as goal
+use Rattle.hm_sheet.proofs.ValidSheets.{take_item, valid_at, valid_more}
+use Rattle.hm_sheet.proofs.whole.valid_copies.Goals as goal
 
 pub returns-in_default : goal.returns-in_default
 returns-in_default c all =

@@ -1,5 +1,5 @@
 use Rattle.std.proofs.Common.{◌≡◌, take, length, map}
-use Rattle.hm_judge.proofs.adopts.have_kinds.Given as goal
+use Rattle.hm_sheet.proofs.whole.have_kinds.Given as goal
 
 abbrev pub invariant-loop-place : goal.invariant-loop-place
 invariant-loop-place l = record {

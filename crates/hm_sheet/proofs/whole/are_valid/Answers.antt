@@ -1,8 +1,8 @@
 use Rattle.std.proofs.Common.{length, refl}
 use Rattle.std.proofs.lemmas.Bool.{false≢true}
 use Rattle.std.proofs.lemmas.Option.{slice_get_read}
-use Rattle.hm_judge.proofs.Valid.{valid_at, valid_more}
-use Rattle.hm_judge.proofs.adopts.are_valid.Goals as goal
+use Rattle.hm_sheet.proofs.ValidSheets.{valid_at, valid_more}
+use Rattle.hm_sheet.proofs.whole.are_valid.Goals as goal
 
 pub returns-then-not-is_valid : goal.returns-then-not-is_valid
 returns-then-not-is_valid c =

@@ -1,8 +1,0 @@
-use Rattle.std.proofs.Common.{◌≡◌, take, length, map}
-use Rattle.hm_base.proofs.sheets.have_kinds.Given as goal
-
-abbrev pub invariant-loop-place : goal.invariant-loop-place
-invariant-loop-place l = record {
-  long : length l.sheets ≡ length l.kinds;
-  same : take l.place (map (λ sheet. sheet.kind) l.sheets) ≡ take l.place l.kinds;
-}
