@@ -1,3 +1,2 @@
-mod Valid
 mod Entering
 mod Heads

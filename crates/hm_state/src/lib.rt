@@ -1,4 +1,4 @@
-//! The state of a journal: its entries, and what they say, to be found fast.
+//! The state of a journal: its number of entries, and what they and its base say, to be found fast.
 #![tactic(auto)]
 
 mod based;

@@ -1,14 +1,15 @@
+//! A state, its entries one by one, and what it shows.
 ghost use Rattle.std.specs.Prelude.{◌≡◌, ◌≢◌, ◌+◌, ◌<◌, ◌≤◌, ◌^◌, ◌∷◌, [], None, OnOk, IfOk, IfErr, false};
 ghost use Rattle.std.specs.Option.{option_copied, option_map};
 ghost use Rattle.hm_data.specs.declared.entry.Entry.{Entry};
 ghost use Rattle.hm_model.specs.Editions.{editions as editions_in, sheets_in};
 ghost use Rattle.hm_model.specs.Evaluation.{CanRun};
-ghost use Rattle.hm_model.specs.Image.{counted as counted_in};
+ghost use Rattle.hm_model.specs.Image.{counted as counted_in, image as image_of};
 ghost use Rattle.hm_model.specs.Laws.{is_part};
 ghost use Rattle.hm_model.specs.Loads.{places_of};
 ghost use Rattle.hm_model.specs.Nonces.{by_nonce};
 ghost use Rattle.hm_model.specs.OldRoots.{shown_of};
-ghost use Rattle.hm_model.specs.Rebase.{based};
+ghost use Rattle.hm_model.specs.Rebase.{MayRoll, based};
 ghost use Rattle.hm_model.specs.Records.{record_of, unfinished};
 ghost use Rattle.hm_model.specs.Reports.{call_of, is_settled};
 ghost use Rattle.hm_model.specs.Rules.{Allowed, IsLegal};
@@ -18,9 +19,11 @@ ghost use Rattle.hm_model.specs.Standings.{standings_of};
 ghost use Rattle.hm_model.specs.Tree.{drawn, made, node_of, pid_of};
 ghost use Rattle.hm_base.specs.Read.{IsNoBase};
 ghost use Rattle.hm_catalog.specs.Rows.{rows_in};
+ghost use Rattle.hm_image.specs.Image.{IsNoImage};
 ghost use Rattle.hm_judge.specs.Inputs.{CanEvaluate, IsInput};
 ghost use Rattle.hm_judge.specs.Judge.{IsWhy};
 ghost use Rattle.hm_procedures.specs.Procedures.{children, unfinished_procedures};
+ghost use Rattle.hm_rebase.specs.Alike.{Alike};
 ghost use Rattle.hm_records.specs.Parts.{AreParts, size_of};
 ghost use Rattle.hm_records.specs.Records.{AreForgotten, is_open};
 ghost use Rattle.hm_undo.specs.Laws.{Tells};
@@ -32,10 +35,12 @@ use crate::sheets::valid_sheets;
 use hm_base::{BaseWhy, read_base};
 use hm_catalog::Catalog;
 use hm_data::{Call, Entry, Part, Record, Sheet, StepIn};
+use hm_image::ImageWhy;
 use hm_judge::NotAllowed;
 use hm_names::{Copied, List, Nonce, Pid, ServerName, TableName};
 use hm_places::{Places, Servers};
 use hm_procedures::Procedures;
+use hm_rebase::images_are_bases;
 use hm_records::{Parts, Records};
 use hm_sheet::Valid;
 use hm_undo::Stack;
@@ -194,10 +199,7 @@ impl State {
     pub fn shown(&self, pid: Pid) -> Option<&Record>
         ensures { option_copied result ≡ shown_of self.now.past pid.0 }
     {
-        match self.find(pid) {
-            Some(found) => Some(found),
-            None => self.procedures().find_old(pid),
-        }
+        self.records.shown(pid)
     }
 
     /// The children of a procedure, in the order of their numbers.
@@ -247,6 +249,27 @@ impl State {
         ensures { result ≡ unfinished_procedures self.now.past }
     {
         self.procedures().unfinished_procedures()
+    }
+
+    /// The image of the journal: what it came to, as the parts of a base. It is refused while a procedure is unfinished, and else
+    /// where the journal is too old; each before memory is taken.
+    pub fn image(&self, alloc: Global) -> Result<List<Part>, ImageWhy>
+        ensures image { IfOk result (λ parts. parts ≡ image_of self.now.past) }
+        ensures rolls { OnOk result (MayRoll self.now.past) }
+        ensures why { IfErr result (IsNoImage self.now.past) }
+    {
+        hm_image::image(alloc, &self.records, self.count)
+    }
+
+    /// The image of the journal, unless it is refused, is a whole base, and reads as the journal does: a law that does nothing.
+    pub fn image_is_base(&self)
+        requires { MayRoll self.now.past }
+        ensures legal { IsLegal (based (image_of self.now.past)) }
+        ensures begun { IsBegun (based (image_of self.now.past)) }
+        ensures alike { Alike self.now.past (based (image_of self.now.past)) }
+    {
+        images_are_bases();
+        let _records = &self.records;
     }
 
     /// Whether an entry may follow; else the rule that refuses it, or that memory ran out before that was known.

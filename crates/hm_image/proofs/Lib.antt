@@ -1,0 +1,7 @@
+mod Rising
+mod Told
+mod Tables
+mod Keys
+mod Rooted
+mod Laid
+mod Served

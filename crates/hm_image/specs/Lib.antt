@@ -1,0 +1,4 @@
+pub mod Catalog
+pub mod Image
+pub mod Layouts
+pub mod Roots
