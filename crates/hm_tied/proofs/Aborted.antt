@@ -55,7 +55,7 @@ exact_marked (args_are.DropRegions table ids) = inl refl
 exact_marked args = inr (_, _, refl, refl)
 
 -- the next row of a procedure that places a region is after the point
-placing_is_late : (J : Past) → IsLegal J → (p : ℕ) (x : Node) → node_of J p ≡ Some x → (row : Row) → next_row J p x ≡ Some row → is_picking row.act ≡ true → row.after ≡ true
+pub placing_is_late : (J : Past) → IsLegal J → (p : ℕ) (x : Node) → node_of J p ≡ Some x → (row : Row) → next_row J p x ≡ Some row → is_picking row.act ≡ true → row.after ≡ true
 placing_is_late J legal p x is row next places = by (sheet_for (sheets_by J x.root) (kind_of x.args)) refl next
   where
     by : (o : Option Sheet) → sheet_for (sheets_by J x.root) (kind_of x.args) ≡ o → row_in o (row_of J p x) ≡ Some row → row.after ≡ true

@@ -26,7 +26,7 @@ use Rattle.hm_tied.proofs.Going.{busy_open, go_calm, go_open, lacks_pick}
 use Rattle.hm_tied.proofs.Rows.{blocks_enlisted, blocks_on, enlisted_back, enlisted_on, held_enlisted, other_row, own_holds, row_here, row_there, says_on}
 use Rattle.hm_model.proofs.Small.{has_some}
 
-waits_is : (h g : ℕ) → Waits h ≡ Waits g → h ≡ g
+pub waits_is : (h g : ℕ) → Waits h ≡ Waits g → h ≡ g
 waits_is h g e = cc
 
 pub but : (test : ℕ → Bool) (p q : ℕ) → test q ≡ true → q ≢ p → without test p q ≡ true
@@ -130,7 +130,7 @@ claim_ties J number_of roster rows p legal tied go nowhere is = record {
       (λ e. inr (inl refl)) (λ e. refl);
 }
 
-some_last : {A : Type 0} (o : Option A) → is_some o ≡ true → o ≢ None
+pub some_last : {A : Type 0} (o : Option A) → is_some o ≡ true → o ≢ None
 some_last None e f = false≢true e
 some_last (Some x) e f = none-some x (sym f)
 

@@ -61,7 +61,7 @@ use Rattle.hm_single.proofs.Kept.{goes_from}
 use Rattle.hm_tied.specs.Tied.{is_opening}
 
 -- one that is live is among those that came up
-any_live : (J : Past) (server : Server) (list : List Server) → is_live J server ≡ true → list_any (λ other. same_server server other) list ≡ true → list_any (is_live J) list ≡ true
+pub any_live : (J : Past) (server : Server) (list : List Server) → is_live J server ≡ true → list_any (λ other. same_server server other) list ≡ true → list_any (is_live J) list ≡ true
 any_live J server [] live came = absurd (false≢true came)
 any_live J server (other ∷ more) live came = elim (or_cases (same_server server other) (list_any (λ x. same_server server x) more) came) [
   | inl same ↦ or_left (is_live J other) (list_any (is_live J) more) (ap (is_live J) (sym (same_server-is server other same)) ∙ live)
@@ -69,7 +69,7 @@ any_live J server (other ∷ more) live came = elim (or_cases (same_server serve
 ]
 
 -- a transit begins at a row at which it looks at its place
-not_second : (n : ℕ) → IsFreeRow n → n ≡ 2 → ⊥
+pub not_second : (n : ℕ) → IsFreeRow n → n ≡ 2 → ⊥
 not_second n (inl e) two = omega (arith, e, two)
 not_second n (inr (inl e)) two = omega (arith, e, two)
 not_second n (inr (inr e)) two = omega (arith, e, two)

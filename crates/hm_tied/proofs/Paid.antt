@@ -25,7 +25,7 @@ owed_told J number_of roster debts owed tied told = record {
 }
 
 -- one isn't among those without it
-out : (test : ℕ → Bool) (p q : ℕ) → (q == p) ≡ true → without test p q ≡ true → ⊥
+pub out : (test : ℕ → Bool) (p q : ℕ) → (q == p) ≡ true → without test p q ≡ true → ⊥
 out test p q same e = true≢false (sym same ∙ not-true (q == p) (and_parts (test q) (not (q == p)) e).1)
 
 pub one_pays : OnePays

@@ -35,11 +35,11 @@ pub record Sight : Type 0 where
   pub place : Option Place
   pub fenced : Bool
 
-abbrev wants : Sight → Option Region → Bool
+abbrev pub wants : Sight → Option Region → Bool
 wants sight None = false
 wants sight (Some region) = may_open_in sight.rows region && not (is_open (told_place sight.place) sight.fenced)
 
-abbrev needs : Sight → Args → Option Row → Bool
+abbrev pub needs : Sight → Args → Option Row → Bool
 needs sight args None = false
 needs sight args (Some row) = is_picking row.act && (not (sight.aborted && not row.after) && wants sight (region_of args))
 
@@ -53,7 +53,7 @@ sight_of J p node = record {
   fenced = sees_fenced J node.args;
 }
 
-needs_is : (J : Past) (q : ℕ) (x : Node) → node_of J q ≡ Some x → undoes J q x ≡ false → needs_server J q x ≡ (let sight = sight_of J q x in needs sight x.args sight.row)
+pub needs_is : (J : Past) (q : ℕ) (x : Node) → node_of J q ≡ Some x → undoes J q x ≡ false → needs_server J q x ≡ (let sight = sight_of J q x in needs sight x.args sight.row)
 needs_is J q x is none =
     ap (λ b. (let it = turn_input J b (stack J q) (step_input J q x None) in picks_by (sheet_at J it) it)) none
     ∙ ap (λ o. picks_at (row_in o (row_of J q x)) (step_input J q x None)) (ap (λ o. elim o as (λ n. Option Sheet) [ None ↦ None | Some node ↦ sheet_of J q node ]) is)
@@ -78,7 +78,7 @@ lacking_row J q x is none lacks =
     by (Some row) h = (let sight = sight_of J q x in (row, refl, (and_parts (is_picking row.act) (not (sight.aborted && not row.after) && wants sight (region_of x.args)) h).0))
 
 -- where its region isn't open now that wasn't before, it needs one still
-needs_more : (one other : Sight) (args : Args) → other.row ≡ one.row → other.aborted ≡ one.aborted → other.rows ≡ one.rows → (is_open (told_place other.place) other.fenced ≡ true → is_open (told_place one.place) one.fenced ≡ true) → needs one args one.row ≡ true → needs other args other.row ≡ true
+pub needs_more : (one other : Sight) (args : Args) → other.row ≡ one.row → other.aborted ≡ one.aborted → other.rows ≡ one.rows → (is_open (told_place other.place) other.fenced ≡ true → is_open (told_place one.place) one.fenced ≡ true) → needs one args one.row ≡ true → needs other args other.row ≡ true
 needs_more one other args row aborted rows was on = subst (λ r. needs other args r ≡ true) (sym row) (by one.row on)
   where
     unopened : (f g : Bool) → (g ≡ true → f ≡ true) → not f ≡ true → not g ≡ true

@@ -172,7 +172,7 @@ none_enlisted : (J : Past) (number_of : Option Server → ℕ) (roster : Roster)
 none_enlisted J number_of roster tied p none = (same_enlists J J number_of roster tied (λ q. refl)).made p none ∙ ap (row_made p) none
 
 -- an entry makes none with a number of those before
-none_after : (entry : Entry) (J : Past) → IsLegal (entry ∷ J) → (p : ℕ) → node_of J p ≡ None → p ≤ made J → node_of (entry ∷ J) p ≡ None
+pub none_after : (entry : Entry) (J : Past) → IsLegal (entry ∷ J) → (p : ℕ) → node_of J p ≡ None → p ≤ made J → node_of (entry ∷ J) p ≡ None
 none_after (entry_is.Submit nonce request) J legal p none le = (submit_rooted nonce request J (grown_of J legal.0)).old p le ∙ none
 none_after (entry_is.Step pid pick out) J legal p none le = node_same pid pick out J p le ∙ none
 none_after (entry_is.Undo pid row out) J legal p none le = (undo_rooted pid row out J (grown_of J legal.0)).old p le ∙ none

@@ -4,3 +4,13 @@ pub mod Entries
 pub mod Uses
 pub mod Paid
 pub mod Ables
+pub mod Bounds
+pub mod TiedIn
+pub mod CallsIn
+pub mod EntriesIn
+pub mod UsesIn
+pub mod PaidIn
+pub mod AblesIn
+pub mod Unbound
+pub mod Clock
+pub mod Unread

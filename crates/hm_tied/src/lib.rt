@@ -2,6 +2,7 @@
 //! function is a law: its contract is proved, and its body has nothing to do.
 #![tactic(auto)]
 
+pub mod bounds;
 mod laws;
 
 pub use laws::{
