@@ -1,3 +1,4 @@
 mod Changed
 mod Member
 mod Picked
+mod Freed

@@ -106,7 +106,7 @@ in_filter test (x ∷ more) s on here = by (in_filter test more s on) (test x) r
 
 -- the live servers of a journal that pass
 abbrev passing : Past → GroupsView → StepIn → List Server
-passing J view at = filter (passes view (standings_of J) at) (live_servers (standings_of J))
+passing J view at = filter (passes view (standings_of J) at.args at.tries at.place) (live_servers (standings_of J))
 
 -- the live servers of a journal
 module _ (J : Past) where
@@ -138,7 +138,7 @@ module _ (J : Past) where
     another_is : (place : Place) (s : Server) → another_among (standings_of J) place s ≡ is_another J place s
     another_is place s = ap (λ b. not (is_state place_is.FailedOpen place) || (not (is_the_server s place.server) || not b)) (tell.others s)
 
-    fits_is : (at : StepIn) (s : Server) → fits_among (standings_of J) at s ≡ (is_as_wanted J (wanted_of at.args) at.tries s && is_another J (told_place at.place) s)
+    fits_is : (at : StepIn) (s : Server) → fits_among (standings_of J) at.args at.tries at.place s ≡ (is_as_wanted J (wanted_of at.args) at.tries s && is_another J (told_place at.place) s)
     fits_is at s =
         ap (λ b. b && another_among (standings_of J) (told_place at.place) s) (wanted_is (wanted_of at.args) at.tries s)
         ∙ ap (λ b. is_as_wanted J (wanted_of at.args) at.tries s && b) (another_is (told_place at.place) s)
@@ -147,15 +147,15 @@ module _ (J : Past) where
     module _ (view : GroupsView) (at : StepIn) where
       taken : (s : Server) → IsIn s (passing J view at) → MayTake view J at s
       taken s here =
-          let found = filter_in (passes view (standings_of J) at) (live_servers (standings_of J)) s here in
-          let parts = and_parts (allows view (moved_by at.args) s) (fits_among (standings_of J) at s) found.0 in
+          let found = filter_in (passes view (standings_of J) at.args at.tries at.place) (live_servers (standings_of J)) s here in
+          let parts = and_parts (allows view (moved_by at.args) s) (fits_among (standings_of J) at.args at.tries at.place s) found.0 in
           (parts.0, and_from (is_live J s) (is_as_wanted J (wanted_of at.args) at.tries s && is_another J (told_place at.place) s) (live_from (servers_of J) s found.1) (sym (fits_is at s) ∙ parts.1))
 
       passed : (s : Server) → MayTake view J at s → IsIn s (passing J view at)
       passed s may =
           let parts = and_parts (is_live J s) (is_as_wanted J (wanted_of at.args) at.tries s && is_another J (told_place at.place) s) may.1 in
-          in_filter (passes view (standings_of J) at) (live_servers (standings_of J)) s
-          (and_from (allows view (moved_by at.args) s) (fits_among (standings_of J) at s) may.0 (fits_is at s ∙ parts.1))
+          in_filter (passes view (standings_of J) at.args at.tries at.place) (live_servers (standings_of J)) s
+          (and_from (allows view (moved_by at.args) s) (fits_among (standings_of J) at.args at.tries at.place s) may.0 (fits_is at s ∙ parts.1))
           (live_to (servers_of J) s parts.0 (live_came J s parts.0))
 
 pub picks_fit : PlacesTell → AllStandingsTell → PicksFit

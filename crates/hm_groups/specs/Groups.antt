@@ -1,5 +1,5 @@
 -- Groups of servers, and where the regions of a table may be placed.
-use Rattle.std.specs.Prelude.{◌≡◌, ℕ, List, Option, Some, None, Bool, true, false, not, ◌&&◌, is_some}
+use Rattle.std.specs.Prelude.{◌≡◌, ◌==◌, ℕ, List, [], length, Option, Some, None, Bool, true, false, not, ◌&&◌, is_some}
 use Rattle.std.specs.List.{list_any}
 use Rattle.std.specs.Ordering.{on}
 use Rattle.std.specs.declared.cmp.Ordering.{Ordering}
@@ -26,6 +26,10 @@ pub record GroupsView : Type 0 where
   pub groups : List (GroupName × List Server)
   pub tables : List (TableName × List ℕ)
   pub drained : List (Server × Bool)
+
+-- no group, no table in one, no server of which was told whether it is drained
+abbrev pub no_groups : GroupsView
+no_groups = record { groups = []; tables = []; drained = [] }
 
 -- one of some servers has the host and port of this one
 abbrev pub has_address : List Server → Server → Bool
@@ -69,6 +73,10 @@ in_group_if view (Some name) server = in_group view name server
 -- the regions of a table may be placed at a server: it isn't drained, and is in the table's group, where the table has one
 abbrev pub may : GroupsView → TableName → Server → Bool
 may view table server = not (is_drained view server) && in_group_if view (group_of view table) server
+
+-- no table is in a group, and no server is drained
+abbrev pub is_free : GroupsView → Bool
+is_free view = length view.tables == 0 && not (list_any (λ row. row.1) view.drained)
 
 -- why a table can't be put into a group; memory runs out only where it may
 abbrev pub CannotJoin : GroupsView → List ℕ → GroupWhy → Type 0

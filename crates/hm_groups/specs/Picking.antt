@@ -3,6 +3,7 @@ use Rattle.std.specs.Prelude.{◌≡◌, ℕ, ◌≤◌, List, Option, Some, Non
 use Rattle.std.specs.List.{filter}
 use Rattle.hm_names.specs.Region.{Region}
 use Rattle.hm_names.specs.Server.{Server}
+use Rattle.hm_data.specs.declared.args.Args.{Args}
 use Rattle.hm_data.specs.declared.place.Place.{Place}
 use Rattle.hm_data.specs.declared.place.RegionState.TheVariants as place_is
 use Rattle.hm_data.specs.declared.step.StepIn.{StepIn}
@@ -32,10 +33,10 @@ abbrev pub is_another : List (Server × Standing) → Place → Server → Bool
 is_another servers place server =
     not (is_state place_is.FailedOpen place) || (not (is_the_server server place.server) || not (has_other_live_in servers server))
 
--- a live server fits what a step sees
-abbrev pub fits_among : List (Server × Standing) → StepIn → Server → Bool
-fits_among servers at server =
-    is_as_wanted servers (wanted_of at.args) at.tries server && is_another servers (told_place at.place) server
+-- a live server fits what a procedure's next step sees: what it was made of, how often its region failed to open, and its place
+abbrev pub fits_among : List (Server × Standing) → Args → ℕ → Option Place → Server → Bool
+fits_among servers args tries place server =
+    is_as_wanted servers (wanted_of args) tries server && is_another servers (told_place place) server
 
 -- the groups allow a server for the region that a step moves, if it moves one
 abbrev pub allows : GroupsView → Option Region → Server → Bool
@@ -43,12 +44,16 @@ allows view None server = true
 allows view (Some region) server = may view region.table server
 
 -- the groups allow a live server for what a step sees, and it fits
-abbrev pub passes : GroupsView → List (Server × Standing) → StepIn → Server → Bool
-passes view servers at server = allows view (moved_by at.args) server && fits_among servers at server
+abbrev pub passes : GroupsView → List (Server × Standing) → Args → ℕ → Option Place → Server → Bool
+passes view servers args tries place server = allows view (moved_by args) server && fits_among servers args tries place server
 
 -- the server of the lowest load among those, the first in name order among equals
+abbrev pub picked_for : GroupsView → List (Server × Standing) → (Server → ℕ) → Args → ℕ → Option Place → Option Server
+picked_for view servers load args tries place = lowest load (filter (passes view servers args tries place) (live_servers servers))
+
+-- the same for what a step sees
 abbrev pub picked : GroupsView → List (Server × Standing) → (Server → ℕ) → StepIn → Option Server
-picked view servers load at = lowest load (filter (passes view servers at) (live_servers servers))
+picked view servers load at = picked_for view servers load at.args at.tries at.place
 
 -- over a journal the groups allow a server for what a step sees, and it fits by the rule that the journal is judged by
 abbrev pub MayTake : GroupsView → Past → StepIn → Server → Type 0

@@ -1,11 +1,12 @@
 //! Groups of servers, the tables in them, and the servers that are drained.
-ghost use Rattle.std.specs.Prelude.{◌≡◌, ◌||◌, ◌&&◌, ℕ, List, [], IfErr, IfOk, OnErr, OnOk, Some, not, true, if◌then◌else◌};
+ghost use Rattle.std.specs.Prelude.{◌≡◌, ◌||◌, ◌&&◌, ℕ, List, IfErr, IfOk, IsTrue, OnErr, OnOk, Some, not, true, if◌then◌else◌};
+ghost use Rattle.std.specs.List.{list_any};
 ghost use Rattle.std.specs.Str.{bytes_eq};
 ghost use Rattle.hm_names.specs.Server.{Server};
 ghost use Rattle.hm_names.specs.declared.table.TableName.{TableName as Table};
 ghost use Rattle.hm_model.specs.Fleet.{same_server};
 ghost use Rattle.hm_model.specs.Keys.{same_table};
-ghost use Rattle.hm_groups.specs.Groups.{CannotJoin, group_of, has_address, in_group, is_drained, is_set, may as allowed};
+ghost use Rattle.hm_groups.specs.Groups.{CannotJoin, group_of, has_address, in_group, is_drained, is_free, is_set, may as allowed, no_groups};
 
 use crate::members::Members;
 use crate::name::GroupName;
@@ -37,9 +38,7 @@ impl Model for Groups {
 impl Groups {
     /// No group, no table in one, no server that is drained.
     pub fn new(alloc: Global) -> Result<Groups, AllocError>
-        ensures groups { IfOk result (λ groups. groups.groups ≡ []) }
-        ensures tables { IfOk result (λ groups. groups.tables ≡ []) }
-        ensures drained { IfOk result (λ groups. groups.drained ≡ []) }
+        ensures { IfOk result (λ groups. groups ≡ no_groups) }
     {
         Ok(Groups {
             groups: Index::new(alloc)?,
@@ -119,6 +118,18 @@ impl Groups {
         }
     }
 
+    // Whether any server is drained.
+    fn has_drained(&self) -> bool
+        ensures { result ≡ list_any (λ row. row.1) self.now.drained }
+    {
+        for (_, drained) in self.drained.view().iter() {
+            if *drained {
+                return true;
+            }
+        }
+        false
+    }
+
     // Whether a server is in a group.
     fn has(&self, name: &Ns, server: &ServerName) -> bool
         ensures { result ≡ in_group self.now name.now server.now }
@@ -141,5 +152,15 @@ impl Groups {
             Some(name) => self.has(name, server),
             None => true,
         }
+    }
+
+    /// Whether no table is in a group and no server is drained: then the regions of any table may be placed at any server. It goes
+    /// over the servers of which was told whether they are drained.
+    #[tactic(auto, using(crate::proofs::Freed::free_may))]
+    pub fn is_free(&self) -> bool
+        ensures exact { result ≡ is_free self.now }
+        ensures free { IsTrue result → (table : Table) (server : Server) → allowed self.now table server ≡ true }
+    {
+        self.tables.view().is_empty() && !self.has_drained()
     }
 }

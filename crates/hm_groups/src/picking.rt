@@ -7,7 +7,7 @@ ghost use Rattle.hm_model.specs.Places.{is_the_server as the_server};
 ghost use Rattle.hm_model.specs.TransitActs.{told_place};
 ghost use Rattle.hm_model.specs.Wanted.{wanted_of as wanted};
 ghost use Rattle.hm_model.specs.Whereabouts.{moved_by as moved};
-ghost use Rattle.hm_groups.specs.Picking.{allows as allowed, fits_among, is_another as another, is_as_wanted as as_wanted, passes, picked};
+ghost use Rattle.hm_groups.specs.Picking.{allows as allowed, fits_among, is_another as another, is_as_wanted as as_wanted, passes, picked, picked_for};
 
 use crate::groups::Groups;
 use hm_data::{Args, Place, RegionState, Request, StepIn};
@@ -85,18 +85,18 @@ fn moved_by(args: &Args) -> Option<&RegionName>
 }
 
 // Whether the first try goes to the server that is wanted, where that one is live.
-fn is_as_wanted(servers: &Servers, at: &StepIn, server: &ServerName) -> bool
-    ensures { result ≡ as_wanted servers.now.servers (wanted at.now.args) at.now.tries server.now }
+fn is_as_wanted(servers: &Servers, args: &Args, tries: u32, server: &ServerName) -> bool
+    ensures { result ≡ as_wanted servers.now.servers (wanted args.now) tries server.now }
 {
-    match wanted_of(&at.args) {
-        Some(wanted) => at.tries != 0 || !servers.live(wanted) || is_one(server, wanted),
+    match wanted_of(args) {
+        Some(wanted) => tries != 0 || !servers.live(wanted) || is_one(server, wanted),
         None => true,
     }
 }
 
 // Whether it isn't the server at which the region just failed to open, where another one is live.
-fn is_another(servers: &Servers, place: &Option<Place>, server: &ServerName) -> bool
-    ensures { result ≡ another servers.now.servers (told_place place.now) server.now }
+fn is_another(servers: &Servers, place: Option<&Place>, server: &ServerName) -> bool
+    ensures { result ≡ another servers.now.servers (told_place (option_copied place.entry)) server.now }
 {
     match place {
         Some(place) => {
@@ -108,45 +108,61 @@ fn is_another(servers: &Servers, place: &Option<Place>, server: &ServerName) -> 
     }
 }
 
-// Whether a live server fits what a step sees.
-fn fits(servers: &Servers, at: &StepIn, server: &ServerName) -> bool
-    ensures { result ≡ fits_among servers.now.servers at.now server.now }
+// Whether a live server fits what a procedure's next step sees.
+fn fits(
+    servers: &Servers,
+    args: &Args,
+    tries: u32,
+    place: Option<&Place>,
+    server: &ServerName,
+) -> bool
+    ensures { result ≡ fits_among servers.now.servers args.now tries (option_copied place.entry) server.now }
 {
-    is_as_wanted(servers, at, server) && is_another(servers, &at.place, server)
+    is_as_wanted(servers, args, tries, server) && is_another(servers, place, server)
 }
 
 impl Groups {
     // Whether the groups allow a server for the region that a step moves, if it moves one.
-    fn allows(&self, at: &StepIn, server: &ServerName) -> bool
-        ensures { result ≡ allowed self.now (moved at.now.args) server.now }
+    fn allows(&self, args: &Args, server: &ServerName) -> bool
+        ensures { result ≡ allowed self.now (moved args.now) server.now }
     {
-        match moved_by(&at.args) {
+        match moved_by(args) {
             Some(region) => self.may(&region.table, server),
             None => true,
         }
     }
 
-    // Whether the groups allow a live server for what a step sees, and it fits.
-    fn passes(&self, servers: &Servers, at: &StepIn, server: &ServerName) -> bool
-        ensures { result ≡ passes self.now servers.now.servers at.now server.now }
+    // Whether the groups allow a live server for what a procedure's next step sees, and it fits.
+    fn passes(
+        &self,
+        servers: &Servers,
+        args: &Args,
+        tries: u32,
+        place: Option<&Place>,
+        server: &ServerName,
+    ) -> bool
+        ensures { result ≡ passes self.now servers.now.servers args.now tries (option_copied place.entry) server.now }
     {
-        self.allows(at, server) && fits(servers, at, server)
+        self.allows(args, server) && fits(servers, args, tries, place, server)
     }
 
     /// The server of the lowest load, the first in name order among equals, of those that are live, that the groups allow, and that
-    /// fit what a step sees. None exactly where there is none: so a server that is wanted and drained is waited for. It goes over
-    /// all servers that ever came up.
-    pub fn pick<'a>(
+    /// fit what a procedure's next step sees: what it was made of, how often its region failed to open, and its region's place. None
+    /// exactly where there is none: so a server that is wanted and drained is waited for. It goes over all servers that ever came
+    /// up.
+    pub fn pick_for<'a>(
         &self,
         servers: &'a Servers,
         places: &Places,
-        at: &StepIn,
+        args: &Args,
+        tries: u32,
+        place: Option<&Place>,
     ) -> Option<&'a ServerName>
-        ensures { option_copied result ≡ picked self.now servers.now.servers (load_in places.now.places) at.now }
+        ensures { option_copied result ≡ picked_for self.now servers.now.servers (load_in places.now.places) args.now tries (option_copied place.entry) }
     {
         let mut best: Option<Loaded> = None;
         for (server, standing) in servers.all().iter() {
-            if standing.live && self.passes(servers, at, server) {
+            if standing.live && self.passes(servers, args, tries, place, server) {
                 let load = places.load(server);
                 best = Some(better(best, Loaded { server, load }));
             }
@@ -155,5 +171,17 @@ impl Groups {
             Some(best) => Some(best.server),
             None => None,
         }
+    }
+
+    /// The same for what a step sees.
+    pub fn pick<'a>(
+        &self,
+        servers: &'a Servers,
+        places: &Places,
+        at: &StepIn,
+    ) -> Option<&'a ServerName>
+        ensures { option_copied result ≡ picked self.now servers.now.servers (load_in places.now.places) at.now }
+    {
+        self.pick_for(servers, places, &at.args, at.tries, at.place.as_ref())
     }
 }

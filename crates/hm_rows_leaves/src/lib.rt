@@ -1,6 +1,8 @@
-//! Plans of shifts, and timers, as tables. This library is empty but for its tests.
+//! Plans of shifts, timers and clocks, as tables. This library is empty but for its tests.
 #![tactic(auto)]
 
+#[cfg(test)]
+mod clocks;
 #[cfg(test)]
 mod plans;
 #[cfg(test)]

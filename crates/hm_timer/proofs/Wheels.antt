@@ -214,6 +214,15 @@ not_set now dues m w pid out d h = out (d % 512) (set_from now dues m w pid d h)
 pub unknown : (now : ℕ) (dues : List ℕ) (m : Map) → IsWheel now dues m → (pid : ℕ) → length dues ≤ pid → (d : ℕ) → Has (timers now m.lists) pid d → ⊥
 unknown now dues m w pid le d h = let lt = w.known (d % 512) pid (set_from now dues m w pid d h).2 in omega (arith, le, lt)
 
+-- a pid that is set on a wheel that callers see as v has a place there
+pub place_known : (v : View) (now : ℕ) (dues : List ℕ) (memory : ℕ) (m : Map) → record { now = now; set = timers now m.lists; spare = length dues; room = memory } ≡ v → IsWheel now dues m
+    → (pid due : ℕ) → Has v.set pid due → pid < v.spare
+place_known v now dues memory m seen w pid due h =
+    let same_spare = ap (λ (x : View). x.spare) seen in
+    let held = held_of now dues m w pid (due, subst (λ ts. Has ts pid due) (sym (ap (λ (x : View). x.set) seen)) h) in
+    let low = held.1 in
+    omega (arith, same_spare, low)
+
 element_at : (xs : List ℕ) (i x : ℕ) → i < length xs → x ≡ get_or xs i x → x ≡ get_or xs i 0
 element_at [] i x lt e = absurd (grind (arith, common_steps))
 element_at (y ∷ xs) zero x lt e = e

@@ -89,6 +89,7 @@ impl Wheel {
     pub fn new(alloc: Global) -> Result<Wheel, AllocError>
         ensures now { IfOk result (λ w. w.now ≡ 0) }
         ensures set { IfOk result (λ w. w.set ≡ []) }
+        ensures spare { IfOk result (λ w. w.spare ≡ 0) }
     {
         let lists = Lists::new(alloc, 512)?;
         Ok(Wheel {
@@ -97,6 +98,13 @@ impl Wheel {
             tick: 0,
             count: 0,
         })
+    }
+
+    /// The present tick.
+    pub fn now(&self) -> u64
+        ensures { result ≡ self.now.now }
+    {
+        self.tick
     }
 
     /// Makes room for the procedures below a number.
@@ -158,6 +166,7 @@ impl Wheel {
     pub fn due_of(&self, pid: Pid) -> Option<u64>
         ensures due { MatchOption result (IsUnset self.now.set pid.0) (λ d. Has self.now.set pid.0 d) }
         ensures one { (p d e : ℕ) → Has self.now.set p d → Has self.now.set p e → d ≡ e }
+        ensures known { (p d : ℕ) → Has self.now.set p d → p < self.now.spare }
     {
         if pid.0 >= self.dues.len() as u64 {
             return None;
@@ -177,6 +186,7 @@ impl Wheel {
         ensures woken { woken.new.items ≡ woken.old.items ++ map pid_of (due_by to self.old.set) }
         ensures capacity { vec_capacity woken.new ≡ vec_capacity woken.old }
         ensures steps { steps.new ≤ steps.old + 512 + 2 * length (due_by to self.old.set) }
+        ensures known { (p d : ℕ) → Has self.old.set p d → p < self.old.spare }
         ensures spare { self.new.spare ≡ self.old.spare }
         ensures memory { self.new.room ≡ self.old.room }
     {

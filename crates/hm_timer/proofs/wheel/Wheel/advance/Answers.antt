@@ -2,6 +2,7 @@ use Rattle.std.proofs.Common.{rules, ◌∙◌, refl, arith, ap, length, set, �
 use Rattle.hm_timer.proofs.Turning.{ticked, turned}
 use Rattle.hm_timer.proofs.Arrival.{comes_to, tick_length}
 use Rattle.hm_timer.proofs.Counted.{both_counted}
+use Rattle.hm_timer.proofs.Wheels.{place_known}
 use Rattle.hm_timer.proofs.wheel.Wheel.advance.Goals as goal
 
 pub wake-requires-clause-room : goal.wake-requires-clause-room
@@ -72,6 +73,7 @@ returns g c =
       woken = there.woken_is;
       capacity = c.loop.invariant.capacity_is;
       steps = omega (arith, longer, steps, most, turns);
+      known = place_known _ _ _ _ _ c.self.view_is c.self.invariant.wheel;
       spare = search rules;
       memory = search rules;
     }

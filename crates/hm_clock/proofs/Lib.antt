@@ -1,0 +1,3 @@
+pub mod Raised
+pub mod Turned
+pub mod Clocks
