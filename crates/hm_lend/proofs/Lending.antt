@@ -4,7 +4,7 @@ use Rattle.hm_hall.specs.declared.fault.Halt.TheVariants as halt_is
 use Rattle.hm_hall.specs.declared.fault.RecordFault.{RecordFault}
 use Rattle.hm_hall.specs.declared.fault.RecordFault.TheVariants as fault_is
 use Rattle.hm_lend.specs.Outs.{OutView}
-use Rattle.hm_lend.specs.Recording.{Recording, Backs, HasNone, Lends}
+use Rattle.hm_lend.specs.Recording.{Recording, Backs, HasNone, Lends, own_of}
 
 module _ {T : Type 0} where
   -- where there is nothing to lend, nothing is lent
@@ -14,7 +14,7 @@ module _ {T : Type 0} where
 
   -- else the log goes out, with all
   pub lends_some : (terms : T) (old : Recording) (answer : Option (OutView T)) (new : Recording) → Lends terms old answer new → (HasNone old → ⊥)
-      → (out : OutView T) × (answer ≡ Some out) × (out.list ≡ old.entries) × (new.out ≡ Some (length old.entries)) × (new.next ≡ None)
+      → (out : OutView T) × (answer ≡ Some out) × (out.list ≡ (own_of old)) × (new.out ≡ Some (length (own_of old))) × (new.next ≡ None)
   lends_some terms old None new is some = absurd (some is.0)
   lends_some terms old (Some out) new is some = (
     out,

@@ -26,7 +26,7 @@ use Rattle.hm_model.specs.Locks.{IsIn}
 abbrev pub Editions : Type 0
 Editions = ℕ → Option (List Sheet)
 
--- what is recorded, how many of it are durable, the pids that are claimed, the number of the log where it is out, what
+-- what is recorded behind the base, how many of it are durable, the pids that are claimed, the number of the log where it is out, what
 -- stopped it, and the sheets of each edition by which its procedures run
 pub record HallView : Type 0 where
   pub items : List Entry

@@ -1,8 +1,8 @@
 -- A log that is out to be written.
-use Rattle.std.specs.Prelude.{◌≡◌, ℕ, ◌+◌, ◌*◌, ◌^◌, List, length, Bool}
+use Rattle.std.specs.Prelude.{ℕ, ◌+◌, ◌*◌, ◌^◌, List, length, Bool}
 use Rattle.hm_data.specs.declared.entry.Entry.{Entry}
 
--- the list of the value that lent it, how many of them were durable, the value's terms, and whether it was written
+-- the list of the value that lent it, behind its base, how many of them were durable, the value's terms, and whether it was written
 pub record OutView (T : Type 0) : Type 0 where
   pub list : List Entry
   pub durable : ℕ

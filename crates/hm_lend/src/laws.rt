@@ -11,7 +11,7 @@ ghost use Rattle.hm_hall.specs.declared.taken.Given.{Given};
 ghost use Rattle.hm_hall.specs.declared.taken.Taken.{Taken};
 ghost use Rattle.hm_lend.specs.Hall.{AnswersCarry, AnswersGive, HallView, TakingStopsFirst};
 ghost use Rattle.hm_lend.specs.Outs.{OutView};
-ghost use Rattle.hm_lend.specs.Recording.{Recording, Backs, HasNone, Lends};
+ghost use Rattle.hm_lend.specs.Recording.{Recording, Backs, HasNone, Lends, own_of};
 
 use crate::hall::Hall;
 
@@ -20,7 +20,7 @@ pub fn lending_is_decided<T>()
     ensures none { (terms : T.row.Denot) (old : Recording) (answer : Option (OutView T.row.Denot)) (new : Recording) →
         Lends terms old answer new → HasNone old → (answer ≡ None) × (new ≡ old) }
     ensures some { (terms : T.row.Denot) (old : Recording) (answer : Option (OutView T.row.Denot)) (new : Recording) →
-        Lends terms old answer new → (HasNone old → ⊥) → (out : OutView T.row.Denot) × (answer ≡ Some out) × (out.list ≡ old.entries) × (new.out ≡ Some (length old.entries)) × (new.next ≡ None) }
+        Lends terms old answer new → (HasNone old → ⊥) → (out : OutView T.row.Denot) × (answer ≡ Some out) × (out.list ≡ own_of old) × (new.out ≡ Some (length (own_of old))) × (new.next ≡ None) }
 {}
 
 /// Where a log comes back, it is in again, and what was recorded since stays. All that it went out with is durable, or

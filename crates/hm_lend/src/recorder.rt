@@ -1,7 +1,8 @@
 //! The trait of what records entries, which are written later, and those of a log that is lent, armed or given up.
-ghost use Rattle.std.specs.Prelude.{◌≡◌, ◌≢◌, ◌≤◌, ◌↔◌, ℕ, MatchResult, OnErr, IsTrue, Some, None};
+ghost use Rattle.std.specs.Prelude.{◌≡◌, ◌≢◌, ◌≤◌, ◌↔◌, ℕ, MatchResult, OnErr, IsTrue, Some, None, false};
 ghost use Rattle.hm_data.specs.declared.entry.Entry.{Entry as EntryValue};
 ghost use Rattle.hm_hall.specs.Recording.{CanBeRecorded};
+ghost use Rattle.hm_model.specs.Laws.{is_part};
 ghost use Rattle.hm_lend.specs.Recording.{Recording, AllFit, Accepts, Records, full_at, next_of, out_of, with_next, halt_of};
 
 use hm_data::Entry;
@@ -31,10 +32,11 @@ pub trait Recorder {
         requires { CanBeRecorded entry.now }
         ensures { IsTrue result ↔ (Accepts (kept self.now) entry.now → ⊥) };
 
-    /// Makes an entry ready to be recorded, in place of one that was. Memory runs out only for an entry that would be
-    /// recorded.
+    /// Makes an entry that is no part of a base ready to be recorded, in place of one that was. Memory runs out only for an entry that
+    /// would be recorded.
     fn ready(&mut self, alloc: Global, entry: &Entry) -> Result<(), AllocError>
-        requires { CanBeRecorded entry.now }
+        requires fits { CanBeRecorded entry.now }
+        requires other { is_part entry.now ≡ false }
         ensures kept { MatchResult result
             (λ _. kept self.new ≡ with_next (kept self.old) entry.now)
             (λ _. kept self.new ≡ kept self.old) }
@@ -42,7 +44,7 @@ pub trait Recorder {
         ensures faults { faults self.new ≡ faults self.old }
         ensures opened { opened self.new ≡ opened self.old };
 
-    /// Records the entry that is ready, and gives its number. It is durable once a flush wrote it.
+    /// Records the entry that is ready, and gives its place behind the base. It is durable once a flush wrote it.
     fn record_entry(&mut self) -> Result<u64, RecordFault>
         requires { next_of (kept self.old) ≢ None }
         ensures records { (entry : EntryValue) → next_of (kept self.old) ≡ Some entry →
