@@ -61,6 +61,7 @@ SparesUp (Ok down) = ⊥
 SparesUp (Err (up_why.Up why)) = Unit {0}
 SparesUp (Err (up_why.Fault fault)) = SparesAt fault
 
+-- nor a server that may not go down
 abbrev pub SparesDown : Result Pid DownWhy → Type 0
 SparesDown (Ok pid) = ⊥
 SparesDown (Err (down_why.Down why)) = Unit {0}

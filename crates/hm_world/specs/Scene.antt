@@ -36,6 +36,7 @@ scene_with kept claimed fleet = record {
   waiting = fleet.waiting;
 }
 
+-- what a world shows, of what its recorder has kept
 abbrev pub scene_of : {R : Type 0} → (R → Recording) → WorldView R → Scene
 scene_of kept world = scene_with (kept world.recorder) world.claimed world.fleet
 
