@@ -43,11 +43,11 @@ fn namespace(rt: &(impl Abort + AllocGlobal), name: &[u8]) -> Part {
     }
 }
 
-// The base of a journal of seven entries and three procedures that came to nothing but its namespaces.
-fn base(rt: &(impl Abort + AllocGlobal)) -> List<Part> {
+// The base of a journal of so many entries, whose last procedure has this number, that came to nothing but its namespaces.
+pub(crate) fn base(rt: &(impl Abort + AllocGlobal), entries: u64, last: Pid) -> List<Part> {
     let head = Part::Head {
-        entries: 7,
-        last: Pid(3),
+        entries,
+        last,
         parts: 2,
         sheets: sheets(rt),
     };
@@ -73,7 +73,7 @@ fn unswept(rt: &(impl Abort + AllocGlobal), sheet: &Sheet) -> Sheet {
 }
 
 // The sheets of the base, but that no layout is swept.
-fn others(rt: &(impl Abort + AllocGlobal)) -> List<Sheet> {
+pub(crate) fn others(rt: &(impl Abort + AllocGlobal)) -> List<Sheet> {
     let own = sheets(rt);
     let mut others = Vec::new(rt.alloc());
     for sheet in own.as_slice() {
@@ -132,7 +132,7 @@ fn seen(rt: &(impl Abort + AllocGlobal), state: &State) -> Result<String, AllocE
 
 #[test]
 fn from_base_allowed_prepare_own_and_apply_behind_a_base(rt: HostRuntime) {
-    let Ok(mut state) = State::from_base(rt.alloc(), base(&rt)) else {
+    let Ok(mut state) = State::from_base(rt.alloc(), base(&rt, 7, Pid(3))) else {
         panic!(rt; "no base");
     };
     for (added, rule, expected) in CASES {

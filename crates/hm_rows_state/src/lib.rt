@@ -4,6 +4,8 @@
 #[cfg(test)]
 mod based;
 #[cfg(test)]
+mod images;
+#[cfg(test)]
 mod journal;
 #[cfg(test)]
 mod readers;
